@@ -1,0 +1,47 @@
+-- The cut of a range of a blob into parts of fragments.
+use Rattle.lrc_code.specs.Code.{data_count}
+use Rattle.std.specs.Prelude.{◌≡◌, ◌≢◌, ℕ, ◌+◌, ◌-◌, ◌*◌, ◌/◌, ◌%◌, ◌<◌, ◌≤◌, ◌==◌, List, [], ◌∷◌, ◌++◌, map, All, min, if◌then◌else◌}
+use Rattle.std.specs.List.{range_with_len}
+use Rattle.lrc_code.specs.declared.Code.{Code}
+use Rattle.sealed.specs.Layout.{byte_of}
+use Rattle.lent.specs.declared.part.Part.{Part}
+
+-- the part is not empty, and lies inside a data fragment
+pub record IsPart (code : Code) (w : ℕ) (part : Part) : Type 0 where
+  pub some : part.from < part.to
+  pub inside : part.to ≤ w
+  pub holds_data : part.fragment < data_count code
+
+-- the numbers, in the blob, of the bytes of a part
+abbrev pub numbers_of : Code → ℕ → Part → List ℕ
+numbers_of code w part = range_with_len (byte_of code w part.stripe part.fragment part.from) (part.to - part.from)
+
+-- those of all parts, one after the other
+abbrev pub all_numbers : Code → ℕ → List Part → List ℕ
+all_numbers code w [] = []
+all_numbers code w (part ∷ parts) = numbers_of code w part ++ all_numbers code w parts
+
+-- no two neighbours lie in the same fragment
+abbrev pub AreApart : List Part → Type 0
+AreApart [] = Unit {0}
+AreApart (one ∷ []) = Unit {0}
+AreApart (one ∷ next ∷ parts) = (one.stripe ≡ next.stripe → one.fragment ≢ next.fragment) × AreApart (next ∷ parts)
+
+-- the parts cover the bytes of the range in order, and none could be longer
+pub record IsCut (code : Code) (w start len : ℕ) (parts : List Part) : Type 0 where
+  pub each : All (IsPart code w) parts
+  pub covers : all_numbers code w parts ≡ range_with_len start len
+  pub apart : AreApart parts
+
+-- ---- the cut, computed: of each data fragment that the range meets, what lies between its ends
+-- of the k-th data fragment of the blob, what lies between the bytes start and end
+abbrev pub part_of : Code → ℕ → ℕ → ℕ → ℕ → Part
+part_of code w start end k =
+    record { stripe = k / data_count code; fragment = k % data_count code; from = start - k * w; to = min w (end - k * w) }
+
+-- the data fragment behind the last one that the range meets
+abbrev pub cut_end : ℕ → ℕ → ℕ → ℕ
+cut_end w start len = if len == 0 then start / w else (start + len - 1) / w + 1
+
+abbrev pub cut : Code → ℕ → ℕ → ℕ → List Part
+cut code w start len = map (part_of code w start (start + len)) (range_with_len (start / w) (cut_end w start len - start / w))

@@ -1,0 +1,45 @@
+-- Stripes: sixteen lists of one length, a column at each place; and what is left of one.
+use Rattle.lrc_code.specs.declared.Code.{Code}
+use Rattle.std.specs.Prelude.{◌≡◌, ℕ, ◌<◌, ◌≤◌, Bool, false, List, [], Option, Some, None, IfSome, length, slice_index, slice_index_or, slice_range}
+use Rattle.std.specs.Borrow.{Bor}
+use Rattle.std.specs.Option.{is_none}
+use Rattle.lrc_code.specs.Code.{fragment_count, data_count, xor_sum, weight, IsColumn}
+use Rattle.gf256.specs.Field.{product}
+
+pub record IsStripe (code : Code) (w : ℕ) (s : ℕ → List ℕ) : Type 0 where
+  pub width : (i : ℕ) → i < fragment_count code → length (s i) ≡ w
+  pub columns : (k : ℕ) → k < w → IsColumn code (λ i. slice_index (s i) k)
+
+abbrev pub list_at : List (List ℕ) → ℕ → List ℕ
+list_at lists i = slice_index_or lists i []
+
+-- the byte at place k of the parity that an equation gives
+unfoldable pub parity_sum : Code → ℕ → List (List ℕ) → ℕ → ℕ
+parity_sum code e sources k = xor_sum (data_count code) (λ i. product (weight code e i) (slice_index (list_at sources i) k))
+
+-- the slot of fragment i, and the bytes there
+abbrev pub slot : List (Option (Bor (List ℕ))) → ℕ → Option (Bor (List ℕ))
+slot fragments i = slice_index_or fragments i None
+
+abbrev pub bytes_of : Option (Bor (List ℕ)) → List ℕ
+bytes_of None = []
+bytes_of (Some x) = x.now
+
+abbrev pub is_absent : List (Option (Bor (List ℕ))) → ℕ → Bool
+is_absent fragments i = is_none (slot fragments i)
+
+-- the bytes at place k
+abbrev pub byte_at : List (Option (Bor (List ℕ))) → ℕ → ℕ → ℕ
+byte_at fragments k i = slice_index (bytes_of (slot fragments i)) k
+
+-- fragment i is present and reaches to `to`
+abbrev pub Reaches : List (Option (Bor (List ℕ))) → ℕ → ℕ → Type 0
+Reaches fragments to i = (is_absent fragments i ≡ false) × (to ≤ length (bytes_of (slot fragments i)))
+
+-- the stripe has the present bytes
+abbrev pub Agrees : Code → List (Option (Bor (List ℕ))) → (ℕ → List ℕ) → Type 0
+Agrees code fragments s = (i : ℕ) → i < fragment_count code → IfSome (slot fragments i) (λ x. s i ≡ x.now)
+
+-- each stripe that has the present bytes has these at f, from..to
+abbrev pub Rebuilds : Code → List (Option (Bor (List ℕ))) → ℕ → ℕ → ℕ → List ℕ → Type 0
+Rebuilds code fragments f from to bytes = (w : ℕ) (s : ℕ → List ℕ) → to ≤ w → IsStripe code w s → Agrees code fragments s → bytes ≡ slice_range (s f) from to

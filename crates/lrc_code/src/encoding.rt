@@ -1,0 +1,97 @@
+//! Encoding: the four parities of the data fragments.
+
+ghost use Rattle.lrc_code.specs.Code.{data_count};
+ghost use Rattle.std.specs.Prelude.{◌≡◌, ℕ, ◌<◌, ◌++◌, All, IfOk, EachIndex, length, map, slice_index, bit_xor};
+ghost use Rattle.lrc_code.specs.Stripe.{IsStripe, list_at, parity_sum};
+
+use crate::Code;
+use crate::recipes::weight_of;
+use gf256::add_scaled;
+use std::alloc::{AllocError, Global};
+
+/// Adds the data, each times what it weighs in an equation, place by place.
+fn add_data(bytes: &mut [u8], code: Code, equation: usize, sources: &[&[u8]])
+    requires equation_below { equation < 4 }
+    requires count { length sources.now ≡ data_count code }
+    requires long { All (λ s. length s.now ≡ length bytes.old) sources.now }
+    ensures { EachIndex bytes.new (λ k.
+        slice_index bytes.new k ≡ bit_xor (slice_index bytes.old k) (parity_sum code equation (map (λ s. s.now) sources.now) k)) }
+{
+    for i in 0..sources.len() {
+        add_scaled(bytes, weight_of(code, equation, i), sources[i]);
+    }
+}
+
+/// The parity that an equation gives.
+fn parity(
+    alloc: Global,
+    code: Code,
+    equation: usize,
+    sources: &[&[u8]],
+    w: usize,
+) -> Result<Vec<u8>, AllocError>
+    requires equation_below { equation < 4 }
+    requires count { length sources.now ≡ data_count code }
+    requires long { All (λ s. length s.now ≡ w) sources.now }
+    ensures long { IfOk result (λ v. length v.items ≡ w) }
+    ensures sums { IfOk result (λ v. EachIndex v.items (λ k. slice_index v.items k ≡ parity_sum code equation (map (λ s. s.now) sources.now) k)) }
+{
+    let mut bytes = vec![in alloc; 0; w]?;
+    add_data(&mut bytes, code, equation, sources);
+    Ok(bytes)
+}
+
+/// The elements of a slice are below 256: a proof knows it of a parameter, and not of a slice inside another.
+fn fits(bytes: &[u8])
+    ensures { EachIndex bytes.now (λ k. slice_index bytes.now k < 256) }
+{}
+
+/// The same of each of the slices.
+fn all_fit(sources: &[&[u8]])
+    ensures { (i k : ℕ) → i < length sources.now → k < length (list_at (map (λ s. s.now) sources.now) i) → slice_index (list_at (map (λ s. s.now) sources.now) i) k < 256 }
+{
+    for i in 0..sources.len() {
+        fits(sources[i]);
+    }
+}
+
+/// The parities of data fragments of one length: with them they are a stripe.
+pub fn encode_in(
+    alloc: Global,
+    code: Code,
+    sources: &[&[u8]],
+    w: usize,
+) -> Result<[Vec<u8>; 4], AllocError>
+    requires count { length sources.now ≡ data_count code }
+    requires long { All (λ s. length s.now ≡ w) sources.now }
+    ensures { IfOk result (λ parities. IsStripe code w (list_at (map (λ s. s.now) sources.now ++ map (λ v. v.items) parities))) }
+{
+    all_fit(sources);
+    let first = parity(alloc, code, 0, sources, w)?;
+    let second = parity(alloc, code, 1, sources, w)?;
+    let third = parity(alloc, code, 2, sources, w)?;
+    let fourth = parity(alloc, code, 3, sources, w)?;
+    Ok([first, second, third, fourth])
+}
+
+/// Fragments 12 to 15 of LRC(12,2,2).
+pub fn encode(alloc: Global, sources: &[&[u8]; 12], w: usize) -> Result<[Vec<u8>; 4], AllocError>
+    requires { All (λ s. length s.now ≡ w) sources.now }
+    ensures { IfOk result (λ parities. IsStripe Code.Wide w (list_at (map (λ s. s.now) sources.now ++ map (λ v. v.items) parities))) }
+{
+    let parities = encode_in(alloc, Code::Wide, sources, w)?;
+    Ok(parities)
+}
+
+/// Fragments 6 to 9 of LRC(6,2,2).
+pub fn encode_small(
+    alloc: Global,
+    sources: &[&[u8]; 6],
+    w: usize,
+) -> Result<[Vec<u8>; 4], AllocError>
+    requires { All (λ s. length s.now ≡ w) sources.now }
+    ensures { IfOk result (λ parities. IsStripe Code.Small w (list_at (map (λ s. s.now) sources.now ++ map (λ v. v.items) parities))) }
+{
+    let parities = encode_in(alloc, Code::Small, sources, w)?;
+    Ok(parities)
+}
