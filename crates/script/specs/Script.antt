@@ -1,0 +1,86 @@
+-- Which records of a script are refused, and why.
+use Rattle.std.specs.Prelude.{ℕ, List, [], ◌∷◌, Bool, Option, Some, None, is_some, ◌&&◌, ◌==◌, ◌≡◌, ◌<◌, ◌+◌, ◌-◌, ◌≤◌, not, length, map, take, slice_get, slice_index_or, nat_le, if◌then◌else◌}
+use Rattle.csv.specs.Reading.{default_config, records, strip_bom}
+use Rattle.script.specs.Names.{is_name}
+use Rattle.script.specs.Numbers.{value}
+use Rattle.script.specs.Fields.{Record, a_field, b_field, fits_arguments, is_number_in, name_field, operation_field, operation_of, round_field, row_of, worker_field}
+use Rattle.script.specs.declared.rows.BadScript.{BadScript}
+use Rattle.script.specs.declared.rows.BadScript.TheVariants as bad
+use Rattle.script.specs.declared.rows.Head.{Head}
+use Rattle.script.specs.declared.rows.Operation.{Operation}
+use Rattle.script.specs.declared.rows.Refusal.{Refusal}
+use Rattle.script.specs.declared.rows.Refusal.TheVariants as refusal_is
+use Rattle.script.specs.declared.rows.Row.{Row}
+use Rattle.script.specs.declared.rows.Word.{Word}
+use Rattle.script.specs.declared.rows.Word.TheVariants as word
+
+abbrev pub round_of : Option Row → ℕ
+round_of None = 0
+round_of (Some row) = row.round
+
+-- the round of the last row, 0 where there is none
+abbrev pub last_round : List Row → ℕ
+last_round rows = round_of (slice_get rows (length rows - 1))
+
+-- the first word whose test refuses
+abbrev pub first_word : List (Bool × Word) → Option Word
+first_word [] = None
+first_word ((refuses, w) ∷ rest) = if refuses then Some w else first_word rest
+
+-- the tests of a record after these rows, in their order, each with its word
+abbrev pub tests : ℕ → List Row → Record → List (Bool × Word)
+tests workers earlier r =
+    (length earlier == 65536, word.Rows)
+    ∷ (not (length r == 6), word.Fields)
+    ∷ (not (is_number_in 1 4294967295 (round_field r) && nat_le (last_round earlier) (value (round_field r))), word.Round)
+    ∷ (not (is_number_in 1 workers (worker_field r)), word.Worker)
+    ∷ (not (is_some (operation_of (operation_field r))), word.Op)
+    ∷ (not (is_name (name_field r)), word.Name)
+    ∷ (not (fits_arguments (operation_of (operation_field r)) (a_field r) (b_field r)), word.Argument)
+    ∷ []
+
+-- the word that refuses a record after these rows, if one does
+unfoldable pub refusal : ℕ → List Row → Record → Option Word
+refusal workers earlier r = first_word (tests workers earlier r)
+
+-- a refusal of one record tells its word, or memory ran out
+abbrev pub Tells : Refusal → Option Word → Type 0
+Tells (refusal_is.Refused w) o = o ≡ Some w
+Tells refusal_is.NoMemory o = Unit {0}
+
+-- the word that refuses a record's name or arguments, if one does
+abbrev pub task_refusal : Option Operation → List ℕ → List ℕ → List ℕ → Option Word
+task_refusal o name a b = first_word ((not (is_name name), word.Name) ∷ (not (fits_arguments o a b), word.Argument) ∷ [])
+
+-- a refusal of the row of this number
+abbrev pub at_row : Refusal → ℕ → BadScript
+at_row (refusal_is.Refused w) row = bad.Refused row w
+at_row refusal_is.NoMemory row = bad.NoMemory
+
+-- the last two tests of a record that passed the others
+abbrev pub late_word : Record → Option Word
+late_word r = task_refusal (operation_of (operation_field r)) (name_field r) (a_field r) (b_field r)
+
+-- the first tests are passed, and this is what the first three fields say
+pub record Heads (workers : ℕ) (earlier : List Row) (r : Record) (head : Head) : Type 0 where
+  pub late : refusal workers earlier r ≡ late_word r
+  pub round : head.round ≡ value (round_field r)
+  pub worker : head.worker ≡ value (worker_field r)
+  pub operation : operation_of (operation_field r) ≡ Some head.operation
+
+-- the records of a script's bytes
+abbrev pub script_records : List ℕ → List Record
+script_records text = records default_config (strip_bom text)
+
+-- the word that refuses the record at a place, after the rows of those before it
+unfoldable pub refused_at : ℕ → List Record → ℕ → Option Word
+refused_at workers all i = refusal workers (map row_of (take i all)) (slice_index_or all i [])
+
+-- no record is refused before a place
+abbrev pub AcceptedBefore : ℕ → List Record → ℕ → Type 0
+AcceptedBefore workers all n = (i : ℕ) → i < n → refused_at workers all i ≡ None
+
+-- the error names the first record that is refused, and its first word; or memory ran out
+abbrev pub Explains : ℕ → List Record → BadScript → Type 0
+Explains workers all (bad.Refused number w) = (i : ℕ) × (number ≡ i + 1) × (i < length all) × AcceptedBefore workers all i × (refused_at workers all i ≡ Some w)
+Explains workers all bad.NoMemory = Unit {0}

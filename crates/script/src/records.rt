@@ -1,0 +1,96 @@
+//! One record of a script.
+
+ghost use Rattle.std.specs.Prelude.{◌≡◌, [], None, Some, MatchResult, slice_index_or};
+ghost use Rattle.csv.specs.Records.{fields_of};
+ghost use Rattle.script.specs.Fields.{row_of};
+ghost use Rattle.script.specs.Script.{Heads, last_round, refusal, Tells};
+
+use crate::fields::{number_in, operation, task};
+use crate::rows::{Head, Refusal, Row, Word};
+use csv::ByteRecord;
+use std::alloc::Global;
+
+/// How many rows a script may have.
+const MAX_ROWS: usize = 65_536;
+
+/// How many fields a row has.
+const FIELDS: usize = 6;
+
+/// The field at a place, empty where there is none.
+fn field(fields: &ByteRecord, place: usize) -> &[u8]
+    ensures { result.now ≡ slice_index_or (fields_of fields.now) place [] }
+{
+    match fields.get(place) {
+        Some(field) => field,
+        None => &[],
+    }
+}
+
+/// The round of the last row, 0 where there is none.
+fn last_round(rows: &[Row]) -> u32
+    ensures { result ≡ last_round rows.now }
+{
+    match rows.last() {
+        Some(row) => row.round,
+        None => 0,
+    }
+}
+
+/// What the first three fields of a record say, if they are not refused.
+#[tactic(auto, using(crate::proofs::Refusals::refusal_late), unfolding(crate::specs::Script::refusal))]
+fn head(fields: &ByteRecord, earlier: &[Row], workers: u32) -> Result<Head, Word>
+    ensures { MatchResult result
+        (λ head. Heads workers earlier.now (fields_of fields.now) head)
+        (λ word. refusal workers earlier.now (fields_of fields.now) ≡ Some word) }
+{
+    if earlier.len() == MAX_ROWS {
+        return Err(Word::Rows);
+    }
+    if fields.len() != FIELDS {
+        return Err(Word::Fields);
+    }
+    let Some(round) = number_in(field(fields, 0), 1, u32::MAX) else {
+        return Err(Word::Round);
+    };
+    if round < last_round(earlier) {
+        return Err(Word::Round);
+    }
+    let Some(worker) = number_in(field(fields, 1), 1, workers) else {
+        return Err(Word::Worker);
+    };
+    let Some(operation) = operation(field(fields, 2)) else {
+        return Err(Word::Op);
+    };
+    Ok(Head {
+        round,
+        worker,
+        operation,
+    })
+}
+
+/// The row that a record stands for after these, if it is not refused.
+pub(crate) fn row(
+    alloc: Global,
+    fields: &ByteRecord,
+    earlier: &[Row],
+    workers: u32,
+) -> Result<Row, Refusal>
+    ensures { MatchResult result
+        (λ row. (refusal workers earlier.now (fields_of fields.now) ≡ None) × (row ≡ row_of (fields_of fields.now)))
+        (λ e. Tells e (refusal workers earlier.now (fields_of fields.now))) }
+{
+    let head = match head(fields, earlier, workers) {
+        Ok(head) => head,
+        Err(word) => return Err(Refusal::Refused(word)),
+    };
+    let (name, a, b) = (field(fields, 3), field(fields, 4), field(fields, 5));
+    let task = match task(alloc, head.operation, name, a, b) {
+        Ok(task) => task,
+        Err(error) => return Err(error),
+    };
+    Ok(Row {
+        round: head.round,
+        worker: head.worker,
+        task,
+    })
+}

@@ -1,0 +1,111 @@
+//! The rows of a script, and why one is refused.
+
+use book::Name;
+use bytes::Bytes;
+use lrc_code::Code;
+use std::fmt;
+use thiserror::Error;
+
+/// A call of the store, with its arguments.
+#[derive(Drop)]
+pub enum Ask {
+    /// Puts these bytes under the name, in this code.
+    Put {
+        name: Name,
+        code: Code,
+        bytes: Bytes,
+    },
+    /// Reads `len` bytes from `start` on.
+    Read { name: Name, start: u64, len: u64 },
+}
+
+/// What a row asks for.
+#[derive(Drop)]
+pub enum Task {
+    /// A call.
+    Make(Ask),
+}
+
+/// A row of a script.
+#[derive(Drop)]
+pub struct Row {
+    /// The round in which it runs, from 1. No row is of an earlier round than the row before it.
+    pub round: u32,
+    /// The worker that runs it, from 1.
+    pub worker: u32,
+    /// What it asks for.
+    pub task: Task,
+}
+
+/// Why a row is refused, in the order of the tests.
+#[derive(Clone, Copy, PartialEq, Eq, Debug)]
+pub enum Word {
+    /// The script has more than 65,536 rows, and this is the first of the others.
+    Rows,
+    /// The row has not just six fields.
+    Fields,
+    /// Its round is no number in 1..=4294967295, or less than that of the row before it.
+    Round,
+    /// Its worker is none of the workers.
+    Worker,
+    /// Its operation is unknown.
+    Op,
+    /// Its name is none.
+    Name,
+    /// Its arguments don't fit the operation.
+    Argument,
+}
+
+impl fmt::Display for Word {
+    fn fmt<W: fmt::Write>(&self, f: &mut fmt::Formatter<W>) -> fmt::Result {
+        f.write_str(match self {
+            Word::Rows => "rows",
+            Word::Fields => "fields",
+            Word::Round => "round",
+            Word::Worker => "worker",
+            Word::Op => "op",
+            Word::Name => "name",
+            Word::Argument => "argument",
+        })
+    }
+}
+
+/// Why a script is refused.
+#[derive(Clone, Copy, PartialEq, Eq, Debug, Error)]
+pub enum BadScript {
+    /// A row is refused.
+    #[error("row {row}: {word}")]
+    Refused {
+        /// Its number, from 1.
+        row: u32,
+        /// Why.
+        word: Word,
+    },
+    /// A request for memory was refused.
+    #[error("out of memory")]
+    NoMemory,
+}
+
+/// The operations of a script.
+#[derive(Clone, Copy, PartialEq, Eq, Debug)]
+pub(crate) enum Operation {
+    Put,
+    Read,
+}
+
+/// Why one record is refused.
+#[derive(Clone, Copy, PartialEq, Eq, Debug)]
+pub(crate) enum Refusal {
+    /// By this word.
+    Refused(Word),
+    /// A request for memory was refused.
+    NoMemory,
+}
+
+/// What the first three fields of a record say.
+#[derive(Clone, Copy)]
+pub(crate) struct Head {
+    pub round: u32,
+    pub worker: u32,
+    pub operation: Operation,
+}
