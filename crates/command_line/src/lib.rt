@@ -1,0 +1,11 @@
+//! The command line of the program.
+#![tactic(auto)]
+
+mod line;
+mod reading;
+
+pub use line::{BadLine, Options};
+pub use reading::options;
+
+#[cfg(test)]
+mod tests;

@@ -1,0 +1,28 @@
+//! What the command line says.
+
+use clap::Error;
+use std::alloc::AllocError;
+
+/// What the command line says.
+#[derive(Drop)]
+pub struct Options {
+    /// The path of the script.
+    pub script: String,
+    /// The number of workers.
+    pub workers: u32,
+}
+
+/// Why there are no options.
+#[derive(Drop)]
+pub enum BadLine {
+    /// `clap` has a text to be printed: a refusal, or the help that was asked for.
+    Clap(Error),
+    /// A request for memory was refused.
+    NoMemory,
+}
+
+impl From<AllocError> for BadLine {
+    fn from(_error: AllocError) -> BadLine {
+        BadLine::NoMemory
+    }
+}
