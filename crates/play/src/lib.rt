@@ -1,0 +1,14 @@
+//! Runs of scripts: from the bytes of a script to the bytes that are printed.
+#![tactic(auto)]
+
+mod fail;
+mod output;
+mod reply;
+mod run;
+mod rows;
+
+pub use fail::Fail;
+pub use run::play;
+
+#[cfg(test)]
+mod tests;

@@ -1,0 +1,59 @@
+//! What is printed of a row.
+
+use book::{Answer, Note};
+use lent::{Grant, Piece};
+use sealed::Fault;
+use std::alloc::{AllocError, Global};
+use std::fmt;
+
+/// The reply to a row: what the store noted, the bytes of a read, or why the call was refused.
+#[derive(Drop)]
+pub(crate) enum Reply {
+    Noted(Note),
+    Granted(Reading),
+    Full,
+    TooLong,
+}
+
+/// What was read: the version, how many pieces were lent and how many built, and the bytes of the pieces, joined.
+#[derive(Drop)]
+pub(crate) struct Reading {
+    pub version: u64,
+    pub lent: u64,
+    pub built: u64,
+    pub bytes: Vec<u8>,
+}
+
+/// Bytes as two lower-case hexadecimal digits each, and as a dash where there are none.
+struct Hex<'a>(&'a [u8]);
+
+impl fmt::Display for Hex<'_> {
+    fn fmt<W: fmt::Write>(&self, f: &mut fmt::Formatter<W>) -> fmt::Result {
+        if self.0.is_empty() {
+            return f.write_str("-");
+        }
+        for byte in self.0 {
+            write!(f, "{byte:02x}")?;
+        }
+        Ok(())
+    }
+}
+
+impl fmt::Display for Reading {
+    fn fmt<W: fmt::Write>(&self, f: &mut fmt::Formatter<W>) -> fmt::Result {
+        let (version, lent, built) = (self.version, self.lent, self.built);
+        write!(f, "granted {version} {lent} {built} ")?;
+        Hex(self.bytes.as_slice()).fmt(f)
+    }
+}
+
+impl fmt::Display for Reply {
+    fn fmt<W: fmt::Write>(&self, f: &mut fmt::Formatter<W>) -> fmt::Result {
+        match self {
+            Reply::Noted(note) => note.fmt(f),
+            Reply::Granted(reading) => reading.fmt(f),
+            Reply::Full => f.write_str("full"),
+            Reply::TooLong => f.write_str("too-long"),
+        }
+    }
+}
