@@ -2,7 +2,7 @@
 use Rattle.lrc_code.specs.Code.{data_count}
 use Rattle.std.proofs.Common.{◌≡◌, ℕ, ◌+◌, ◌-◌, ◌*◌, ◌/◌, ◌%◌, ◌<◌, ◌≤◌, sym, ◌∙◌, ap, subst, arith}
 use Rattle.std.proofs.lemmas.Nat.{div-mul-add, div_below, le-div}
-use Rattle.std.proofs.Math.Nat.{mul-le-mul_right}
+use Rattle.std.proofs.Math.Nat.{mul-le-mul_right, mul_comm}
 use Rattle.lrc_code.specs.declared.Code.{Code}
 use Rattle.lrc_code.specs.declared.Code.TheVariants.{Wide, Small}
 use Rattle.sealed.specs.Layout.{stripe_size, stripe_count, stripe_of, fragment_of, place_of, byte_of}
@@ -65,3 +65,25 @@ module _ (code : Code) (w : ℕ) (some : 1 ≤ w) where
       let outer : S * (i / S) + i % S ≡ i = omega arith in
       let q : i / S + 1 ≤ (len + S - 1) / S = le-div (i / S + 1) (len + S - 1) S s (omega arith) in
       omega arith
+
+  -- the data fragments counted through the blob: byte i stands in the (i / w)-th
+  counted : (i : ℕ) → i / w ≡ stripe_of code w i * data_count code + fragment_of code w i
+  counted i =
+      let j = stripe_of code w i in
+      let f = fragment_of code w i in
+      ap (λ n. n / w) (sym (byte_back i) ∙ through code w j f (place_of w i))
+      ∙ div-mul-add (data_count code * j + f) w (place_of w i) (place_inside i)
+      ∙ ap (λ n. n + f) (mul_comm (data_count code) j)
+
+  pub stripe_by_count : (i : ℕ) → stripe_of code w i ≡ (i / w) / data_count code
+  stripe_by_count i =
+      sym (ap (λ n. n / data_count code) (counted i) ∙ div-mul-add (stripe_of code w i) (data_count code) (fragment_of code w i) (fragment_inside i))
+
+  pub fragment_by_count : (i : ℕ) → fragment_of code w i ≡ (i / w) % data_count code
+  fragment_by_count i = sym (rest_of (i / w) (data_count code) (stripe_of code w i) (fragment_of code w i) (counted i) (sym (stripe_by_count i)))
+
+  -- the k-th of them stands in a stripe of the blob, where it begins below the blob's end
+  pub stripe_below : (k len : ℕ) → k * w < len → k / data_count code < stripe_count code w len
+  stripe_below k len below =
+      let whole : (k * w) / w ≡ k = ap (λ n. n / w) (let e : k * w ≡ k * w + 0 = omega arith in e) ∙ div-mul-add k w 0 some in
+      subst (λ n. n < stripe_count code w len) (stripe_by_count (k * w) ∙ ap (λ n. n / data_count code) whole) (stripe_inside (k * w) len below)

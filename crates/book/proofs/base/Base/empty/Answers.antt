@@ -1,0 +1,8 @@
+use Rattle.std.proofs.Common.{◌≡◌, ◌≤◌, List, map, sym, subst, arith}
+use Rattle.book.specs.declared.base.Outline.{Outline}
+use Rattle.book.specs.Base.{IsRising}
+use Rattle.book.proofs.Beginnings.{none_rise}
+use Rattle.book.proofs.base.Base.empty.Goals as goal
+
+pub invariant_of-result : goal.invariant_of-result
+invariant_of-result c = rw c.new.ensures.items (omega arith, none_rise)

@@ -1,0 +1,30 @@
+use Rattle.std.proofs.Common.{◌≡◌, ◌≤◌, sym, ap, ◌∙◌, List, ℕ, ◌+◌, refl, Option, [], arith, length}
+use Rattle.std.specs.Prelude.{count_by}
+use Rattle.std.proofs.lemmas.List.Sums.{count_by-le-length}
+use Rattle.book.specs.Names.{name_cmp}
+use Rattle.book.specs.Notes.{is_put}
+use Rattle.book.specs.Base.{Checkpoint}
+use Rattle.book.specs.Contents.{Contents, sealed_at}
+use Rattle.book.proofs.Catalogue.{lookup-map, option_map_put}
+use Rattle.book.proofs.Storing.{carries_put}
+use Rattle.book.proofs.book.Book.put.Goals as goal
+
+pub overflow_add-version : goal.overflow_add-version
+overflow_add-version c =
+    let few : count_by is_put c.self.inside.journal.entries.items ≤ length c.self.inside.journal.entries.items = count_by-le-length is_put c.self.inside.journal.entries.items in
+    omega (arith, c.self.invariant, few, c.self.inside.journal.fits, c.self.inside.journal.small)
+
+pub returns-clause-ok : goal.returns-clause-ok
+returns-clause-ok c b stands =
+    let entries : c.self.inside.journal.entries.items ≡ c.args.self.now.entries = ap (λ (s : Contents). s.entries) c.self.view_is in
+    let counted : count_by is_put c.self.inside.journal.entries.items ≡ count_by is_put c.args.self.now.entries = ap (count_by is_put) entries in
+    let base : c.self.inside.base ≡ c.args.self.now.base = ap (λ (s : Contents). s.base) c.self.view_is in
+    let puts : c.self.inside.base.puts ≡ c.args.self.now.base.puts = ap (λ (b : Checkpoint). b.puts) base in
+    carries_put c.args.self.now _ c.args.who c.args.name c.args.sealed b (c.self.inside.puts + 1) c.requires.width stands
+    (omega (arith, c.self.invariant.0))
+    (ap (λ (s : Contents). s.width) c.self.view_is)
+    base
+    (cc)
+    (λ q. lookup-map (λ a. a.value) _ c.insert.new.self.entries
+    ∙ option_map_put (λ a. a.value) _ c.in-Ok.sealed _ _ _ _ (c.in-Ok-insert.ensures.updates.0 q) (c.in-Ok.ensures.ok ∙ c.with_version.ensures)
+      (sym (lookup-map (λ a. a.value) _ c.self.inside.catalogue.entries) ∙ ap (λ (s : Contents). sealed_at s q) c.self.view_is))

@@ -1,0 +1,17 @@
+use Rattle.std.proofs.Common.{◌≡◌, sym, ap, ◌∙◌, List, ℕ, refl, subst, Option, []}
+use Rattle.sealed.specs.declared.value.Sealed.{Sealed}
+use Rattle.book.specs.Asked.{IsReadAnswer}
+use Rattle.book.specs.Contents.{Contents, sealed_at}
+use Rattle.book.proofs.Reading.{carries_read}
+use Rattle.book.proofs.book.Book.read.Goals as goal
+
+pub returns-clause-ok : goal.returns-clause-ok
+returns-clause-ok c =
+    let P : Option Sealed → Type 0 = λ found. IsReadAnswer found c.args.start c.args.len c.in-Ok.answer in
+    let entries : c.self.inside.journal.entries.items ≡ c.args.self.now.entries = ap (λ (s : Contents). s.entries) c.self.view_is in
+    carries_read c.args.self.now _ c.args.who c.args.name c.args.start c.args.len c.in-Ok.answer
+    (subst P c.find.ensures c.in-Ok.ensures.ok)
+    (ap (λ (s : Contents). s.width) c.self.view_is)
+    (ap (λ (s : Contents). s.base) c.self.view_is)
+    (ap (λ (s : Contents). s.catalogue) c.self.view_is)
+    (cc)

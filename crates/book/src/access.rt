@@ -1,0 +1,78 @@
+//! A new book, and what it shows.
+ghost use Rattle.std.specs.Prelude.{◌≡◌, ◌≤◌, ◌↔◌, [], length, IsTrue, IfOk, IfErr};
+ghost use Rattle.std.specs.Option.{option_map};
+ghost use Rattle.book.specs.Base.{empty_base};
+ghost use Rattle.book.specs.Contents.{sealed_at};
+ghost use Rattle.book.specs.Tells.{Tells};
+
+use crate::book::Book;
+use crate::journal::Journal;
+use crate::{Base, Entry, Fault, Limit, Name};
+use sealed::{Sealed, Width};
+use std::alloc::Global;
+use std::collections::BTreeMap;
+use std::sync::Arc;
+
+impl Book {
+    /// An empty book. It makes the room for as many entries as the limit, so that no later call asks for memory to note itself.
+    ///
+    /// `NoMemory` where that room is refused.
+    pub fn new(alloc: Global, width: Width, limit: Limit) -> Result<Book, Fault>
+        ensures ok { IfOk result (λ b. b ≡ record { width = width; limit = limit; base = empty_base; entries = []; catalogue = [] }) }
+        ensures told { IfOk result (λ b. Tells b []) }
+        ensures err { IfErr result (λ e. e ≡ Fault.NoMemory) }
+    {
+        let Ok(journal) = Journal::new(alloc, limit) else {
+            return Err(Fault::NoMemory);
+        };
+        Ok(Book {
+            catalogue: BTreeMap::new(alloc),
+            base: Base::empty(alloc),
+            journal,
+            width,
+            puts: 0,
+        })
+    }
+
+    /// Whether the journal holds as many entries as its limit.
+    pub fn is_full(&self) -> bool
+        ensures { IsTrue result ↔ (length self.now.entries ≡ self.now.limit) }
+    {
+        self.journal.is_full()
+    }
+
+    /// The sealed blob of a name, or None where there is none.
+    pub fn find(&self, name: &Name) -> Option<&Arc<Sealed>>
+        ensures { option_map (λ a. a.now.value) result ≡ sealed_at self.now name.now }
+    {
+        self.catalogue.get(name)
+    }
+
+    /// The calls that were made since the base, in order.
+    pub fn entries(&self) -> &[Entry]
+        ensures { result.now ≡ self.now.entries }
+    {
+        &self.journal.entries
+    }
+
+    /// What is kept of the calls that were given up.
+    pub fn base(&self) -> &Base
+        ensures { result.now ≡ self.now.base }
+    {
+        &self.base
+    }
+
+    /// The width of all its blobs.
+    pub fn width(&self) -> Width
+        ensures { result ≡ self.now.width }
+    {
+        self.width
+    }
+
+    /// How many entries its journal may hold.
+    pub fn limit(&self) -> Limit
+        ensures { result ≡ self.now.limit }
+    {
+        self.journal.limit
+    }
+}

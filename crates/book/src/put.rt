@@ -1,0 +1,59 @@
+//! Storing.
+ghost use Rattle.std.specs.Prelude.{◌≡◌, ◌⊎◌, ◌↔◌, ◌+◌, List, ℕ, length, count_by, IfOk, IfErr, OnErr};
+ghost use Rattle.sealed.specs.Blob.{nothing};
+ghost use Rattle.sealed.specs.Sealed.{StandsFor};
+ghost use Rattle.book.specs.Notes.{is_put};
+ghost use Rattle.book.specs.Step.{put as put_of};
+ghost use Rattle.book.specs.Tells.{CarriesOn};
+
+use crate::book::Book;
+use crate::{Answer, Call, Entry, Fault, Name, Note};
+use sealed::Sealed;
+use std::alloc::Global;
+use std::sync::Arc;
+
+impl Book {
+    /// Stores a sealed blob under a name, in place of the one that the name had. The answer is `Stored`, with the number of this put.
+    ///
+    /// `JournalFull` where the journal holds as many entries as its limit, and then nothing was asked of memory; else `NoMemory` where memory is
+    /// refused. After either the book is as it was.
+    pub fn put(
+        &mut self,
+        alloc: Global,
+        who: u32,
+        name: Name,
+        sealed: Sealed,
+    ) -> Result<Answer, Fault>
+        requires width { sealed.width ≡ self.old.width }
+        requires stands { (b : List ℕ) × StandsFor sealed b nothing }
+        ensures ok { IfOk result (λ a. (b : List ℕ) → StandsFor sealed b nothing → CarriesOn self.old self.new who (put_of name sealed.code b) a) }
+        ensures answer { IfOk result (λ a. a ≡ Answer.Stored (self.old.base.puts + count_by is_put self.old.entries + 1)) }
+        ensures full { (result ≡ Err Fault.JournalFull) ↔ (length self.old.entries ≡ self.old.limit) }
+        ensures kept { (self.new.width ≡ self.old.width) × (self.new.limit ≡ self.old.limit) }
+        ensures faults { IfErr result (λ e. (e ≡ Fault.NoMemory) ⊎ (e ≡ Fault.JournalFull)) }
+        ensures err { OnErr result (self.new ≡ self.old) }
+    {
+        if self.is_full() {
+            return Err(Fault::JournalFull);
+        }
+        let version = self.puts + 1;
+        let code = sealed.code;
+        let len = sealed.len;
+        let Ok(sealed) = Arc::new(alloc, sealed.with_version(version)) else {
+            return Err(Fault::NoMemory);
+        };
+        let noted = name.duplicate();
+        let Ok(_) = self.catalogue.insert(name, sealed) else {
+            return Err(Fault::NoMemory);
+        };
+        self.puts = version;
+        let call = Call::Put {
+            name: noted,
+            code,
+            len,
+        };
+        let note = Note::Stored(version);
+        self.journal.push(Entry { who, call, note });
+        Ok(Answer::Stored(version))
+    }
+}

@@ -1,0 +1,61 @@
+//! Reading.
+ghost use Rattle.std.specs.Prelude.{◌≡◌, ◌⊎◌, IfErr, ◌↔◌, length, IfOk, OnErr};
+ghost use Rattle.std.specs.Option.{option_map};
+ghost use Rattle.book.specs.Asked.{IsReadAnswer, IsGrantable};
+ghost use Rattle.book.specs.Contents.{sealed_at};
+ghost use Rattle.book.specs.Step.{read as read_of};
+ghost use Rattle.book.specs.Tells.{CarriesOn};
+
+use crate::book::Book;
+use crate::{Answer, Call, Entry, Fault, Name};
+use lent::{Asked, Grant};
+use sealed::Sealed;
+use std::alloc::AllocError;
+use std::sync::Arc;
+
+impl Book {
+    /// Grants `len` bytes of the blob of a name, from the byte `start` on.
+    ///
+    /// The answer is `NoName` where the name has no blob; else `OutOfRange` where the range does not lie inside the blob; else `Unrecoverable`,
+    /// with the version, where some byte of it stands in a fragment that can't be told from those left; else `Granted`.
+    ///
+    /// `JournalFull` where the journal holds as many entries as its limit; `NoMemory` only in place of `Granted`, where one more owner of the
+    /// blob was refused. After either the book is as it was.
+    pub fn read(&mut self, who: u32, name: Name, start: u64, len: u64) -> Result<Answer, Fault>
+        ensures ok { IfOk result (CarriesOn self.old self.new who (read_of name start len)) }
+        ensures answer { IfOk result (IsReadAnswer (sealed_at self.old name) start len) }
+        ensures full { (result ≡ Err Fault.JournalFull) ↔ (length self.old.entries ≡ self.old.limit) }
+        ensures no_memory { result ≡ Err Fault.NoMemory → IsGrantable (sealed_at self.old name) start len }
+        ensures kept { (self.new.width ≡ self.old.width) × (self.new.limit ≡ self.old.limit) }
+        ensures faults { IfErr result (λ e. (e ≡ Fault.NoMemory) ⊎ (e ≡ Fault.JournalFull)) }
+        ensures err { OnErr result (self.new ≡ self.old) }
+    {
+        if self.is_full() {
+            return Err(Fault::JournalFull);
+        }
+        let answer = match answer_read(self.find(&name), start, len) {
+            Ok(answer) => answer,
+            Err(_) => return Err(Fault::NoMemory),
+        };
+        let note = answer.note();
+        let call = Call::Read { name, start, len };
+        self.journal.push(Entry { who, call, note });
+        Ok(answer)
+    }
+}
+
+/// The answer to a read, by what the name has.
+fn answer_read(found: Option<&Arc<Sealed>>, start: u64, len: u64) -> Result<Answer, AllocError>
+    ensures ok { IfOk result (IsReadAnswer (option_map (λ a. a.now.value) found.entry) start len) }
+    ensures err { OnErr result (IsGrantable (option_map (λ a. a.now.value) found.entry) start len) }
+{
+    let Some(sealed) = found else {
+        return Ok(Answer::NoName);
+    };
+    match Grant::ask(sealed, start, len) {
+        Ok(Asked::Granted(grant)) => Ok(Answer::Granted(grant)),
+        Ok(Asked::OutOfRange) => Ok(Answer::OutOfRange),
+        Ok(Asked::Unrecoverable) => Ok(Answer::Unrecoverable(sealed.version)),
+        Err(error) => Err(error),
+    }
+}

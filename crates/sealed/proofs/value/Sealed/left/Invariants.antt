@@ -1,0 +1,10 @@
+use Rattle.std.proofs.Common.{◌≡◌, ◌<◌, ℕ, length, None, get_or}
+use Rattle.std.specs.Option.{option_map}
+use Rattle.sealed.specs.Stripes.{fragment_at}
+use Rattle.sealed.proofs.value.Sealed.left.Given as goal
+
+abbrev pub invariant-loop-f : goal.invariant-loop-f
+invariant-loop-f l = record {
+  sixteen : length l.fragments ≡ 16;
+  seen : (g : ℕ) → g < l.f → option_map (λ x. x.now) (get_or l.fragments g None) ≡ fragment_at l.self.stripes l.stripe g;
+}
