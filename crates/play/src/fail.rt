@@ -21,6 +21,9 @@ pub enum Fail {
 }
 
 impl Fail {
+    ghost use Rattle.std.specs.Prelude.{◌≡◌, ◌↔◌};
+    ghost use Rattle.play.specs.Fails.{IsWantOfMemory};
+
     /// The exit status that the program ends with: 3 for want of memory, else 1.
     pub fn status(&self) -> u8
         ensures { (result ≡ 3) ↔ IsWantOfMemory self.now }

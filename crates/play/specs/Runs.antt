@@ -1,0 +1,23 @@
+-- Runs of scripts over a book.
+use Rattle.std.specs.Prelude.{◌≡◌, ◌⊎◌}
+use Rattle.sealed.specs.declared.fault.Fault.{Fault}
+use Rattle.sealed.specs.declared.fault.Fault.TheVariants.{NoMemory, JournalFull, TooLong}
+use Rattle.script.specs.declared.rows.Ask.{Ask}
+use Rattle.script.specs.declared.rows.Ask.TheVariants.{Put, Read}
+use Rattle.book.specs.Step.{Operation, put, read}
+use Rattle.book.specs.Contents.{Contents}
+use Rattle.book.specs.History.{History}
+use Rattle.book.specs.Tells.{Tells}
+
+-- the operation that a row asks for
+abbrev pub operation_of : Ask → Operation
+operation_of (Put name code bytes) = put name code bytes
+operation_of (Read name start len) = read name start len
+
+-- a call that was not made wanted for memory, or found the journal full, or had too long a blob
+abbrev pub IsCallFault : Fault → Type 0
+IsCallFault fault = (fault ≡ NoMemory) ⊎ (fault ≡ JournalFull) ⊎ (fault ≡ TooLong)
+
+-- the book tells some history
+abbrev pub TellsSome : Contents → Type 0
+TellsSome book = (h : History) × Tells book h

@@ -1,0 +1,76 @@
+//! The rows of a script, made one after the other.
+ghost use Rattle.std.specs.Prelude.{◌≡◌, ◌⊎◌, length, IfOk, IfErr, OnOk, OnErr, ForErr};
+ghost use Rattle.book.specs.Tells.{CarriesOn};
+ghost use Rattle.play.specs.Runs.{IsCallFault, TellsSome, operation_of};
+
+use crate::fail::Fail;
+use book::{Answer, Book};
+use script::{Ask, Row, Task};
+use sealed::{Fault, seal_as};
+use std::alloc::Global;
+
+/// What became of a row's call.
+#[derive(Drop)]
+pub(crate) enum Outcome {
+    /// It was made, and this is the answer.
+    Answered(Answer),
+    /// The journal was full.
+    Full,
+    /// The blob would have had too many stripes.
+    TooLong,
+}
+
+/// Makes one call on the book. A put is sealed first, with the book's width.
+fn make(alloc: Global, book: &mut Book, who: u32, ask: Ask) -> Result<Answer, Fault>
+    ensures ok { IfOk result (CarriesOn book.old book.new who (operation_of ask)) }
+    ensures kept { (book.new.width ≡ book.old.width) × (book.new.base ≡ book.old.base) }
+    ensures faults { IfErr result IsCallFault }
+    ensures err { OnErr result (book.new ≡ book.old) }
+{
+    match ask {
+        Ask::Put { name, code, bytes } => match seal_as(alloc, bytes, book.width(), code) {
+            Ok(sealed) => book.put(alloc, who, name, sealed),
+            Err(fault) => Err(fault),
+        },
+        Ask::Read { name, start, len } => book.read(who, name, start, len),
+    }
+}
+
+/// What became of a call, unless it wanted for memory.
+fn outcome(answer: Result<Answer, Fault>) -> Result<Outcome, Fail>
+    requires { ForErr answer IsCallFault }
+    ensures { IfErr result (λ fail. fail ≡ Fail.Memory) }
+{
+    match answer {
+        Ok(answer) => Ok(Outcome::Answered(answer)),
+        Err(Fault::JournalFull) => Ok(Outcome::Full),
+        Err(Fault::TooLong) => Ok(Outcome::TooLong),
+        Err(Fault::NoMemory) => Err(Fail::Memory),
+        Err(_) => unreachable!(),
+    }
+}
+
+/// Makes the rows in order, each under the label of its worker.
+pub(crate) fn run_rows(
+    alloc: Global,
+    book: &mut Book,
+    rows: Vec<Row>,
+) -> Result<Vec<Outcome>, Fail>
+    requires { TellsSome book.old }
+    ensures told { TellsSome book.new }
+    ensures kept { (book.new.width ≡ book.old.width) × (book.new.base ≡ book.old.base) }
+    ensures each { IfOk result (λ outcomes. length outcomes.items ≡ length rows.items) }
+    ensures fails { IfErr result (λ fail. fail ≡ Fail.Memory) }
+{
+    let Ok(mut outcomes) = Vec::with_capacity(alloc, rows.len()) else {
+        return Err(Fail::Memory);
+    };
+    for row in rows {
+        let Task::Make(ask) = row.task;
+        match outcome(make(alloc, book, row.worker, ask)) {
+            Ok(outcome) => outcomes.push_reserved(outcome),
+            Err(fail) => return Err(fail),
+        }
+    }
+    Ok(outcomes)
+}

@@ -1,0 +1,88 @@
+//! A run of a script, from its bytes to the printed bytes.
+ghost use Rattle.std.specs.Prelude.{◌≡◌, ◌≢◌, ℕ, List, length, IfOk, IfErr, IfSome, OnOk, string_bytes};
+ghost use Rattle.std.specs.Io.KnownBytes.{Appends, Keeps};
+ghost use Rattle.play.specs.Fails.{IsAccepted, Tells};
+ghost use Rattle.play.specs.Output.{IsOutput};
+
+use crate::fail::Fail;
+use crate::output::print;
+use crate::rows::run_rows;
+use book::{Book, Limit};
+use command_line::Options;
+use script::{Row, script};
+use sealed::{Fault, Width};
+use std::alloc::Global;
+use std::io;
+use std::io::{Read, Write};
+
+/// The width of the program's store.
+const WIDTH: u32 = 1;
+
+/// The most entries of the program's journal.
+const LIMIT: u32 = 4096;
+
+/// All bytes that a reader has.
+fn read_all<R: Read + Drop>(alloc: Global, mut input: R) -> Result<Vec<u8>, Fail>
+    ensures bytes { IfOk result (λ text. IfSome (R.remaining input) (λ xs. text.items ≡ xs)) }
+    ensures fails { IfErr result (λ e. (workers : ℕ) (text : List ℕ) → Tells workers text e) }
+{
+    let mut text = Vec::new(alloc);
+    match input.read_to_end(&mut text) {
+        Ok(_) => Ok(text),
+        Err(error) if error.kind() == io::ErrorKind::OutOfMemory => Err(Fail::Memory),
+        Err(_) => Err(Fail::Read),
+    }
+}
+
+/// Runs the rows over a book of their own, and gives the text to be printed.
+fn run(alloc: Global, rows: Vec<Row>) -> Result<String, Fail>
+    ensures text { IfOk result (λ printed. IsOutput (string_bytes printed)) }
+    ensures fails { IfErr result (λ fail. fail ≡ Fail.Memory) }
+{
+    let (Some(width), Some(limit)) = (Width::new(WIDTH), Limit::new(LIMIT)) else {
+        unreachable!()
+    };
+    let mut book = match Book::new(alloc, width, limit) {
+        Ok(book) => book,
+        Err(_) => return Err(Fail::Memory),
+    };
+    let outcomes = run_rows(alloc, &mut book, rows)?;
+    match print(alloc, outcomes, &book) {
+        Ok(text) => Ok(text),
+        Err(_) => Err(Fail::Memory),
+    }
+}
+
+/// Reads a script to its end, checks all of it, makes its rows one after the other on the calling thread, and writes the output at the end.
+///
+/// The output is a line for each row, with its number and its reply, then the number of the journal's entries, and whether they are lawful: they
+/// are. `Fail::Script` where a row is refused, and then nothing ran; `Fail::Read` or `Fail::Write` where the reader or the writer failed;
+/// `Fail::Memory` where a request for memory was refused. Nothing is written but on `Ok` and `Fail::Write`.
+pub fn play<R: Read + Drop, W: Write>(
+    alloc: Global,
+    options: &Options,
+    input: R,
+    output: &mut W,
+) -> Result<(), Fail>
+    ensures done { OnOk result ((text : List ℕ) × IsOutput text × Appends (W.contents output.old) (W.contents output.new) text) }
+    ensures accepted { OnOk result (IfSome (R.remaining input) (IsAccepted options.now.workers)) }
+    ensures nothing { IfErr result (λ e. e ≢ Fail.Write → Keeps (W.contents output.old) (W.contents output.new)) }
+    ensures refused { IfErr result (λ e. IfSome (R.remaining input) (λ text. Tells options.now.workers text e)) }
+{
+    let text = match read_all(alloc, input) {
+        Ok(text) => text,
+        Err(fail) => return Err(fail),
+    };
+    let rows = match script(alloc, text.as_slice(), options.workers) {
+        Ok(rows) => rows,
+        Err(error) => return Err(Fail::Script(error)),
+    };
+    let printed = match run(alloc, rows) {
+        Ok(printed) => printed,
+        Err(fail) => return Err(fail),
+    };
+    match output.write_all(printed.as_bytes()) {
+        Ok(()) => Ok(()),
+        Err(_) => Err(Fail::Write),
+    }
+}
