@@ -18,5 +18,5 @@ pub mod Stripes
 pub mod Elimination
 pub mod Maximal
 pub mod Least
-pub mod Parities
 pub mod Columns
+pub mod Parities
