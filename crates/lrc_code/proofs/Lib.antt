@@ -20,3 +20,5 @@ pub mod Maximal
 pub mod Least
 pub mod Columns
 pub mod Parities
+pub mod WideParities
+pub mod BlocksLemmas

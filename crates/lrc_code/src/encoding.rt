@@ -3,10 +3,11 @@
 ghost use Rattle.lrc_code.specs.Code.{data_count};
 ghost use Rattle.std.specs.Prelude.{◌≡◌, ℕ, ◌<◌, ◌++◌, All, IfOk, EachIndex, length, map, slice_index, bit_xor};
 ghost use Rattle.lrc_code.specs.Column.{parity_of};
-ghost use Rattle.lrc_code.specs.Stripe.{IsStripe, list_at, bytes_at};
+ghost use Rattle.lrc_code.specs.Stripe.{AreParities, IsStripe, list_at, bytes_at};
 
 use crate::{Code, NoMemory};
 use crate::recipes::weight_of;
+use crate::wide::encode_into;
 use gf256::add_scaled;
 use std::alloc::Global;
 
@@ -56,7 +57,41 @@ fn all_fit(sources: &[&[u8]])
     }
 }
 
-/// The parities of data fragments of one length: with them they are a stripe.
+/// The parities in LRC(12,2,2), by the sums over the bits of the coefficients.
+fn encode_wide(alloc: Global, sources: &[&[u8]], w: usize) -> Result<[Vec<u8>; 4], NoMemory>
+    requires count { length sources.now ≡ 12 }
+    requires long { All (λ s. length s.now ≡ w) sources.now }
+    ensures long { IfOk result (λ parities. (e : ℕ) → e < 4 → length (list_at (map (λ v. v.items) parities) e) ≡ w) }
+    ensures are { IfOk result (λ parities. (k : ℕ) → k < w → AreParities Code.Wide (map (λ s. s.now) sources.now) (map (λ v. v.items) parities) k) }
+{
+    let mut first = vec![in alloc; 0; w]?;
+    let mut second = vec![in alloc; 0; w]?;
+    let mut third = vec![in alloc; 0; w]?;
+    let mut fourth = vec![in alloc; 0; w]?;
+    encode_into(sources, &mut first, &mut second, &mut third, &mut fourth);
+    Ok([first, second, third, fourth])
+}
+
+/// The parities in any code, each by its equation.
+fn encode_by_equations(
+    alloc: Global,
+    code: Code,
+    sources: &[&[u8]],
+    w: usize,
+) -> Result<[Vec<u8>; 4], NoMemory>
+    requires count { length sources.now ≡ data_count code }
+    requires long { All (λ s. length s.now ≡ w) sources.now }
+    ensures long { IfOk result (λ parities. (e : ℕ) → e < 4 → length (list_at (map (λ v. v.items) parities) e) ≡ w) }
+    ensures are { IfOk result (λ parities. (k : ℕ) → k < w → AreParities code (map (λ s. s.now) sources.now) (map (λ v. v.items) parities) k) }
+{
+    let first = parity(alloc, code, 0, sources, w)?;
+    let second = parity(alloc, code, 1, sources, w)?;
+    let third = parity(alloc, code, 2, sources, w)?;
+    let fourth = parity(alloc, code, 3, sources, w)?;
+    Ok([first, second, third, fourth])
+}
+
+/// The parities of a code's data fragments, which have `w` bytes each: with them they are a stripe.
 pub fn encode_in(
     alloc: Global,
     code: Code,
@@ -68,11 +103,10 @@ pub fn encode_in(
     ensures { IfOk result (λ parities. IsStripe code w (list_at (map (λ s. s.now) sources.now ++ map (λ v. v.items) parities))) }
 {
     all_fit(sources);
-    let first = parity(alloc, code, 0, sources, w)?;
-    let second = parity(alloc, code, 1, sources, w)?;
-    let third = parity(alloc, code, 2, sources, w)?;
-    let fourth = parity(alloc, code, 3, sources, w)?;
-    Ok([first, second, third, fourth])
+    match code {
+        Code::Wide => encode_wide(alloc, sources, w),
+        Code::Small => encode_by_equations(alloc, code, sources, w),
+    }
 }
 
 /// Fragments 12 to 15 of LRC(12,2,2).
