@@ -12,7 +12,7 @@ pub mod Solved
 pub mod Recoverable
 pub mod Sets
 pub mod Ways
-pub mod RowParts
+pub mod RowTerms
 pub mod Local
 pub mod Stripes
 pub mod Elimination
