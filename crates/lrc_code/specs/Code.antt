@@ -17,8 +17,9 @@ pub record IsColumnOf (n : ℕ) (w : ℕ → ℕ → ℕ) (c : ℕ → ℕ) : Ty
   pub bytes : (i : ℕ) → i < n → c i < 256
   pub sums : (k : ℕ) → k < 4 → xor_sum n (λ i. product (w k i) (c i)) ≡ 0
 
--- two columns agree at every fragment that is left, and differ at f
+-- two columns agree at every fragment that is left, and differ at the fragment f
 pub record OpenBy (n : ℕ) (w : ℕ → ℕ → ℕ) (lost : ℕ → Bool) (f : ℕ) : Type 0 where
+  pub inside : f < n
   pub one : ℕ → ℕ
   pub other : ℕ → ℕ
   pub one_is : IsColumnOf n w one
