@@ -84,9 +84,6 @@ div_mono : (w a b : ℕ) → 1 ≤ w → a ≤ b → a / w ≤ b / w
 div_mono w a b some le = let under : a / w * w ≤ a = div-mul-le_self a w in le-div (a / w) b w some (omega arith)
 
 module _ (k : Kept) (w start len : ℕ) (some : 1 ≤ w) (bytes : 0 < len) where
-  d : ℕ
-  d = data_count k.code
-
   meets : (n : ℕ) → start / w ≤ n → n ≤ (start + len - 1) / w → Meets w start len n
   meets n low high = record { first = low; last = grind arith }
 

@@ -11,6 +11,7 @@ use Rattle.sealed.specs.Blob.{pair_cmp}
 use Rattle.book.specs.Names.{name_cmp}
 use Rattle.book.specs.Views.{View, Views}
 use Rattle.book.specs.declared.kept.Kept.{Kept}
+use Rattle.book.specs.declared.replay.Replay.{Replay}
 
 abbrev pub lost_of : Kept → ℕ → ℕ → Bool
 lost_of k j f = tree.contains pair_cmp k.lost (j, f)
@@ -25,3 +26,6 @@ is_open_between k first last pair =
     nat_lt pair.1 (data_count k.code)
     && (nat_le first (data_count k.code * pair.0 + pair.1) && nat_le (data_count k.code * pair.0 + pair.1) last)
     && open_test k.code (lost_of k pair.0) pair.1
+
+abbrev pub views_of : Replay → Views
+views_of r = record { names = λ n. option_map seen_as (lookup (is_at (name_cmp n)) r.names.entries); puts = r.puts }

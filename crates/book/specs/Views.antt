@@ -1,5 +1,5 @@
 -- What replies depend on: of a blob all but its bytes. With it the reply is computed, and so is what it depends on afterwards.
-use Rattle.std.specs.Prelude.{ℕ, zero, suc, ◌+◌, ◌-◌, Bool, true, false, not, ◌&&◌, ◌||◌, List, Option, None, Some, cond, length, nat_le}
+use Rattle.std.specs.Prelude.{◌≡◌, ℕ, zero, suc, ◌+◌, ◌-◌, Bool, true, false, not, ◌&&◌, ◌||◌, List, [], ◌∷◌, Option, None, Some, cond, length, replicate, nat_le}
 use Rattle.std.specs.Option.{option_map}
 use Rattle.std.specs.FinMap as finite
 use Rattle.std.specs.FinSet as set
@@ -13,6 +13,9 @@ use Rattle.lent.specs.Range.{is_outside}
 use Rattle.book.specs.Names.{name_cmp}
 use Rattle.book.specs.State.{State, Blob}
 use Rattle.book.specs.Step.{Operation, put, read, lose, repair, delete, stat}
+use Rattle.book.specs.declared.note.Call.{Call}
+use Rattle.book.specs.declared.note.Call.TheVariants.{Put, Read, Lose, Repair, Delete, Stat}
+use Rattle.book.specs.declared.note.Entry.{Entry}
 use Rattle.book.specs.declared.note.Note.{Note}
 use Rattle.book.specs.declared.note.Note.TheVariants as note
 
@@ -103,3 +106,25 @@ view_after v operation m = v
 -- no name, and no put so far
 abbrev pub empty_views : Views
 empty_views = record { names = λ n. None; puts = 0 }
+
+-- ---- entries
+-- the operation of a call: a put has zero bytes, since no reply depends on bytes
+abbrev pub operation_of : Call → Operation
+operation_of (Put n code len) = put n code (replicate len 0)
+operation_of (Read n start len) = read n start len
+operation_of (Lose n j f) = lose n j f
+operation_of (Repair n j f) = repair n j f
+operation_of (Delete n) = delete n
+operation_of (Stat n) = stat n
+
+-- the entry's note is the reply to its call
+abbrev pub IsNoted : ℕ → Views → Entry → Type 0
+IsNoted w v e = CanPut w (operation_of e.call) × (e.note ≡ reply w v (operation_of e.call))
+
+abbrev pub next : Views → Entry → Views
+next v e = view_after v (operation_of e.call) e.note
+
+-- one after the other
+abbrev pub AreNoted : ℕ → Views → List Entry → Type 0
+AreNoted w v [] = Unit {0}
+AreNoted w v (e ∷ es) = IsNoted w v e × AreNoted w (next v e) es

@@ -1,0 +1,128 @@
+//! The object of one thread without its bytes: what it replies to each call, and what is kept after it.
+ghost use Rattle.std.specs.Prelude.{◌≡◌, ◌≤◌, ◌+◌, ◌↔◌, IsTrue};
+ghost use Rattle.std.specs.Option.{option_map};
+ghost use Rattle.sealed.specs.Layout.{stripe_count};
+ghost use Rattle.book.specs.Kept.{seen_as, views_of};
+ghost use Rattle.book.specs.Views.{read_reply, lose_reply, repair_reply, delete_reply, stat_reply, empty_views, IsNoted};
+
+use crate::kept::{Kept, count_stripes};
+use crate::{Call, Entry, Name, Note};
+use lrc_code::Code;
+use sealed::Width;
+use std::alloc::Global;
+use std::collections::BTreeMap;
+
+/// The names with what is kept of their blobs, and how many puts there were.
+#[derive(Drop)]
+pub struct Replay {
+    pub names: BTreeMap<Name, Kept>,
+    pub puts: u64,
+    pub width: Width,
+}
+
+impl Replay {
+    /// No name, and no put so far.
+    pub fn new(alloc: Global, width: Width) -> Replay
+        ensures views { views_of result ≡ empty_views }
+        ensures width { result.width ≡ width }
+    {
+        Replay {
+            names: BTreeMap::new(alloc),
+            puts: 0,
+            width,
+        }
+    }
+
+    /// Whether the note of an entry is the reply to its call.
+    pub fn expects(&self, entry: &Entry) -> bool
+        ensures { IsTrue result ↔ IsNoted self.now.width (views_of self.now) entry.now }
+    {
+        match &entry.call {
+            Call::Put { code, len, .. } => self.expects_put(*code, *len, entry.note),
+            Call::Read { name, start, len } => entry.note == self.read(name, *start, *len),
+            Call::Lose {
+                name,
+                stripe,
+                fragment,
+            } => entry.note == self.lose(name, *stripe, *fragment),
+            Call::Repair {
+                name,
+                stripe,
+                fragment,
+            } => entry.note == self.repair(name, *stripe, *fragment),
+            Call::Delete { name } => entry.note == self.delete(name),
+            Call::Stat { name } => entry.note == self.stat(name),
+        }
+    }
+
+    /// Whether so many bytes can be put, and the note is the reply.
+    fn expects_put(&self, code: Code, len: u64, note: Note) -> bool
+        ensures { IsTrue result ↔ ((stripe_count code self.now.width len ≤ 4096) × (note ≡ Note.Stored (self.now.puts + 1))) }
+    {
+        match note {
+            Note::Stored(version) => {
+                version > 0
+                    && version - 1 == self.puts
+                    && count_stripes(code, self.width, len) <= 4096
+            }
+            _ => false,
+        }
+    }
+
+    /// What is kept of a name's blob.
+    fn find(&self, name: &Name) -> Option<&Kept>
+        ensures { option_map (λ k. seen_as k.now) result ≡ (views_of self.now).names name.now }
+    {
+        self.names.get(name)
+    }
+
+    /// The reply to a read.
+    fn read(&self, name: &Name, start: u64, len: u64) -> Note
+        ensures { result ≡ read_reply self.now.width ((views_of self.now).names name.now) start len }
+    {
+        match self.find(name) {
+            Some(kept) => kept.read(self.width, start, len),
+            None => Note::NoName,
+        }
+    }
+
+    /// The reply to a loss.
+    fn lose(&self, name: &Name, stripe: u64, fragment: u64) -> Note
+        ensures { result ≡ lose_reply self.now.width ((views_of self.now).names name.now) stripe fragment }
+    {
+        match self.find(name) {
+            Some(kept) => kept.lose(self.width, stripe, fragment),
+            None => Note::NoName,
+        }
+    }
+
+    /// The reply to a repair.
+    fn repair(&self, name: &Name, stripe: u64, fragment: u64) -> Note
+        ensures { result ≡ repair_reply self.now.width ((views_of self.now).names name.now) stripe fragment }
+    {
+        match self.find(name) {
+            Some(kept) => kept.repair(self.width, stripe, fragment),
+            None => Note::NoName,
+        }
+    }
+
+    /// The reply to a deletion.
+    fn delete(&self, name: &Name) -> Note
+        ensures { result ≡ delete_reply self.now.width ((views_of self.now).names name.now) }
+    {
+        match self.find(name) {
+            Some(kept) => Note::Deleted(kept.version),
+            None => Note::NoName,
+        }
+    }
+
+    /// The reply to a question for a blob's shape.
+    fn stat(&self, name: &Name) -> Note
+        ensures { result ≡ stat_reply self.now.width ((views_of self.now).names name.now) }
+    {
+        match self.find(name) {
+            Some(kept) => kept.stat(self.width),
+            None => Note::NoName,
+        }
+    }
+}
