@@ -1,16 +1,17 @@
 //! The object of one thread without its bytes: what it replies to each call, and what is kept after it.
-ghost use Rattle.std.specs.Prelude.{◌≡◌, ◌≤◌, ◌+◌, ◌↔◌, IsTrue};
+ghost use Rattle.std.specs.Prelude.{◌≡◌, ◌≤◌, ◌+◌, ◌↔◌, ◌<◌, IsTrue, OnOk, replicate};
 ghost use Rattle.std.specs.Option.{option_map};
 ghost use Rattle.sealed.specs.Layout.{stripe_count};
 ghost use Rattle.book.specs.Kept.{seen_as, views_of};
-ghost use Rattle.book.specs.Views.{read_reply, lose_reply, repair_reply, delete_reply, stat_reply, empty_views, IsNoted};
+ghost use Rattle.book.specs.Views.{read_reply, lose_reply, repair_reply, delete_reply, stat_reply, empty_views, view_after, added, taken, changed, IsNoted};
+ghost use Rattle.book.specs.Step.{put};
 
 use crate::kept::{Kept, count_stripes};
 use crate::{Call, Entry, Name, Note};
 use lrc_code::Code;
 use sealed::Width;
-use std::alloc::Global;
-use std::collections::BTreeMap;
+use std::alloc::{AllocError, Global};
+use std::collections::{BTreeMap, BTreeSet};
 
 /// The names with what is kept of their blobs, and how many puts there were.
 #[derive(Drop)]
@@ -123,6 +124,50 @@ impl Replay {
         match self.find(name) {
             Some(kept) => kept.stat(self.width),
             None => Note::NoName,
+        }
+    }
+
+    /// The name has a new blob, under the next version.
+    fn apply_put(&mut self, alloc: Global, name: &Name, code: Code, len: u64) -> Result<(), AllocError>
+        requires { self.old.puts < 18446744073709551615 }
+        ensures views { OnOk result (views_of self.new ≡ view_after (views_of self.old) (put name.now code (replicate len 0)) (Note.Stored (self.old.puts + 1))) }
+        ensures width { self.new.width ≡ self.old.width }
+    {
+        let version = self.puts + 1;
+        let kept = Kept {
+            version,
+            len,
+            code,
+            lost: BTreeSet::new(alloc),
+        };
+        let Ok(_) = self.names.insert(name.duplicate(), kept) else {
+            return Err(AllocError);
+        };
+        self.puts = version;
+        Ok(())
+    }
+
+    /// A fragment of the name's blob is lost.
+    fn add_lost(&mut self, name: &Name, stripe: u64, f: u8) -> Result<(), AllocError>
+        ensures views { OnOk result (views_of self.new ≡ changed (views_of self.old) name.now ((views_of self.old).names name.now) (added stripe f)) }
+        ensures width { self.new.width ≡ self.old.width }
+    {
+        let Some(kept) = self.names.get_mut(name) else {
+            return Ok(());
+        };
+        let Ok(_) = kept.lost.insert((stripe, f)) else {
+            return Err(AllocError);
+        };
+        Ok(())
+    }
+
+    /// A fragment of the name's blob is there again.
+    fn take_lost(&mut self, name: &Name, stripe: u64, f: u8)
+        ensures views { views_of self.new ≡ changed (views_of self.old) name.now ((views_of self.old).names name.now) (taken stripe f) }
+        ensures width { self.new.width ≡ self.old.width }
+    {
+        if let Some(kept) = self.names.get_mut(name) {
+            kept.lost.remove(&(stripe, f));
         }
     }
 }
