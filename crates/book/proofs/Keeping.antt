@@ -133,5 +133,5 @@ module _ (k : Kept) (w start len : ℕ) (some : 1 ≤ w) (bytes : 0 < len) where
 
   pub open_between : list_any (is_open_between k (start / w) ((start + len - 1) / w)) k.lost.keys ≡ open_in_range k.code w (lost_of k) start len
   open_between =
-      let range = open_found k.code w (lost_of k) start len some in
+      let range = open_found k.code w (lost_of k) start len in
       same_truth _ _ (λ t. range.1 (has_one t)) (λ t. is_one (range.0 t))

@@ -13,9 +13,13 @@ use Rattle.std.proofs.lemmas.List.{length-replicate}
 use Rattle.lrc_code.specs.declared.Code.{Code}
 use Rattle.sealed.specs.Blob.{pair_cmp}
 use Rattle.book.specs.Names.{name_cmp}
-use Rattle.book.specs.Views.{View, Views, added, taken, changed, view_after}
+use Rattle.book.specs.Views.{View, Views, added, taken, changed, view_after, operation_of, next}
 use Rattle.book.specs.Kept.{lost_of, seen_as}
-use Rattle.book.specs.Step.{put}
+use Rattle.book.specs.Step.{Operation}
+use Rattle.book.specs.declared.note.Call.{Call}
+use Rattle.book.specs.declared.note.Call.TheVariants.{Delete}
+use Rattle.book.specs.declared.note.Entry.{Entry}
+use Rattle.book.specs.declared.note.Note.TheVariants as note
 use Rattle.book.specs.declared.kept.Kept.{Kept}
 use Rattle.book.specs.declared.note.Note.{Note}
 use Rattle.book.proofs.Catalogue.{option_map_put}
@@ -93,7 +97,10 @@ without_pair k s j f old updates is len =
     }
 
 -- a new blob has nothing lost
-pub fresh : (k : Kept) → k.lost.keys ≡ [] → seen_as k ≡ record { version = k.version; len = length (replicate {A = ℕ} k.len 0); code = k.code; lost = λ j f. false; count = 0 }
+abbrev pub fresh_of : Kept → View
+fresh_of k = record { version = k.version; len = length (replicate {A = ℕ} k.len 0); code = k.code; lost = λ j f. false; count = 0 }
+
+pub fresh : (k : Kept) → k.lost.keys ≡ [] → seen_as k ≡ fresh_of k
 fresh k none =
     λ i. record {
       version = k.version;
@@ -110,3 +117,10 @@ pub changed_at : (old new : List (List ℕ × Kept)) (puts : ℕ) (n : List ℕ)
 changed_at old new puts n k t change here updates same =
     subst (λ (found : Option View). record { names = seen_in new; puts = puts } ≡ changed (record { names = seen_in old; puts = puts }) n found change) (sym (ap (option_map seen_as) here))
     (λ i. record { names = λ q. shown old new n t (change (seen_as k)) updates same q i; puts = puts })
+
+-- the views after a name is gone
+pub deleted_at : (e : Entry) (v : Views) (n : List ℕ) (y : ℕ) (names : List ℕ → Option View) → e.call ≡ Delete n → e.note ≡ note.Deleted y
+    → ((q : List ℕ) → names q ≡ cond (eq_by_cmp name_cmp q n) None (v.names q)) → record { names = names; puts = v.puts } ≡ next v e
+deleted_at e v n y names call is gone =
+    let P : Operation → Note → Type 0 = λ o m. record { names = names; puts = v.puts } ≡ view_after v o m in
+    subst (λ (m : Note). P (operation_of e.call) m) (sym is) (subst (λ (k : Call). P (operation_of k) (note.Deleted y)) (sym call) (λ i. record { names = λ q. gone q i; puts = v.puts }))

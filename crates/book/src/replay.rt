@@ -1,9 +1,9 @@
 //! The object of one thread without its bytes: what it replies to each call, and what is kept after it.
-ghost use Rattle.std.specs.Prelude.{◌≡◌, ◌≤◌, ◌+◌, ◌↔◌, ◌<◌, IsTrue, OnOk, replicate};
+ghost use Rattle.std.specs.Prelude.{◌≡◌, ◌≤◌, ◌+◌, ◌↔◌, IsTrue, OnOk, replicate};
 ghost use Rattle.std.specs.Option.{option_map};
 ghost use Rattle.sealed.specs.Layout.{stripe_count};
 ghost use Rattle.book.specs.Kept.{seen_as, views_of};
-ghost use Rattle.book.specs.Views.{read_reply, lose_reply, repair_reply, delete_reply, stat_reply, empty_views, view_after, added, taken, changed, IsNoted};
+ghost use Rattle.book.specs.Views.{read_reply, lose_reply, repair_reply, delete_reply, stat_reply, empty_views, view_after, added, taken, changed, IsNoted, next};
 ghost use Rattle.book.specs.Step.{put};
 
 use crate::kept::{Kept, count_stripes};
@@ -127,13 +127,58 @@ impl Replay {
         }
     }
 
-    /// The name has a new blob, under the next version.
-    fn apply_put(&mut self, alloc: Global, name: &Name, code: Code, len: u64) -> Result<(), AllocError>
-        requires { self.old.puts < 18446744073709551615 }
-        ensures views { OnOk result (views_of self.new ≡ view_after (views_of self.old) (put name.now code (replicate len 0)) (Note.Stored (self.old.puts + 1))) }
+    /// Takes in an entry whose note is the reply to its call.
+    pub fn apply(&mut self, alloc: Global, entry: &Entry) -> Result<(), AllocError>
+        requires { IsNoted self.old.width (views_of self.old) entry.now }
+        ensures views { OnOk result (views_of self.new ≡ next (views_of self.old) entry.now) }
         ensures width { self.new.width ≡ self.old.width }
     {
-        let version = self.puts + 1;
+        match &entry.call {
+            Call::Put { name, code, len } => match entry.note {
+                Note::Stored(version) => self.apply_put(alloc, name, *code, *len, version),
+                _ => Ok(()),
+            },
+            Call::Lose {
+                name,
+                stripe,
+                fragment,
+            } => match entry.note {
+                Note::Lost(_) => self.add_lost(name, *stripe, *fragment as u8),
+                _ => Ok(()),
+            },
+            Call::Repair {
+                name,
+                stripe,
+                fragment,
+            } => {
+                if let Note::Repaired(_) = entry.note {
+                    self.take_lost(name, *stripe, *fragment as u8);
+                }
+                Ok(())
+            }
+            Call::Delete { name } => {
+                if let Note::Deleted(_) = entry.note {
+                    self.names.remove(name);
+                }
+                Ok(())
+            }
+            Call::Read { .. } | Call::Stat { .. } => Ok(()),
+        }
+    }
+
+    /// The name has a new blob, under the next version.
+    fn apply_put(
+        &mut self,
+        alloc: Global,
+        name: &Name,
+        code: Code,
+        len: u64,
+        version: u64,
+    ) -> Result<(), AllocError>
+        requires { version ≡ self.old.puts + 1 }
+        ensures views { OnOk result (views_of self.new ≡ view_after (views_of self.old) (put name.now code (replicate len 0)) (Note.Stored version)) }
+        ensures width { self.new.width ≡ self.old.width }
+    {
         let kept = Kept {
             version,
             len,
