@@ -14,7 +14,7 @@ use Rattle.sealed.specs.Layout.{byte_of}
 use Rattle.sealed.specs.Blob.{data_at, fragment}
 use Rattle.sealed.specs.Stripe.{IsStripeOf}
 
-byte_or_zero : (b : List ℕ) (i : ℕ) → All (λ x. x < 256) b → slice_index_or b i 0 < 256
+pub byte_or_zero : (b : List ℕ) (i : ℕ) → All (λ x. x < 256) b → slice_index_or b i 0 < 256
 byte_or_zero b i bytes =
     elim (cases_lt i (length b)) [
       | inl inside ↦ bytes i 0 inside

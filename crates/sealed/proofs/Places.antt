@@ -2,7 +2,7 @@
 use Rattle.lrc_code.specs.Code.{data_count}
 use Rattle.std.proofs.Common.{◌≡◌, ℕ, ◌+◌, ◌-◌, ◌*◌, ◌/◌, ◌%◌, ◌<◌, ◌≤◌, sym, ◌∙◌, ap, subst, arith}
 use Rattle.std.proofs.lemmas.Nat.{div-mul-add, div_below, le-div}
-use Rattle.std.proofs.Math.Nat.{mul-le-mul_right, mul_comm}
+use Rattle.std.proofs.Math.Nat.{div-mul-le_self, mul-le-mul_right, mul_comm}
 use Rattle.lrc_code.specs.declared.Code.{Code}
 use Rattle.lrc_code.specs.declared.Code.TheVariants.{Wide, Small}
 use Rattle.sealed.specs.Layout.{stripe_size, stripe_count, stripe_of, fragment_of, place_of, byte_of}
@@ -87,3 +87,13 @@ module _ (code : Code) (w : ℕ) (some : 1 ≤ w) where
   stripe_below k len below =
       let whole : (k * w) / w ≡ k = ap (λ n. n / w) (let e : k * w ≡ k * w + 0 = omega arith in e) ∙ div-mul-add k w 0 some in
       subst (λ n. n < stripe_count code w len) (stripe_by_count (k * w) ∙ ap (λ n. n / data_count code) whole) (stripe_inside (k * w) len below)
+
+  -- a stripe of the blob begins below its end
+  pub stripe_begins : (j len : ℕ) → j < stripe_count code w len → stripe_size code w * j < len
+  stripe_begins j len l =
+      let S = stripe_size code w in
+      let positive = some_size code w some in
+      let under : (len + S - 1) / S * S ≤ len + S - 1 = div-mul-le_self (len + S - 1) S in
+      let scaled : (j + 1) * S ≤ (len + S - 1) / S * S = mul-le-mul_right S (omega arith) in
+      let e : (j + 1) * S ≡ S * j + S = omega arith in
+      omega arith

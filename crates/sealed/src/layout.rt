@@ -1,7 +1,9 @@
-//! How many bytes stand where.
+//! How many bytes and stripes a blob has.
 ghost use Rattle.std.specs.Prelude.{◌≡◌, ◌≤◌};
 ghost use Rattle.lrc_code.specs.Code.{data_count};
+ghost use Rattle.sealed.specs.Layout.{stripe_count, stripe_size};
 
+use crate::Width;
 use lrc_code::Code;
 
 /// How many of a stripe's fragments are data: the first ones.
@@ -13,4 +15,20 @@ pub fn data_fragments(code: Code) -> u8
         Code::Wide => 12,
         Code::Small => 6,
     }
+}
+
+/// How many bytes of a blob a stripe holds.
+pub fn bytes_per_stripe(code: Code, width: Width) -> u64
+    ensures value { result ≡ stripe_size code width }
+    ensures range { (1 ≤ result) × (result ≤ 786432) }
+{
+    u64::from(data_fragments(code)) * u64::from(width.get())
+}
+
+/// How many stripes a blob of `len` bytes has, for any length.
+#[tactic(auto, using(crate::proofs::Counting::rounded_up))]
+pub fn count_stripes(code: Code, width: Width, len: u64) -> u64
+    ensures { result ≡ stripe_count code width len }
+{
+    len.div_ceil(bytes_per_stripe(code, width))
 }
