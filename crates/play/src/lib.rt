@@ -10,5 +10,3 @@ mod rows;
 pub use fail::Fail;
 pub use run::play;
 
-#[cfg(test)]
-mod tests;

