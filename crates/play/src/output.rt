@@ -1,8 +1,9 @@
 //! The printed text of a run.
-ghost use Rattle.std.specs.Prelude.{◌≡◌, ◌++◌, List, ℕ, IfOk, codes, decimal, length, string_bytes};
+ghost use Rattle.std.specs.Prelude.{◌≡◌, IfOk, codes, string_bytes};
 ghost use Rattle.book.specs.Lawful.{IsLawful};
+ghost use Rattle.play.specs.Output.{IsOutput};
 
-use crate::reply::{Reply, reply};
+use crate::reply::reply_to;
 use crate::rows::Outcome;
 use book::{Book, is_lawful};
 use std::alloc::{AllocError, Global};
@@ -13,10 +14,22 @@ fn reply_lines(alloc: Global, outcomes: Vec<Outcome>) -> Result<String, AllocErr
     let mut number: u64 = 0;
     for outcome in outcomes {
         number = number.saturating_add(1);
-        let reply: Reply = reply(alloc, outcome)?;
+        let reply = reply_to(alloc, outcome)?;
         writeln!(text, "{number} {reply}")?;
     }
     Ok(text)
+}
+
+/// Whether the journal's entries are lawful, as it is printed: they are.
+fn lawful_text(alloc: Global, book: &Book) -> Result<&'static str, AllocError>
+    requires { IsLawful book.now.width book.now.entries }
+    ensures { IfOk result (λ text. text.now ≡ codes "yes") }
+{
+    if is_lawful(alloc, book.entries(), book.width())? {
+        Ok("yes")
+    } else {
+        Ok("no")
+    }
 }
 
 /// The printed text: a line for each row, then the number of the journal's entries and whether they are lawful.
@@ -26,14 +39,13 @@ pub(crate) fn print(
     book: &Book,
 ) -> Result<String, AllocError>
     requires { IsLawful book.now.width book.now.entries }
-    ensures { IfOk result (λ text. (lines : List ℕ) × (string_bytes text ≡ lines ++ codes "calls " ++ decimal (length book.now.entries) ++ codes "\nlawful yes\n")) }
+    ensures { IfOk result (λ text. IsOutput (string_bytes text)) }
 {
     let lines = reply_lines(alloc, outcomes)?;
     let calls = book.entries().len();
-    let lawful = if is_lawful(alloc, book.entries(), book.width())? {
-        "yes"
-    } else {
-        "no"
-    };
-    format!(in alloc; "{lines}calls {calls}\nlawful {lawful}\n")
+    let lawful = lawful_text(alloc, book)?;
+    match format!(in alloc; "{lines}calls {calls}\nlawful {lawful}\n") {
+        Ok(text) => Ok(text),
+        Err(error) => Err(error),
+    }
 }

@@ -25,6 +25,7 @@ pub(crate) struct Reading {
 }
 
 /// Bytes as two lower-case hexadecimal digits each, and as a dash where there are none.
+#[derive(Drop)]
 struct Hex<'a>(&'a [u8]);
 
 impl fmt::Display for Hex<'_> {
@@ -59,7 +60,7 @@ impl fmt::Display for Reply {
 }
 
 /// Walks a grant: all of its pieces, joined.
-fn reading(alloc: Global, grant: &Grant) -> Result<Reading, AllocError> {
+fn walked(alloc: Global, grant: &Grant) -> Result<Reading, AllocError> {
     Ok(Reading {
         version: grant.version(),
         lent: 0,
@@ -69,9 +70,9 @@ fn reading(alloc: Global, grant: &Grant) -> Result<Reading, AllocError> {
 }
 
 /// The reply to a row. A grant is walked here.
-pub(crate) fn reply(alloc: Global, outcome: Outcome) -> Result<Reply, AllocError> {
+pub(crate) fn reply_to(alloc: Global, outcome: Outcome) -> Result<Reply, AllocError> {
     match outcome {
-        Outcome::Answered(Answer::Granted(grant)) => Ok(Reply::Granted(reading(alloc, &grant)?)),
+        Outcome::Answered(Answer::Granted(grant)) => Ok(Reply::Granted(walked(alloc, &grant)?)),
         Outcome::Answered(answer) => Ok(Reply::Noted(answer.note())),
         Outcome::Full => Ok(Reply::Full),
         Outcome::TooLong => Ok(Reply::TooLong),

@@ -1,5 +1,6 @@
 //! The rows of a script, made one after the other.
-ghost use Rattle.std.specs.Prelude.{◌≡◌, ◌⊎◌, length, IfOk, IfErr, OnOk, OnErr, ForErr};
+ghost use Rattle.std.specs.Prelude.{◌≡◌, length, IfOk, IfErr, OnErr};
+ghost use Rattle.std.specs.Result.{ForErr};
 ghost use Rattle.book.specs.Tells.{CarriesOn};
 ghost use Rattle.play.specs.Runs.{IsCallFault, TellsSome, operation_of};
 
@@ -37,7 +38,7 @@ fn make(alloc: Global, book: &mut Book, who: u32, ask: Ask) -> Result<Answer, Fa
 }
 
 /// What became of a call, unless it wanted for memory.
-fn outcome(answer: Result<Answer, Fault>) -> Result<Outcome, Fail>
+fn outcome_of(answer: Result<Answer, Fault>) -> Result<Outcome, Fail>
     requires { ForErr answer IsCallFault }
     ensures { IfErr result (λ fail. fail ≡ Fail.Memory) }
 {
@@ -67,7 +68,7 @@ pub(crate) fn run_rows(
     };
     for row in rows {
         let Task::Make(ask) = row.task;
-        match outcome(make(alloc, book, row.worker, ask)) {
+        match outcome_of(make(alloc, book, row.worker, ask)) {
             Ok(outcome) => outcomes.push_reserved(outcome),
             Err(fail) => return Err(fail),
         }
