@@ -91,7 +91,8 @@ fn encode_by_equations(
     Ok([first, second, third, fourth])
 }
 
-/// The parities of a code's data fragments, which have `w` bytes each: with them they are a stripe.
+/// The four parities of a code's data fragments, which have `w` bytes each: together they are a stripe of the code.
+/// Refused memory is `NoMemory`.
 pub fn encode_in(
     alloc: Global,
     code: Code,
@@ -109,7 +110,8 @@ pub fn encode_in(
     }
 }
 
-/// Fragments 12 to 15 of LRC(12,2,2).
+/// Fragments 12 to 15 of the stripe of LRC(12,2,2) with these data fragments, which have `w` bytes each. Refused memory is
+/// `NoMemory`.
 pub fn encode(alloc: Global, sources: &[&[u8]; 12], w: usize) -> Result<[Vec<u8>; 4], NoMemory>
     requires { All (λ s. length s.now ≡ w) sources.now }
     ensures { IfOk result (λ parities. IsStripe Code.Wide w (list_at (map (λ s. s.now) sources.now ++ map (λ v. v.items) parities))) }
@@ -118,7 +120,8 @@ pub fn encode(alloc: Global, sources: &[&[u8]; 12], w: usize) -> Result<[Vec<u8>
     Ok(parities)
 }
 
-/// Fragments 6 to 9 of LRC(6,2,2).
+/// Fragments 6 to 9 of the stripe of LRC(6,2,2) with these data fragments, which have `w` bytes each. Refused memory is
+/// `NoMemory`.
 pub fn encode_small(
     alloc: Global,
     sources: &[&[u8]; 6],
