@@ -1,6 +1,6 @@
 -- The column of given data bytes is the one column that has them.
-use Rattle.std.proofs.Common.{◌≡◌, ◌≢◌, ℕ, zero, suc, ◌+◌, ◌-◌, ◌<◌, ◌≤◌, ◌⊎◌, Bool, true, false, cond, bit_xor, refl, sym, ap, ap₂, ◌∙◌, subst, arith, inl, inr, eqb, eqb-true}
-use Rattle.std.proofs.lemmas.Bool.{cases_eq, cases_lt}
+use Rattle.std.proofs.Common.{◌≡◌, ℕ, ◌+◌, ◌-◌, ◌<◌, true, bit_xor, refl, sym, ap, ap₂, ◌∙◌, subst, arith, inl, inr, eqb, eqb-true}
+use Rattle.std.proofs.lemmas.Bool.{cases_lt}
 use lib.Bits.{xor_self, xor_zero_r}
 use Rattle.gf256.specs.Field.{product, carryless_product, reduced}
 use Rattle.gf256.proofs.Laws.{product-zero_left, product-one_left, product-lt, same_from_xor, all_below, every_below}
@@ -58,19 +58,19 @@ pub column_is : (code : Code) (d : ℕ → ℕ) → ((i : ℕ) → i < data_coun
 column_is code d l =
     let data_lt : (k : ℕ) → k < 4 → parity_of code k d < 256 = λ k h. xor_sum-lt (data_count code) _ (λ g below. product-lt _ _ (weight-lt code k g h (let f = count_with_parities code in omega arith)) (l g below)) in
     let byte : (i : ℕ) → i < fragment_count code → column code d i < 256 = λ i h.
-      elim (cases_lt i (data_count code)) [
-        | inl below ↦ subst (λ x. x < 256) (sym (column_data code d i below)) (l i below)
-        | inr past ↦
-            let k = i - data_count code in
-            let here : data_count code + k ≡ i = omega arith in
-            subst (λ j. column code d j < 256) here (subst (λ x. x < 256) (sym (column_parity code d k)) (data_lt k (let f = count_with_parities code in omega arith)))
-      ] in
+    elim (cases_lt i (data_count code)) [
+      | inl below ↦ subst (λ x. x < 256) (sym (column_data code d i below)) (l i below)
+      | inr past ↦
+          let k = i - data_count code in
+          let here : data_count code + k ≡ i = omega arith in
+          subst (λ j. column code d j < 256) here (subst (λ x. x < 256) (sym (column_parity code d k)) (data_lt k (let f = count_with_parities code in omega arith)))
+    ] in
     record {
       bytes = byte;
       sums = λ k h.
-      equation code (column code d) byte k h
-      ∙ ap₂ bit_xor (xor_sum_same (data_count code) _ _ (λ g below. ap (product (weight code k g)) (column_data code d g below))) (column_parity code d k)
-      ∙ xor_self (parity_of code k d);
+          equation code (column code d) byte k h
+          ∙ ap₂ bit_xor (xor_sum_same (data_count code) _ _ (λ g below. ap (product (weight code k g)) (column_data code d g below))) (column_parity code d k)
+          ∙ xor_self (parity_of code k d);
     }
 
 -- and it is the only one that has these data bytes

@@ -3,11 +3,10 @@ use Rattle.std.proofs.Common.{◌≡◌, ℕ, zero, suc, ◌+◌, ◌-◌, ◌*�
 use Rattle.std.proofs.lemmas.Bool.{cases_eq, cases_lt}
 use Rattle.std.proofs.Math.ListN.{get_or-map}
 use Rattle.std.proofs.Math.Seq.{take-append_seam}
-use Rattle.std.proofs.lemmas.Simd.{Each1-from_get_or}
 use lib.Lanes.{Each1}
 use Rattle.gf256.specs.Field.{product, carryless_product, reduced}
 use Rattle.gf256.proofs.Laws.{all_below, every_below}
-use Rattle.gf256.proofs.Ring.{Term, var, num, plus, times, value, same_by_ring}
+use Rattle.gf256.proofs.Ring.{Term, var, num, plus, times, same_by_ring}
 use Rattle.lrc_code.specs.declared.Code.TheVariants.{Wide}
 use Rattle.lrc_code.specs.Code.{xor_sum, weight, weights}
 use Rattle.lrc_code.specs.Column.{parity_of}

@@ -5,9 +5,9 @@ ghost use Rattle.std.specs.Prelude.{◌≡◌, ℕ, ◌<◌, ◌++◌, All, IfOk
 ghost use Rattle.lrc_code.specs.Column.{parity_of};
 ghost use Rattle.lrc_code.specs.Stripe.{AreParities, IsStripe, list_at, bytes_at};
 
-use crate::{Code, NoMemory};
 use crate::recipes::weight_of;
 use crate::wide::encode_into;
+use crate::{Code, NoMemory};
 use gf256::add_scaled;
 use std::alloc::Global;
 
@@ -91,7 +91,8 @@ fn encode_by_equations(
     Ok([first, second, third, fourth])
 }
 
-/// The parities of a code's data fragments, which have `w` bytes each: with them they are a stripe.
+/// The four parities of a code's data fragments, which have `w` bytes each: together they are a stripe of the code.
+/// Refused memory is `NoMemory`.
 pub fn encode_in(
     alloc: Global,
     code: Code,
@@ -109,7 +110,8 @@ pub fn encode_in(
     }
 }
 
-/// Fragments 12 to 15 of LRC(12,2,2).
+/// Fragments 12 to 15 of the stripe of LRC(12,2,2) with these data fragments, which have `w` bytes each. Refused memory is
+/// `NoMemory`.
 pub fn encode(alloc: Global, sources: &[&[u8]; 12], w: usize) -> Result<[Vec<u8>; 4], NoMemory>
     requires { All (λ s. length s.now ≡ w) sources.now }
     ensures { IfOk result (λ parities. IsStripe Code.Wide w (list_at (map (λ s. s.now) sources.now ++ map (λ v. v.items) parities))) }
@@ -118,12 +120,9 @@ pub fn encode(alloc: Global, sources: &[&[u8]; 12], w: usize) -> Result<[Vec<u8>
     Ok(parities)
 }
 
-/// Fragments 6 to 9 of LRC(6,2,2).
-pub fn encode_small(
-    alloc: Global,
-    sources: &[&[u8]; 6],
-    w: usize,
-) -> Result<[Vec<u8>; 4], NoMemory>
+/// Fragments 6 to 9 of the stripe of LRC(6,2,2) with these data fragments, which have `w` bytes each. Refused memory is
+/// `NoMemory`.
+pub fn encode_small(alloc: Global, sources: &[&[u8]; 6], w: usize) -> Result<[Vec<u8>; 4], NoMemory>
     requires { All (λ s. length s.now ≡ w) sources.now }
     ensures { IfOk result (λ parities. IsStripe Code.Small w (list_at (map (λ s. s.now) sources.now ++ map (λ v. v.items) parities))) }
 {

@@ -1,5 +1,4 @@
-use Rattle.std.proofs.Common.{get_or, bit_xor, ap, sym, ◌∙◌, arith}
-use Rattle.gf256.specs.Field.{product}
+use Rattle.std.proofs.Common.{get_or, bit_xor, ap, sym, ◌∙◌}
 use Rattle.gf256.proofs.Laws.{product-one_left}
 use Rattle.gf256.proofs.add_scaled.Goals as goal
 

@@ -1,4 +1,4 @@
-use Rattle.std.proofs.Common.{◌≡◌, ◌+◌, ℕ, bit_xor, get_or, map, ap, ◌∙◌, refl, List, [], ◌∷◌}
+use Rattle.std.proofs.Common.{◌≡◌, ◌+◌, ℕ, bit_xor, get_or, map, ap, ◌∙◌, List, [], ◌∷◌}
 use Rattle.lrc_code.specs.Stripe.{bytes_at}
 use Rattle.lrc_code.proofs.WideParities.{of_3, third_same, fourth_same, parities_at, parities_of}
 use Rattle.lrc_code.proofs.wide.encode_block.Goals as goal
