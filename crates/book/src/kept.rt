@@ -3,13 +3,12 @@ ghost use Rattle.std.specs.Prelude.{◌≡◌, ℕ, ◌+◌, ◌<◌, ◌≤◌,
 ghost use Rattle.std.specs.List.{list_any};
 ghost use Rattle.lrc_code.specs.Code.{fragment_count, is_lost};
 ghost use Rattle.lrc_code.proofs.Recoverable.{open_test};
-ghost use Rattle.sealed.specs.Layout.{stripe_count};
 ghost use Rattle.book.specs.Kept.{lost_of, seen_as, is_open_between};
 ghost use Rattle.book.specs.Views.{no_such, open_in_range, read_reply, lose_reply, repair_reply, stat_reply};
 
 use crate::Note;
 use lrc_code::{Code, LostSet, is_open_in};
-use sealed::{Width, data_fragments};
+use sealed::{Width, count_stripes, data_fragments};
 use std::collections::BTreeSet;
 
 /// A blob of a name, without its bytes.
@@ -20,15 +19,6 @@ pub struct Kept {
     pub code: Code,
     /// The lost fragments: pairs of a stripe and a fragment.
     pub lost: BTreeSet<(u64, u8)>,
-}
-
-/// How many stripes a blob of `len` bytes has.
-#[tactic(auto, using(crate::proofs::Counting::rounded_up))]
-pub fn count_stripes(code: Code, width: Width, len: u64) -> u64
-    ensures { result ≡ stripe_count code width len }
-{
-    let size = u64::from(data_fragments(code)) * u64::from(width.get());
-    len.div_ceil(size)
 }
 
 impl Kept {

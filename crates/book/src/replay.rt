@@ -6,10 +6,10 @@ ghost use Rattle.book.specs.Kept.{seen_as, views_of};
 ghost use Rattle.book.specs.Views.{read_reply, lose_reply, repair_reply, delete_reply, stat_reply, empty_views, view_after, added, taken, changed, IsNoted, next};
 ghost use Rattle.book.specs.Step.{put};
 
-use crate::kept::{Kept, count_stripes};
+use crate::kept::Kept;
 use crate::{Call, Entry, Name, Note};
 use lrc_code::Code;
-use sealed::Width;
+use sealed::{Width, count_stripes};
 use std::alloc::{AllocError, Global};
 use std::collections::{BTreeMap, BTreeSet};
 
