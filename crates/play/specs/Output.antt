@@ -3,4 +3,4 @@ use Rattle.std.specs.Prelude.{◌≡◌, ℕ, List, ◌++◌, codes, decimal}
 
 -- lines, and then the number of calls, and that the journal is lawful
 abbrev pub IsOutput : List ℕ → Type 0
-IsOutput text = (lines : List ℕ) × (calls : ℕ) × (text ≡ lines ++ codes "calls " ++ decimal calls ++ codes "\nlawful yes\n")
+IsOutput text = (lines : List ℕ) × (calls : ℕ) × (text ≡ lines ++ (codes "calls " ++ (decimal calls ++ codes "\nlawful yes\n")))

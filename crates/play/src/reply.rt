@@ -1,8 +1,11 @@
 //! What is printed of a row.
+ghost use Rattle.std.specs.Prelude.{◌≡◌, ◌+◌, ℕ, List, IfOk, slice_range};
+ghost use Rattle.sealed.specs.Blob.{Lost};
+ghost use Rattle.sealed.specs.Sealed.{StandsFor};
 
 use crate::rows::Outcome;
 use book::{Answer, Note};
-use lent::Grant;
+use lent::{Grant, Piece};
 use std::alloc::{AllocError, Global};
 use std::fmt;
 
@@ -59,13 +62,28 @@ impl fmt::Display for Reply {
     }
 }
 
-/// Walks a grant: all of its pieces, joined.
-fn walked(alloc: Global, grant: &Grant) -> Result<Reading, AllocError> {
+/// Walks a grant to its end.
+fn walked(alloc: Global, grant: &Grant) -> Result<Reading, AllocError>
+    ensures version { IfOk result (λ reading. reading.version ≡ grant.now.sealed.value.version) }
+    ensures bytes { IfOk result (λ reading. (b : List ℕ) (lost : Lost) → StandsFor grant.now.sealed.value b lost
+        → reading.bytes.items ≡ slice_range b grant.now.start (grant.now.start + grant.now.len)) }
+{
+    let mut bytes = Vec::new(alloc);
+    let mut lent: u64 = 0;
+    let mut built: u64 = 0;
+    let mut walk = grant.walk();
+    while let Some(piece) = walk.next_piece(alloc)? {
+        match &piece {
+            Piece::Lent(_) => lent = lent.saturating_add(1),
+            Piece::Built(_) => built = built.saturating_add(1),
+        }
+        bytes.extend_from_slice(piece.bytes())?;
+    }
     Ok(Reading {
         version: grant.version(),
-        lent: 0,
-        built: 0,
-        bytes: Vec::new(alloc),
+        lent,
+        built,
+        bytes,
     })
 }
 

@@ -1,5 +1,5 @@
 //! The rows of a script, made one after the other.
-ghost use Rattle.std.specs.Prelude.{◌≡◌, length, IfOk, IfErr, OnErr};
+ghost use Rattle.std.specs.Prelude.{◌≡◌, vec_len, IfOk, IfErr, OnErr};
 ghost use Rattle.std.specs.Result.{ForErr};
 ghost use Rattle.book.specs.Tells.{CarriesOn};
 ghost use Rattle.play.specs.Runs.{IsCallFault, TellsSome, operation_of};
@@ -51,7 +51,20 @@ fn outcome_of(answer: Result<Answer, Fault>) -> Result<Outcome, Fail>
     }
 }
 
-/// Makes the rows in order, each under the label of its worker.
+/// Makes a row's call, under the label of its worker.
+fn run_row(alloc: Global, book: &mut Book, row: Row) -> Result<Outcome, Fail>
+    requires { TellsSome book.old }
+    ensures told { TellsSome book.new }
+    ensures kept { (book.new.width ≡ book.old.width) × (book.new.base ≡ book.old.base) }
+    ensures fails { IfErr result (λ fail. fail ≡ Fail.Memory) }
+{
+    let Row { worker, task, .. } = row;
+    let Task::Make(ask) = task;
+    let answer = make(alloc, book, worker, ask);
+    outcome_of(answer)
+}
+
+/// Makes the rows in order.
 pub(crate) fn run_rows(
     alloc: Global,
     book: &mut Book,
@@ -60,15 +73,14 @@ pub(crate) fn run_rows(
     requires { TellsSome book.old }
     ensures told { TellsSome book.new }
     ensures kept { (book.new.width ≡ book.old.width) × (book.new.base ≡ book.old.base) }
-    ensures each { IfOk result (λ outcomes. length outcomes.items ≡ length rows.items) }
+    ensures each { IfOk result (λ outcomes. vec_len outcomes ≡ vec_len rows) }
     ensures fails { IfErr result (λ fail. fail ≡ Fail.Memory) }
 {
     let Ok(mut outcomes) = Vec::with_capacity(alloc, rows.len()) else {
         return Err(Fail::Memory);
     };
     for row in rows {
-        let Task::Make(ask) = row.task;
-        match outcome_of(make(alloc, book, row.worker, ask)) {
+        match run_row(alloc, book, row) {
             Ok(outcome) => outcomes.push_reserved(outcome),
             Err(fail) => return Err(fail),
         }
