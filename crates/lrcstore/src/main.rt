@@ -3,10 +3,9 @@
 
 use command_line::{BadLine, options};
 use play::{Fail, play};
-use std::env;
 use std::fs::File;
-use std::io;
 use std::process::ExitCode;
+use std::{env, io};
 
 /// Tells a fault on the standard error, and gives the exit status.
 fn ended<R: Eprint>(rt: &R, fail: Fail) -> ExitCode {
@@ -19,9 +18,7 @@ fn ended<R: Eprint>(rt: &R, fail: Fail) -> ExitCode {
 fn run(rt: &HostRuntime) -> Result<(), ExitCode> {
     let alloc = rt.alloc();
     let words: Vec<String> = match env::args(rt) {
-        Ok(words) => words
-            .collect(alloc)
-            .map_err(|_| ended(rt, Fail::Memory))?,
+        Ok(words) => words.collect(alloc).map_err(|_| ended(rt, Fail::Memory))?,
         Err(error) if error.kind() == io::ErrorKind::OutOfMemory => {
             return Err(ended(rt, Fail::Memory));
         }

@@ -10,3 +10,6 @@ mod rows;
 pub use fail::Fail;
 pub use run::play;
 
+
+#[cfg(test)]
+mod tests;

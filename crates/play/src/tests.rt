@@ -1,0 +1,121 @@
+use crate::{Fail as PlayFail, play};
+use command_line::Options;
+use script::{BadScript, Word};
+use std::alloc::{AllocError, Global};
+use std::io;
+use std::io::{Read, Write};
+use std::test::Fail;
+
+/// A reader that gives its bytes one at a time, and fails behind the last.
+#[derive(Drop)]
+struct Breaking<'a> {
+    left: &'a [u8],
+}
+
+impl Read for Breaking<'_> {
+    fn read(&mut self, buf: &mut [u8]) -> io::Result<usize> {
+        if self.left.is_empty() {
+            return Err(io::Error::from(io::ErrorKind::Other));
+        }
+        let one = buf.len().min(1);
+        self.left.read(&mut buf[..one])
+    }
+}
+
+/// A writer that takes so many bytes, and then fails.
+#[derive(Drop)]
+struct Narrow {
+    room: usize,
+}
+
+impl Write for Narrow {
+    fn write(&mut self, buf: &[u8]) -> io::Result<usize> {
+        if self.room == 0 {
+            return Err(io::Error::from(io::ErrorKind::Other));
+        }
+        let taken = buf.len().min(self.room);
+        self.room -= taken;
+        Ok(taken)
+    }
+
+    fn flush(&mut self) -> io::Result<()> {
+        Ok(())
+    }
+}
+
+fn two_workers(alloc: Global) -> Result<Options, AllocError> {
+    Ok(Options {
+        script: String::from_str(alloc, "script.csv")?,
+        workers: 2,
+    })
+}
+
+const FIRST_PATH: &[u8] = b"1,1,put,a,text,HELLO\n2,2,read,a,1,3\n";
+
+const FIRST_OUTPUT: &[u8] = b"1 stored 1\n2 granted 1 3 0 454c4c\ncalls 2\nlawful yes\n";
+
+/// Scripts with what they print.
+#[test]
+fn scripts(rt: HostRuntime) -> Result<(), Fail> {
+    let alloc = rt.alloc();
+    let options = two_workers(alloc)?;
+    let rows: [(&[u8], &[u8]); 5] = [
+        (FIRST_PATH, FIRST_OUTPUT),
+        (b"", b"calls 0\nlawful yes\n"),
+        (
+            b"1,1,put,e,text,\n1,1,read,e,0,0\n1,1,read,e,0,1\n1,1,read,f,0,0",
+            b"1 stored 1\n2 granted 1 0 0 -\n3 out-of-range\n4 no-name\ncalls 4\nlawful yes\n",
+        ),
+        (
+            b"1,1,put,a,text,AB\n2,2,put,a,text,CD\n3,1,read,a,0,2\n",
+            b"1 stored 1\n2 stored 2\n3 granted 2 2 0 4344\ncalls 3\nlawful yes\n",
+        ),
+        (
+            b"1,1,put,z,text,\xff\n1,1,read,z,0,1\n1,1,read,z,18446744073709551615,2\n",
+            b"1 stored 1\n2 granted 1 1 0 ff\n3 out-of-range\ncalls 3\nlawful yes\n",
+        ),
+    ];
+    for (text, wanted) in &rows {
+        let mut out: Vec<u8> = Vec::new(alloc);
+        let text: &[u8] = *text;
+        assert_eq!(rt; play(alloc, &options, text, &mut out), Ok(()));
+        assert!(rt; out.as_slice() == *wanted);
+    }
+    Ok(())
+}
+
+/// A refused script leaves nothing behind.
+#[test]
+fn a_row_is_cut(rt: HostRuntime) -> Result<(), Fail> {
+    let alloc = rt.alloc();
+    let options = two_workers(alloc)?;
+    let mut out: Vec<u8> = Vec::new(alloc);
+    let text: &[u8] = b"1,1,put,a,text,AB\n1,1,read,a,0";
+    let refused = BadScript::Refused {
+        row: 2,
+        word: Word::Fields,
+    };
+    assert_eq!(rt; play(alloc, &options, text, &mut out), Err(PlayFail::Script(refused)));
+    assert!(rt; out.is_empty());
+    Ok(())
+}
+
+/// A read that fails after any number of bytes is told, and nothing runs; a write that fails after any number of bytes is told.
+#[test]
+fn broken_ends(rt: HostRuntime) -> Result<(), Fail> {
+    let alloc = rt.alloc();
+    let options = two_workers(alloc)?;
+    for given in 0..FIRST_PATH.len() + 1 {
+        let mut out: Vec<u8> = Vec::new(alloc);
+        let input = Breaking {
+            left: &FIRST_PATH[..given],
+        };
+        assert_eq!(rt; play(alloc, &options, input, &mut out), Err(PlayFail::Read));
+        assert!(rt; out.is_empty());
+    }
+    for room in 0..FIRST_OUTPUT.len() {
+        let mut narrow = Narrow { room };
+        assert_eq!(rt; play(alloc, &options, FIRST_PATH, &mut narrow), Err(PlayFail::Write));
+    }
+    Ok(())
+}
