@@ -1,5 +1,5 @@
 //! How pieces are made.
-ghost use Rattle.std.specs.Prelude.{◌≡◌, ◌<◌, ◌≤◌, None, IfOk, OnErr};
+ghost use Rattle.std.specs.Prelude.{◌≡◌, ◌<◌, ◌≤◌, [], None, IfOk, OnErr};
 ghost use Rattle.lrc_code.specs.Code.{fragment_count, Open};
 ghost use Rattle.sealed.specs.Layout.{stripe_count};
 ghost use Rattle.sealed.specs.Stripes.{fragment_at};
@@ -20,6 +20,15 @@ impl Piece<'_> {
             Piece::Lent(bytes) => bytes,
             Piece::Built(bytes) => bytes.as_slice(),
         }
+    }
+}
+
+/// An empty piece.
+impl Default for Piece<'_> {
+    ghost is_default = { λ piece. bytes_of piece ≡ [] };
+
+    fn default() -> Self {
+        Piece::Lent(&[])
     }
 }
 
