@@ -1,5 +1,5 @@
 //! How pieces are made.
-ghost use Rattle.std.specs.Prelude.{◌≡◌, ◌<◌, ◌≤◌, None, IfOk, OnErr};
+ghost use Rattle.std.specs.Prelude.{◌≡◌, ◌<◌, ◌≤◌, [], None, IfOk, OnErr};
 ghost use Rattle.lrc_code.specs.Code.{fragment_count, Open};
 ghost use Rattle.sealed.specs.Layout.{stripe_count};
 ghost use Rattle.sealed.specs.Stripes.{fragment_at};
@@ -7,7 +7,7 @@ ghost use Rattle.sealed.specs.Sealed.{absent_in};
 ghost use Rattle.lent.specs.Pieces.{AreBytesOf, IsPieceOf, bytes_of};
 
 use crate::{Part, Piece};
-use lrc_code::{Rebuild, rebuild};
+use lrc_code::{NoMemory, Rebuild, rebuild};
 use sealed::Sealed;
 use std::alloc::{AllocError, Global};
 
@@ -23,8 +23,17 @@ impl Piece<'_> {
     }
 }
 
+/// An empty piece.
+impl Default for Piece<'_> {
+    ghost is_default = { λ piece. bytes_of piece ≡ [] };
+
+    fn default() -> Self {
+        Piece::Lent(&[])
+    }
+}
+
 /// The piece of a part of a fragment that is not open. Only that of an absent fragment asks for memory.
-pub(crate) fn piece_of(alloc: Global, sealed: &Sealed, part: Part) -> Result<Piece<'_>, AllocError>
+pub(crate) fn piece_of(alloc: Global, sealed: &Sealed, part: Part) -> Result<Piece<'_>, NoMemory>
     requires stripe { part.stripe < stripe_count sealed.now.code sealed.now.width sealed.now.len }
     requires fragment { part.fragment < fragment_count sealed.now.code }
     requires closed { Open sealed.now.code (absent_in sealed.now part.stripe) part.fragment → ⊥ }
@@ -42,7 +51,7 @@ pub(crate) fn piece_of(alloc: Global, sealed: &Sealed, part: Part) -> Result<Pie
 }
 
 /// The bytes of a part of an absent fragment that is not open.
-fn build(alloc: Global, sealed: &Sealed, part: Part) -> Result<Vec<u8>, AllocError>
+fn build(alloc: Global, sealed: &Sealed, part: Part) -> Result<Vec<u8>, NoMemory>
     requires stripe { part.stripe < stripe_count sealed.now.code sealed.now.width sealed.now.len }
     requires fragment { part.fragment < fragment_count sealed.now.code }
     requires absent { fragment_at sealed.now.stripes part.stripe part.fragment ≡ None }

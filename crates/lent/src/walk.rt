@@ -6,7 +6,8 @@ ghost use Rattle.lent.specs.Walk.{IsStep, IsAbsent, Joins, bytes_ahead};
 use crate::cut::{met_by, part_at};
 use crate::pieces::piece_of;
 use crate::{Grant, Piece};
-use std::alloc::{AllocError, Global};
+use lrc_code::NoMemory;
+use std::alloc::Global;
 use std::marker::Model;
 
 /// A walk over a granted range. Contracts see the sealed value and the parts that are still ahead.
@@ -52,7 +53,7 @@ impl Grant {
 impl<'a> Walk<'a> {
     /// The piece of the next part, or `None` behind the last. Only a piece of an absent fragment asks for memory; where that is refused, the walk
     /// stands where it stood.
-    pub fn next_piece(&mut self, alloc: Global) -> Result<Option<Piece<'a>>, AllocError>
+    pub fn next_piece(&mut self, alloc: Global) -> Result<Option<Piece<'a>>, NoMemory>
         ensures ok { IfOk result (IsStep self.old self.new) }
         ensures joins { IfOk result (λ r. IfSome r (Joins self.old self.new)) }
         ensures end { IfOk result (λ r. IfNone r ((b : List ℕ) → bytes_ahead self.old b ≡ [])) }

@@ -10,7 +10,7 @@ pub returns-clause-stripe : goal.returns-clause-stripe
 returns-clause-stripe c =
     let g = c.args.grant.now in
     let s = g.sealed.value in
-    let count : c.from-count.result ≡ data_count s.code = c.from-count.ensures ∙ c.data_fragments.ensures.value ∙ ap (λ (t : Sealed). data_count t.code) c.deref-sealed.ensures in
+    let count : c.from-count.result ≡ data_count s.code = c.from-count.ensures ∙ c.data_fragments.ensures ∙ ap (λ (t : Sealed). data_count t.code) c.deref-sealed.ensures in
     subst (λ n. c.args.k / n < stripe_count s.code s.width s.len) (sym count)
     (stripe_met s.code s.width s.shaped.wide g.start g.len c.args.k s.len (record { first = c.requires.first; last = c.requires.last }) g.inside)
 
@@ -18,6 +18,6 @@ pub returns-clause-closed : goal.returns-clause-closed
 returns-clause-closed c opened =
     let g = c.args.grant.now in
     let s = g.sealed.value in
-    let count : c.from-count.result ≡ data_count s.code = c.from-count.ensures ∙ c.data_fragments.ensures.value ∙ ap (λ (t : Sealed). data_count t.code) c.deref-sealed.ensures in
+    let count : c.from-count.result ≡ data_count s.code = c.from-count.ensures ∙ c.data_fragments.ensures ∙ ap (λ (t : Sealed). data_count t.code) c.deref-sealed.ensures in
     g.readable (has_open s.code s.width s.shaped.wide g.start g.len (absent_in s) c.args.k (record { first = c.requires.first; last = c.requires.last })
     (subst (λ n. Open s.code (absent_in s (c.args.k / n)) (c.args.k % n)) count opened))
