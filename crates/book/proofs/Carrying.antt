@@ -54,7 +54,7 @@ tells_none book base entries catalogue =
       base = subst (λ b. Outlines b (state_of (take b.trimmed []))) (sym base) empty_outlined;
       entries = subst (λ b. book.entries ≡ map entry_of (drop b.trimmed [])) (sym base) entries;
       catalogue = λ n.
-      let K : Option Sealed → Type 0 = λ found. Correspond book.width found (finite.get empty_state.names n) in
-      let none : Correspond book.width None (finite.get empty_state.names n) = subst (λ (b : Option Blob). Correspond book.width None b) (sym (finite.get-empty name_cmp n)) tt in
-      subst K (sym (ap (λ (c : List (List ℕ × Sealed)). lookup (is_at (name_cmp n)) c) catalogue)) none;
+          let K : Option Sealed → Type 0 = λ found. Correspond book.width found (finite.get empty_state.names n) in
+          let none : Correspond book.width None (finite.get empty_state.names n) = subst (λ (b : Option Blob). Correspond book.width None b) (sym (finite.get-empty name_cmp n)) tt in
+          subst K (sym (ap (λ (c : List (List ℕ × Sealed)). lookup (is_at (name_cmp n)) c) catalogue)) none;
     }

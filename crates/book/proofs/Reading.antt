@@ -1,10 +1,9 @@
 -- A read's answer is the object's reply.
-use Rattle.std.proofs.Common.{◌≡◌, ℕ, ◌+◌, ◌<◌, ◌≤◌, Bool, true, false, List, [], ◌∷◌, ◌++◌, Option, None, Some, cond, length, refl, sym, ap, ◌∙◌, subst, inl, inr, arith, MatchBool}
+use Rattle.std.proofs.Common.{◌≡◌, ℕ, ◌+◌, ◌≤◌, Bool, true, false, List, [], ◌∷◌, ◌++◌, Option, None, Some, length, refl, sym, ap, ◌∙◌, subst, inl, inr, arith, MatchBool}
 use Rattle.std.proofs.lemmas.Grind.{common_steps}
 use Rattle.std.specs.FinMap as finite
 use Rattle.std.specs.Map.{lookup}
 use Rattle.std.specs.BTreeMap.{is_at}
-use Rattle.lrc_code.specs.declared.Code.{Code}
 use Rattle.sealed.specs.declared.value.Sealed.{Sealed}
 use Rattle.lent.specs.Range.{is_outside, IsReadable}
 use Rattle.book.specs.declared.answer.Answer.{Answer}
@@ -16,9 +15,9 @@ use Rattle.book.specs.Names.{name_cmp}
 use Rattle.book.specs.Notes.{note_of}
 use Rattle.book.specs.State.{Blob}
 use Rattle.book.specs.Step.{read, IsReply, IsReadReply}
-use Rattle.book.specs.History.{History, state_of}
+use Rattle.book.specs.History.{state_of}
 use Rattle.book.specs.Contents.{Contents, sealed_at}
-use Rattle.book.specs.Tells.{Represents, Correspond, Tells, CarriesOn}
+use Rattle.book.specs.Tells.{Represents, Correspond, CarriesOn}
 use Rattle.book.proofs.Carrying.{carried}
 use Rattle.book.proofs.Same.{unreadable_alike}
 

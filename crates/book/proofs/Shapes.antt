@@ -1,18 +1,16 @@
 -- Replies depend on no bytes, so entries are lawful exactly where each note is the reply, one after the other.
-use Rattle.std.proofs.Common.{◌≡◌, ℕ, ◌+◌, ◌≤◌, ◌<◌, false, List, [], ◌∷◌, map, Option, Some, cond, length, replicate, get_or, refl, sym, ap, ◌∙◌, subst, arith, drop, suc, add-one, drop-cons}
+use Rattle.std.proofs.Common.{◌≡◌, ℕ, ◌+◌, ◌≤◌, ◌<◌, false, List, [], ◌∷◌, map, Some, cond, length, replicate, get_or, refl, sym, ap, ◌∙◌, subst, arith, drop, suc, add-one, drop-cons}
 use Rattle.std.specs.Prelude.{◌↔◌, All}
 use Rattle.std.specs.Ordering.{eq_by_cmp}
 use Rattle.std.proofs.lemmas.List.{length-replicate}
 use Rattle.std.proofs.lemmas.Grind.{common_steps}
-use Rattle.lrc_code.specs.declared.Code.{Code}
 use Rattle.sealed.specs.Layout.{stripe_count}
-use Rattle.sealed.specs.Blob.{IsBlob}
 use Rattle.book.specs.Names.{name_cmp}
-use Rattle.book.specs.State.{State, empty_state}
+use Rattle.book.specs.State.{empty_state}
 use Rattle.book.specs.Step.{Operation, put, read, lose, repair, delete, stat}
-use Rattle.book.specs.History.{Event, History, IsLegalFrom, call_of, entry_of}
+use Rattle.book.specs.History.{Event, History, call_of, entry_of}
 use Rattle.book.specs.Lawful.{IsLawful}
-use Rattle.book.specs.Views.{View, Views, view, reply, CanPut, view_after, empty_views, operation_of, IsNoted, AreNoted, next}
+use Rattle.book.specs.Views.{Views, view, reply, CanPut, view_after, empty_views, operation_of, IsNoted, AreNoted, next}
 use Rattle.book.specs.declared.note.Note.{Note}
 use Rattle.book.specs.declared.note.Entry.{Entry}
 use Rattle.book.specs.declared.note.Call.{Call}
@@ -53,9 +51,10 @@ after_zero v (stat n) m = refl
 
 pub noted : (w : ℕ) (v : Views) (h : History) → Follows w v h → AreNoted w v (map entry_of h)
 noted w v [] follows = tt
-noted w v (e ∷ h) follows =
-    ((can_zero w e.operation follows.0.0, follows.0.1 ∙ reply_zero w v e.operation),
-      noted w (next v (entry_of e)) h (subst (λ (x : Views). Follows w x h) (after_zero v e.operation e.note) follows.1))
+noted w v (e ∷ h) follows = (
+  (can_zero w e.operation follows.0.0, follows.0.1 ∙ reply_zero w v e.operation),
+  noted w (next v (entry_of e)) h (subst (λ (x : Views). Follows w x h) (after_zero v e.operation e.note) follows.1),
+)
 
 -- and back: the entries are those of the history with zero bytes
 abbrev pub event_of : Entry → Event

@@ -7,7 +7,6 @@ use Rattle.std.proofs.lemmas.Cmp.{eq_by_cmp_equiv}
 use Rattle.std.proofs.lemmas.List.{take-append-drop}
 use Rattle.std.proofs.lemmas.List.Sums.{sum_by-cons}
 use Rattle.std.specs.BTreeMap.{is_at}
-use Rattle.lrc_code.specs.declared.Code.{Code}
 use Rattle.sealed.specs.declared.value.Sealed.{Sealed}
 use Rattle.sealed.specs.Layout.{stripe_count}
 use Rattle.sealed.specs.Blob.{nothing, IsBlob}
@@ -84,9 +83,9 @@ carries_put old new who n s b v width stands counted same_width same_base entrie
     let represents : Represents old.width (record s { version = v }) blob = record { version = puts; width = width; code = refl; stands = another_version s b v stands } in
     carried old new h e told (can_be_stored s b old.width width stands, ap note.Stored puts) same_width same_base (entries ∙ ap (λ x. old.entries ++ x ∷ []) (sym same_entry))
     (λ q. let K : Option Sealed → Option Blob → Type 0 = Correspond old.width in
-      let there : Bool = is_at (name_cmp n) q in
-      let both : Correspond old.width (cond there (Some (record s { version = v })) (sealed_at old q)) (cond there (Some blob) (finite.get (state_of h).names q)) =
-      corresponds old.width there (record s { version = v }) blob (sealed_at old q) (finite.get (state_of h).names q) represents (told.catalogue q) in
-      let gets : finite.get (finite.insert (state_of h).names n blob) q ≡ cond there (Some blob) (finite.get (state_of h).names q) =
-      finite.get-insert nat_list_cmp_total (state_of h).names n blob q ∙ ap (λ t. cond t (Some blob) (finite.get (state_of h).names q)) ((eq_by_cmp_equiv nat_list_cmp_total).symm q n) in
-      subst (K (sealed_at new q)) (sym gets) (subst (λ x. K x (cond there (Some blob) (finite.get (state_of h).names q))) (sym (looks q)) both))
+    let there : Bool = is_at (name_cmp n) q in
+    let both : Correspond old.width (cond there (Some (record s { version = v })) (sealed_at old q)) (cond there (Some blob) (finite.get (state_of h).names q)) =
+    corresponds old.width there (record s { version = v }) blob (sealed_at old q) (finite.get (state_of h).names q) represents (told.catalogue q) in
+    let gets : finite.get (finite.insert (state_of h).names n blob) q ≡ cond there (Some blob) (finite.get (state_of h).names q) =
+    finite.get-insert nat_list_cmp_total (state_of h).names n blob q ∙ ap (λ t. cond t (Some blob) (finite.get (state_of h).names q)) ((eq_by_cmp_equiv nat_list_cmp_total).symm q n) in
+    subst (K (sealed_at new q)) (sym gets) (subst (λ x. K x (cond there (Some blob) (finite.get (state_of h).names q))) (sym (looks q)) both))

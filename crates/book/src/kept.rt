@@ -59,9 +59,7 @@ impl Kept {
     fn has_open_between(&self, first: u64, last: u64) -> bool
         ensures { result ≡ list_any (is_open_between self.now first last) self.now.lost.keys }
     {
-        self.lost
-            .iter()
-            .any(|&(stripe, f)| self.is_open_between(first, last, stripe, f))
+        self.lost.iter().any(|&(stripe, f)| self.is_open_between(first, last, stripe, f))
     }
 
     /// Whether some byte of the range stands in an open fragment.

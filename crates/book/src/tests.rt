@@ -108,7 +108,11 @@ fn losses(alloc: Global, name: &Name) -> Result<Vec<Entry>, Fault> {
         lost: 4,
     };
     note(&mut entries, Call::Stat { name: name() }, shape)?;
-    note(&mut entries, Call::Delete { name: name() }, Note::Deleted(1))?;
+    note(
+        &mut entries,
+        Call::Delete { name: name() },
+        Note::Deleted(1),
+    )?;
     Ok(entries)
 }
 

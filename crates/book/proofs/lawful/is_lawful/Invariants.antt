@@ -1,4 +1,4 @@
-use Rattle.std.proofs.Common.{◌≡◌, ℕ, drop}
+use Rattle.std.proofs.Common.{◌≡◌, drop}
 use Rattle.std.specs.Prelude.{◌↔◌}
 use Rattle.book.specs.Kept.{views_of}
 use Rattle.book.specs.Views.{AreNoted, empty_views}

@@ -1,6 +1,4 @@
-use Rattle.std.proofs.Common.{◌≡◌, ◌≤◌, List, map, sym, subst, arith}
-use Rattle.book.specs.declared.base.Outline.{Outline}
-use Rattle.book.specs.Base.{IsRising}
+use Rattle.std.proofs.Common.{arith}
 use Rattle.book.proofs.Beginnings.{none_rise}
 use Rattle.book.proofs.base.Base.empty.Goals as goal
 

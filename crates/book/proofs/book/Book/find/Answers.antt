@@ -1,6 +1,5 @@
-use Rattle.std.proofs.Common.{◌≡◌, sym, ◌∙◌, ap, List, ℕ}
+use Rattle.std.proofs.Common.{sym, ◌∙◌, ap}
 use Rattle.std.specs.Option.{option_map}
-use Rattle.book.specs.Names.{name_cmp}
 use Rattle.book.specs.Contents.{Contents, sealed_at}
 use Rattle.book.proofs.Catalogue.{lookup-map, option_map-copied}
 use Rattle.book.proofs.book.Book.find.Goals as goal

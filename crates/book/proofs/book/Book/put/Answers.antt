@@ -1,7 +1,6 @@
-use Rattle.std.proofs.Common.{◌≡◌, ◌≤◌, sym, ap, ◌∙◌, List, ℕ, ◌+◌, refl, Option, [], arith, length}
+use Rattle.std.proofs.Common.{◌≡◌, ◌≤◌, sym, ap, ◌∙◌, ◌+◌, arith, length}
 use Rattle.std.specs.Prelude.{count_by}
 use Rattle.std.proofs.lemmas.List.Sums.{count_by-le-length}
-use Rattle.book.specs.Names.{name_cmp}
 use Rattle.book.specs.Notes.{is_put}
 use Rattle.book.specs.Base.{Checkpoint}
 use Rattle.book.specs.Contents.{Contents, sealed_at}
@@ -27,4 +26,4 @@ returns-clause-ok c b stands =
     (cc)
     (λ q. lookup-map (λ a. a.value) _ c.insert.new.self.entries
     ∙ option_map_put (λ a. a.value) _ c.in-Ok.sealed _ _ _ _ (c.in-Ok-insert.ensures.updates.0 q) (c.in-Ok.ensures.ok ∙ c.with_version.ensures)
-      (sym (lookup-map (λ a. a.value) _ c.self.inside.catalogue.entries) ∙ ap (λ (s : Contents). sealed_at s q) c.self.view_is))
+    (sym (lookup-map (λ a. a.value) _ c.self.inside.catalogue.entries) ∙ ap (λ (s : Contents). sealed_at s q) c.self.view_is))

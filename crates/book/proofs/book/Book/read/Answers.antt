@@ -1,7 +1,7 @@
-use Rattle.std.proofs.Common.{◌≡◌, sym, ap, ◌∙◌, List, ℕ, refl, subst, Option, []}
+use Rattle.std.proofs.Common.{◌≡◌, ap, subst, Option}
 use Rattle.sealed.specs.declared.value.Sealed.{Sealed}
 use Rattle.book.specs.Asked.{IsReadAnswer}
-use Rattle.book.specs.Contents.{Contents, sealed_at}
+use Rattle.book.specs.Contents.{Contents}
 use Rattle.book.proofs.Reading.{carries_read}
 use Rattle.book.proofs.book.Book.read.Goals as goal
 

@@ -1,4 +1,3 @@
-use Rattle.std.proofs.Common.{arith}
 use Rattle.book.proofs.Keeping.{open_known}
 use Rattle.book.proofs.kept.Kept.is_open.Goals as goal
 

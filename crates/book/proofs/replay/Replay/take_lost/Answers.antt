@@ -1,4 +1,4 @@
-use Rattle.std.proofs.Common.{◌≡◌, ℕ, List, Some, sym, ◌∙◌}
+use Rattle.std.proofs.Common.{sym}
 use Rattle.book.specs.Views.{taken}
 use Rattle.book.proofs.Replaying.{changed_at, is_there, without_pair}
 use Rattle.book.proofs.replay.Replay.take_lost.Goals as goal
