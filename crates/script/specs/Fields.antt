@@ -1,11 +1,12 @@
 -- What the six fields of a record stand for.
-use Rattle.std.specs.Prelude.{ℕ, List, [], Bool, true, Option, Some, None, ◌&&◌, slice_index_or, nat_le, if◌then◌else◌, codes, bytes_eq}
-use Rattle.lrc_code.specs.declared.Code.TheVariants.{Wide}
+use Rattle.std.specs.Prelude.{ℕ, List, [], ◌∷◌, Bool, true, false, Option, Some, None, ◌&&◌, ◌||◌, ◌==◌, ◌+◌, ◌*◌, ◌-◌, length, slice_index_or, nat_le, if◌then◌else◌, codes, bytes_eq}
+use Rattle.std.specs.Char.{is_ascii_digit}
+use Rattle.lrc_code.specs.declared.Code.TheVariants.{Wide, Small}
 use Rattle.script.specs.Names.{is_name}
 use Rattle.script.specs.Numbers.{is_number, value}
 use Rattle.script.specs.declared.rows.Ask.TheVariants as ask
 use Rattle.script.specs.declared.rows.Operation.{Operation}
-use Rattle.script.specs.declared.rows.Operation.TheVariants.{Put, Read}
+use Rattle.script.specs.declared.rows.Operation.TheVariants.{Put, PutSmall, Read, Lose, Repair, Delete, Stat, Trim}
 use Rattle.script.specs.declared.rows.Row.{Row}
 use Rattle.script.specs.declared.rows.Task.{Task}
 use Rattle.script.specs.declared.rows.Task.TheVariants.{Make}
@@ -37,24 +38,78 @@ b_field r = slice_index_or r 5 []
 unfoldable pub operation_of : List ℕ → Option Operation
 operation_of text =
     if bytes_eq text (codes "put") then Some Put
+    else if bytes_eq text (codes "put6") then Some PutSmall
     else if bytes_eq text (codes "read") then Some Read
+    else if bytes_eq text (codes "lose") then Some Lose
+    else if bytes_eq text (codes "repair") then Some Repair
+    else if bytes_eq text (codes "delete") then Some Delete
+    else if bytes_eq text (codes "stat") then Some Stat
+    else if bytes_eq text (codes "trim") then Some Trim
     else None
 
 -- a number from low to high
 abbrev pub is_number_in : ℕ → ℕ → List ℕ → Bool
 is_number_in low high text = is_number text && nat_le low (value text) && nat_le (value text) high
 
--- the arguments that each operation takes: a put the word `text` and its bytes, a read the start and the length
+-- a trim has no name
+abbrev pub fits_name : Option Operation → List ℕ → Bool
+fits_name (Some Trim) text = length text == 0
+fits_name _ text = is_name text
+
+-- a digit of a byte in hexadecimal
+abbrev pub is_hex_digit : ℕ → Bool
+is_hex_digit c = is_ascii_digit c || (nat_le 97 c && nat_le c 102)
+
+abbrev pub hex_digit : ℕ → ℕ
+hex_digit c = if is_ascii_digit c then c - 48 else c - 87
+
+-- two digits a byte
+abbrev pub are_hex_bytes : List ℕ → Bool
+are_hex_bytes [] = true
+are_hex_bytes (high ∷ []) = false
+are_hex_bytes (high ∷ low ∷ rest) = is_hex_digit high && is_hex_digit low && are_hex_bytes rest
+
+abbrev pub hex_bytes : List ℕ → List ℕ
+hex_bytes [] = []
+hex_bytes (high ∷ []) = []
+hex_bytes (high ∷ low ∷ rest) = (hex_digit high * 16 + hex_digit low) ∷ hex_bytes rest
+
+-- the bytes of a put: a field as it stands, or in hexadecimal
+abbrev pub are_bytes : List ℕ → List ℕ → Bool
+are_bytes a b = bytes_eq a (codes "text") || (bytes_eq a (codes "hex") && are_hex_bytes b)
+
+abbrev pub bytes_of : List ℕ → List ℕ → List ℕ
+bytes_of a b = if bytes_eq a (codes "text") then b else hex_bytes b
+
+abbrev pub are_numbers : List ℕ → List ℕ → Bool
+are_numbers a b = is_number a && is_number b
+
+abbrev pub are_empty : List ℕ → List ℕ → Bool
+are_empty a b = (length a == 0) && (length b == 0)
+
+-- the arguments that each operation takes
 abbrev pub fits_arguments : Option Operation → List ℕ → List ℕ → Bool
-fits_arguments (Some Put) a b = bytes_eq a (codes "text")
-fits_arguments (Some Read) a b = is_number a && is_number b
+fits_arguments (Some Put) a b = are_bytes a b
+fits_arguments (Some PutSmall) a b = are_bytes a b
+fits_arguments (Some Read) a b = are_numbers a b
+fits_arguments (Some Lose) a b = are_numbers a b
+fits_arguments (Some Repair) a b = are_numbers a b
+fits_arguments (Some Delete) a b = are_empty a b
+fits_arguments (Some Stat) a b = are_empty a b
+fits_arguments (Some Trim) a b = is_number a && (length b == 0)
 fits_arguments None a b = true
 
 -- what a record that is not refused asks for. One whose operation is none is refused
 abbrev pub task_of : Option Operation → List ℕ → List ℕ → List ℕ → Task
-task_of (Some Put) name a b = Make (ask.Put name Wide b)
+task_of (Some Put) name a b = Make (ask.Put name Wide (bytes_of a b))
+task_of (Some PutSmall) name a b = Make (ask.Put name Small (bytes_of a b))
 task_of (Some Read) name a b = Make (ask.Read name (value a) (value b))
-task_of None name a b = Make (ask.Read name (value a) (value b))
+task_of (Some Lose) name a b = Make (ask.Lose name (value a) (value b))
+task_of (Some Repair) name a b = Make (ask.Repair name (value a) (value b))
+task_of (Some Delete) name a b = Make (ask.Delete name)
+task_of (Some Stat) name a b = Make (ask.Stat name)
+task_of (Some Trim) name a b = Make (ask.Trim (value a))
+task_of None name a b = Make (ask.Trim (value a))
 
 -- the row that a record which is not refused stands for
 abbrev pub row_of : Record → Row

@@ -1,9 +1,9 @@
 //! The fields of a record.
 
-ghost use Rattle.std.specs.Prelude.{◌≡◌, [], ◌∷◌, true, false, not, ◌&&◌, MatchOption, MatchResult};
+ghost use Rattle.std.specs.Prelude.{◌≡◌, ◌≢◌, ◌<◌, [], ◌∷◌, true, false, not, MatchOption, MatchResult, IfOk};
 ghost use Rattle.script.specs.Names.{is_name};
-ghost use Rattle.script.specs.Numbers.{is_number, value};
-ghost use Rattle.script.specs.Fields.{fits_arguments, is_number_in, operation_of, task_of};
+ghost use Rattle.script.specs.Numbers.{value};
+ghost use Rattle.script.specs.Fields.{are_bytes, are_empty, are_hex_bytes, are_numbers, bytes_of, fits_arguments, hex_bytes, hex_digit, is_hex_digit, is_number_in, operation_of, task_of};
 ghost use Rattle.script.specs.Script.{first_word, task_refusal, Tells};
 
 use crate::numbers::number;
@@ -11,7 +11,7 @@ use crate::rows::{Ask, Operation, Refusal, Task, Word};
 use book::Name;
 use bytes::Bytes;
 use lrc_code::Code;
-use std::alloc::Global;
+use std::alloc::{AllocError, Global};
 use std::str;
 
 /// The number that a text stands for, where it is one from `low` to `high`.
@@ -36,8 +36,68 @@ pub(crate) fn operation(text: &[u8]) -> Option<Operation>
 {
     match text {
         b"put" => Some(Operation::Put),
+        b"put6" => Some(Operation::PutSmall),
         b"read" => Some(Operation::Read),
+        b"lose" => Some(Operation::Lose),
+        b"repair" => Some(Operation::Repair),
+        b"delete" => Some(Operation::Delete),
+        b"stat" => Some(Operation::Stat),
+        b"trim" => Some(Operation::Trim),
         _ => None,
+    }
+}
+
+/// Whether a byte is a digit of a byte in hexadecimal.
+fn is_hex_digit(byte: u8) -> bool
+    ensures { result ≡ is_hex_digit byte }
+{
+    byte.is_ascii_digit() || (b'a'..=b'f').contains(&byte)
+}
+
+/// What a digit stands for.
+fn hex_digit(byte: u8) -> u8
+    requires { is_hex_digit byte ≡ true }
+    ensures value { result ≡ hex_digit byte }
+    ensures small { result < 16 }
+{
+    if byte.is_ascii_digit() {
+        byte - b'0'
+    } else {
+        byte - b'a' + 10
+    }
+}
+
+/// The bytes of a text of two digits a byte, or nothing where it is none.
+fn hex_bytes(alloc: Global, text: &[u8]) -> Result<Option<Vec<u8>>, AllocError>
+    ensures { IfOk result (λ o. MatchOption o (are_hex_bytes text.now ≡ false) (λ v. (are_hex_bytes text.now ≡ true) × (v.items ≡ hex_bytes text.now))) }
+{
+    let mut bytes = Vec::new(alloc);
+    let mut rest = text;
+    while let [high, low, more @ ..] = rest {
+        if !is_hex_digit(*high) || !is_hex_digit(*low) {
+            return Ok(None);
+        }
+        bytes.push(hex_digit(*high) * 16 + hex_digit(*low))?;
+        rest = more;
+    }
+    if rest.is_empty() {
+        Ok(Some(bytes))
+    } else {
+        Ok(None)
+    }
+}
+
+/// The bytes of a put.
+fn put_bytes(alloc: Global, a: &[u8], b: &[u8]) -> Result<Option<Bytes>, AllocError>
+    ensures { IfOk result (λ o. MatchOption o (are_bytes a.now b.now ≡ false) (λ v. (are_bytes a.now b.now ≡ true) × (v ≡ bytes_of a.now b.now))) }
+{
+    match a {
+        b"text" => Ok(Some(Bytes::copy_from_slice(alloc, b)?)),
+        b"hex" => match hex_bytes(alloc, b)? {
+            Some(bytes) => Ok(Some(Bytes::from_vec(bytes)?)),
+            None => Ok(None),
+        },
+        _ => Ok(None),
     }
 }
 
@@ -66,45 +126,100 @@ pub(crate) fn task(
         (λ task. (task_refusal (Some operation) name.now a.now b.now ≡ None) × (task ≡ task_of (Some operation) name.now a.now b.now))
         (λ e. Tells e (task_refusal (Some operation) name.now a.now b.now)) }
 {
+    if operation == Operation::Trim {
+        if !name.is_empty() {
+            return Err(Refusal::Refused(Word::Name));
+        }
+        if !b.is_empty() {
+            return Err(Refusal::Refused(Word::Argument));
+        }
+        return match number(a) {
+            Some(keep) => Ok(Task::Make(Ask::Trim { keep })),
+            None => Err(Refusal::Refused(Word::Argument)),
+        };
+    }
     let Some(name) = name_of(name) else {
         return Err(Refusal::Refused(Word::Name));
     };
     Ok(Task::Make(ask(alloc, operation, name, a, b)?))
 }
 
-/// A call, by its operation, its name and its arguments.
+/// A call on a name, by its operation, its name and its arguments.
 fn ask(alloc: Global, operation: Operation, name: Name, a: &[u8], b: &[u8]) -> Result<Ask, Refusal>
+    requires { operation ≢ Operation.Trim }
     ensures { MatchResult result
         (λ ask. (fits_arguments (Some operation) a.now b.now ≡ true) × (Task.Make ask ≡ task_of (Some operation) name a.now b.now))
         (λ e. Tells e (first_word ((not (fits_arguments (Some operation) a.now b.now), Word.Argument) ∷ []))) }
 {
     match operation {
-        Operation::Put => match a {
-            b"text" => match Bytes::copy_from_slice(alloc, b) {
-                Ok(bytes) => Ok(Ask::Put {
-                    name,
-                    code: Code::Wide,
-                    bytes,
-                }),
-                Err(_) => Err(Refusal::NoMemory),
-            },
-            _ => Err(Refusal::Refused(Word::Argument)),
-        },
+        Operation::Put => put(alloc, name, Code::Wide, a, b),
+        Operation::PutSmall => put(alloc, name, Code::Small, a, b),
         Operation::Read => {
             let (start, len) = numbers(a, b)?;
             Ok(Ask::Read { name, start, len })
         }
+        Operation::Lose => {
+            let (stripe, fragment) = numbers(a, b)?;
+            Ok(Ask::Lose {
+                name,
+                stripe,
+                fragment,
+            })
+        }
+        Operation::Repair => {
+            let (stripe, fragment) = numbers(a, b)?;
+            Ok(Ask::Repair {
+                name,
+                stripe,
+                fragment,
+            })
+        }
+        Operation::Delete => {
+            nothing(a, b)?;
+            Ok(Ask::Delete { name })
+        }
+        Operation::Stat => {
+            nothing(a, b)?;
+            Ok(Ask::Stat { name })
+        }
+        Operation::Trim => unreachable!(),
+    }
+}
+
+/// A put in this code.
+fn put(alloc: Global, name: Name, code: Code, a: &[u8], b: &[u8]) -> Result<Ask, Refusal>
+    ensures { MatchResult result
+        (λ ask. (are_bytes a.now b.now ≡ true) × (ask ≡ Ask.Put name code (bytes_of a.now b.now)))
+        (λ e. Tells e (first_word ((not (are_bytes a.now b.now), Word.Argument) ∷ []))) }
+{
+    match put_bytes(alloc, a, b) {
+        Ok(Some(bytes)) => Ok(Ask::Put { name, code, bytes }),
+        Ok(None) => Err(Refusal::Refused(Word::Argument)),
+        Err(_) => Err(Refusal::NoMemory),
     }
 }
 
 /// Two numbers.
 fn numbers(a: &[u8], b: &[u8]) -> Result<(u64, u64), Refusal>
     ensures { MatchResult result
-        (λ p. ((is_number a.now && is_number b.now) ≡ true) × (p.0 ≡ value a.now) × (p.1 ≡ value b.now))
-        (λ e. ((is_number a.now && is_number b.now) ≡ false) × (e ≡ Refusal.Refused Word.Argument)) }
+        (λ p. (are_numbers a.now b.now ≡ true) × (p.0 ≡ value a.now) × (p.1 ≡ value b.now))
+        (λ e. (are_numbers a.now b.now ≡ false) × (e ≡ Refusal.Refused Word.Argument)) }
 {
     match (number(a), number(b)) {
         (Some(a), Some(b)) => Ok((a, b)),
         _ => Err(Refusal::Refused(Word::Argument)),
+    }
+}
+
+/// No arguments.
+fn nothing(a: &[u8], b: &[u8]) -> Result<(), Refusal>
+    ensures { MatchResult result
+        (λ _. are_empty a.now b.now ≡ true)
+        (λ e. (are_empty a.now b.now ≡ false) × (e ≡ Refusal.Refused Word.Argument)) }
+{
+    if a.is_empty() && b.is_empty() {
+        Ok(())
+    } else {
+        Err(Refusal::Refused(Word::Argument))
     }
 }

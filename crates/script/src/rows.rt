@@ -17,6 +17,24 @@ pub enum Ask {
     },
     /// Reads `len` bytes from `start` on.
     Read { name: Name, start: u64, len: u64 },
+    /// Loses a fragment of a stripe.
+    Lose {
+        name: Name,
+        stripe: u64,
+        fragment: u64,
+    },
+    /// Mends a lost fragment of a stripe.
+    Repair {
+        name: Name,
+        stripe: u64,
+        fragment: u64,
+    },
+    /// Deletes the blob.
+    Delete { name: Name },
+    /// Asks for the blob's shape.
+    Stat { name: Name },
+    /// Gives up all of the journal but its last `keep` entries. It is no call of the journal.
+    Trim { keep: u64 },
 }
 
 /// What a row asks for.
@@ -90,7 +108,13 @@ pub enum BadScript {
 #[derive(Clone, Copy, PartialEq, Eq, Debug)]
 pub(crate) enum Operation {
     Put,
+    PutSmall,
     Read,
+    Lose,
+    Repair,
+    Delete,
+    Stat,
+    Trim,
 }
 
 /// Why one record is refused.
