@@ -29,7 +29,7 @@ impl Book {
         ensures ok { IfOk result (λ a. (b : List ℕ) → StandsFor sealed b nothing → CarriesOn self.old self.new who (put_of name sealed.code b) a) }
         ensures answer { IfOk result (λ a. a ≡ Answer.Stored (self.old.base.puts + count_by is_put self.old.entries + 1)) }
         ensures full { (result ≡ Err Fault.JournalFull) ↔ (length self.old.entries ≡ self.old.limit) }
-        ensures kept { (self.new.width ≡ self.old.width) × (self.new.limit ≡ self.old.limit) }
+        ensures kept { (self.new.width ≡ self.old.width) × (self.new.limit ≡ self.old.limit) × (self.new.base ≡ self.old.base) }
         ensures faults { IfErr result (λ e. (e ≡ Fault.NoMemory) ⊎ (e ≡ Fault.JournalFull)) }
         ensures err { OnErr result (self.new ≡ self.old) }
     {

@@ -26,7 +26,7 @@ impl Book {
         ensures answer { IfOk result (IsReadAnswer (sealed_at self.old name) start len) }
         ensures full { (result ≡ Err Fault.JournalFull) ↔ (length self.old.entries ≡ self.old.limit) }
         ensures no_memory { result ≡ Err Fault.NoMemory → IsGrantable (sealed_at self.old name) start len }
-        ensures kept { (self.new.width ≡ self.old.width) × (self.new.limit ≡ self.old.limit) }
+        ensures kept { (self.new.width ≡ self.old.width) × (self.new.limit ≡ self.old.limit) × (self.new.base ≡ self.old.base) }
         ensures faults { IfErr result (λ e. (e ≡ Fault.NoMemory) ⊎ (e ≡ Fault.JournalFull)) }
         ensures err { OnErr result (self.new ≡ self.old) }
     {
