@@ -5,8 +5,8 @@ ghost use Rattle.lent.specs.Asked.{IsAnswer};
 
 use crate::cut::{is_open_at, met_by};
 use crate::{Asked, Grant};
+use lrc_code::NoMemory;
 use sealed::Sealed;
-use std::alloc::AllocError;
 use std::sync::Arc;
 
 impl Grant {
@@ -17,8 +17,8 @@ impl Grant {
         self.sealed.version
     }
 
-    /// Asks for `len` bytes from the byte `start` on. `AllocError` comes only in place of a grant, where one more owner of the blob was refused.
-    pub fn ask(sealed: &Arc<Sealed>, start: u64, len: u64) -> Result<Asked, AllocError>
+    /// Asks for `len` bytes from the byte `start` on. `NoMemory` comes only in place of a grant, where one more owner of the blob was refused.
+    pub fn ask(sealed: &Arc<Sealed>, start: u64, len: u64) -> Result<Asked, NoMemory>
         ensures ok { IfOk result (IsAnswer sealed.now.value start len) }
         ensures err { OnErr result ((is_outside sealed.now.value.len start len ≡ false) × IsReadable sealed.now.value start len) }
     {

@@ -12,11 +12,13 @@ pub mod Solved
 pub mod Recoverable
 pub mod Sets
 pub mod Ways
-pub mod RowParts
+pub mod RowTerms
 pub mod Local
 pub mod Stripes
 pub mod Elimination
 pub mod Maximal
 pub mod Least
-pub mod Parities
 pub mod Columns
+pub mod Parities
+pub mod WideParities
+pub mod BlocksLemmas

@@ -1,4 +1,6 @@
 -- The codes LRC(12,2,2) and LRC(6,2,2): which bytes are a column, and which lost fragments can't be told from those left.
+-- The form of the four equations is that of Huang et al., "Erasure Coding in Windows Azure Storage", USENIX ATC 2012; the
+-- coefficients, the field's polynomial and the numbering of the fragments are this project's own.
 use Rattle.std.specs.Prelude.{◌≡◌, ◌≢◌, ℕ, zero, suc, ◌<◌, Bool, true, false, cond, ◌==◌, List, [], ◌∷◌, slice_index, slice_index_or, bit_xor, ◌+◌, ◌-◌, ◌&&◌, ◌||◌, count_by}
 use Rattle.std.specs.List.{list_any}
 use Rattle.std.specs.Int.{bit_at}
@@ -17,8 +19,9 @@ pub record IsColumnOf (n : ℕ) (w : ℕ → ℕ → ℕ) (c : ℕ → ℕ) : Ty
   pub bytes : (i : ℕ) → i < n → c i < 256
   pub sums : (k : ℕ) → k < 4 → xor_sum n (λ i. product (w k i) (c i)) ≡ 0
 
--- two columns agree at every fragment that is left, and differ at f
+-- two columns agree at every fragment that is left, and differ at the fragment f
 pub record OpenBy (n : ℕ) (w : ℕ → ℕ → ℕ) (lost : ℕ → Bool) (f : ℕ) : Type 0 where
+  pub inside : f < n
   pub one : ℕ → ℕ
   pub other : ℕ → ℕ
   pub one_is : IsColumnOf n w one

@@ -3,8 +3,8 @@ use Rattle.lrc_code.specs.declared.Code.{Code}
 use Rattle.std.specs.Prelude.{◌≡◌, ℕ, ◌<◌, ◌≤◌, Bool, false, List, [], Option, Some, None, IfSome, length, slice_index, slice_index_or, slice_range}
 use Rattle.std.specs.Borrow.{Bor}
 use Rattle.std.specs.Option.{is_none}
-use Rattle.lrc_code.specs.Code.{fragment_count, data_count, xor_sum, weight, IsColumn}
-use Rattle.gf256.specs.Field.{product}
+use Rattle.lrc_code.specs.Code.{fragment_count, IsColumn}
+use Rattle.lrc_code.specs.Column.{parity_of}
 
 pub record IsStripe (code : Code) (w : ℕ) (s : ℕ → List ℕ) : Type 0 where
   pub width : (i : ℕ) → i < fragment_count code → length (s i) ≡ w
@@ -13,9 +13,13 @@ pub record IsStripe (code : Code) (w : ℕ) (s : ℕ → List ℕ) : Type 0 wher
 abbrev pub list_at : List (List ℕ) → ℕ → List ℕ
 list_at lists i = slice_index_or lists i []
 
--- the byte at place k of the parity that an equation gives
-unfoldable pub parity_sum : Code → ℕ → List (List ℕ) → ℕ → ℕ
-parity_sum code e sources k = xor_sum (data_count code) (λ i. product (weight code e i) (slice_index (list_at sources i) k))
+-- the bytes of the lists at place k
+abbrev pub bytes_at : List (List ℕ) → ℕ → ℕ → ℕ
+bytes_at lists k i = slice_index (list_at lists i) k
+
+-- at place k the lists have the parities of the data, one for each equation
+abbrev pub AreParities : Code → List (List ℕ) → List (List ℕ) → ℕ → Type 0
+AreParities code sources parities k = (e : ℕ) → e < 4 → bytes_at parities k e ≡ parity_of code e (bytes_at sources k)
 
 -- the slot of fragment i, and the bytes there
 abbrev pub slot : List (Option (Bor (List ℕ))) → ℕ → Option (Bor (List ℕ))

@@ -2,12 +2,14 @@
 
 ghost use Rattle.lrc_code.specs.Code.{data_count};
 ghost use Rattle.std.specs.Prelude.{◌≡◌, ℕ, ◌<◌, ◌++◌, All, IfOk, EachIndex, length, map, slice_index, bit_xor};
-ghost use Rattle.lrc_code.specs.Stripe.{IsStripe, list_at, parity_sum};
+ghost use Rattle.lrc_code.specs.Column.{parity_of};
+ghost use Rattle.lrc_code.specs.Stripe.{AreParities, IsStripe, list_at, bytes_at};
 
-use crate::Code;
 use crate::recipes::weight_of;
+use crate::wide::encode_into;
+use crate::{Code, NoMemory};
 use gf256::add_scaled;
-use std::alloc::{AllocError, Global};
+use std::alloc::Global;
 
 /// Adds the data, each times what it weighs in an equation, place by place.
 fn add_data(bytes: &mut [u8], code: Code, equation: usize, sources: &[&[u8]])
@@ -15,7 +17,7 @@ fn add_data(bytes: &mut [u8], code: Code, equation: usize, sources: &[&[u8]])
     requires count { length sources.now ≡ data_count code }
     requires long { All (λ s. length s.now ≡ length bytes.old) sources.now }
     ensures { EachIndex bytes.new (λ k.
-        slice_index bytes.new k ≡ bit_xor (slice_index bytes.old k) (parity_sum code equation (map (λ s. s.now) sources.now) k)) }
+        slice_index bytes.new k ≡ bit_xor (slice_index bytes.old k) (parity_of code equation (bytes_at (map (λ s. s.now) sources.now) k))) }
 {
     for i in 0..sources.len() {
         add_scaled(bytes, weight_of(code, equation, i), sources[i]);
@@ -29,12 +31,12 @@ fn parity(
     equation: usize,
     sources: &[&[u8]],
     w: usize,
-) -> Result<Vec<u8>, AllocError>
+) -> Result<Vec<u8>, NoMemory>
     requires equation_below { equation < 4 }
     requires count { length sources.now ≡ data_count code }
     requires long { All (λ s. length s.now ≡ w) sources.now }
     ensures long { IfOk result (λ v. length v.items ≡ w) }
-    ensures sums { IfOk result (λ v. EachIndex v.items (λ k. slice_index v.items k ≡ parity_sum code equation (map (λ s. s.now) sources.now) k)) }
+    ensures sums { IfOk result (λ v. EachIndex v.items (λ k. slice_index v.items k ≡ parity_of code equation (bytes_at (map (λ s. s.now) sources.now) k))) }
 {
     let mut bytes = vec![in alloc; 0; w]?;
     add_data(&mut bytes, code, equation, sources);
@@ -55,18 +57,33 @@ fn all_fit(sources: &[&[u8]])
     }
 }
 
-/// The parities of data fragments of one length: with them they are a stripe.
-pub fn encode_in(
+/// The parities in LRC(12,2,2), by the sums over the bits of the coefficients.
+fn encode_wide(alloc: Global, sources: &[&[u8]], w: usize) -> Result<[Vec<u8>; 4], NoMemory>
+    requires count { length sources.now ≡ 12 }
+    requires long { All (λ s. length s.now ≡ w) sources.now }
+    ensures long { IfOk result (λ parities. (e : ℕ) → e < 4 → length (list_at (map (λ v. v.items) parities) e) ≡ w) }
+    ensures are { IfOk result (λ parities. (k : ℕ) → k < w → AreParities Code.Wide (map (λ s. s.now) sources.now) (map (λ v. v.items) parities) k) }
+{
+    let mut first = vec![in alloc; 0; w]?;
+    let mut second = vec![in alloc; 0; w]?;
+    let mut third = vec![in alloc; 0; w]?;
+    let mut fourth = vec![in alloc; 0; w]?;
+    encode_into(sources, &mut first, &mut second, &mut third, &mut fourth);
+    Ok([first, second, third, fourth])
+}
+
+/// The parities in any code, each by its equation.
+fn encode_by_equations(
     alloc: Global,
     code: Code,
     sources: &[&[u8]],
     w: usize,
-) -> Result<[Vec<u8>; 4], AllocError>
+) -> Result<[Vec<u8>; 4], NoMemory>
     requires count { length sources.now ≡ data_count code }
     requires long { All (λ s. length s.now ≡ w) sources.now }
-    ensures { IfOk result (λ parities. IsStripe code w (list_at (map (λ s. s.now) sources.now ++ map (λ v. v.items) parities))) }
+    ensures long { IfOk result (λ parities. (e : ℕ) → e < 4 → length (list_at (map (λ v. v.items) parities) e) ≡ w) }
+    ensures are { IfOk result (λ parities. (k : ℕ) → k < w → AreParities code (map (λ s. s.now) sources.now) (map (λ v. v.items) parities) k) }
 {
-    all_fit(sources);
     let first = parity(alloc, code, 0, sources, w)?;
     let second = parity(alloc, code, 1, sources, w)?;
     let third = parity(alloc, code, 2, sources, w)?;
@@ -74,8 +91,28 @@ pub fn encode_in(
     Ok([first, second, third, fourth])
 }
 
-/// Fragments 12 to 15 of LRC(12,2,2).
-pub fn encode(alloc: Global, sources: &[&[u8]; 12], w: usize) -> Result<[Vec<u8>; 4], AllocError>
+/// The four parities of a code's data fragments, which have `w` bytes each: together they are a stripe of the code.
+/// Refused memory is `NoMemory`.
+pub fn encode_in(
+    alloc: Global,
+    code: Code,
+    sources: &[&[u8]],
+    w: usize,
+) -> Result<[Vec<u8>; 4], NoMemory>
+    requires count { length sources.now ≡ data_count code }
+    requires long { All (λ s. length s.now ≡ w) sources.now }
+    ensures { IfOk result (λ parities. IsStripe code w (list_at (map (λ s. s.now) sources.now ++ map (λ v. v.items) parities))) }
+{
+    all_fit(sources);
+    match code {
+        Code::Wide => encode_wide(alloc, sources, w),
+        Code::Small => encode_by_equations(alloc, code, sources, w),
+    }
+}
+
+/// Fragments 12 to 15 of the stripe of LRC(12,2,2) with these data fragments, which have `w` bytes each. Refused memory is
+/// `NoMemory`.
+pub fn encode(alloc: Global, sources: &[&[u8]; 12], w: usize) -> Result<[Vec<u8>; 4], NoMemory>
     requires { All (λ s. length s.now ≡ w) sources.now }
     ensures { IfOk result (λ parities. IsStripe Code.Wide w (list_at (map (λ s. s.now) sources.now ++ map (λ v. v.items) parities))) }
 {
@@ -83,12 +120,9 @@ pub fn encode(alloc: Global, sources: &[&[u8]; 12], w: usize) -> Result<[Vec<u8>
     Ok(parities)
 }
 
-/// Fragments 6 to 9 of LRC(6,2,2).
-pub fn encode_small(
-    alloc: Global,
-    sources: &[&[u8]; 6],
-    w: usize,
-) -> Result<[Vec<u8>; 4], AllocError>
+/// Fragments 6 to 9 of the stripe of LRC(6,2,2) with these data fragments, which have `w` bytes each. Refused memory is
+/// `NoMemory`.
+pub fn encode_small(alloc: Global, sources: &[&[u8]; 6], w: usize) -> Result<[Vec<u8>; 4], NoMemory>
     requires { All (λ s. length s.now ≡ w) sources.now }
     ensures { IfOk result (λ parities. IsStripe Code.Small w (list_at (map (λ s. s.now) sources.now ++ map (λ v. v.items) parities))) }
 {

@@ -1,8 +1,20 @@
--- A quotient that is rounded up, by dividing first.
+-- How many data fragments and stripes there are.
 use Rattle.std.proofs.Common.{◌≡◌, ◌≢◌, ℕ, ◌+◌, ◌-◌, ◌*◌, ◌/◌, ◌%◌, ◌<◌, ◌≤◌, min, sym, ◌∙◌, ap, arith, inl, inr}
 use Rattle.std.proofs.lemmas.Nat.{div-mul-add}
 use Rattle.std.proofs.lemmas.Bool.{cases_eq}
+use Rattle.lrc_code.specs.declared.Code.{Code}
+use Rattle.lrc_code.specs.declared.Code.TheVariants.{Wide, Small}
+use Rattle.lrc_code.specs.Code.{data_count}
 
+pub some_data : (code : Code) → 1 ≤ data_count code
+some_data Wide = omega arith
+some_data Small = omega arith
+
+pub few_data : (code : Code) → data_count code ≤ 12
+few_data Wide = omega arith
+few_data Small = omega arith
+
+-- a quotient that is rounded up, by dividing first
 pub rounded_up : (n d : ℕ) → 1 ≤ d → n / d + min 1 (n % d) ≡ (n + d - 1) / d
 rounded_up n d some =
     let q = n / d in

@@ -17,15 +17,12 @@ use Rattle.sealed.specs.Layout.{stripe_size}
 use Rattle.sealed.specs.Stripes.{Stripes, fragment_at}
 use Rattle.sealed.specs.Blob.{data_at, fragment, nothing, lost_in, pair_cmp}
 use Rattle.sealed.proofs.Fragments.{byte_or_zero, fragments_are, fragments_only}
+use Rattle.sealed.proofs.Counting.{few_data}
 use Rattle.sealed.proofs.Ranges.{item_of_range}
 
 parity_count : (code : Code) → fragment_count code ≡ data_count code + 4
 parity_count Wide = refl
 parity_count Small = refl
-
-few_data : (code : Code) → data_count code ≤ 12
-few_data Wide = omega arith
-few_data Small = omega arith
 
 some_item : {X : Type 0} (xs : List X) → 0 < length xs → X
 some_item [] l = absurd (omega arith)

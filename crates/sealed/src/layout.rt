@@ -1,28 +1,17 @@
 //! How many bytes and stripes a blob has.
 ghost use Rattle.std.specs.Prelude.{◌≡◌, ◌≤◌};
-ghost use Rattle.lrc_code.specs.Code.{data_count};
 ghost use Rattle.sealed.specs.Layout.{stripe_count, stripe_size};
 
 use crate::Width;
 use lrc_code::Code;
 
-/// How many of a stripe's fragments are data: the first ones.
-pub fn data_fragments(code: Code) -> u8
-    ensures value { result ≡ data_count code }
-    ensures range { (1 ≤ result) × (result ≤ 12) }
-{
-    match code {
-        Code::Wide => 12,
-        Code::Small => 6,
-    }
-}
-
 /// How many bytes of a blob a stripe holds.
+#[tactic(auto, using(crate::proofs::Counting::some_data, crate::proofs::Counting::few_data))]
 pub fn bytes_per_stripe(code: Code, width: Width) -> u64
     ensures value { result ≡ stripe_size code width }
     ensures range { (1 ≤ result) × (result ≤ 786432) }
 {
-    u64::from(data_fragments(code)) * u64::from(width.get())
+    u64::from(code.data_fragments()) * u64::from(width.get())
 }
 
 /// How many stripes a blob of `len` bytes has, for any length.

@@ -8,10 +8,10 @@ ghost use Rattle.sealed.specs.Blob.{fragment, nothing};
 ghost use Rattle.sealed.specs.Stripes.{fragment_at};
 ghost use Rattle.sealed.specs.Sealed.{StandsFor};
 
-use crate::{Fault, Sealed, Stripe, Stripes, Width, count_stripes, data_fragments};
+use crate::{Fault, Sealed, Stripe, Stripes, Width, count_stripes};
 use bytes::Bytes;
-use lrc_code::{Code, encode_in};
-use std::alloc::{AllocError, Global};
+use lrc_code::{Code, NoMemory, encode_in};
+use std::alloc::Global;
 use std::sync::Arc;
 
 /// Cuts a blob into stripes of LRC(12,2,2) with fragments of this width. Every fragment is present, and the version is 0. A blob of more than 4,096
@@ -58,7 +58,7 @@ fn all_stripes(
     w: usize,
     bytes: &Bytes,
     count: usize,
-) -> Result<Stripes, AllocError>
+) -> Result<Stripes, NoMemory>
     requires width { (1 ≤ w) × (w ≤ 65536) }
     requires count { (count ≡ stripe_count code w (length bytes.now)) × (count ≤ 4096) }
     requires bytes { All (λ x. x < 256) bytes.now }
@@ -66,7 +66,7 @@ fn all_stripes(
     ensures present { IfOk result (λ s. (j f : ℕ) → j < count → f < fragment_count code → fragment_at s j f ≡ Some (fragment code w bytes.now j f)) }
     ensures others { IfOk result (λ s. (j f : ℕ) → j < count → fragment_count code ≤ f → fragment_at s j f ≡ None) }
 {
-    let size = usize::from(data_fragments(code)) * w;
+    let size = usize::from(code.data_fragments()) * w;
     let mut items = Vec::with_capacity(alloc, count)?;
     for j in 0..count {
         let held = held_by(alloc, bytes, size, j)?;
@@ -77,7 +77,7 @@ fn all_stripes(
 }
 
 /// The bytes that stripe `j` holds. They are shared, but for those of the last stripe where it is filled up with zero bytes.
-fn held_by(alloc: Global, bytes: &Bytes, size: usize, j: usize) -> Result<Bytes, AllocError>
+fn held_by(alloc: Global, bytes: &Bytes, size: usize, j: usize) -> Result<Bytes, NoMemory>
     requires small { size ≤ 786432 }
     requires begins { size * j < length bytes.now }
     ensures long { IfOk result (λ held. length held ≡ size) }
@@ -92,7 +92,7 @@ fn held_by(alloc: Global, bytes: &Bytes, size: usize, j: usize) -> Result<Bytes,
 }
 
 /// A copy of the bytes, filled up with zero bytes.
-fn filled_up(alloc: Global, bytes: &[u8], size: usize) -> Result<Bytes, AllocError>
+fn filled_up(alloc: Global, bytes: &[u8], size: usize) -> Result<Bytes, NoMemory>
     requires { length bytes.now ≤ size }
     ensures long { IfOk result (λ filled. length filled ≡ size) }
     ensures bytes { IfOk result (λ filled. (i : ℕ) → slice_index_or filled i 0 ≡ slice_index_or bytes.now i 0) }
@@ -104,13 +104,13 @@ fn filled_up(alloc: Global, bytes: &[u8], size: usize) -> Result<Bytes, AllocErr
 }
 
 /// The stripe that holds these bytes.
-fn one_stripe(alloc: Global, code: Code, w: usize, held: &Bytes) -> Result<Stripe, AllocError>
+fn one_stripe(alloc: Global, code: Code, w: usize, held: &Bytes) -> Result<Stripe, NoMemory>
     requires width { w ≤ 65536 }
     requires long { length held.now ≡ stripe_size code w }
     ensures present { IfOk result (λ s. (f : ℕ) → f < fragment_count code → slice_index_or s.fragments f None ≡ Some (fragment code w held.now 0 f)) }
     ensures others { IfOk result (λ s. (f : ℕ) → fragment_count code ≤ f → slice_index_or s.fragments f None ≡ None) }
 {
-    let data = usize::from(data_fragments(code));
+    let data = usize::from(code.data_fragments());
     let slices = data_slices(code, w, held.as_slice());
     let parities = encode_in(alloc, code, &slices[..data], w)?;
     let mut fragments: [Option<Bytes>; 16] = [
@@ -136,7 +136,7 @@ fn data_slices(code: Code, w: usize, held: &[u8]) -> [&[u8]; 12]
     ensures slices { (f : ℕ) (other : Bor (List ℕ)) → f < data_count code → (slice_index_or result f other).now ≡ slice_range held.now (w * f) (w * f + w) }
 {
     let mut slices: [&[u8]; 12] = [&[]; 12];
-    for f in 0..usize::from(data_fragments(code)) {
+    for f in 0..usize::from(code.data_fragments()) {
         slices[f] = &held[w * f..w * f + w];
     }
     slices

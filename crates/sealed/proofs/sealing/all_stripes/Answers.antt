@@ -12,7 +12,7 @@ use Rattle.sealed.proofs.sealing.all_stripes.Goals as goal
 
 pub held_by-requires-clause-begins : goal.held_by-requires-clause-begins
 held_by-requires-clause-begins c =
-    let size : c.from.result * c.args.w ≡ stripe_size c.args.code c.args.w = ap (λ n. n * c.args.w) (c.from.ensures ∙ c.data_fragments.ensures.value) in
+    let size : c.from.result * c.args.w ≡ stripe_size c.args.code c.args.w = ap (λ n. n * c.args.w) (c.from.ensures ∙ c.data_fragments.ensures) in
     subst (λ s. s * c.loop-j.j < length c.args.bytes.now) (sym size) (stripe_begins c.args.code c.args.w c.requires.width.0 c.loop-j.j (length c.args.bytes.now) (omega (arith, c.requires.count)))
 
 pub loop-j-preserved : goal.loop-j-preserved
@@ -22,7 +22,7 @@ loop-j-preserved c =
     let held : List ℕ = c.in_ok-held.held in
     let fragments_of : Arc Stripe Global → List (Option (List ℕ)) = λ a. a.value.fragments in
     let long : length c.loop-j.items.items ≡ j = omega (arith, c.loop-j.items.ok, c.loop-j.invariant.long) in
-    let size : c.from.result * w ≡ stripe_size c.args.code w = ap (λ n. n * w) (c.from.ensures ∙ c.data_fragments.ensures.value) in
+    let size : c.from.result * w ≡ stripe_size c.args.code w = ap (λ n. n * w) (c.from.ensures ∙ c.data_fragments.ensures) in
     let same : (f : ℕ) → f < fragment_count c.args.code → fragment c.args.code w held 0 f ≡ fragment c.args.code w c.args.bytes.now j f =
     same_stripe c.args.code w j held c.args.bytes.now c.requires.bytes (c.in_ok-held.ensures.long ∙ size)
     (subst (λ (s : ℕ). (i : ℕ) → i < s → slice_index_or held i 0 ≡ slice_index_or c.args.bytes.now (s * j + i) 0) size c.in_ok-held.ensures.bytes) in

@@ -3,6 +3,7 @@ use Rattle.std.specs.Prelude.{slice_range}
 use Rattle.std.specs.Array.Iter.{array_into_iter_items}
 use Rattle.std.proofs.lemmas.List.{length-set}
 use Rattle.lrc_code.specs.Stripe.{list_at}
+use Rattle.sealed.proofs.Counting.{few_data}
 use Rattle.sealed.proofs.Whole.{made_whole, more_yielded, rest_behind, one_longer, all_yielded, one_more, item_behind}
 use Rattle.sealed.proofs.sealing.one_stripe.Goals as goal
 
@@ -13,7 +14,7 @@ loop-parity-preserved c =
     let yielded : List (Vec ℕ Global) = c.loop-parity.yielded in
     let more : length (yielded ++ c.in-Some.parity ∷ []) ≡ length yielded + 1 = one_longer yielded c.in-Some.parity in
     let inside : length yielded < length all = more_yielded yielded _ _ c.in-Some.parity all c.loop-parity.invariant.rest c.in-Some.ensures.steps in
-    let few : c.loop-parity.f < 16 = omega (arith, c.into_iter-parity-iterator.ensures.into_iter_gives.1, c.loop-parity.invariant.at, c.data_fragments.ensures.range, c.from-data.ensures, inside) in
+    let few : c.loop-parity.f < 16 = omega (arith, c.into_iter-parity-iterator.ensures.into_iter_gives.1, c.loop-parity.invariant.at, few_data c.args.code, c.data_fragments.ensures, c.from-data.ensures, inside) in
     let x : Option (List ℕ) = Some c.in_ok-from_vec.field-0 in
     record {
       sixteen = length-set c.loop-parity.fragments c.loop-parity.f x ∙ c.loop-parity.invariant.sixteen;
@@ -33,7 +34,7 @@ returns-clause-present c =
     let four : length all ≡ 4 = c.into_iter-parity-iterator.ensures.into_iter_gives.1 in
     let same : all ≡ c.in_ok-parities.parities = c.into_iter-parity-iterator.ensures.into_iter_gives.0 in
     let count : length c.loop-parity.yielded ≡ length all = all_yielded c.loop-parity.yielded (array_into_iter_items c.loop-parity.parity-iterator) all c.loop-parity.invariant.rest c.in-None.ensures.steps.0 in
-    made_whole c.args.code c.from-data.result c.args.w (c.from-data.ensures ∙ c.data_fragments.ensures.value) c.args.held.now c.requires.long
+    made_whole c.args.code c.from-data.result c.args.w (c.from-data.ensures ∙ c.data_fragments.ensures) c.args.held.now c.requires.long
     c.data_slices-slices.result c.data_slices-slices.ensures.count
     (λ f other l. c.data_slices-slices.ensures.slices f other l ∙ ap (λ (held : List ℕ). slice_range held (c.args.w * f) (c.args.w * f + c.args.w)) c.as_slice.ensures)
     (map (λ v. v.items) c.in_ok-parities.parities) c.loop-parity.fragments c.in_ok-parities.ensures c.loop-parity.invariant.slices

@@ -1,0 +1,68 @@
+//! How pieces are made.
+ghost use Rattle.std.specs.Prelude.{◌≡◌, ◌<◌, ◌≤◌, [], None, IfOk, OnErr};
+ghost use Rattle.lrc_code.specs.Code.{fragment_count, Open};
+ghost use Rattle.sealed.specs.Layout.{stripe_count};
+ghost use Rattle.sealed.specs.Stripes.{fragment_at};
+ghost use Rattle.sealed.specs.Sealed.{absent_in};
+ghost use Rattle.lent.specs.Pieces.{AreBytesOf, IsPieceOf, bytes_of};
+
+use crate::{Part, Piece};
+use lrc_code::{NoMemory, Rebuild, rebuild};
+use sealed::Sealed;
+use std::alloc::{AllocError, Global};
+
+impl Piece<'_> {
+    /// The bytes, lent or built.
+    pub fn bytes(&self) -> &[u8]
+        ensures { result.now ≡ bytes_of self.now }
+    {
+        match self {
+            Piece::Lent(bytes) => bytes,
+            Piece::Built(bytes) => bytes.as_slice(),
+        }
+    }
+}
+
+/// An empty piece.
+impl Default for Piece<'_> {
+    ghost is_default = { λ piece. bytes_of piece ≡ [] };
+
+    fn default() -> Self {
+        Piece::Lent(&[])
+    }
+}
+
+/// The piece of a part of a fragment that is not open. Only that of an absent fragment asks for memory.
+pub(crate) fn piece_of(alloc: Global, sealed: &Sealed, part: Part) -> Result<Piece<'_>, NoMemory>
+    requires stripe { part.stripe < stripe_count sealed.now.code sealed.now.width sealed.now.len }
+    requires fragment { part.fragment < fragment_count sealed.now.code }
+    requires closed { Open sealed.now.code (absent_in sealed.now part.stripe) part.fragment → ⊥ }
+    requires range { (part.from ≤ part.to) × (part.to ≤ sealed.now.width) }
+    ensures ok { IfOk result (IsPieceOf sealed.now part) }
+    ensures err { OnErr result (fragment_at sealed.now.stripes part.stripe part.fragment ≡ None) }
+{
+    match sealed.fragment(part.stripe, part.fragment) {
+        Some(bytes) => Ok(Piece::Lent(&bytes[part.from..part.to])),
+        None => match build(alloc, sealed, part) {
+            Ok(bytes) => Ok(Piece::Built(bytes)),
+            Err(error) => Err(error),
+        },
+    }
+}
+
+/// The bytes of a part of an absent fragment that is not open.
+fn build(alloc: Global, sealed: &Sealed, part: Part) -> Result<Vec<u8>, NoMemory>
+    requires stripe { part.stripe < stripe_count sealed.now.code sealed.now.width sealed.now.len }
+    requires fragment { part.fragment < fragment_count sealed.now.code }
+    requires absent { fragment_at sealed.now.stripes part.stripe part.fragment ≡ None }
+    requires closed { Open sealed.now.code (absent_in sealed.now part.stripe) part.fragment → ⊥ }
+    requires range { (part.from ≤ part.to) × (part.to ≤ sealed.now.width) }
+    ensures { IfOk result (λ bytes. AreBytesOf sealed.now part bytes.items) }
+{
+    let left = sealed.left(part.stripe);
+    match rebuild(alloc, &left, usize::from(part.fragment), part.from, part.to) {
+        Ok(bytes) => Ok(bytes),
+        Err(Rebuild::NoMemory) => Err(AllocError),
+        Err(Rebuild::Open) => unreachable!(),
+    }
+}

@@ -1,0 +1,210 @@
+-- The parities of LRC(12,2,2) by doublings are those that the equations give.
+use Rattle.std.proofs.Common.{◌≡◌, ℕ, zero, suc, ◌+◌, ◌-◌, ◌*◌, ◌/◌, ◌%◌, ◌<◌, Bool, true, eqb, List, [], ◌∷◌, ◌++◌, take, length, map, get_or, bit_xor, refl, sym, ap, ◌∙◌, subst, arith, inl, inr, eqb-true, Bor}
+use Rattle.std.proofs.lemmas.Bool.{cases_eq, cases_lt}
+use Rattle.std.proofs.Math.ListN.{get_or-map}
+use Rattle.std.proofs.Math.Seq.{take-append_seam}
+use lib.Lanes.{Each1}
+use Rattle.gf256.specs.Field.{product, carryless_product, reduced}
+use Rattle.gf256.proofs.Laws.{all_below, every_below}
+use Rattle.gf256.proofs.Ring.{Term, var, num, plus, times, same_by_ring}
+use Rattle.lrc_code.specs.declared.Code.TheVariants.{Wide}
+use Rattle.lrc_code.specs.Code.{xor_sum, weight, weights}
+use Rattle.lrc_code.specs.Column.{parity_of}
+use Rattle.lrc_code.specs.Stripe.{list_at, bytes_at, AreParities}
+use Rattle.lrc_code.specs.Doublings.{third_of, fourth_of, times_4}
+use Rattle.lrc_code.proofs.Opening.{each_of_four}
+use Rattle.lrc_code.proofs.Sums.{xor_sum_same}
+
+-- ---- a byte times x
+abbrev doubled : ℕ → ℕ
+doubled x = bit_xor (x * 2 % 256) (x / 128 * 29)
+
+abbrev is_doubled : ℕ → Bool
+is_doubled x = eqb (doubled x) (product 2 x)
+
+all_doubled : all_below is_doubled 256 ≡ true
+unfolding product carryless_product reduced
+all_doubled = refl
+
+pub twice_is : (x : ℕ) → x < 256 → bit_xor (x * 2 % 256) (x / 128 * 29) ≡ product 2 x
+twice_is x h = eqb-true (doubled x) (product 2 x) (every_below is_doubled 256 all_doubled x h)
+
+-- ---- a fact at each number below n, as a product
+abbrev pub Below : (ℕ → Type 0) → ℕ → Type 0
+Below P zero = Unit {0}
+Below P (suc n) = Below P n × P n
+
+pub at_below : (P : ℕ → Type 0) (n : ℕ) → Below P n → (i : ℕ) → i < n → P i
+at_below P zero b i h = absurd (omega arith)
+at_below P (suc n) b i h = elim (cases_eq i n) [ inl e ↦ subst P (sym e) b.1 | inr d ↦ at_below P n b.0 i (omega arith) ]
+
+-- ---- the parities, as terms over the twelve bytes of data
+abbrev sum_of : Term → Term → Term → Term
+sum_of a b c = plus (plus a b) c
+
+abbrev twice : Term → Term
+twice t = times (num 2) t
+
+abbrev four : Term → Term
+four t = twice (twice t)
+
+abbrev sum_s0 : Term
+sum_s0 = sum_of (var 0) (var 2) (var 4)
+
+abbrev sum_s1 : Term
+sum_s1 = sum_of (var 1) (var 2) (var 5)
+
+abbrev sum_s2 : Term
+sum_s2 = sum_of (var 3) (var 4) (var 5)
+
+abbrev sum_t0 : Term
+sum_t0 = sum_of (var 6) (var 8) (var 10)
+
+abbrev sum_t1 : Term
+sum_t1 = sum_of (var 7) (var 8) (var 11)
+
+abbrev sum_t2 : Term
+sum_t2 = sum_of (var 9) (var 10) (var 11)
+
+abbrev pub first : Term
+first = sum_of (plus sum_s0 (var 1)) (var 3) (var 5)
+
+abbrev pub second : Term
+second = sum_of (plus sum_t0 (var 7)) (var 9) (var 11)
+
+abbrev pub third : Term
+third = plus sum_s0 (twice (plus sum_s1 (twice (plus sum_s2 (four (plus sum_t0 (twice (plus sum_t1 (twice sum_t2)))))))))
+
+abbrev pub fourth : Term
+fourth = plus sum_s0 (four (plus sum_s1 (four (plus sum_s2 (four (four (plus sum_t0 (four (plus sum_t1 (four sum_t2))))))))))
+
+-- what equation e gives for the first n of the twelve bytes
+abbrev equation : ℕ → ℕ → Term
+equation e zero = num 0
+equation e (suc n) = plus (equation e n) (times (num (weight Wide e n)) (var n))
+
+-- the sum of three bytes of the data
+abbrev pub of_3 : List ℕ → ℕ → ℕ → ℕ → ℕ
+of_3 xs a b c = bit_xor (bit_xor (get_or xs a 0) (get_or xs b 0)) (get_or xs c 0)
+
+abbrev pub first_of : List ℕ → ℕ
+first_of xs = bit_xor (bit_xor (bit_xor (of_3 xs 0 2 4) (get_or xs 1 0)) (get_or xs 3 0)) (get_or xs 5 0)
+
+abbrev pub second_of : List ℕ → ℕ
+second_of xs = bit_xor (bit_xor (bit_xor (of_3 xs 6 8 10) (get_or xs 7 0)) (get_or xs 9 0)) (get_or xs 11 0)
+
+abbrev pub third_by_bits : List ℕ → ℕ
+third_by_bits xs = third_of (of_3 xs 0 2 4) (of_3 xs 1 2 5) (of_3 xs 3 4 5) (of_3 xs 6 8 10) (of_3 xs 7 8 11) (of_3 xs 9 10 11)
+
+abbrev pub fourth_by_bits : List ℕ → ℕ
+fourth_by_bits xs = fourth_of (of_3 xs 0 2 4) (of_3 xs 1 2 5) (of_3 xs 3 4 5) (of_3 xs 6 8 10) (of_3 xs 7 8 11) (of_3 xs 9 10 11)
+
+module _ (xs : List ℕ) (fits : Each1 (λ x. x < 256) xs) where
+  first_is : first_of xs ≡ parity_of Wide 0 (λ i. get_or xs i 0)
+  unfolding xor_sum weight weights
+  first_is = same_by_ring xs fits first (equation 0 12) refl
+
+  second_is : second_of xs ≡ parity_of Wide 1 (λ i. get_or xs i 0)
+  unfolding xor_sum weight weights
+  second_is = same_by_ring xs fits second (equation 1 12) refl
+
+  third_is : third_by_bits xs ≡ parity_of Wide 2 (λ i. get_or xs i 0)
+  unfolding xor_sum weight weights
+  third_is = same_by_ring xs fits third (equation 2 12) refl
+
+  fourth_is : fourth_by_bits xs ≡ parity_of Wide 3 (λ i. get_or xs i 0)
+  unfolding xor_sum weight weights
+  fourth_is = same_by_ring xs fits fourth (equation 3 12) refl
+
+  -- four bytes that are made of the twelve by doublings are their parities
+  pub parities_of : (r : ℕ → ℕ) → r 0 ≡ first_of xs → r 1 ≡ second_of xs → r 2 ≡ third_by_bits xs → r 3 ≡ fourth_by_bits xs
+      → (e : ℕ) → e < 4 → r e ≡ parity_of Wide e (λ i. get_or xs i 0)
+  parities_of r p q g h = each_of_four (λ e. r e ≡ parity_of Wide e (λ i. get_or xs i 0)) (p ∙ first_is) (q ∙ second_is) (g ∙ third_is) (h ∙ fourth_is)
+
+  pub parities_made : (g h : ℕ) → g ≡ third_by_bits xs → h ≡ fourth_by_bits xs
+      → (e : ℕ) → e < 4 → get_or (first_of xs ∷ second_of xs ∷ g ∷ h ∷ []) e 0 ≡ parity_of Wide e (λ i. get_or xs i 0)
+  parities_made g h = parities_of (λ e. get_or (first_of xs ∷ second_of xs ∷ g ∷ h ∷ []) e 0) refl refl
+
+-- ---- the same, from what calls returned
+pub third_from : (s0 s1 s2 t0 t1 t2 r1 r2 r3 r4 r5 : ℕ) → r1 ≡ product 2 t2 → r2 ≡ product 2 (bit_xor t1 r1) → r3 ≡ times_4 (bit_xor t0 r2) → r4 ≡ product 2 (bit_xor s2 r3) → r5 ≡ product 2 (bit_xor s1 r4)
+    → bit_xor s0 r5 ≡ third_of s0 s1 s2 t0 t1 t2
+third_from s0 s1 s2 t0 t1 t2 r1 r2 r3 r4 r5 e1 e2 e3 e4 e5 =
+    ap (bit_xor s0) (e5 ∙ ap (λ x. product 2 (bit_xor s1 x)) (e4 ∙ ap (λ x. product 2 (bit_xor s2 x)) (e3 ∙ ap (λ x. times_4 (bit_xor t0 x)) (e2 ∙ ap (λ x. product 2 (bit_xor t1 x)) e1))))
+
+pub fourth_from : (s0 s1 s2 t0 t1 t2 r1 r2 r3 r4 r5 r6 : ℕ) → r1 ≡ times_4 t2 → r2 ≡ times_4 (bit_xor t1 r1) → r3 ≡ times_4 (bit_xor t0 r2) → r4 ≡ times_4 r3 → r5 ≡ times_4 (bit_xor s2 r4) → r6 ≡ times_4 (bit_xor s1 r5)
+    → bit_xor s0 r6 ≡ fourth_of s0 s1 s2 t0 t1 t2
+fourth_from s0 s1 s2 t0 t1 t2 r1 r2 r3 r4 r5 r6 e1 e2 e3 e4 e5 e6 =
+    ap (bit_xor s0) (e6 ∙ ap (λ x. times_4 (bit_xor s1 x)) (e5 ∙ ap (λ x. times_4 (bit_xor s2 x)) (e4 ∙ ap times_4 (e3 ∙ ap (λ x. times_4 (bit_xor t0 x)) (e2 ∙ ap (λ x. times_4 (bit_xor t1 x)) e1)))))
+
+-- equal sums, equal parities
+pub third_same : (s0 s1 s2 t0 t1 t2 u0 u1 u2 v0 v1 v2 : ℕ) → s0 ≡ u0 → s1 ≡ u1 → s2 ≡ u2 → t0 ≡ v0 → t1 ≡ v1 → t2 ≡ v2 → third_of s0 s1 s2 t0 t1 t2 ≡ third_of u0 u1 u2 v0 v1 v2
+third_same s0 s1 s2 t0 t1 t2 u0 u1 u2 v0 v1 v2 a b c d e f = cc
+
+pub fourth_same : (s0 s1 s2 t0 t1 t2 u0 u1 u2 v0 v1 v2 : ℕ) → s0 ≡ u0 → s1 ≡ u1 → s2 ≡ u2 → t0 ≡ v0 → t1 ≡ v1 → t2 ≡ v2 → fourth_of s0 s1 s2 t0 t1 t2 ≡ fourth_of u0 u1 u2 v0 v1 v2
+fourth_same s0 s1 s2 t0 t1 t2 u0 u1 u2 v0 v1 v2 a b c d e f = cc
+
+-- ---- the parities of a stripe, place by place
+-- what a slice of slices has past its end
+abbrev pub nothing : Bor (List ℕ)
+nothing = record { ref_ptr = (0, 0); now = [] }
+
+pub source_is : (sources : List (Bor (List ℕ))) (i : ℕ) → (get_or sources i nothing).now ≡ list_at (map (λ s. s.now) sources) i
+source_is sources i = sym (let f : Bor (List ℕ) → List ℕ = λ s. s.now in get_or-map f sources i nothing)
+
+module _ (sources : List (List ℕ)) (ps : List (List ℕ)) where
+  -- the twelve bytes at one place
+  pub parities_at : (place : ℕ) (xs : List ℕ) → Below (λ i. get_or xs i 0 ≡ bytes_at sources place i) 12
+      → ((e : ℕ) → e < 4 → bytes_at ps place e ≡ parity_of Wide e (λ i. get_or xs i 0)) → AreParities Wide sources ps place
+  parities_at place xs same are e l =
+      are e l
+      ∙ xor_sum_same 12 (λ i. product (weight Wide e i) (get_or xs i 0)) (λ i. product (weight Wide e i) (bytes_at sources place i))
+      (λ i m. ap (product (weight Wide e i)) (at_below (λ i. get_or xs i 0 ≡ bytes_at sources place i) 12 same i m))
+
+-- the twelve bytes at one place, and four that are made of them
+pub place_parities : (sources : List (Bor (List ℕ))) (p q g h made : List ℕ) (place : ℕ)
+    → ((e : ℕ) → e < 4 → get_or made e 0 ≡ parity_of Wide e (λ i. get_or (map (λ i. get_or (get_or sources i nothing).now place 0) (0 ∷ 1 ∷ 2 ∷ 3 ∷ 4 ∷ 5 ∷ 6 ∷ 7 ∷ 8 ∷ 9 ∷ 10 ∷ 11 ∷ [])) i 0))
+    → get_or p place 0 ≡ get_or made 0 0 → get_or q place 0 ≡ get_or made 1 0 → get_or g place 0 ≡ get_or made 2 0 → get_or h place 0 ≡ get_or made 3 0
+    → AreParities Wide (map (λ s. s.now) sources) (p ∷ q ∷ g ∷ h ∷ []) place
+place_parities sources p q g h made place are ep eq eg eh =
+    let at : (i : ℕ) → get_or (get_or sources i nothing).now place 0 ≡ bytes_at (map (λ s. s.now) sources) place i = λ i. ap (λ xs. get_or xs place 0) (source_is sources i) in
+    parities_at (map (λ s. s.now) sources) (p ∷ q ∷ g ∷ h ∷ []) place
+    (map (λ i. get_or (get_or sources i nothing).now place 0) (0 ∷ 1 ∷ 2 ∷ 3 ∷ 4 ∷ 5 ∷ 6 ∷ 7 ∷ 8 ∷ 9 ∷ 10 ∷ 11 ∷ []))
+    ((((((((((((tt, at 0), at 1), at 2), at 3), at 4), at 5), at 6), at 7), at 8), at 9), at 10), at 11)
+    (λ e l. each_of_four (λ e. bytes_at (p ∷ q ∷ g ∷ h ∷ []) place e ≡ get_or made e 0) ep eq eg eh e l ∙ are e l)
+
+-- parities below `at` stay, and those from `at` to `to` are new
+pub parities_more : (sources : List (List ℕ)) (p q g h p' q' g' h' : List ℕ) (at to : ℕ)
+    → ((k : ℕ) → k < at → AreParities Wide sources (p ∷ q ∷ g ∷ h ∷ []) k)
+    → ((k : ℕ) → k < at → get_or p' k 0 ≡ get_or p k 0) → ((k : ℕ) → k < at → get_or q' k 0 ≡ get_or q k 0)
+    → ((k : ℕ) → k < at → get_or g' k 0 ≡ get_or g k 0) → ((k : ℕ) → k < at → get_or h' k 0 ≡ get_or h k 0)
+    → ((k : ℕ) → k < to - at → AreParities Wide sources (p' ∷ q' ∷ g' ∷ h' ∷ []) (at + k))
+    → (k : ℕ) → k < to → AreParities Wide sources (p' ∷ q' ∷ g' ∷ h' ∷ []) k
+parities_more sources p q g h p' q' g' h' at to done ep eq eg eh new k l =
+    elim (cases_lt k at) [
+      | inl below ↦ λ e m.
+          each_of_four (λ e. bytes_at (p' ∷ q' ∷ g' ∷ h' ∷ []) k e ≡ bytes_at (p ∷ q ∷ g ∷ h ∷ []) k e) (ep k below) (eq k below) (eg k below) (eh k below) e m ∙ done k below e m
+      | inr from ↦
+          let back : at + (k - at) ≡ k = omega arith in
+          subst (AreParities Wide sources (p' ∷ q' ∷ g' ∷ h' ∷ [])) back (new (k - at) (omega arith))
+    ]
+
+-- a fact at one place, at each place up to it
+pub at_last : (P : ℕ → Type 0) (at : ℕ) → P at → (k : ℕ) → k < (at + 1) - at → P (at + k)
+at_last P at p k h =
+    let e : at ≡ at + k = omega arith in
+    subst P e p
+
+-- a list that is written back over one of its length
+pub written_back : (n : ℕ) (xs ys : List ℕ) → length xs ≡ n → take n (xs ++ ys) ≡ xs
+written_back n xs ys e = ap (λ k. take k (xs ++ ys)) (sym e) ∙ take-append_seam xs ys
+
+-- equal lists, equal parities
+pub parities_same : (sources : List (List ℕ)) (p q g h p' q' g' h' : List ℕ) (w : ℕ) → p' ≡ p → q' ≡ q → g' ≡ g → h' ≡ h
+    → ((k : ℕ) → k < w → AreParities Wide sources (p ∷ q ∷ g ∷ h ∷ []) k) → (k : ℕ) → k < w → AreParities Wide sources (p' ∷ q' ∷ g' ∷ h' ∷ []) k
+parities_same sources p q g h p' q' g' h' w ep eq eg eh are k l e m =
+    ap (λ xs. get_or xs k 0) (each_of_four (λ e. list_at (p' ∷ q' ∷ g' ∷ h' ∷ []) e ≡ list_at (p ∷ q ∷ g ∷ h ∷ []) e) ep eq eg eh e m) ∙ are k l e m
+
+pub long_same : (p q g h p' q' g' h' : List ℕ) (w : ℕ) → p' ≡ p → q' ≡ q → g' ≡ g → h' ≡ h → length p ≡ w → length q ≡ w → length g ≡ w → length h ≡ w
+    → (e : ℕ) → e < 4 → length (list_at (p' ∷ q' ∷ g' ∷ h' ∷ []) e) ≡ w
+long_same p q g h p' q' g' h' w ep eq eg eh lp lq lg lh =
+    each_of_four (λ e. length (list_at (p' ∷ q' ∷ g' ∷ h' ∷ []) e) ≡ w) (ap length ep ∙ lp) (ap length eq ∙ lq) (ap length eg ∙ lg) (ap length eh ∙ lh)

@@ -1,0 +1,93 @@
+use super::*;
+use bytes::Bytes;
+use lrc_code::Code;
+use std::alloc::Global;
+use std::process::Abort;
+use std::test::Fail;
+
+const LETTERS: &[u8] = b"ABCDEFGHIJKLMNOPQRSTUVWXYZabcdefghijklmnopqrstuv";
+
+fn width(rt: &impl Abort, bytes: u32) -> Width {
+    Width::new(bytes).expect(rt, "a width")
+}
+
+fn sealed(rt: &impl Abort, alloc: Global, bytes: Bytes, w: u32) -> Sealed {
+    match seal(alloc, bytes, width(rt, w)) {
+        Ok(sealed) => sealed,
+        Err(fault) => panic!(rt; "{fault}"),
+    }
+}
+
+/// The bytes of a fragment that is there.
+fn fragment<'a>(rt: &impl Abort, sealed: &'a Sealed, stripe: u64, f: u8) -> &'a [u8] {
+    assert!(rt; stripe < count_stripes(sealed.code, sealed.width, sealed.len) && f < 16);
+    sealed.fragment(stripe, f).expect(rt, "a fragment")
+}
+
+#[test]
+fn one_stripe_filled_up(rt: HostRuntime) -> Result<(), Fail> {
+    let value = sealed(&rt, rt.alloc(), Bytes::from_static(b"HELLO"), 1);
+    assert_eq!(rt; value.version, 0);
+    assert_eq!(rt; value.len, 5);
+    assert_eq!(rt; value.stripes.len(), 1);
+    let stripe = b"HELLO\0\0\0\0\0\0\0\x42\x00\x55\x5f";
+    for f in 0..16u8 {
+        let bytes = fragment(&rt, &value, 0, f);
+        assert!(rt; bytes.len() == 1);
+        assert_eq!(rt; bytes[0], stripe[usize::from(f)]);
+    }
+    Ok(())
+}
+
+#[test]
+fn an_empty_blob_has_no_stripe(rt: HostRuntime) -> Result<(), Fail> {
+    let value = sealed(&rt, rt.alloc(), Bytes::new(), 1);
+    assert_eq!(rt; value.len, 0);
+    assert_eq!(rt; value.stripes.len(), 0);
+    Ok(())
+}
+
+#[test]
+fn fragments_of_four_bytes(rt: HostRuntime) -> Result<(), Fail> {
+    let value = sealed(&rt, rt.alloc(), Bytes::from_static(LETTERS), 4);
+    assert_eq!(rt; value.stripes.len(), 1);
+    assert!(rt; fragment(&rt, &value, 0, 0) == b"ABCD".as_slice());
+    assert!(rt; fragment(&rt, &value, 0, 11) == b"stuv".as_slice());
+    assert!(rt; fragment(&rt, &value, 0, 12) == b"\x04\x04\x04\x1c".as_slice());
+    assert!(rt; fragment(&rt, &value, 0, 15) == b"\x8f\xbf\x96\x11".as_slice());
+    Ok(())
+}
+
+#[test]
+fn most_stripes(rt: HostRuntime) -> Result<(), Fail> {
+    let zeros = Bytes::from_vec(vec![in rt.alloc(); 0u8; 49153].expect(&rt, "memory")).expect(
+        &rt, "memory",
+    );
+    assert!(rt; zeros.len() == 49153);
+    let most = zeros.slice(0..49152).expect(&rt, "memory");
+    assert_eq!(rt; sealed(&rt, rt.alloc(), most, 1).stripes.len(), 4096);
+    match seal(rt.alloc(), zeros, width(&rt, 1)) {
+        Ok(_) => assert!(rt; false),
+        Err(fault) => assert!(rt; fault == Fault::TooLong),
+    }
+    Ok(())
+}
+
+#[test]
+fn small(rt: HostRuntime) -> Result<(), Fail> {
+    let value = seal_as(
+        rt.alloc(),
+        Bytes::from_static(b"ABCDEFG"),
+        width(&rt, 1),
+        Code::Small,
+    )
+    .expect(&rt, "memory");
+    assert_eq!(rt; value.stripes.len(), 2);
+    assert!(rt; fragment(&rt, &value, 0, 6) == [0x40u8].as_slice());
+    assert!(rt; fragment(&rt, &value, 0, 9) == [0xa0u8].as_slice());
+    assert!(rt; fragment(&rt, &value, 1, 0) == b"G".as_slice());
+    assert!(rt; value.fragment(1, 10).is_none());
+    let renamed = value.with_version(7);
+    assert_eq!(rt; renamed.version, 7);
+    Ok(())
+}
