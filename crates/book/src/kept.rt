@@ -8,7 +8,7 @@ ghost use Rattle.book.specs.Views.{no_such, open_in_range, read_reply, lose_repl
 
 use crate::Note;
 use lrc_code::{Code, LostSet, is_open_in};
-use sealed::{Width, count_stripes, data_fragments};
+use sealed::{Width, count_stripes};
 use std::collections::BTreeSet;
 
 /// A blob of a name, without its bytes.
@@ -47,7 +47,7 @@ impl Kept {
     fn is_open_between(&self, first: u64, last: u64, stripe: u64, f: u8) -> bool
         ensures { result ≡ is_open_between self.now first last (stripe, f) }
     {
-        let count = data_fragments(self.code);
+        let count = self.code.data_fragments();
         if f >= count {
             return false;
         }
