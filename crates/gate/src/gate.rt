@@ -189,7 +189,8 @@ impl<T: Follows> Seat<T> {
     pub fn room(&self) -> u64
         ensures { result ≡ self.now.room }
     {
-        self.room
+        let Seat { room, .. } = self;
+        *room
     }
 
     /// A new seat, which has seen as much, has left nothing, and has a room of 1; the old one keeps one less and shows what it showed. `AllocError` where a
