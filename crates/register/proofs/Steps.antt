@@ -1,18 +1,18 @@
 -- What a call on the register adds to the history.
-use Rattle.std.proofs.Common.{◌≡◌, ℕ, ◌+◌, ◌%◌, ◌^◌, ◌≤◌, ◌<◌, ◌⊎◌, true, false, List, [], ◌∷◌, ◌++◌, length, drop, Some, if◌then◌else◌, Result, Ok, Err, IfOk, OnOk, OnErr, refl, ap, sym, subst, ◌∙◌, ⊎_elim, arith, append_assoc}
+use Rattle.std.proofs.Common.{◌≡◌, ℕ, ◌+◌, ◌≤◌, ◌<◌, ◌⊎◌, true, false, List, [], ◌∷◌, ◌++◌, length, drop, Some, if◌then◌else◌, Result, Ok, Err, IfOk, OnOk, OnErr, refl, ap, sym, subst, ◌∙◌, ⊎_elim, arith}
 use Rattle.std.proofs.Math.Seq.{drop-append_seam}
 use Rattle.std.proofs.lemmas.List.{map-append, append-nil}
 use mathlib.Core.List.{IsPrefix}
 use Rattle.gate.specs.Places.{SeatState, last_of, IsChain, IsWithin, times, AreApart, HasAll}
 use Rattle.gate.specs.Events.{number_if}
 use Rattle.gate.proofs.Events.{history-append, history_prefix, events_at_prefix, events_at_left, events_at-append, once_each, all_made, all_below, once_below_length, told_longer, within_left, within_prefix}
-use Rattle.gate.proofs.Lists.{last_of-snoc, times-append, prefix_trans}
+use Rattle.gate.proofs.Lists.{last_of-snoc, times-append}
 use Rattle.register.specs.declared.register.Register.{Register}
 use Rattle.register.specs.declared.register.Entry.{Entry}
 use Rattle.register.specs.declared.store.Kept.{Kept}
 use Rattle.register.specs.History.{Event, entry, event, erased, value_after, version_after, IsLegal}
 use Rattle.register.specs.Shared.{Tells, IsSame, between, call_of, MayFollow}
-use Rattle.register.specs.Passes.{Shows, between_kept, seen_of, made_of, shows, IsTold, IsPass, Calls, Looks, Bumps}
+use Rattle.register.specs.Passes.{between_kept, seen_of, made_of, shows, IsTold, IsPass, Calls, Looks}
 
 value_after-snoc : (x : ℕ) (h : List Event) (e : Event) → value_after x (h ++ e ∷ []) ≡ (if e.sets then e.value else value_after x h)
 value_after-snoc x [] e = refl
@@ -197,37 +197,3 @@ closed p has k inside = all_made between_kept one_call p.list p.own has.0 k insi
 
 pub closed_count : (p : SeatState Kept) → HasAll p.list p.own → length (made_of p.list p.own) ≡ length (seen_of p.list)
 closed_count p has = once_below_length (length (seen_of p.list)) (made_of p.list p.own) (closed p has) (all_below between_kept p.list p.own)
-
--- nothing was changed
-pub same_self : (a : Register) → IsSame a a
-same_self a = (refl, refl, refl)
-
--- a look, and then a call
-pub looks_then_calls : (u v w : Shows) (e : Event) → Looks u v → Calls v e w → Calls u e w
-looks_then_calls u v w e l c =
-    let all : u.seen ++ (l.0.0 ++ c.0) ≡ v.seen ++ c.0 = sym (append_assoc u.seen l.0.0 c.0) ∙ ap (λ h. h ++ c.0) l.0.1 in (
-      l.0.0 ++ c.0,
-      c.1 ∙ ap (λ h. h ++ e ∷ []) (sym all),
-      c.2 ∙ (λ i. l.1 i ++ length (sym all i) ∷ []),
-    )
-
-pub looks_then_looks : (u v w : Shows) → Looks u v → Looks v w → Looks u w
-looks_then_looks u v w l m = (prefix_trans u.seen v.seen w.seen l.0 m.0, m.1 ∙ l.1)
-
--- the history that a call ends begins with all that was seen before
-pub calls_prefix : (v w : Shows) (e : Event) → Calls v e w → IsPrefix v.seen w.seen
-calls_prefix v w e c = (c.0 ++ e ∷ [], sym (append_assoc v.seen c.0 (e ∷ [])) ∙ sym c.1)
-
-pub bumps : {E : Type 0} (r : Result ℕ E) (u v w : Shows) (value : ℕ) → Looks u v → v.who ≡ u.who → value ≡ value_after 0 v.seen → IfOk r (λ note. Calls v (event v.who true ((value + 1) % 2 ^ 64) note) w)
-    → IfOk r (λ note. Bumps u note w)
-bumps (Ok note) u v w value l who is c = (
-  v.seen,
-  l.0,
-  calls_prefix v w (event v.who true ((value + 1) % 2 ^ 64) note) c,
-  looks_then_calls u v w (event u.who true ((value_after 0 v.seen + 1) % 2 ^ 64) note) l (subst (λ (t : ℕ × ℕ). Calls v (event t.0 true ((t.1 + 1) % 2 ^ 64) note) w) (λ i. (who i, is i)) c),
-)
-bumps (Err e) u v w value l who is c = tt
-
-pub err_twice : {A E : Type 0} (r : Result A E) (u v w : Shows) → Looks u v → OnErr r (Looks v w) → OnErr r (Looks u w)
-err_twice (Ok a) u v w l m = tt
-err_twice (Err e) u v w l m = looks_then_looks u v w l m

@@ -1,10 +1,10 @@
 -- What a pass shows: a history, and the places in it of the calls that it made.
-use Rattle.std.specs.Prelude.{◌≡◌, ℕ, ◌+◌, ◌%◌, ◌^◌, true, false, List, [], ◌∷◌, ◌++◌, length, Some}
+use Rattle.std.specs.Prelude.{◌≡◌, ℕ, false, List, [], ◌∷◌, ◌++◌, length, Some}
 use mathlib.Core.List.{IsPrefix}
 use Rattle.gate.specs.Places.{TableId, SeatState, last_of, IsWithin}
 use Rattle.gate.specs.Events.{history_of, events_at}
 use Rattle.register.specs.declared.store.Kept.{Kept}
-use Rattle.register.specs.History.{Event, event, value_after}
+use Rattle.register.specs.History.{Event}
 use Rattle.register.specs.Shared.{Tells, between}
 
 pub record Shows : Type 0 where
@@ -46,7 +46,3 @@ Looks v w = IsPrefix v.seen w.seen × (w.made ≡ v.made)
 -- the same pass
 abbrev pub Stays : Shows → Shows → Type 0
 Stays v w = (w.store ≡ v.store) × (w.who ≡ v.who) × (w.room ≡ v.room)
-
--- the number was set to one more than it was after the first part of the history, which begins with what was seen
-abbrev pub Bumps : Shows → ℕ → Shows → Type 0
-Bumps v note w = (before : List Event) × IsPrefix v.seen before × IsPrefix before w.seen × Calls v (event v.who true ((value_after 0 before + 1) % 2 ^ 64) note) w
