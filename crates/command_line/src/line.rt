@@ -8,8 +8,14 @@ use std::alloc::AllocError;
 pub struct Options {
     /// The path of the script.
     pub script: String,
+    /// How many bytes a fragment of the store has.
+    pub width: u32,
     /// The number of workers.
     pub workers: u32,
+    /// How many entries the journal may hold.
+    pub limit: u32,
+    /// Whether the history is printed.
+    pub history: bool,
 }
 
 /// Why there are no options.

@@ -6,11 +6,17 @@ ghost use Rattle.command_line.specs.Ranges.{InRange};
 use crate::line::{BadLine, Options};
 use clap::builder::ValueParser;
 use clap::error::ErrorKind;
-use clap::{Arg, ArgMatches, Command, Error};
+use clap::{Arg, ArgAction, ArgMatches, Command, Error};
 use std::alloc::{AllocError, Global};
+
+/// The most bytes that a fragment can have.
+const MAX_WIDTH: u32 = 65_536;
 
 /// The most workers that a program can have.
 const MAX_WORKERS: u32 = 16;
+
+/// The most entries that a journal can have room for.
+const MAX_LIMIT: u32 = 1_048_576;
 
 /// An error of `clap`, from which want of memory is told apart.
 fn refused(error: Error) -> BadLine {
@@ -20,21 +26,63 @@ fn refused(error: Error) -> BadLine {
     }
 }
 
+/// An option with a number from 1 to `most`.
+fn number_option<'a>(
+    alloc: Global,
+    id: &'a str,
+    value_name: &'a str,
+    most: u32,
+    default: &'a str,
+    help: &'a str,
+) -> Arg<'a> {
+    Arg::new(alloc, id)
+        .long(id)
+        .value_name(value_name)
+        .help(help)
+        .value_parser(ValueParser::unsigned(1, u64::from(most)))
+        .default_value(default)
+}
+
 /// The program's command.
 fn command<'a>(alloc: Global) -> Result<Command<'a>, AllocError> {
     let script = Arg::new(alloc, "SCRIPT")
         .required(true)
         .help("the script's file");
-    let workers = Arg::new(alloc, "workers")
-        .long("workers")
-        .value_name("K")
-        .help("number of workers, 1 to 16")
-        .value_parser(ValueParser::unsigned(1, u64::from(MAX_WORKERS)))
-        .default_value("1");
+    let width = number_option(
+        alloc,
+        "width",
+        "N",
+        MAX_WIDTH,
+        "1",
+        "bytes of a fragment, 1 to 65536",
+    );
+    let workers = number_option(
+        alloc,
+        "workers",
+        "K",
+        MAX_WORKERS,
+        "1",
+        "number of workers, 1 to 16",
+    );
+    let limit = number_option(
+        alloc,
+        "limit",
+        "J",
+        MAX_LIMIT,
+        "4096",
+        "most entries of the journal, 1 to 1048576",
+    );
+    let history = Arg::new(alloc, "history")
+        .long("history")
+        .action(ArgAction::SetTrue)
+        .help("print the history");
     let command = Command::new(alloc, "lrcstore")
         .no_binary_name(true)
         .arg(script)?
-        .arg(workers)?;
+        .arg(width)?
+        .arg(workers)?
+        .arg(limit)?
+        .arg(history)?;
     Ok(command)
 }
 
@@ -46,25 +94,31 @@ fn number(matches: &ArgMatches, id: &str, most: u32) -> Option<u32>
     if 1 <= n && n <= most { Some(n) } else { None }
 }
 
-/// What the words after the program's name say: `SCRIPT [--workers K]`, with K from 1 to 16. The parser has tested that the numbers lie
-/// in their ranges; they are tested once more here, so that what a caller gets is proved to.
+/// What the words after the program's name say: `SCRIPT [--width N] [--workers K] [--limit J] [--history]`, with N from 1 to 65,536, K from 1 to 16 and
+/// J from 1 to 1,048,576; without them 1, 1 and 4,096. The parser has tested that the numbers lie in their ranges; they are tested once more here, so
+/// that what a caller gets is proved to.
 ///
 /// `BadLine::Clap` has the text that `clap` prints for a line that it refuses, or for `--help`.
 pub fn options<'a>(alloc: Global, words: &'a [&'a str]) -> Result<Options, BadLine>
-    ensures { IfOk result (λ options. InRange options.workers 16) }
+    ensures { IfOk result (λ options. InRange options.width 65536 × InRange options.workers 16 × InRange options.limit 1048576) }
 {
     let matches = match command(alloc)?.try_get_matches_from(words) {
         Ok(matches) => matches,
         Err(error) => return Err(refused(error)),
     };
-    let (Some(script), Some(workers)) = (
+    let (Some(script), Some(width), Some(workers), Some(limit)) = (
         matches.get_str("SCRIPT"),
+        number(&matches, "width", MAX_WIDTH),
         number(&matches, "workers", MAX_WORKERS),
+        number(&matches, "limit", MAX_LIMIT),
     ) else {
         return Err(BadLine::NoMemory);
     };
     Ok(Options {
         script: String::from_str(alloc, script)?,
+        width,
         workers,
+        limit,
+        history: matches.get_flag("history"),
     })
 }

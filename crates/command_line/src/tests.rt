@@ -21,9 +21,23 @@ fn lines(rt: HostRuntime) -> Result<(), Fail> {
     assert_eq!(rt; plain.workers, 1);
     let two = said(&rt, &["script.csv", "--workers", "2"]).expect(&rt, "two workers");
     assert_eq!(rt; two.workers, 2);
+    let all = said(
+        &rt,
+        &["--width", "4", "--history", "script.csv", "--limit=3"],
+    )
+    .expect(&rt, "all options");
+    assert_eq!(rt; all.width, 4);
+    assert_eq!(rt; all.limit, 3);
+    assert!(rt; all.history);
+    assert!(rt; !plain.history);
+    assert_eq!(rt; plain.limit, 4096);
     assert!(rt; is_refused(&rt, &[]));
     assert!(rt; is_refused(&rt, &["script.csv", "--workers", "0"]));
     assert!(rt; is_refused(&rt, &["script.csv", "--workers", "17"]));
+    assert!(rt; is_refused(&rt, &["script.csv", "--width", "0"]));
+    assert!(rt; is_refused(&rt, &["script.csv", "--width", "65537"]));
+    assert!(rt; is_refused(&rt, &["script.csv", "--limit", "0"]));
+    assert!(rt; is_refused(&rt, &["script.csv", "--limit", "1048577"]));
     assert!(rt; is_refused(&rt, &["script.csv", "--mirrors", "2"]));
     assert!(rt; is_refused(&rt, &["--help"]));
     Ok(())
