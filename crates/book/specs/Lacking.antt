@@ -1,8 +1,10 @@
 -- What a sealed value lacks, and what the replies for it depend on.
-use Rattle.std.specs.Prelude.{ℕ, zero, suc, ◌+◌, ◌*◌, ◌/◌, ◌%◌, Bool, ◌&&◌, cond, nat_lt, length}
+use Rattle.std.specs.Prelude.{ℕ, zero, suc, ◌+◌, ◌*◌, ◌/◌, ◌%◌, Bool, ◌&&◌, Option, None, Some, cond, nat_lt, length}
 use Rattle.lrc_code.specs.Code.{fragment_count}
 use Rattle.sealed.specs.declared.value.Sealed.{Sealed}
 use Rattle.sealed.specs.Sealed.{absent_in}
+use Rattle.book.specs.declared.note.Note.{Note}
+use Rattle.book.specs.declared.note.Note.TheVariants.{NoName}
 use Rattle.book.specs.Views.{View}
 
 -- how many of the numbers below n pass
@@ -20,3 +22,8 @@ lacked_count s = count_below (λ i. lacks s (i / 16) (i % 16)) (16 * length s.st
 
 abbrev pub seen_of : Sealed → View
 seen_of s = record { version = s.version; len = s.len; code = s.code; lost = lacks s; count = lacked_count s }
+
+-- a reply by the sealed value of the name, at its own width
+abbrev pub reply_for : (ℕ → Option View → Note) → Option Sealed → Note
+reply_for reply None = NoName
+reply_for reply (Some s) = reply s.width (Some (seen_of s))

@@ -2,7 +2,7 @@
 ghost use Rattle.std.specs.Prelude.{◌≡◌, List, ℕ, Some};
 ghost use Rattle.sealed.specs.Blob.{nothing};
 ghost use Rattle.sealed.specs.Sealed.{StandsFor};
-ghost use Rattle.book.specs.Lacking.{seen_of};
+ghost use Rattle.book.specs.Lacking.{reply_for};
 ghost use Rattle.book.specs.Notes.{note_of};
 ghost use Rattle.book.specs.Views.{stat_reply};
 
@@ -49,7 +49,7 @@ impl Shelved {
 
     /// The answer to a question for its shape.
     pub fn stat(&self) -> Answer
-        ensures { note_of result ≡ stat_reply self.now.width (Some (seen_of self.now)) }
+        ensures { note_of result ≡ reply_for stat_reply (Some self.now) }
     {
         Answer::Shape {
             version: self.sealed.version,
