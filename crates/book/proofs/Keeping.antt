@@ -35,7 +35,7 @@ some_data : (code : Code) → 1 ≤ data_count code
 some_data Wide = omega arith
 some_data Small = omega arith
 
-few_fragments : (code : Code) → fragment_count code ≤ 16
+pub few_fragments : (code : Code) → fragment_count code ≤ 16
 few_fragments Wide = omega arith
 few_fragments Small = omega arith
 
@@ -68,16 +68,16 @@ some_pair test (p ∷ pairs) h = elim (or_cases (test p) _ h) [ inl here ↦ (p,
 le_of : (a b : ℕ) → nat_le a b ≡ true → a ≤ b
 le_of a b h = grind (arith, common_steps)
 
-lt_of : (a b : ℕ) → nat_lt a b ≡ true → a < b
+pub lt_of : (a b : ℕ) → nat_lt a b ≡ true → a < b
 lt_of a b h = grind (arith, common_steps)
 
 is_le : (a b : ℕ) → a ≤ b → nat_le a b ≡ true
 is_le a b h = grind (arith, common_steps)
 
-is_lt : (a b : ℕ) → a < b → nat_lt a b ≡ true
+pub is_lt : (a b : ℕ) → a < b → nat_lt a b ≡ true
 is_lt a b h = grind (arith, common_steps)
 
-both : (a b : Bool) → a ≡ true → b ≡ true → (a && b) ≡ true
+pub both : (a b : Bool) → a ≡ true → b ≡ true → (a && b) ≡ true
 both a b h k = grind (arith, common_steps)
 
 div_mono : (w a b : ℕ) → 1 ≤ w → a ≤ b → a / w ≤ b / w

@@ -45,7 +45,10 @@ impl Book {
     pub fn find(&self, name: &Name) -> Option<&Arc<Sealed>>
         ensures { option_map (λ a. a.now.value) result ≡ sealed_at self.now name.now }
     {
-        self.catalogue.get(name)
+        match self.catalogue.get(name) {
+            Some(shelved) => Some(shelved.sealed()),
+            None => None,
+        }
     }
 
     /// The calls that were made since the base, in order.

@@ -7,6 +7,7 @@ ghost use Rattle.book.specs.Step.{put as put_of};
 ghost use Rattle.book.specs.Tells.{CarriesOn};
 
 use crate::book::Book;
+use crate::shelved::Shelved;
 use crate::{Answer, Call, Entry, Fault, Name, Note};
 use sealed::Sealed;
 use std::alloc::Global;
@@ -43,7 +44,7 @@ impl Book {
             return Err(Fault::NoMemory);
         };
         let noted = name.duplicate();
-        let Ok(_) = self.catalogue.insert(name, sealed) else {
+        let Ok(_) = self.catalogue.insert(name, Shelved::whole(sealed)) else {
             return Err(Fault::NoMemory);
         };
         self.puts = version;

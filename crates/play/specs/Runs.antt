@@ -3,8 +3,8 @@ use Rattle.std.specs.Prelude.{◌≡◌, ◌⊎◌}
 use Rattle.sealed.specs.declared.fault.Fault.{Fault}
 use Rattle.sealed.specs.declared.fault.Fault.TheVariants.{NoMemory, JournalFull, TooLong}
 use Rattle.script.specs.declared.rows.Ask.{Ask}
-use Rattle.script.specs.declared.rows.Ask.TheVariants.{Put, Read}
-use Rattle.book.specs.Step.{Operation, put, read}
+use Rattle.script.specs.declared.rows.Ask.TheVariants.{Put, Read, Lose, Repair, Delete, Stat}
+use Rattle.book.specs.Step.{Operation, put, read, lose, repair, delete, stat}
 use Rattle.book.specs.Contents.{Contents}
 use Rattle.book.specs.History.{History}
 use Rattle.book.specs.Tells.{Tells}
@@ -13,6 +13,10 @@ use Rattle.book.specs.Tells.{Tells}
 abbrev pub operation_of : Ask → Operation
 operation_of (Put name code bytes) = put name code bytes
 operation_of (Read name start len) = read name start len
+operation_of (Lose name stripe fragment) = lose name stripe fragment
+operation_of (Repair name stripe fragment) = repair name stripe fragment
+operation_of (Delete name) = delete name
+operation_of (Stat name) = stat name
 
 -- a call that was not made wanted for memory, or found the journal full, or had too long a blob
 abbrev pub IsCallFault : Fault → Type 0

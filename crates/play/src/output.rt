@@ -5,7 +5,7 @@ ghost use Rattle.play.specs.Output.{IsOutput};
 
 use crate::reply::reply_to;
 use crate::rows::Outcome;
-use book::{Book, is_lawful};
+use book::{Book, Entry, is_lawful};
 use std::alloc::{AllocError, Global};
 
 /// A line for each row: its number, from 1, and its reply. Grants are walked here.
@@ -20,6 +20,16 @@ fn reply_lines(alloc: Global, outcomes: Vec<Outcome>) -> Result<String, AllocErr
     Ok(text)
 }
 
+/// A line for each entry of the journal: its number, from 1, its caller's label, its call and its note.
+fn history_lines(text: &mut String, entries: &[Entry]) -> Result<(), AllocError> {
+    let mut number: u64 = 0;
+    for entry in entries {
+        number = number.saturating_add(1);
+        writeln!(text, "h {number} {entry}")?;
+    }
+    Ok(())
+}
+
 /// Whether the journal's entries are lawful, as it is printed: they are.
 fn lawful_text(alloc: Global, book: &Book) -> Result<&'static str, AllocError>
     requires { IsLawful book.now.width book.now.entries }
@@ -32,16 +42,20 @@ fn lawful_text(alloc: Global, book: &Book) -> Result<&'static str, AllocError>
     }
 }
 
-/// The printed text: a line for each row, then the number of the journal's entries and whether they are lawful.
+/// The printed text: a line for each row, where `history` is asked for one for each entry, then the number of the journal's entries and whether they are lawful.
 pub(crate) fn print(
     alloc: Global,
     outcomes: Vec<Outcome>,
     book: &Book,
+    history: bool,
 ) -> Result<String, AllocError>
     requires { IsLawful book.now.width book.now.entries }
     ensures { IfOk result (λ text. IsOutput (string_bytes text)) }
 {
-    let lines = reply_lines(alloc, outcomes)?;
+    let mut lines = reply_lines(alloc, outcomes)?;
+    if history {
+        history_lines(&mut lines, book.entries())?;
+    }
     let calls = book.entries().len();
     let lawful = lawful_text(alloc, book)?;
     match format!(in alloc; "{lines}calls {calls}\nlawful {lawful}\n") {

@@ -34,6 +34,18 @@ fn make(alloc: Global, book: &mut Book, who: u32, ask: Ask) -> Result<Answer, Fa
             Err(fault) => Err(fault),
         },
         Ask::Read { name, start, len } => book.read(who, name, start, len),
+        Ask::Lose {
+            name,
+            stripe,
+            fragment,
+        } => book.lose(alloc, who, name, stripe, fragment),
+        Ask::Repair {
+            name,
+            stripe,
+            fragment,
+        } => book.repair(alloc, who, name, stripe, fragment),
+        Ask::Delete { name } => book.delete(who, name),
+        Ask::Stat { name } => book.stat(who, name),
     }
 }
 

@@ -1,6 +1,7 @@
 //! A run of a script, from its bytes to the printed bytes.
 ghost use Rattle.std.specs.Prelude.{◌≡◌, ◌≢◌, ℕ, List, length, IfOk, IfErr, IfSome, OnOk, string_bytes};
 ghost use Rattle.std.specs.Io.KnownBytes.{Appends, Keeps};
+ghost use Rattle.command_line.specs.Ranges.{InRange};
 ghost use Rattle.play.specs.Fails.{IsAccepted, Tells};
 ghost use Rattle.play.specs.Output.{IsOutput};
 
@@ -14,12 +15,6 @@ use sealed::{Fault, Width};
 use std::alloc::Global;
 use std::io;
 use std::io::{Read, Write};
-
-/// The width of the program's store.
-const WIDTH: u32 = 1;
-
-/// The most entries of the program's journal.
-const LIMIT: u32 = 4096;
 
 /// All bytes that a reader has.
 fn read_all<R: Read + Drop>(alloc: Global, mut input: R) -> Result<Vec<u8>, Fail>
@@ -35,11 +30,13 @@ fn read_all<R: Read + Drop>(alloc: Global, mut input: R) -> Result<Vec<u8>, Fail
 }
 
 /// Runs the rows over a book of their own, and gives the text to be printed.
-fn run(alloc: Global, rows: Vec<Row>) -> Result<String, Fail>
+fn run(alloc: Global, options: &Options, rows: Vec<Row>) -> Result<String, Fail>
+    requires width { InRange options.now.width 65536 }
+    requires limit { InRange options.now.limit 1048576 }
     ensures text { IfOk result (λ printed. IsOutput (string_bytes printed)) }
     ensures fails { IfErr result (λ fail. fail ≡ Fail.Memory) }
 {
-    let (Some(width), Some(limit)) = (Width::new(WIDTH), Limit::new(LIMIT)) else {
+    let (Some(width), Some(limit)) = (Width::new(options.width), Limit::new(options.limit)) else {
         unreachable!()
     };
     let mut book = match Book::new(alloc, width, limit) {
@@ -47,7 +44,7 @@ fn run(alloc: Global, rows: Vec<Row>) -> Result<String, Fail>
         Err(_) => return Err(Fail::Memory),
     };
     let outcomes = run_rows(alloc, &mut book, rows)?;
-    match print(alloc, outcomes, &book) {
+    match print(alloc, outcomes, &book, options.history) {
         Ok(text) => Ok(text),
         Err(_) => Err(Fail::Memory),
     }
@@ -64,6 +61,8 @@ pub fn play<R: Read + Drop, W: Write>(
     input: R,
     output: &mut W,
 ) -> Result<(), Fail>
+    requires width { InRange options.now.width 65536 }
+    requires limit { InRange options.now.limit 1048576 }
     ensures done { OnOk result ((text : List ℕ) × IsOutput text × Appends (W.contents output.old) (W.contents output.new) text) }
     ensures accepted { OnOk result (IfSome (R.remaining input) (IsAccepted options.now.workers)) }
     ensures nothing { IfErr result (λ e. e ≢ Fail.Write → Keeps (W.contents output.old) (W.contents output.new)) }
@@ -77,7 +76,7 @@ pub fn play<R: Read + Drop, W: Write>(
         Ok(rows) => rows,
         Err(error) => return Err(Fail::Script(error)),
     };
-    let printed = match run(alloc, rows) {
+    let printed = match run(alloc, options, rows) {
         Ok(printed) => printed,
         Err(fail) => return Err(fail),
     };

@@ -1,10 +1,11 @@
-use Rattle.std.proofs.Common.{◌≡◌, ◌≤◌, sym, ap, ◌∙◌, ◌+◌, arith, length}
+use Rattle.std.proofs.Common.{◌≡◌, ◌≤◌, sym, ap, ◌∙◌, ◌+◌, arith, length, cond, Some}
+use Rattle.std.specs.BTreeMap.{is_at}
+use Rattle.book.specs.Names.{name_cmp}
 use Rattle.std.specs.Prelude.{count_by}
 use Rattle.std.proofs.lemmas.List.Sums.{count_by-le-length}
 use Rattle.book.specs.Notes.{is_put}
 use Rattle.book.specs.Base.{Checkpoint}
 use Rattle.book.specs.Contents.{Contents, sealed_at}
-use Rattle.book.proofs.Catalogue.{lookup-map, option_map_put}
 use Rattle.book.proofs.Storing.{carries_put}
 use Rattle.book.proofs.book.Book.put.Goals as goal
 
@@ -24,6 +25,5 @@ returns-clause-ok c b stands =
     (ap (λ (s : Contents). s.width) c.self.view_is)
     base
     (cc)
-    (λ q. lookup-map (λ a. a.value) _ c.insert.new.self.entries
-    ∙ option_map_put (λ a. a.value) _ c.in-Ok.sealed _ _ _ _ (c.in-Ok-insert.ensures.updates.0 q) (c.in-Ok.ensures.ok ∙ c.with_version.ensures)
-    (sym (lookup-map (λ a. a.value) _ c.self.inside.catalogue.entries) ∙ ap (λ (s : Contents). sealed_at s q) c.self.view_is))
+    (λ q. c.in-Ok-insert.ensures.updates.0 q
+    ∙ (λ i. cond (is_at (name_cmp c.args.name) q) (Some ((c.whole.ensures ∙ c.in-Ok.ensures.ok ∙ c.with_version.ensures) i)) (sealed_at (c.self.view_is i) q)))

@@ -1,0 +1,29 @@
+-- What a sealed value lacks, and what the replies for it depend on.
+use Rattle.std.specs.Prelude.{ℕ, zero, suc, ◌+◌, ◌*◌, ◌/◌, ◌%◌, Bool, ◌&&◌, Option, None, Some, cond, nat_lt, length}
+use Rattle.lrc_code.specs.Code.{fragment_count}
+use Rattle.sealed.specs.declared.value.Sealed.{Sealed}
+use Rattle.sealed.specs.Sealed.{absent_in}
+use Rattle.book.specs.declared.note.Note.{Note}
+use Rattle.book.specs.declared.note.Note.TheVariants.{NoName}
+use Rattle.book.specs.Views.{View}
+
+-- how many of the numbers below n pass
+abbrev pub count_below : (ℕ → Bool) → ℕ → ℕ
+count_below p zero = 0
+count_below p (suc n) = count_below p n + cond (p n) 1 0
+
+-- the value has such a fragment, and it is absent
+abbrev pub lacks : Sealed → ℕ → ℕ → Bool
+lacks s j f = nat_lt j (length s.stripes) && (nat_lt f (fragment_count s.code) && absent_in s j f)
+
+-- how many fragments the value lacks. The fragment f of stripe j is counted as the number 16 j + f
+abbrev pub lacked_count : Sealed → ℕ
+lacked_count s = count_below (λ i. lacks s (i / 16) (i % 16)) (16 * length s.stripes)
+
+abbrev pub seen_of : Sealed → View
+seen_of s = record { version = s.version; len = s.len; code = s.code; lost = lacks s; count = lacked_count s }
+
+-- a reply by the sealed value of the name, at its own width
+abbrev pub reply_for : (ℕ → Option View → Note) → Option Sealed → Note
+reply_for reply None = NoName
+reply_for reply (Some s) = reply s.width (Some (seen_of s))

@@ -1,0 +1,45 @@
+//! Taking a name out.
+ghost use Rattle.std.specs.Prelude.{◌≡◌, ◌↔◌, length, IfOk, IfErr, OnErr};
+ghost use Rattle.book.specs.Lacking.{reply_for};
+ghost use Rattle.book.specs.Notes.{note_of};
+ghost use Rattle.book.specs.Step.{delete as delete_of};
+ghost use Rattle.book.specs.Tells.{CarriesOn};
+ghost use Rattle.book.specs.Views.{delete_reply};
+
+use crate::book::Book;
+use crate::shelved::Shelved;
+use crate::{Answer, Call, Entry, Fault, Name};
+
+impl Book {
+    /// Takes a name out of the catalogue. It asks for no memory.
+    ///
+    /// The answer is `NoName` where the name has no blob, else `Deleted`, with the version of the blob that it had.
+    ///
+    /// `JournalFull` where the journal holds as many entries as its limit. Then the book is as it was.
+    pub fn delete(&mut self, who: u32, name: Name) -> Result<Answer, Fault>
+        ensures ok { IfOk result (CarriesOn self.old self.new who (delete_of name)) }
+        ensures full { (result ≡ Err Fault.JournalFull) ↔ (length self.old.entries ≡ self.old.limit) }
+        ensures kept { (self.new.width ≡ self.old.width) × (self.new.limit ≡ self.old.limit) × (self.new.base ≡ self.old.base) }
+        ensures faults { IfErr result (λ e. e ≡ Fault.JournalFull) }
+        ensures err { OnErr result (self.new ≡ self.old) }
+    {
+        if self.is_full() {
+            return Err(Fault::JournalFull);
+        }
+        let answer = answer_delete(self.catalogue.remove(&name));
+        let note = answer.note();
+        let call = Call::Delete { name };
+        self.journal.push(Entry { who, call, note });
+        Ok(answer)
+    }
+}
+
+/// The answer to a deletion, by what the name had.
+fn answer_delete(removed: Option<Shelved>) -> Answer
+    ensures { note_of result ≡ reply_for delete_reply removed }
+{
+    match removed {
+        Some(shelved) => Answer::Deleted(shelved.sealed().version),
+        None => Answer::NoName,
+    }
+}

@@ -1,0 +1,46 @@
+//! Asking for the shape of a blob.
+ghost use Rattle.std.specs.Prelude.{◌≡◌, ◌↔◌, length, IfOk, IfErr, OnErr};
+ghost use Rattle.std.specs.Option.{option_copied};
+ghost use Rattle.book.specs.Lacking.{reply_for};
+ghost use Rattle.book.specs.Notes.{note_of};
+ghost use Rattle.book.specs.Step.{stat as stat_of};
+ghost use Rattle.book.specs.Tells.{CarriesOn};
+ghost use Rattle.book.specs.Views.{stat_reply};
+
+use crate::book::Book;
+use crate::shelved::Shelved;
+use crate::{Answer, Call, Entry, Fault, Name};
+
+impl Book {
+    /// Tells the shape of a name's blob. It asks for no memory, and costs the same for each blob.
+    ///
+    /// The answer is `NoName` where the name has no blob, else `Shape`, with how many bytes, stripes and lost fragments the blob has.
+    ///
+    /// `JournalFull` where the journal holds as many entries as its limit. Then the book is as it was.
+    pub fn stat(&mut self, who: u32, name: Name) -> Result<Answer, Fault>
+        ensures ok { IfOk result (CarriesOn self.old self.new who (stat_of name)) }
+        ensures full { (result ≡ Err Fault.JournalFull) ↔ (length self.old.entries ≡ self.old.limit) }
+        ensures kept { (self.new.width ≡ self.old.width) × (self.new.limit ≡ self.old.limit) × (self.new.base ≡ self.old.base) }
+        ensures faults { IfErr result (λ e. e ≡ Fault.JournalFull) }
+        ensures err { OnErr result (self.new ≡ self.old) }
+    {
+        if self.is_full() {
+            return Err(Fault::JournalFull);
+        }
+        let answer = answer_stat(self.catalogue.get(&name));
+        let note = answer.note();
+        let call = Call::Stat { name };
+        self.journal.push(Entry { who, call, note });
+        Ok(answer)
+    }
+}
+
+/// The answer to a question for the shape, by what the name has.
+fn answer_stat(found: Option<&Shelved>) -> Answer
+    ensures { note_of result ≡ reply_for stat_reply (option_copied found.entry) }
+{
+    match found {
+        Some(shelved) => shelved.stat(),
+        None => Answer::NoName,
+    }
+}
