@@ -1,3 +1,5 @@
+ghost use Rattle.std.specs.Prelude.{◌≡◌, IfOk};
+
 use crate::{Fail as PlayFail, play};
 use command_line::Options;
 use script::{BadScript, Word};
@@ -43,11 +45,23 @@ impl Write for Narrow {
     }
 }
 
-fn two_workers(alloc: Global) -> Result<Options, AllocError> {
+/// The options of a run with two workers.
+fn options(alloc: Global, width: u32, limit: u32, history: bool) -> Result<Options, AllocError>
+    ensures { IfOk result (λ options. (options.width ≡ width) × (options.limit ≡ limit)) }
+{
     Ok(Options {
         script: String::from_str(alloc, "script.csv")?,
+        width,
         workers: 2,
+        limit,
+        history,
     })
+}
+
+fn two_workers(alloc: Global) -> Result<Options, AllocError>
+    ensures { IfOk result (λ options. (options.width ≡ 1) × (options.limit ≡ 4096)) }
+{
+    options(alloc, 1, 4096, false)
 }
 
 const FIRST_PATH: &[u8] = b"1,1,put,a,text,HELLO\n2,2,read,a,1,3\n";
@@ -119,3 +133,5 @@ fn broken_ends(rt: HostRuntime) -> Result<(), Fail> {
     }
     Ok(())
 }
+
+mod degraded;

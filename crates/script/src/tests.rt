@@ -33,14 +33,20 @@ fn refusals(rt: HostRuntime) -> Result<(), Fail> {
     assert_eq!(rt; refusal(alloc, b"1,0,read,a,0,1", 1), (1, Some(Word::Worker)));
     assert_eq!(rt; refusal(alloc, b"1,2,read,a,0,1", 1), (1, Some(Word::Worker)));
     assert_eq!(rt; refusal(alloc, b"1,2,read,a,0,1", 2), (0, None));
-    assert_eq!(rt; refusal(alloc, b"1,1,lose,a,0,0", 1), (1, Some(Word::Op)));
+    assert_eq!(rt; refusal(alloc, b"1,1,move,a,0,0", 1), (1, Some(Word::Op)));
     assert_eq!(rt; refusal(alloc, b"1,1,read,A,0,1", 1), (1, Some(Word::Name)));
     assert_eq!(rt; refusal(alloc, b"1,1,read,\xff,0,1", 1), (1, Some(Word::Name)));
-    assert_eq!(rt; refusal(alloc, b"1,1,put,a,hex,00", 1), (1, Some(Word::Argument)));
+    assert_eq!(rt; refusal(alloc, b"1,1,put,a,hex,0", 1), (1, Some(Word::Argument)));
     assert_eq!(rt;
         refusal(alloc, b"1,1,read,a,18446744073709551616,0", 1),
         (1, Some(Word::Argument))
     );
+    assert_eq!(rt; refusal(alloc, b"1,1,put6,a,hex,0F", 1), (1, Some(Word::Argument)));
+    assert_eq!(rt; refusal(alloc, b"1,1,stat,a,1,", 1), (1, Some(Word::Argument)));
+    assert_eq!(rt; refusal(alloc, b"1,1,trim,a,1,", 1), (1, Some(Word::Name)));
+    assert_eq!(rt; refusal(alloc, b"1,1,trim,,,", 1), (1, Some(Word::Argument)));
+    assert_eq!(rt; refusal(alloc, b"1,1,trim,,0,1", 1), (1, Some(Word::Argument)));
+    assert_eq!(rt; refusal(alloc, b"1,1,trim,,0,", 1), (0, None));
     assert_eq!(rt; refusal(alloc, b"1,1,read,a,00,1", 1), (1, Some(Word::Argument)));
     Ok(())
 }
@@ -50,7 +56,7 @@ fn puts_bytes(rows: &[Row], wanted: &[u8]) -> bool {
     match rows {
         [row] => match &row.task {
             Task::Make(Ask::Put { bytes, .. }) => bytes.as_slice() == wanted,
-            Task::Make(Ask::Read { .. }) => false,
+            Task::Make(_) => false,
         },
         _ => false,
     }
@@ -61,6 +67,8 @@ fn puts(rt: HostRuntime) -> Result<(), Fail> {
     let alloc = rt.alloc();
     let rows = script(alloc, b"1,1,put,a,text,\xff", 1).map_err(|_| "refused")?;
     assert!(rt; puts_bytes(rows.as_slice(), b"\xff"));
+    let rows = script(alloc, b"1,1,put,a,hex,00ff", 1).map_err(|_| "refused")?;
+    assert!(rt; puts_bytes(rows.as_slice(), b"\x00\xff"));
     let rows = script(alloc, b"1,1,put,a,text,\"x,\"\"y\"", 1).map_err(|_| "refused")?;
     assert!(rt; puts_bytes(rows.as_slice(), b"x,\"y"));
     Ok(())
