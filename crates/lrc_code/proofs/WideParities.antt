@@ -1,5 +1,5 @@
 -- The parities of LRC(12,2,2) by doublings are those that the equations give.
-use Rattle.std.proofs.Common.{◌≡◌, ℕ, zero, suc, ◌+◌, ◌-◌, ◌*◌, ◌/◌, ◌%◌, ◌<◌, Bool, true, eqb, List, [], ◌∷◌, ◌++◌, take, length, map, get_or, bit_xor, refl, sym, ap, ◌∙◌, subst, arith, inl, inr, eqb-true, Bor}
+use Rattle.std.proofs.Common.{◌≡◌, ℕ, zero, suc, ◌+◌, ◌-◌, ◌*◌, ◌/◌, ◌%◌, ◌<◌, Bool, true, eqb, List, [], ◌∷◌, ◌++◌, take, length, map, get_or, bit_xor, refl, sym, ap, ap₂, ◌∙◌, subst, arith, inl, inr, eqb-true, Bor}
 use Rattle.std.proofs.lemmas.Bool.{cases_eq, cases_lt}
 use Rattle.std.proofs.Math.ListN.{get_or-map}
 use Rattle.std.proofs.Math.Seq.{take-append_seam}
@@ -11,7 +11,7 @@ use Rattle.lrc_code.specs.declared.Code.TheVariants.{Wide}
 use Rattle.lrc_code.specs.Code.{xor_sum, weight, weights}
 use Rattle.lrc_code.specs.Column.{parity_of}
 use Rattle.lrc_code.specs.Stripe.{list_at, bytes_at, AreParities}
-use Rattle.lrc_code.specs.Doublings.{third_of, fourth_of, times_4}
+use Rattle.lrc_code.specs.Doublings.{sum_of_3, sum_of_6, with_bit_0, with_bit_1, with_bit_2, third_of, fourth_of, times_4}
 use Rattle.lrc_code.proofs.Opening.{each_of_four}
 use Rattle.lrc_code.proofs.Sums.{xor_sum_same}
 
@@ -85,13 +85,17 @@ equation e (suc n) = plus (equation e n) (times (num (weight Wide e n)) (var n))
 
 -- the sum of three bytes of the data
 abbrev pub of_3 : List ℕ → ℕ → ℕ → ℕ → ℕ
-of_3 xs a b c = bit_xor (bit_xor (get_or xs a 0) (get_or xs b 0)) (get_or xs c 0)
+of_3 xs = sum_of_3 (λ i. get_or xs i 0)
+
+-- the bytes of the second group
+abbrev pub second_six : List ℕ → ℕ → ℕ
+second_six xs i = get_or xs (6 + i) 0
 
 abbrev pub first_of : List ℕ → ℕ
-first_of xs = bit_xor (bit_xor (bit_xor (of_3 xs 0 2 4) (get_or xs 1 0)) (get_or xs 3 0)) (get_or xs 5 0)
+first_of xs = sum_of_6 (λ i. get_or xs i 0)
 
 abbrev pub second_of : List ℕ → ℕ
-second_of xs = bit_xor (bit_xor (bit_xor (of_3 xs 6 8 10) (get_or xs 7 0)) (get_or xs 9 0)) (get_or xs 11 0)
+second_of xs = sum_of_6 (second_six xs)
 
 abbrev pub third_by_bits : List ℕ → ℕ
 third_by_bits xs = third_of (of_3 xs 0 2 4) (of_3 xs 1 2 5) (of_3 xs 3 4 5) (of_3 xs 6 8 10) (of_3 xs 7 8 11) (of_3 xs 9 10 11)
@@ -153,24 +157,35 @@ source_is sources i = sym (let f : Bor (List ℕ) → List ℕ = λ s. s.now in 
 
 module _ (sources : List (List ℕ)) (ps : List (List ℕ)) where
   -- the twelve bytes at one place
-  pub parities_at : (place : ℕ) (xs : List ℕ) → Below (λ i. get_or xs i 0 ≡ bytes_at sources place i) 12
+  pub parities_at : (place : ℕ) (xs : List ℕ) → ((i : ℕ) → i < 12 → get_or xs i 0 ≡ bytes_at sources place i)
       → ((e : ℕ) → e < 4 → bytes_at ps place e ≡ parity_of Wide e (λ i. get_or xs i 0)) → AreParities Wide sources ps place
   parities_at place xs same are e l =
       are e l
       ∙ xor_sum_same 12 (λ i. product (weight Wide e i) (get_or xs i 0)) (λ i. product (weight Wide e i) (bytes_at sources place i))
-      (λ i m. ap (product (weight Wide e i)) (at_below (λ i. get_or xs i 0 ≡ bytes_at sources place i) 12 same i m))
+      (λ i m. ap (product (weight Wide e i)) (same i m))
 
--- the twelve bytes at one place, and four that are made of them
-pub place_parities : (sources : List (Bor (List ℕ))) (p q g h made : List ℕ) (place : ℕ)
-    → ((e : ℕ) → e < 4 → get_or made e 0 ≡ parity_of Wide e (λ i. get_or (map (λ i. get_or (get_or sources i nothing).now place 0) (0 ∷ 1 ∷ 2 ∷ 3 ∷ 4 ∷ 5 ∷ 6 ∷ 7 ∷ 8 ∷ 9 ∷ 10 ∷ 11 ∷ [])) i 0))
+-- the same where four bytes are written at the place
+pub place_parities : (sources : List (List ℕ)) (p q g h bytes made : List ℕ) (place : ℕ) → ((i : ℕ) → i < 12 → get_or bytes i 0 ≡ bytes_at sources place i)
+    → ((e : ℕ) → e < 4 → get_or made e 0 ≡ parity_of Wide e (λ i. get_or bytes i 0))
     → get_or p place 0 ≡ get_or made 0 0 → get_or q place 0 ≡ get_or made 1 0 → get_or g place 0 ≡ get_or made 2 0 → get_or h place 0 ≡ get_or made 3 0
-    → AreParities Wide (map (λ s. s.now) sources) (p ∷ q ∷ g ∷ h ∷ []) place
-place_parities sources p q g h made place are ep eq eg eh =
-    let at : (i : ℕ) → get_or (get_or sources i nothing).now place 0 ≡ bytes_at (map (λ s. s.now) sources) place i = λ i. ap (λ xs. get_or xs place 0) (source_is sources i) in
-    parities_at (map (λ s. s.now) sources) (p ∷ q ∷ g ∷ h ∷ []) place
-    (map (λ i. get_or (get_or sources i nothing).now place 0) (0 ∷ 1 ∷ 2 ∷ 3 ∷ 4 ∷ 5 ∷ 6 ∷ 7 ∷ 8 ∷ 9 ∷ 10 ∷ 11 ∷ []))
-    ((((((((((((tt, at 0), at 1), at 2), at 3), at 4), at 5), at 6), at 7), at 8), at 9), at 10), at 11)
+    → AreParities Wide sources (p ∷ q ∷ g ∷ h ∷ []) place
+place_parities sources p q g h bytes made place same are ep eq eg eh =
+    parities_at sources (p ∷ q ∷ g ∷ h ∷ []) place bytes same
     (λ e l. each_of_four (λ e. bytes_at (p ∷ q ∷ g ∷ h ∷ []) place e ≡ get_or made e 0) ep eq eg eh e l ∙ are e l)
+
+-- the twelve bytes at one place, as a list
+abbrev pub twelve : List (List ℕ) → ℕ → List ℕ
+twelve sources place = map (bytes_at sources place) (0 ∷ 1 ∷ 2 ∷ 3 ∷ 4 ∷ 5 ∷ 6 ∷ 7 ∷ 8 ∷ 9 ∷ 10 ∷ 11 ∷ [])
+
+-- the same where four bytes are written that are made by doublings
+pub block_parities : (sources : List (List ℕ)) (p q g h : List ℕ) (place : ℕ) → Each1 (λ x. x < 256) (twelve sources place)
+    → get_or p place 0 ≡ first_of (twelve sources place) → get_or q place 0 ≡ second_of (twelve sources place)
+    → get_or g place 0 ≡ third_by_bits (twelve sources place) → get_or h place 0 ≡ fourth_by_bits (twelve sources place)
+    → AreParities Wide sources (p ∷ q ∷ g ∷ h ∷ []) place
+block_parities sources p q g h place fits ep eq eg eh =
+    parities_at sources (p ∷ q ∷ g ∷ h ∷ []) place (twelve sources place)
+    (at_below (λ i. get_or (twelve sources place) i 0 ≡ bytes_at sources place i) 12 ((((((((((((tt, refl), refl), refl), refl), refl), refl), refl), refl), refl), refl), refl), refl))
+    (parities_of (twelve sources place) fits (bytes_at (p ∷ q ∷ g ∷ h ∷ []) place) ep eq eg eh)
 
 -- parities below `at` stay, and those from `at` to `to` are new
 pub parities_more : (sources : List (List ℕ)) (p q g h p' q' g' h' : List ℕ) (at to : ℕ)
@@ -208,3 +223,53 @@ pub long_same : (p q g h p' q' g' h' : List ℕ) (w : ℕ) → p' ≡ p → q' �
     → (e : ℕ) → e < 4 → length (list_at (p' ∷ q' ∷ g' ∷ h' ∷ []) e) ≡ w
 long_same p q g h p' q' g' h' w ep eq eg eh lp lq lg lh =
     each_of_four (λ e. length (list_at (p' ∷ q' ∷ g' ∷ h' ∷ []) e) ≡ w) (ap length ep ∙ lp) (ap length eq ∙ lq) (ap length eg ∙ lg) (ap length eh ∙ lh)
+
+-- ---- lanes of a group
+pub each_of_six : (P : ℕ → Type 0) → P 0 → P 1 → P 2 → P 3 → P 4 → P 5 → (i : ℕ) → i < 6 → P i
+each_of_six P a b c d e f zero l = a
+each_of_six P a b c d e f (suc zero) l = b
+each_of_six P a b c d e f (suc (suc zero)) l = c
+each_of_six P a b c d e f (suc (suc (suc zero))) l = d
+each_of_six P a b c d e f (suc (suc (suc (suc zero)))) l = e
+each_of_six P a b c d e f (suc (suc (suc (suc (suc zero))))) l = f
+each_of_six P a b c d e f (suc (suc (suc (suc (suc (suc i)))))) l = absurd (omega arith)
+
+-- six bytes that were read from a group are its bytes
+pub read_six : (sources : List (List ℕ)) (first place a b c d e f : ℕ) → a ≡ bytes_at sources place first → b ≡ bytes_at sources place (first + 1) → c ≡ bytes_at sources place (first + 2)
+    → d ≡ bytes_at sources place (first + 3) → e ≡ bytes_at sources place (first + 4) → f ≡ bytes_at sources place (first + 5)
+    → (i : ℕ) → i < 6 → get_or (a ∷ b ∷ c ∷ d ∷ e ∷ f ∷ []) i 0 ≡ bytes_at sources place (first + i)
+read_six sources first place a b c d e f ea eb ec ed ee ef =
+    each_of_six (λ i. get_or (a ∷ b ∷ c ∷ d ∷ e ∷ f ∷ []) i 0 ≡ bytes_at sources place (first + i))
+    (ea ∙ ap (bytes_at sources place) (let same : first ≡ first + 0 = omega arith in same)) eb ec ed ee ef
+
+-- six bytes that are those of a group
+module _ (x y : ℕ → ℕ) (same : (i : ℕ) → i < 6 → x i ≡ y i) where
+  at_0 : x 0 ≡ y 0
+  at_0 = same 0 (omega arith)
+
+  at_1 : x 1 ≡ y 1
+  at_1 = same 1 (omega arith)
+
+  at_2 : x 2 ≡ y 2
+  at_2 = same 2 (omega arith)
+
+  at_3 : x 3 ≡ y 3
+  at_3 = same 3 (omega arith)
+
+  at_4 : x 4 ≡ y 4
+  at_4 = same 4 (omega arith)
+
+  at_5 : x 5 ≡ y 5
+  at_5 = same 5 (omega arith)
+
+  pub bit_0_same : with_bit_0 x ≡ with_bit_0 y
+  bit_0_same = ap₂ bit_xor (ap₂ bit_xor at_0 at_2) at_4
+
+  pub bit_1_same : with_bit_1 x ≡ with_bit_1 y
+  bit_1_same = ap₂ bit_xor (ap₂ bit_xor at_1 at_2) at_5
+
+  pub bit_2_same : with_bit_2 x ≡ with_bit_2 y
+  bit_2_same = ap₂ bit_xor (ap₂ bit_xor at_3 at_4) at_5
+
+  pub six_same : sum_of_6 x ≡ sum_of_6 y
+  six_same = ap₂ bit_xor (ap₂ bit_xor (ap₂ bit_xor bit_0_same at_1) at_3) at_5

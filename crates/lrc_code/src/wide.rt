@@ -1,6 +1,7 @@
 //! The parities of LRC(12,2,2), sixteen places at a time. Each data fragment is read once.
 ghost use Rattle.std.specs.Prelude.{◌≡◌, ◌<◌, ◌≤◌, ◌+◌, ℕ, [], ◌∷◌, map, length, slice_index, All};
-ghost use Rattle.lrc_code.specs.Stripe.{AreParities, list_at};
+ghost use Rattle.lrc_code.specs.Doublings.{sum_of_6, with_bit_0, with_bit_1, with_bit_2};
+ghost use Rattle.lrc_code.specs.Stripe.{AreParities, bytes_at, list_at};
 
 use crate::Code;
 use crate::blocks::{LANES, fourth_each, load, store, sum_3, sum_4, third_each};
@@ -17,6 +18,43 @@ fn load_from(sources: &[&[u8]], f: usize, at: usize) -> u8x16
     ensures bytes { (k : ℕ) → k < LANES → slice_index result k < 256 }
 {
     load(sources[f], at)
+}
+
+/// The sums of sixteen places of a group: of all six fragments, and of those whose number in the group, counted from 1,
+/// has bit 0, bit 1 or bit 2.
+#[derive(Drop)]
+struct Sums {
+    whole: u8x16,
+    bit_0: u8x16,
+    bit_1: u8x16,
+    bit_2: u8x16,
+}
+
+/// The sums of the six fragments from `first` on.
+#[inline(always)]
+fn sums_of(sources: &[&[u8]], first: usize, at: usize) -> Sums
+    requires count { length sources.now ≡ 12 }
+    requires first_below { first + 6 ≤ 12 }
+    requires inside { All (λ s. at + LANES ≤ length s.now) sources.now }
+    ensures bytes { (i k : ℕ) → i < 6 → k < LANES → bytes_at (map (λ s. s.now) sources.now) (at + k) (first + i) < 256 }
+    ensures whole { (k : ℕ) → k < LANES → slice_index result.whole k ≡ sum_of_6 (λ i. bytes_at (map (λ s. s.now) sources.now) (at + k) (first + i)) }
+    ensures bit_0 { (k : ℕ) → k < LANES → slice_index result.bit_0 k ≡ with_bit_0 (λ i. bytes_at (map (λ s. s.now) sources.now) (at + k) (first + i)) }
+    ensures bit_1 { (k : ℕ) → k < LANES → slice_index result.bit_1 k ≡ with_bit_1 (λ i. bytes_at (map (λ s. s.now) sources.now) (at + k) (first + i)) }
+    ensures bit_2 { (k : ℕ) → k < LANES → slice_index result.bit_2 k ≡ with_bit_2 (λ i. bytes_at (map (λ s. s.now) sources.now) (at + k) (first + i)) }
+{
+    let x0 = load_from(sources, first, at);
+    let x1 = load_from(sources, first + 1, at);
+    let x2 = load_from(sources, first + 2, at);
+    let x3 = load_from(sources, first + 3, at);
+    let x4 = load_from(sources, first + 4, at);
+    let x5 = load_from(sources, first + 5, at);
+    let bit_0 = sum_3(x0, x2, x4);
+    Sums {
+        whole: sum_4(bit_0, x1, x3, x5),
+        bit_0,
+        bit_1: sum_3(x1, x2, x5),
+        bit_2: sum_3(x3, x4, x5),
+    }
 }
 
 /// Writes the parities of sixteen places from `at` on.
@@ -42,28 +80,27 @@ fn encode_block(
     ensures third_before { (k : ℕ) → k < at → slice_index third.new k ≡ slice_index third.old k }
     ensures fourth_before { (k : ℕ) → k < at → slice_index fourth.new k ≡ slice_index fourth.old k }
 {
-    let x0 = load_from(sources, 0, at);
-    let x1 = load_from(sources, 1, at);
-    let x2 = load_from(sources, 2, at);
-    let x3 = load_from(sources, 3, at);
-    let x4 = load_from(sources, 4, at);
-    let x5 = load_from(sources, 5, at);
-    let y0 = load_from(sources, 6, at);
-    let y1 = load_from(sources, 7, at);
-    let y2 = load_from(sources, 8, at);
-    let y3 = load_from(sources, 9, at);
-    let y4 = load_from(sources, 10, at);
-    let y5 = load_from(sources, 11, at);
-    let s0 = sum_3(x0, x2, x4);
-    let s1 = sum_3(x1, x2, x5);
-    let s2 = sum_3(x3, x4, x5);
-    let t0 = sum_3(y0, y2, y4);
-    let t1 = sum_3(y1, y2, y5);
-    let t2 = sum_3(y3, y4, y5);
-    store(sum_4(s0, x1, x3, x5), first, at);
-    store(sum_4(t0, y1, y3, y5), second, at);
-    store(third_each(s0, s1, s2, t0, t1, t2), third, at);
-    store(fourth_each(s0, s1, s2, t0, t1, t2), fourth, at);
+    let s = sums_of(sources, 0, at);
+    let t = sums_of(sources, 6, at);
+    store(s.whole, first, at);
+    store(t.whole, second, at);
+    let parity = third_each(s.bit_0, s.bit_1, s.bit_2, t.bit_0, t.bit_1, t.bit_2);
+    store(parity, third, at);
+    let parity = fourth_each(s.bit_0, s.bit_1, s.bit_2, t.bit_0, t.bit_1, t.bit_2);
+    store(parity, fourth, at);
+}
+
+/// The bytes of the data fragments at one place.
+fn bytes_of(sources: &[&[u8]], at: usize) -> [u8; 12]
+    requires count { length sources.now ≡ 12 }
+    requires inside { All (λ s. at < length s.now) sources.now }
+    ensures { (i : ℕ) → i < 12 → slice_index result i ≡ bytes_at (map (λ s. s.now) sources.now) at i }
+{
+    let mut bytes = [0; 12];
+    for i in 0..12 {
+        bytes[i] = sources[i][at];
+    }
+    bytes
 }
 
 /// Writes the parities of one place.
@@ -87,20 +124,7 @@ fn encode_place(
     ensures third_before { (k : ℕ) → k < at → slice_index third.new k ≡ slice_index third.old k }
     ensures fourth_before { (k : ℕ) → k < at → slice_index fourth.new k ≡ slice_index fourth.old k }
 {
-    let bytes = [
-        sources[0][at],
-        sources[1][at],
-        sources[2][at],
-        sources[3][at],
-        sources[4][at],
-        sources[5][at],
-        sources[6][at],
-        sources[7][at],
-        sources[8][at],
-        sources[9][at],
-        sources[10][at],
-        sources[11][at],
-    ];
+    let bytes = bytes_of(sources, at);
     let made = parities(&bytes);
     first[at] = made[0];
     second[at] = made[1];

@@ -29,9 +29,9 @@ fn compare_products(rt: &HostRuntime, path: &str) -> Result<()> {
     let text = fs::read_to_string(rt, path)?;
     let mut count = 0u32;
     for (a, line) in text.as_str().lines().enumerate() {
-        count = count.saturating_add(
-            products::compare(a, line).context(format_args!("{path}, after {a} lines"))?,
-        );
+        count = count.saturating_add(products::compare(a, line).context(format_args!(
+            "{path}, after {a} lines"
+        ))?);
     }
     println!(rt; "{path}: {count} products")?;
     Ok(())

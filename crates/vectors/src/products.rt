@@ -11,7 +11,10 @@ pub fn compare(a: usize, line: &str) -> Result<u32> {
     ensure!(digits.len() == 512, "not 256 products");
     for b in 0..256usize {
         let product = hex::byte(digits[2 * b], digits[2 * b + 1])?;
-        ensure!(mul(a as u8, b as u8) == product, "{a} * {b} is not {product}");
+        ensure!(
+            mul(a as u8, b as u8) == product,
+            "{a} * {b} is not {product}"
+        );
     }
     Ok(256)
 }

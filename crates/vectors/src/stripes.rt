@@ -86,7 +86,12 @@ impl Comparison {
         }
         let parities = encode_in(alloc, self.code, data.as_slice(), self.width)?;
         let given = self.fragments.iter().skip(count);
-        Ok(parities.iter().zip(given).all(|(a, b)| a.as_slice() == b.as_slice()))
+        Ok(
+            parities
+                .iter()
+                .zip(given)
+                .all(|(a, b)| a.as_slice() == b.as_slice()),
+        )
     }
 
     /// Compares a lost fragment with what is rebuilt from those that are left.
@@ -95,15 +100,24 @@ impl Comparison {
         let left = self.left();
         ensure!(f < left.code.fragments(), "no fragment");
         let slot = left.fragments[usize::from(f)];
-        ensure!(slot.is_none() && left.reaches(self.width), "not as it was said");
+        ensure!(
+            slot.is_none() && left.reaches(self.width),
+            "not as it was said"
+        );
         match rebuild(alloc, &left, usize::from(f), 0, self.width) {
             Ok(rebuilt) => {
                 ensure!(!is_open_in(left.code, self.lost, f), "said to be open");
-                ensure!(rebuilt.as_slice() == hex::bytes(alloc, bytes)?.as_slice(), "other bytes");
+                ensure!(
+                    rebuilt.as_slice() == hex::bytes(alloc, bytes)?.as_slice(),
+                    "other bytes"
+                );
                 self.rebuilt = self.rebuilt.saturating_add(1);
             }
             Err(Rebuild::Open) => {
-                ensure!(bytes == "open" && is_open_in(left.code, self.lost, f), "not open");
+                ensure!(
+                    bytes == "open" && is_open_in(left.code, self.lost, f),
+                    "not open"
+                );
                 self.open = self.open.saturating_add(1);
             }
             Err(Rebuild::NoMemory) => bail!("out of memory"),
@@ -131,7 +145,10 @@ impl fmt::Display for Comparison {
         let stripes = self.stripes;
         let rebuilt = self.rebuilt;
         let open = self.open;
-        write!(f, "{stripes} stripes, {rebuilt} fragments rebuilt, {open} open")
+        write!(
+            f,
+            "{stripes} stripes, {rebuilt} fragments rebuilt, {open} open"
+        )
     }
 }
 
