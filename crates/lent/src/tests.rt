@@ -1,6 +1,6 @@
 use super::*;
 use bytes::Bytes;
-use sealed::{Sealed, Width, seal};
+use sealed::{Sealed, Width, count_stripes, seal};
 use std::alloc::Global;
 use std::process::Abort;
 use std::sync::Arc;
@@ -78,5 +78,48 @@ fn ranges_outside(rt: HostRuntime) -> Result<(), Fail> {
     assert!(rt; is_outside(&rt, &sealed, 13, 0));
     assert!(rt; is_outside(&rt, &sealed, 12, 1));
     assert!(rt; is_outside(&rt, &sealed, 18446744073709551615, 2));
+    Ok(())
+}
+
+/// The value without these fragments of its first stripe.
+fn without(rt: &impl Abort, alloc: Global, sealed: &Arc<Sealed>, lost: &[u8]) -> Arc<Sealed> {
+    let mut value = Arc::try_clone(sealed).expect(rt, "memory");
+    for f in lost {
+        assert!(rt;
+            0 < count_stripes(value.code, value.width, value.len) && *f < value.code.fragments()
+        );
+        match value.without(alloc, 0, *f) {
+            Ok(next) => value = Arc::new(alloc, next).expect(rt, "memory"),
+            Err(fault) => panic!(rt; "{fault}"),
+        }
+    }
+    value
+}
+
+#[test]
+fn an_absent_fragment_is_built(rt: HostRuntime) -> Result<(), Fail> {
+    let letters = b"ABCDEFGHIJKLMNOPQRSTUVWXYZabcdefghijklmnopqrstuv";
+    let sealed = blob(&rt, rt.alloc(), letters, 4);
+    let range = grant(&rt, &without(&rt, rt.alloc(), &sealed, &[1]), 3, 6);
+    let pieces = range.collect(rt.alloc()).expect(&rt, "memory");
+    assert!(rt; pieces.len() == 3);
+    assert!(rt; matches!(&pieces[0], Piece::Lent(_)) && pieces[0].bytes() == b"D".as_slice());
+    assert!(rt; matches!(&pieces[1], Piece::Built(_)) && pieces[1].bytes() == b"EFGH".as_slice());
+    assert!(rt; matches!(&pieces[2], Piece::Lent(_)) && pieces[2].bytes() == b"I".as_slice());
+    Ok(())
+}
+
+#[test]
+fn four_absent_of_a_group(rt: HostRuntime) -> Result<(), Fail> {
+    let sealed = blob(&rt, rt.alloc(), b"ABCDEFGHIJKL", 1);
+    let lost = without(&rt, rt.alloc(), &sealed, &[0, 1, 2, 3]);
+    let first = Grant::ask(&lost, 0, 1).expect(&rt, "memory");
+    assert!(rt; matches!(first, Asked::Unrecoverable));
+    gives(
+        &rt,
+        rt.alloc(),
+        &grant(&rt, &lost, 4, 2),
+        &[b"E".as_slice(), b"F".as_slice()],
+    );
     Ok(())
 }
