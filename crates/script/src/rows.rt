@@ -16,7 +16,11 @@ pub enum Ask {
         bytes: Bytes,
     },
     /// Reads `len` bytes from `start` on.
-    Read { name: Name, start: u64, len: u64 },
+    Read {
+        name: Name,
+        start: u64,
+        len: u64,
+    },
 }
 
 /// What a row asks for.
