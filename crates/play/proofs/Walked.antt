@@ -15,10 +15,11 @@ IsSplit s whole done ahead =
 
 pub split-more : (s : Sealed) (whole : List ℕ → List ℕ) (done more : List ℕ) (old new : Ahead) (piece : Piece) → IsSplit s whole done old
     → Gives old new piece → Joins old new piece → more ≡ done ++ bytes_of piece → IsSplit s whole more new
-split-more s whole done more old new piece split gives joins is =
-    (gives.same ∙ split.0,
-    λ b lost stands.
-    let P : Sealed → Type 0 = λ t. StandsFor t b lost in
-    let next : bytes_ahead old b ≡ bytes_of piece ++ bytes_ahead new b = joins b lost (subst P (sym split.0) stands) in
-    split.1 b lost stands ∙ ap (λ (x : List ℕ). done ++ x) next ∙ sym (append_assoc done (bytes_of piece) (bytes_ahead new b))
-    ∙ ap (λ (x : List ℕ). x ++ bytes_ahead new b) (sym is))
+split-more s whole done more old new piece split gives joins is = (
+  gives.same ∙ split.0,
+  λ b lost stands.
+      let P : Sealed → Type 0 = λ t. StandsFor t b lost in
+      let next : bytes_ahead old b ≡ bytes_of piece ++ bytes_ahead new b = joins b lost (subst P (sym split.0) stands) in
+      split.1 b lost stands ∙ ap (λ (x : List ℕ). done ++ x) next ∙ sym (append_assoc done (bytes_of piece) (bytes_ahead new b))
+      ∙ ap (λ (x : List ℕ). x ++ bytes_ahead new b) (sym is),
+)

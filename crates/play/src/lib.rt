@@ -4,12 +4,11 @@
 mod fail;
 mod output;
 mod reply;
-mod run;
 mod rows;
+mod run;
 
 pub use fail::Fail;
 pub use run::play;
-
 
 #[cfg(test)]
 mod tests;

@@ -77,11 +77,7 @@ fn run_row(alloc: Global, book: &mut Book, row: Row) -> Result<Outcome, Fail>
 }
 
 /// Makes the rows in order.
-pub(crate) fn run_rows(
-    alloc: Global,
-    book: &mut Book,
-    rows: Vec<Row>,
-) -> Result<Vec<Outcome>, Fail>
+pub(crate) fn run_rows(alloc: Global, book: &mut Book, rows: Vec<Row>) -> Result<Vec<Outcome>, Fail>
     requires { TellsSome book.old }
     ensures told { TellsSome book.new }
     ensures kept { (book.new.width ≡ book.old.width) × (book.new.base ≡ book.old.base) }

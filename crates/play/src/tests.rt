@@ -109,7 +109,10 @@ fn a_row_is_cut(rt: HostRuntime) -> Result<(), Fail> {
         row: 2,
         word: Word::Fields,
     };
-    assert_eq!(rt; play(alloc, &options, text, &mut out), Err(PlayFail::Script(refused)));
+    assert_eq!(rt;
+        play(alloc, &options, text, &mut out),
+        Err(PlayFail::Script(refused))
+    );
     assert!(rt; out.is_empty());
     Ok(())
 }
@@ -129,7 +132,10 @@ fn broken_ends(rt: HostRuntime) -> Result<(), Fail> {
     }
     for room in 0..FIRST_OUTPUT.len() {
         let mut narrow = Narrow { room };
-        assert_eq!(rt; play(alloc, &options, FIRST_PATH, &mut narrow), Err(PlayFail::Write));
+        assert_eq!(rt;
+            play(alloc, &options, FIRST_PATH, &mut narrow),
+            Err(PlayFail::Write)
+        );
     }
     Ok(())
 }

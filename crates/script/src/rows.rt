@@ -16,6 +16,7 @@ pub enum Ask {
         bytes: Bytes,
     },
     /// Reads `len` bytes from `start` on.
+<<<<<<< HEAD
     Read { name: Name, start: u64, len: u64 },
     /// Loses a fragment of a stripe.
     Lose {
@@ -35,6 +36,13 @@ pub enum Ask {
     Stat { name: Name },
     /// Gives up all of the journal but its last `keep` entries. It is no call of the journal.
     Trim { keep: u64 },
+=======
+    Read {
+        name: Name,
+        start: u64,
+        len: u64,
+    },
+>>>>>>> first-path
 }
 
 /// What a row asks for.

@@ -174,10 +174,14 @@ fn long_blobs(rt: HostRuntime) -> Result<(), Fail> {
     let options = options(alloc, 1, 4096, false)?;
     for (op, most) in [("put", 49152usize), ("put6", 24576)] {
         let bytes = "x".repeat(alloc, most)?;
-        let text = format!(in alloc; "1,1,{op},a,text,{bytes}\n1,1,stat,a,,\n1,1,{op},a,text,{bytes}x\n1,1,stat,a,,\n")?;
+        let text = format!(in alloc;
+            "1,1,{op},a,text,{bytes}\n1,1,stat,a,,\n1,1,{op},a,text,{bytes}x\n1,1,stat,a,,\n"
+        )?;
         let mut out: Vec<u8> = Vec::new(alloc);
         assert_eq!(rt; play(alloc, &options, text.as_bytes(), &mut out), Ok(()));
-        let wanted = format!(in alloc; "1 stored 1\n2 shape 1 {most} 4096 0\n3 too-long\n4 shape 1 {most} 4096 0\ncalls 3\nlawful yes\n")?;
+        let wanted = format!(in alloc;
+            "1 stored 1\n2 shape 1 {most} 4096 0\n3 too-long\n4 shape 1 {most} 4096 0\ncalls 3\nlawful yes\n"
+        )?;
         assert!(rt; out.as_slice() == wanted.as_bytes());
     }
     Ok(())
