@@ -16,8 +16,11 @@ pub enum Ask {
         bytes: Bytes,
     },
     /// Reads `len` bytes from `start` on.
-<<<<<<< HEAD
-    Read { name: Name, start: u64, len: u64 },
+    Read {
+        name: Name,
+        start: u64,
+        len: u64,
+    },
     /// Loses a fragment of a stripe.
     Lose {
         name: Name,
@@ -31,18 +34,17 @@ pub enum Ask {
         fragment: u64,
     },
     /// Deletes the blob.
-    Delete { name: Name },
-    /// Asks for the blob's shape.
-    Stat { name: Name },
-    /// Gives up all of the journal but its last `keep` entries. It is no call of the journal.
-    Trim { keep: u64 },
-=======
-    Read {
+    Delete {
         name: Name,
-        start: u64,
-        len: u64,
     },
->>>>>>> first-path
+    /// Asks for the blob's shape.
+    Stat {
+        name: Name,
+    },
+    /// Gives up all of the journal but its last `keep` entries. It is no call of the journal.
+    Trim {
+        keep: u64,
+    },
 }
 
 /// What a row asks for.

@@ -47,37 +47,40 @@ fn refusals(rt: HostRuntime) -> Result<(), Fail> {
     assert_eq!(rt; refusal(alloc, b"1,2,read,a,0,1", 2), (0, None));
     assert_eq!(rt; refusal(alloc, b"1,1,move,a,0,0", 1), (1, Some(Word::Op)));
     assert_eq!(rt; refusal(alloc, b"1,1,read,A,0,1", 1), (1, Some(Word::Name)));
-<<<<<<< HEAD
-    assert_eq!(rt; refusal(alloc, b"1,1,read,\xff,0,1", 1), (1, Some(Word::Name)));
-    assert_eq!(rt; refusal(alloc, b"1,1,put,a,hex,0", 1), (1, Some(Word::Argument)));
-=======
     assert_eq!(rt;
         refusal(alloc, b"1,1,read,\xff,0,1", 1),
         (1, Some(Word::Name))
     );
     assert_eq!(rt;
-        refusal(alloc, b"1,1,put,a,hex,00", 1),
+        refusal(alloc, b"1,1,put,a,hex,0", 1),
         (1, Some(Word::Argument))
     );
->>>>>>> first-path
     assert_eq!(rt;
         refusal(alloc, b"1,1,read,a,18446744073709551616,0", 1),
         (1, Some(Word::Argument))
     );
-<<<<<<< HEAD
-    assert_eq!(rt; refusal(alloc, b"1,1,put6,a,hex,0F", 1), (1, Some(Word::Argument)));
-    assert_eq!(rt; refusal(alloc, b"1,1,stat,a,1,", 1), (1, Some(Word::Argument)));
+    assert_eq!(rt;
+        refusal(alloc, b"1,1,put6,a,hex,0F", 1),
+        (1, Some(Word::Argument))
+    );
+    assert_eq!(rt;
+        refusal(alloc, b"1,1,stat,a,1,", 1),
+        (1, Some(Word::Argument))
+    );
     assert_eq!(rt; refusal(alloc, b"1,1,trim,a,1,", 1), (1, Some(Word::Name)));
-    assert_eq!(rt; refusal(alloc, b"1,1,trim,,,", 1), (1, Some(Word::Argument)));
-    assert_eq!(rt; refusal(alloc, b"1,1,trim,,0,1", 1), (1, Some(Word::Argument)));
+    assert_eq!(rt;
+        refusal(alloc, b"1,1,trim,,,", 1),
+        (1, Some(Word::Argument))
+    );
+    assert_eq!(rt;
+        refusal(alloc, b"1,1,trim,,0,1", 1),
+        (1, Some(Word::Argument))
+    );
     assert_eq!(rt; refusal(alloc, b"1,1,trim,,0,", 1), (0, None));
-    assert_eq!(rt; refusal(alloc, b"1,1,read,a,00,1", 1), (1, Some(Word::Argument)));
-=======
     assert_eq!(rt;
         refusal(alloc, b"1,1,read,a,00,1", 1),
         (1, Some(Word::Argument))
     );
->>>>>>> first-path
     Ok(())
 }
 
