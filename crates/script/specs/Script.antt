@@ -1,8 +1,9 @@
 -- Which records of a script are refused, and why.
 use Rattle.std.specs.Prelude.{ℕ, List, [], ◌∷◌, Bool, Option, Some, None, is_some, ◌&&◌, ◌==◌, ◌≡◌, ◌<◌, ◌+◌, ◌-◌, ◌≤◌, not, length, map, take, slice_get, slice_index_or, nat_le, if◌then◌else◌}
 use Rattle.csv.specs.Reading.{default_config, records, strip_bom}
+use Rattle.script.specs.Names.{is_name}
 use Rattle.script.specs.Numbers.{value}
-use Rattle.script.specs.Fields.{Record, a_field, b_field, fits_arguments, fits_name, is_number_in, name_field, operation_field, operation_of, round_field, row_of, worker_field}
+use Rattle.script.specs.Fields.{Record, a_field, b_field, fits_arguments, is_number_in, name_field, operation_field, operation_of, round_field, row_of, worker_field}
 use Rattle.script.specs.declared.rows.BadScript.{BadScript}
 use Rattle.script.specs.declared.rows.BadScript.TheVariants as bad
 use Rattle.script.specs.declared.rows.Head.{Head}
@@ -34,7 +35,7 @@ tests workers earlier r =
     ∷ (not (is_number_in 1 4294967295 (round_field r) && nat_le (last_round earlier) (value (round_field r))), word.Round)
     ∷ (not (is_number_in 1 workers (worker_field r)), word.Worker)
     ∷ (not (is_some (operation_of (operation_field r))), word.Op)
-    ∷ (not (fits_name (operation_of (operation_field r)) (name_field r)), word.Name)
+    ∷ (not (is_name (name_field r)), word.Name)
     ∷ (not (fits_arguments (operation_of (operation_field r)) (a_field r) (b_field r)), word.Argument)
     ∷ []
 
@@ -49,7 +50,7 @@ Tells refusal_is.NoMemory o = Unit {0}
 
 -- the word that refuses a record's name or arguments, if one does
 abbrev pub task_refusal : Option Operation → List ℕ → List ℕ → List ℕ → Option Word
-task_refusal o name a b = first_word ((not (fits_name o name), word.Name) ∷ (not (fits_arguments o a b), word.Argument) ∷ [])
+task_refusal o name a b = first_word ((not (is_name name), word.Name) ∷ (not (fits_arguments o a b), word.Argument) ∷ [])
 
 -- a refusal of the row of this number
 abbrev pub at_row : Refusal → ℕ → BadScript

@@ -1,6 +1,6 @@
 //! The fields of a record.
 
-ghost use Rattle.std.specs.Prelude.{◌≡◌, ◌≢◌, ◌<◌, [], ◌∷◌, true, false, not, MatchOption, MatchResult, IfOk};
+ghost use Rattle.std.specs.Prelude.{◌≡◌, ◌<◌, [], ◌∷◌, true, false, not, MatchOption, MatchResult, IfOk};
 ghost use Rattle.script.specs.Names.{is_name};
 ghost use Rattle.script.specs.Numbers.{value};
 ghost use Rattle.script.specs.Fields.{are_bytes, are_empty, are_hex_bytes, are_numbers, bytes_of, fits_arguments, hex_bytes, hex_digit, is_hex_digit, is_number_in, operation_of, task_of};
@@ -42,7 +42,6 @@ pub(crate) fn operation(text: &[u8]) -> Option<Operation>
         b"repair" => Some(Operation::Repair),
         b"delete" => Some(Operation::Delete),
         b"stat" => Some(Operation::Stat),
-        b"trim" => Some(Operation::Trim),
         _ => None,
     }
 }
@@ -126,27 +125,14 @@ pub(crate) fn task(
         (λ task. (task_refusal (Some operation) name.now a.now b.now ≡ None) × (task ≡ task_of (Some operation) name.now a.now b.now))
         (λ e. Tells e (task_refusal (Some operation) name.now a.now b.now)) }
 {
-    if operation == Operation::Trim {
-        if !name.is_empty() {
-            return Err(Refusal::Refused(Word::Name));
-        }
-        if !b.is_empty() {
-            return Err(Refusal::Refused(Word::Argument));
-        }
-        return match number(a) {
-            Some(keep) => Ok(Task::Make(Ask::Trim { keep })),
-            None => Err(Refusal::Refused(Word::Argument)),
-        };
-    }
     let Some(name) = name_of(name) else {
         return Err(Refusal::Refused(Word::Name));
     };
     Ok(Task::Make(ask(alloc, operation, name, a, b)?))
 }
 
-/// A call on a name, by its operation, its name and its arguments.
+/// A call, by its operation, its name and its arguments.
 fn ask(alloc: Global, operation: Operation, name: Name, a: &[u8], b: &[u8]) -> Result<Ask, Refusal>
-    requires { operation ≢ Operation.Trim }
     ensures { MatchResult result
         (λ ask. (fits_arguments (Some operation) a.now b.now ≡ true) × (Task.Make ask ≡ task_of (Some operation) name a.now b.now))
         (λ e. Tells e (first_word ((not (fits_arguments (Some operation) a.now b.now), Word.Argument) ∷ []))) }
@@ -182,7 +168,6 @@ fn ask(alloc: Global, operation: Operation, name: Name, a: &[u8], b: &[u8]) -> R
             nothing(a, b)?;
             Ok(Ask::Stat { name })
         }
-        Operation::Trim => unreachable!(),
     }
 }
 

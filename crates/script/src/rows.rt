@@ -41,10 +41,6 @@ pub enum Ask {
     Stat {
         name: Name,
     },
-    /// Gives up all of the journal but its last `keep` entries. It is no call of the journal.
-    Trim {
-        keep: u64,
-    },
 }
 
 /// What a row asks for.
@@ -124,7 +120,6 @@ pub(crate) enum Operation {
     Repair,
     Delete,
     Stat,
-    Trim,
 }
 
 /// Why one record is refused.

