@@ -67,8 +67,6 @@ fn refusals(rt: HostRuntime) -> Result<(), Fail> {
         refusal(alloc, b"1,1,stat,a,1,", 1),
         (1, Some(Word::Argument))
     );
-    assert_eq!(rt; (1, Some(Word::Argument)));
-    assert_eq!(rt; (1, Some(Word::Argument)));
     assert_eq!(rt;
         refusal(alloc, b"1,1,read,a,00,1", 1),
         (1, Some(Word::Argument))
