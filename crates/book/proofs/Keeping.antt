@@ -10,14 +10,14 @@ use Rattle.std.proofs.lemmas.Grind.{common_steps}
 use Rattle.lrc_code.specs.declared.Code.{Code}
 use Rattle.lrc_code.specs.declared.Code.TheVariants.{Wide, Small}
 use Rattle.lrc_code.specs.Code.{fragment_count, data_count, Open}
-use Rattle.lrc_code.proofs.Recoverable.{open_test, exact, not_open_left}
+use Rattle.lrc_code.proofs.Recoverable.{exact, not_open_left}
 use Rattle.lrc_code.proofs.Stripes.{open_same}
 use Rattle.sealed.specs.Layout.{stripe_of, fragment_of}
 use Rattle.sealed.specs.Blob.{pair_cmp}
 use Rattle.sealed.proofs.Places.{fragment_inside, stripe_by_count, fragment_by_count}
 use Rattle.lent.specs.Range.{HasOpen}
 use Rattle.lent.proofs.Readable.{Meets, has_open}
-use Rattle.book.specs.Views.{open_in_range}
+use Rattle.book.specs.Views.{open_test, open_in_range}
 use Rattle.book.specs.Kept.{lost_of, is_open_between}
 use Rattle.book.specs.declared.kept.Kept.{Kept}
 use Rattle.book.proofs.Replies.{open_found}

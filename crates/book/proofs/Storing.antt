@@ -56,7 +56,7 @@ puts_counted book h told =
     let puts : (state_of h).puts ≡ (after_all (state_of (take t h)) (drop t h)).puts = ap (λ (s : State). s.puts) whole in
     puts ∙ puts-after_all (state_of (take t h)) (drop t h) ∙ omega (arith, told.base.puts, ap (count_by is_put) told.entries)
 
-corresponds : (w : ℕ) (b : Bool) (s : Sealed) (blob : Blob) (found : Option Sealed) (had : Option Blob) → Represents w s blob → Correspond w found had → Correspond w (cond b (Some s) found) (cond b (Some blob) had)
+pub corresponds : (w : ℕ) (b : Bool) (s : Sealed) (blob : Blob) (found : Option Sealed) (had : Option Blob) → Represents w s blob → Correspond w found had → Correspond w (cond b (Some s) found) (cond b (Some blob) had)
 corresponds w true s blob found had is same = is
 corresponds w false s blob found had is same = same
 

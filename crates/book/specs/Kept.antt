@@ -5,10 +5,9 @@ use Rattle.std.specs.Map.{lookup}
 use Rattle.std.specs.BTreeMap.{is_at}
 use Rattle.std.specs.BTreeSet as tree
 use Rattle.lrc_code.specs.Code.{data_count}
-use Rattle.lrc_code.proofs.Recoverable.{open_test}
 use Rattle.sealed.specs.Blob.{pair_cmp}
 use Rattle.book.specs.Names.{name_cmp}
-use Rattle.book.specs.Views.{View, Views}
+use Rattle.book.specs.Views.{View, Views, open_test}
 use Rattle.book.specs.declared.kept.Kept.{Kept}
 use Rattle.book.specs.declared.replay.Replay.{Replay}
 

@@ -1,12 +1,11 @@
 -- What replies depend on: of a blob all but its bytes. With it the reply is computed, and so is what it depends on afterwards.
-use Rattle.std.specs.Prelude.{◌≡◌, ℕ, zero, suc, ◌+◌, ◌-◌, Bool, false, not, ◌&&◌, ◌||◌, List, [], ◌∷◌, Option, None, Some, cond, length, replicate, nat_le}
+use Rattle.std.specs.Prelude.{◌≡◌, ℕ, zero, suc, ◌+◌, ◌-◌, Bool, false, not, ◌&&◌, ◌||◌, List, [], ◌∷◌, Option, None, Some, cond, length, replicate, nat_le, nat_lt}
 use Rattle.std.specs.Option.{option_map}
 use Rattle.std.specs.FinMap as finite
 use Rattle.std.specs.FinSet as set
 use Rattle.std.specs.Ordering.{eq_by_cmp}
 use Rattle.lrc_code.specs.declared.Code.{Code}
-use Rattle.lrc_code.specs.Code.{fragment_count}
-use Rattle.lrc_code.proofs.Recoverable.{open_test}
+use Rattle.lrc_code.specs.Code.{fragment_count, excess_of, is_alone}
 use Rattle.sealed.specs.Layout.{stripe_count, stripe_of, fragment_of}
 use Rattle.sealed.specs.Blob.{IsBlob, lost_in, pair_cmp}
 use Rattle.lent.specs.Range.{is_outside}
@@ -40,6 +39,10 @@ view s = record { names = λ n. option_map view_of (finite.get s.names n); puts 
 abbrev pub any_from : (ℕ → Bool) → ℕ → ℕ → Bool
 any_from p a zero = false
 any_from p a (suc n) = p a || any_from p (suc a) n
+
+-- whether f can't be told from the fragments left: the two global parities don't make up for the lost ones, and f is not alone lost in its group
+abbrev pub open_test : Code → (ℕ → Bool) → ℕ → Bool
+open_test code lost f = lost f && (not (is_alone code lost f) && nat_lt 2 (excess_of code lost))
 
 abbrev pub open_in_range : Code → ℕ → (ℕ → ℕ → Bool) → ℕ → ℕ → Bool
 open_in_range code w lost start len = any_from (λ i. open_test code (lost (stripe_of code w i)) (fragment_of code w i)) start len

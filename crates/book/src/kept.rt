@@ -2,9 +2,8 @@
 ghost use Rattle.std.specs.Prelude.{◌≡◌, ℕ, ◌+◌, ◌<◌, ◌≤◌, Some, IsTrue};
 ghost use Rattle.std.specs.List.{list_any};
 ghost use Rattle.lrc_code.specs.Code.{fragment_count, is_lost};
-ghost use Rattle.lrc_code.proofs.Recoverable.{open_test};
 ghost use Rattle.book.specs.Kept.{lost_of, seen_as, is_open_between};
-ghost use Rattle.book.specs.Views.{no_such, open_in_range, read_reply, lose_reply, repair_reply, stat_reply};
+ghost use Rattle.book.specs.Views.{no_such, open_test, open_in_range, read_reply, lose_reply, repair_reply, stat_reply};
 
 use crate::Note;
 use lrc_code::{Code, LostSet, is_open_in};

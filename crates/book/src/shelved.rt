@@ -1,13 +1,20 @@
 //! A sealed blob in the catalogue.
-ghost use Rattle.std.specs.Prelude.{◌≡◌, List, ℕ, Some};
+ghost use Rattle.std.specs.Prelude.{◌≡◌, ◌<◌, List, ℕ, Some, true, false, length, IfOk, IfErr, OnOk, OnErr};
+ghost use Rattle.std.specs.FinSet as set;
+ghost use Rattle.lrc_code.specs.Code.{fragment_count};
+ghost use Rattle.sealed.specs.Layout.{stripe_count};
 ghost use Rattle.sealed.specs.Blob.{nothing};
-ghost use Rattle.sealed.specs.Sealed.{StandsFor};
-ghost use Rattle.book.specs.Lacking.{reply_for};
+ghost use Rattle.sealed.specs.Sealed.{StandsFor, absent_in};
+ghost use Rattle.book.specs.Lacking.{reply_for, lacks, seen_of};
+ghost use Rattle.book.specs.Losing.{IsFragmentOf, IsWith, Loses, Mends};
 ghost use Rattle.book.specs.Notes.{note_of};
-ghost use Rattle.book.specs.Views.{stat_reply};
+ghost use Rattle.book.specs.Views.{no_such, open_test, lose_reply, repair_reply, stat_reply};
 
-use crate::Answer;
+use crate::{Answer, Fault};
+use bytes::Bytes;
+use lrc_code::{Rebuild, rebuild};
 use sealed::Sealed;
+use std::alloc::Global;
 use std::marker::Model;
 use std::sync::Arc;
 
@@ -58,4 +65,131 @@ impl Shelved {
             lost: self.lost,
         }
     }
+
+    /// Whether the blob has no such fragment.
+    fn is_no_fragment(&self, stripe: u64, fragment: u64) -> bool
+        ensures { result ≡ no_such self.now.width (seen_of self.now) stripe fragment }
+    {
+        stripe >= self.sealed.stripes.len() as u64
+            || fragment >= u64::from(self.sealed.code.fragments())
+    }
+
+    /// Whether a fragment is lost.
+    fn is_lost(&self, stripe: u64, f: u8) -> bool
+        requires stripe_below { stripe < stripe_count self.now.code self.now.width self.now.len }
+        requires f_below { f < fragment_count self.now.code }
+        ensures value { result ≡ lacks self.now stripe f }
+        ensures absent { result ≡ absent_in self.now stripe f }
+    {
+        self.sealed.fragment(stripe, f).is_none()
+    }
+
+    /// Loses a fragment. The only fault is `NoMemory`. After it the blob is as it was.
+    pub fn lose(&mut self, alloc: Global, stripe: u64, fragment: u64) -> Result<Answer, Fault>
+        ensures answer { IfOk result (λ a. note_of a ≡ reply_for (λ w x. lose_reply w x stripe fragment) (Some self.old)) }
+        ensures changed { IfOk result (λ a. Loses stripe fragment (note_of a) self.old self.new) }
+        ensures faults { IfErr result (λ e. e ≡ Fault.NoMemory) }
+        ensures err { OnErr result (self.new ≡ self.old) }
+    {
+        if self.is_no_fragment(stripe, fragment) {
+            return Ok(Answer::NoFragment);
+        }
+        if self.is_lost(stripe, fragment as u8) {
+            return Ok(Answer::AlreadyLost);
+        }
+        let version = self.sealed.version;
+        match self.take_out(alloc, stripe, fragment as u8) {
+            Ok(()) => Ok(Answer::Lost(version)),
+            Err(error) => Err(error),
+        }
+    }
+
+    /// Takes out a fragment that is there.
+    fn take_out(&mut self, alloc: Global, stripe: u64, f: u8) -> Result<(), Fault>
+        requires stripe_below { stripe < stripe_count self.old.code self.old.width self.old.len }
+        requires f_below { f < fragment_count self.old.code }
+        requires there { absent_in self.old stripe f ≡ false }
+        ensures ok { OnOk result (IsWith (λ lost. set.insert lost (stripe, f)) self.old self.new) }
+        ensures faults { IfErr result (λ e. e ≡ Fault.NoMemory) }
+        ensures err { OnErr result (self.new ≡ self.old) }
+    {
+        let Ok(sealed) = self.sealed.without(alloc, stripe, f) else {
+            return Err(Fault::NoMemory);
+        };
+        let Ok(sealed) = Arc::new(alloc, sealed) else {
+            return Err(Fault::NoMemory);
+        };
+        let lost = self.lost + 1;
+        *self = Shelved { sealed, lost };
+        Ok(())
+    }
+
+    /// Rebuilds a lost fragment. The only fault is `NoMemory`. After it the blob is as it was.
+    pub fn repair(&mut self, alloc: Global, stripe: u64, fragment: u64) -> Result<Answer, Fault>
+        ensures answer { IfOk result (λ a. note_of a ≡ reply_for (λ w x. repair_reply w x stripe fragment) (Some self.old)) }
+        ensures changed { IfOk result (λ a. Mends stripe fragment (note_of a) self.old self.new) }
+        ensures faults { IfErr result (λ e. e ≡ Fault.NoMemory) }
+        ensures err { OnErr result (self.new ≡ self.old) }
+    {
+        if self.is_no_fragment(stripe, fragment) {
+            return Ok(Answer::NoFragment);
+        }
+        if !self.is_lost(stripe, fragment as u8) {
+            return Ok(Answer::NotLost);
+        }
+        let version = self.sealed.version;
+        match rebuild_whole(alloc, &self.sealed, stripe, fragment as u8) {
+            Ok(bytes) => match self.put_back(alloc, stripe, fragment as u8, bytes) {
+                Ok(()) => Ok(Answer::Repaired(version)),
+                Err(error) => Err(error),
+            },
+            Err(Rebuild::Open) => Ok(Answer::Unrecoverable(version)),
+            Err(Rebuild::NoMemory) => Err(Fault::NoMemory),
+        }
+    }
+
+    /// Puts back an absent fragment.
+    fn put_back(
+        &mut self,
+        alloc: Global,
+        stripe: u64,
+        f: u8,
+        bytes: Vec<u8>,
+    ) -> Result<(), Fault>
+        requires stripe_below { stripe < stripe_count self.old.code self.old.width self.old.len }
+        requires f_below { f < fragment_count self.old.code }
+        requires gone { absent_in self.old stripe f ≡ true }
+        requires long { length bytes.items ≡ self.old.width }
+        requires own { IsFragmentOf self.old stripe f bytes.items }
+        ensures ok { OnOk result (IsWith (λ lost. set.remove lost (stripe, f)) self.old self.new) }
+        ensures faults { IfErr result (λ e. e ≡ Fault.NoMemory) }
+        ensures err { OnErr result (self.new ≡ self.old) }
+    {
+        let Ok(bytes) = Bytes::from_vec(bytes) else {
+            return Err(Fault::NoMemory);
+        };
+        let Ok(sealed) = self.sealed.with(alloc, stripe, f, bytes) else {
+            return Err(Fault::NoMemory);
+        };
+        let Ok(sealed) = Arc::new(alloc, sealed) else {
+            return Err(Fault::NoMemory);
+        };
+        let lost = self.lost - 1;
+        *self = Shelved { sealed, lost };
+        Ok(())
+    }
+}
+
+/// The bytes of an absent fragment, or why there are none.
+fn rebuild_whole(alloc: Global, sealed: &Sealed, stripe: u64, f: u8) -> Result<Vec<u8>, Rebuild>
+    requires stripe_below { stripe < stripe_count sealed.now.code sealed.now.width sealed.now.len }
+    requires f_below { f < fragment_count sealed.now.code }
+    requires gone { absent_in sealed.now stripe f ≡ true }
+    ensures open { result ≡ Err Rebuild.Open → open_test sealed.now.code (lacks sealed.now stripe) f ≡ true }
+    ensures closed { IfOk result (λ bytes. open_test sealed.now.code (lacks sealed.now stripe) f ≡ false) }
+    ensures long { IfOk result (λ bytes. length bytes.items ≡ sealed.now.width) }
+    ensures own { IfOk result (λ bytes. IsFragmentOf sealed.now stripe f bytes.items) }
+{
+    let left = sealed.left(stripe);
+    rebuild(alloc, &left, usize::from(f), 0, sealed.width.get() as usize)
 }

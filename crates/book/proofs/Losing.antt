@@ -1,0 +1,150 @@
+-- A loss or a repair carries histories on.
+use Rattle.std.proofs.Common.{◌≡◌, ℕ, Bool, true, false, List, [], ◌∷◌, ◌++◌, Option, None, Some, Result, Ok, Err, IfOk, OnErr, IsSome, cond, rules, refl, sym, ap, ◌∙◌, subst, inl, inr}
+use Rattle.std.specs.FinMap as finite
+use Rattle.std.specs.FinSet as set
+use Rattle.std.specs.BTreeMap.{is_at}
+use Rattle.std.specs.Cmp.{Equal-is}
+use Rattle.std.specs.Cmp.Lexicographic.{nat_list_cmp_total}
+use Rattle.std.specs.Map.{lookup, set_value}
+use Rattle.std.specs.Ordering.{eq_by_cmp}
+use Rattle.std.proofs.lemmas.Bool.{cases_Bool}
+use Rattle.std.proofs.lemmas.Cmp.{eq_by_cmp_equiv}
+use Rattle.sealed.specs.declared.value.Sealed.{Sealed}
+use Rattle.sealed.specs.Blob.{Lost}
+use Rattle.book.specs.declared.note.Note.{Note}
+use Rattle.book.specs.declared.note.Note.TheVariants as note
+use Rattle.book.specs.declared.note.Call.TheVariants.{Lose, Repair}
+use Rattle.book.specs.declared.answer.Answer.{Answer}
+use Rattle.book.specs.Lacking.{reply_for}
+use Rattle.book.specs.Losing.{IsWith, Loses, Mends, Catalogue, value_at, Replaces}
+use Rattle.book.specs.Names.{name_cmp}
+use Rattle.book.specs.Notes.{note_of}
+use Rattle.book.specs.State.{State, Blob}
+use Rattle.book.specs.Step.{Operation, lose, repair, IsReply, after, with_lost}
+use Rattle.book.specs.History.{Event, History, state_of, entry_of, call_of}
+use Rattle.book.specs.Contents.{Contents, sealed_at}
+use Rattle.book.specs.Tells.{Tells, Represents, Correspond, CarriesOn}
+use Rattle.book.specs.Views.{View, lose_reply, repair_reply}
+use Rattle.book.proofs.Answering.{replied}
+use Rattle.book.proofs.Carrying.{carried}
+use Rattle.book.proofs.Replies.{reply_is}
+use Rattle.book.proofs.Storing.{corresponds}
+
+-- a value that is written over itself leaves the catalogue as it is
+written_over : (b : Bool) (e : List ℕ × Sealed) (rest again : Catalogue) (s : Sealed) (later : Option Sealed) → cond b (Some e.1) later ≡ Some s → (later ≡ Some s → again ≡ rest) → cond b ((e.0, s) ∷ rest) (e ∷ again) ≡ e ∷ rest
+written_over true e rest again s later is same = let value : e.1 ≡ s = let some : Some e.1 ≡ Some s = is in cc in λ i. (e.0, sym value i) ∷ rest
+written_over false e rest again s later is same = ap (λ (es : Catalogue). e ∷ es) (same is)
+
+pub same_value : (test : List ℕ → Bool) (es : Catalogue) (s : Sealed) → lookup test es ≡ Some s → set_value test es s ≡ es
+same_value test [] s is = refl
+same_value test (e ∷ es) s is = written_over (test e.0) e es (set_value test es s) s (lookup test es) is (same_value test es s)
+
+pub is_some_at : (found : Option Sealed) (s : Sealed) → Some s ≡ found → IsSome found
+is_some_at found s e = search rules
+
+pub replaced_by : (reply : ℕ → Option View → Note) (Becomes : Sealed → Sealed → Type 0) (old new : Catalogue) (n : List ℕ) (m : Note) (s t : Sealed) → Some s ≡ value_at old n → m ≡ reply_for reply (Some s) → Becomes s t
+    → ((q : List ℕ) → value_at new q ≡ cond (is_at (name_cmp n) q) (Some t) (value_at old q)) → Replaces reply Becomes old new n m
+replaced_by reply Becomes old new n m s t here is becomes updates =
+    record {
+      note_is = is ∙ ap (reply_for reply) here;
+      absent = λ none. absurd (let no : Some s ≡ None = here ∙ none in cc);
+      present = λ other there. (t, (let same : Some s ≡ Some other = here ∙ there in let P : Sealed → Type 0 = λ v. Becomes v t in subst P (let value : s ≡ other = cc in value) becomes), updates);
+    }
+
+pub at_both : {A E : Type 0} (r : Result A E) (P Q R : A → Type 0) → ((a : A) → P a → Q a → R a) → IfOk r P → IfOk r Q → IfOk r R
+at_both (Ok a) P Q R h p q = h a p q
+at_both (Err e) P Q R h p q = tt
+
+pub at_err : {A E : Type 0} (r : Result A E) (P Q : Type 0) → (P → Q) → OnErr r P → OnErr r Q
+at_err (Ok a) P Q h p = tt
+at_err (Err e) P Q h p = h p
+
+-- ---- the value of a name is replaced by one with other lost fragments
+with_represents : (w : ℕ) (change : Lost → Lost) (s t : Sealed) (blob : Blob) → Represents w s blob → IsWith change s t → Represents w t (record blob { lost = change blob.lost })
+with_represents w change s t blob is new =
+    record { version = new.version ∙ is.version; width = new.width ∙ is.width; code = new.code ∙ is.code; stands = new.stands blob.bytes blob.lost is.stands }
+
+module _ (w : ℕ) (state : State) (n : List ℕ) (blob : Blob) (here : finite.get state.names n ≡ Some blob) where
+  -- the names of a later state are those of the state, but for n, which has a blob that the value represents
+  abbrev pub HasBlob : Sealed → State → Type 0
+  HasBlob t later = (new : Blob) × Represents w t new × ((q : List ℕ) → finite.get later.names q ≡ cond (is_at (name_cmp n) q) (Some new) (finite.get state.names q))
+
+  its_own : (q : List ℕ) (b : Bool) → is_at (name_cmp n) q ≡ b → finite.get state.names q ≡ cond b (Some blob) (finite.get state.names q)
+  its_own q true tied = finite.get_tied nat_list_cmp_total state.names n q ((Equal-is (name_cmp n q)).0 tied) ∙ here
+  its_own q false tied = refl
+
+  as_before : (s t : Sealed) → Represents w s blob → t ≡ s → HasBlob t state
+  as_before s t is same = let P : Sealed → Type 0 = λ v. Represents w v blob in (blob, subst P (sym same) is, λ q. its_own q (is_at (name_cmp n) q) refl)
+
+  with_others : (change : Lost → Lost) (s t : Sealed) → Represents w s blob → IsWith change s t → HasBlob t (with_lost state n (finite.get state.names n) change)
+  with_others change s t is new =
+      let later : Blob = record blob { lost = change blob.lost } in
+      (later, with_represents w change s t blob is new,
+      λ q. ap (λ found. finite.get (with_lost state n found change).names q) here
+      ∙ finite.get-insert nat_list_cmp_total state.names n later q
+      ∙ ap (λ b. cond b (Some later) (finite.get state.names q)) ((eq_by_cmp_equiv nat_list_cmp_total).symm q n))
+
+  after_loss : (j f : ℕ) (m : Note) (s t : Sealed) → Represents w s blob → Loses j f m s t → HasBlob t (after state (lose n j f) m)
+  after_loss j f (note.Lost v) s t is new = with_others (λ lost. set.insert lost (j, f)) s t is new
+  after_loss j f m s t is new = as_before s t is new
+
+  after_repair : (j f : ℕ) (m : Note) (s t : Sealed) → Represents w s blob → Mends j f m s t → HasBlob t (after state (repair n j f) m)
+  after_repair j f (note.Repaired v) s t is new = with_others (λ lost. set.remove lost (j, f)) s t is new
+  after_repair j f m s t is new = as_before s t is new
+
+-- ---- the catalogue afterwards
+-- an operation that leaves a state as it is where the name has no blob, and else gives the name one that the new value represents
+module _ (old new : Contents) (who : ℕ) (n : List ℕ) (o : Operation) (answer : Answer) (reply : ℕ → Option View → Note) (Becomes : Sealed → Sealed → Type 0)
+    (replaced : Replaces reply Becomes old.catalogue new.catalogue n (note_of answer))
+    (is_reply : (h : History) → Tells old h → IsReply old.width (state_of h) o (note_of answer))
+    (none_after : (s : State) → finite.get s.names n ≡ None → note_of answer ≡ note.NoName → after s o (note_of answer) ≡ s)
+    (some_after : (state : State) (blob : Blob) (here : finite.get state.names n ≡ Some blob) (s t : Sealed) → Represents old.width s blob → Becomes s t
+      → HasBlob old.width state n blob here t (after state o (note_of answer))) where
+  afterwards : (state : State) (found : Option Sealed) (had : Option Blob) → sealed_at old n ≡ found → finite.get state.names n ≡ had → Correspond old.width found had
+      → ((q : List ℕ) → Correspond old.width (sealed_at old q) (finite.get state.names q)) → (q : List ℕ) → Correspond old.width (sealed_at new q) (finite.get (after state o (note_of answer)).names q)
+  afterwards state None None is here both each q =
+      let m : note_of answer ≡ note.NoName = replaced.note_is ∙ ap (reply_for reply) is in
+      let K : Catalogue → State → Type 0 = λ c s. Correspond old.width (value_at c q) (finite.get s.names q) in
+      subst (λ c. K c (after state o (note_of answer))) (sym (replaced.absent is)) (subst (λ s. K old.catalogue s) (sym (none_after state here m)) (each q))
+  afterwards state (Some s) (Some blob) is here both each q =
+      let put = replaced.present s is in
+      let t = put.0 in
+      let later = some_after state blob here s t both put.1 in
+      let there : Bool = is_at (name_cmp n) q in
+      subst (λ x. Correspond old.width x (finite.get (after state o (note_of answer)).names q)) (sym (put.2 q))
+      (subst (Correspond old.width (cond there (Some t) (sealed_at old q))) (sym (later.2 q))
+      (corresponds old.width there t later.0 (sealed_at old q) (finite.get state.names q) later.1 (each q)))
+  afterwards state None (Some blob) is here both each q = absurd both
+  afterwards state (Some s) None is here both each q = absurd both
+
+  pub carries_replaced : new.width ≡ old.width → new.base ≡ old.base → new.entries ≡ old.entries ++ record { who = who; call = call_of o; note = note_of answer } ∷ [] → CarriesOn old new who o answer
+  carries_replaced same_width same_base entries h told =
+      carried old new h (record { who = who; operation = o; note = note_of answer }) told (is_reply h told) same_width same_base entries
+      (afterwards (state_of h) (sealed_at old n) (finite.get (state_of h).names n) refl refl (told.catalogue n) told.catalogue)
+
+-- ---- the two calls
+none_lost : (s : State) (n : List ℕ) (j f : ℕ) (m : Note) → m ≡ note.NoName → after s (lose n j f) m ≡ s
+none_lost s n j f m is = ap (after s (lose n j f)) is
+
+none_repaired : (s : State) (n : List ℕ) (j f : ℕ) (m : Note) → m ≡ note.NoName → after s (repair n j f) m ≡ s
+none_repaired s n j f m is = ap (after s (repair n j f)) is
+
+pub carries_lose : (old new : Contents) (who : ℕ) (n : List ℕ) (j f : ℕ) (answer : Answer)
+    → Replaces (λ w x. lose_reply w x j f) (Loses j f (note_of answer)) old.catalogue new.catalogue n (note_of answer)
+    → new.width ≡ old.width → new.base ≡ old.base → new.entries ≡ old.entries ++ record { who = who; call = Lose n j f; note = note_of answer } ∷ []
+    → CarriesOn old new who (lose n j f) answer
+carries_lose old new who n j f answer replaced =
+    carries_replaced old new who n (lose n j f) answer (λ w x. lose_reply w x j f) (Loses j f (note_of answer)) replaced
+    (λ h told. (reply_is old.width (state_of h) (lose n j f) (note_of answer)).1 (tt, replied old h n (λ w x. lose_reply w x j f) (note_of answer) (λ v. refl) told replaced.note_is))
+    (λ s here is. none_lost s n j f (note_of answer) is)
+    (λ state blob here s t is new. after_loss old.width state n blob here j f (note_of answer) s t is new)
+
+pub carries_repair : (old new : Contents) (who : ℕ) (n : List ℕ) (j f : ℕ) (answer : Answer)
+    → Replaces (λ w x. repair_reply w x j f) (Mends j f (note_of answer)) old.catalogue new.catalogue n (note_of answer)
+    → new.width ≡ old.width → new.base ≡ old.base → new.entries ≡ old.entries ++ record { who = who; call = Repair n j f; note = note_of answer } ∷ []
+    → CarriesOn old new who (repair n j f) answer
+carries_repair old new who n j f answer replaced =
+    carries_replaced old new who n (repair n j f) answer (λ w x. repair_reply w x j f) (Mends j f (note_of answer)) replaced
+    (λ h told. (reply_is old.width (state_of h) (repair n j f) (note_of answer)).1 (tt, replied old h n (λ w x. repair_reply w x j f) (note_of answer) (λ v. refl) told replaced.note_is))
+    (λ s here is. none_repaired s n j f (note_of answer) is)
+    (λ state blob here s t is new. after_repair old.width state n blob here j f (note_of answer) s t is new)

@@ -1,0 +1,158 @@
+-- One fragment taken out of a sealed value, or put back.
+use Rattle.std.proofs.Common.{◌≡◌, ◌≢◌, ℕ, ◌+◌, ◌*◌, ◌/◌, ◌%◌, ◌<◌, ◌≤◌, Bool, true, false, ◌&&◌, ◌==◌, List, Option, None, Some, Bor, is_none, cond, length, Result, Ok, Err, IfOk, refl, sym, ap, ◌∙◌, subst, inl, inr, arith}
+use Rattle.std.specs.Prelude.{nat_lt, slice_range, ◌↔◌}
+use Rattle.std.specs.Option.{option_map}
+use Rattle.std.specs.FinSet as set
+use Rattle.std.proofs.lemmas.List.FromFn.{length-map-range_with_len}
+use Rattle.std.proofs.lemmas.Bool.{cases_Bool, false≢true}
+use Rattle.std.proofs.lemmas.Nat.{div-mul-add, mod-mul-add}
+use Rattle.std.proofs.lemmas.Grind.{common_steps}
+use Rattle.lrc_code.specs.declared.Code.{Code}
+use Rattle.lrc_code.specs.Code.{fragment_count, Open}
+use Rattle.lrc_code.specs.Column.{column}
+use Rattle.lrc_code.specs.declared.left.Rebuild.{Rebuild}
+use Rattle.lrc_code.specs.declared.left.Rebuild.TheVariants.{Open as OpenFound}
+use Rattle.lrc_code.specs.Stripe.{slot, is_absent, Rebuilds}
+use Rattle.lrc_code.proofs.Recoverable.{exact}
+use Rattle.lrc_code.proofs.Stripes.{open_same}
+use Rattle.sealed.specs.declared.value.Sealed.{Sealed}
+use Rattle.sealed.specs.Layout.{stripe_count}
+use Rattle.sealed.specs.Stripes.{fragment_at}
+use Rattle.sealed.specs.Blob.{Lost, fragment, data_at}
+use Rattle.sealed.specs.Sealed.{StandsFor, absent_in}
+use Rattle.sealed.specs.Change.{IsChanged}
+use Rattle.sealed.proofs.Changing.{without_stands, with_stands}
+use Rattle.lent.proofs.Building.{AreLeft, built}
+use Rattle.book.specs.Lacking.{count_below, lacks, lacked_count}
+use Rattle.book.specs.Losing.{IsFragmentOf, IsWith}
+use Rattle.book.specs.Views.{open_test}
+use Rattle.book.proofs.Keeping.{few_fragments, is_lt, both}
+use Rattle.book.proofs.Lacking.{count_bound, count_more}
+
+-- ---- what the changed value lacks
+module _ (s t : Sealed) (j f : ℕ) (x : Option (List ℕ)) (changed : IsChanged s j f x t) (below : j < stripe_count s.code s.width s.len) (inside : f < fragment_count s.code) where
+  as_many : length t.stripes ≡ length s.stripes
+  as_many = t.shaped.count ∙ (λ i. stripe_count (changed.code i) (changed.width i) (changed.len i)) ∙ sym s.shaped.count
+
+  there : j < length s.stripes
+  there = let c = s.shaped.count in omega arith
+
+  absent_after : (i g : ℕ) (b : Bool) → ((i == j) && (g == f)) ≡ b → absent_in t i g ≡ cond b (is_none x) (absent_in s i g)
+  absent_after i g true e = ap is_none (changed.fragments i g ∙ ap (λ b. cond b x (fragment_at s.stripes i g)) e)
+  absent_after i g false e = ap is_none (changed.fragments i g ∙ ap (λ b. cond b x (fragment_at s.stripes i g)) e)
+
+  here_is : (a b : ℕ) → ((a == a) && (b == b)) ≡ true
+  here_is a b = grind (arith, common_steps)
+
+  elsewhere : (k : ℕ) → k ≢ 16 * j + f → ((k / 16 == j) && (k % 16 == f)) ≡ false
+  elsewhere k other =
+      elim (cases_Bool ((k / 16 == j) && (k % 16 == f))) [
+        | inl same ↦ absurd (other (number k j f same))
+        | inr apart ↦ apart
+      ]
+    where
+    number : (k j f : ℕ) → ((k / 16 == j) && (k % 16 == f)) ≡ true → k ≡ 16 * j + f
+    number k j f e = grind (arith, common_steps)
+
+  same_elsewhere : (k : ℕ) → k ≢ 16 * j + f → lacks t (k / 16) (k % 16) ≡ lacks s (k / 16) (k % 16)
+  same_elsewhere k other =
+      λ i. nat_lt (k / 16) (as_many i) && (nat_lt (k % 16) (fragment_count (changed.code i)) && absent_after (k / 16) (k % 16) false (elsewhere k other) i)
+
+  at_itself : (v : Sealed) → length v.stripes ≡ length s.stripes → v.code ≡ s.code → lacks v ((16 * j + f) / 16) ((16 * j + f) % 16) ≡ absent_in v j f
+  at_itself v many code =
+      let few = few_fragments s.code in
+      let quotient : (16 * j + f) / 16 ≡ j = omega arith in
+      let rest : (16 * j + f) % 16 ≡ f = omega arith in
+      (λ i. lacks v (quotient i) (rest i))
+      ∙ (λ i. nat_lt j (many i) && (nat_lt f (fragment_count (code i)) && absent_in v j f))
+      ∙ (λ i. is_lt j (length s.stripes) there i && (is_lt f (fragment_count s.code) inside i && absent_in v j f))
+
+  counted_here : 16 * j + f < 16 * length s.stripes
+  counted_here = let few = few_fragments s.code in omega (arith, there, inside, few)
+
+  pub one_more : absent_in s j f ≡ false → x ≡ None → lacked_count t ≡ lacked_count s + 1
+  one_more present none =
+      ap (λ n. count_below (λ i. lacks t (i / 16) (i % 16)) (16 * n)) as_many
+      ∙ count_more (λ i. lacks s (i / 16) (i % 16)) (λ i. lacks t (i / 16) (i % 16)) (16 * j + f) (16 * length s.stripes) counted_here
+      (at_itself s refl refl ∙ present)
+      (at_itself t as_many changed.code ∙ absent_after j f true (here_is j f) ∙ ap is_none none)
+      (λ k l other. sym (same_elsewhere k other))
+
+  pub one_less : absent_in s j f ≡ true → is_none x ≡ false → lacked_count s ≡ lacked_count t + 1
+  one_less gone some =
+      count_more (λ i. lacks t (i / 16) (i % 16)) (λ i. lacks s (i / 16) (i % 16)) (16 * j + f) (16 * length s.stripes) counted_here
+      (at_itself t as_many changed.code ∙ absent_after j f true (here_is j f) ∙ some)
+      (at_itself s refl refl ∙ gone)
+      (λ k l other. same_elsewhere k other)
+      ∙ ap (λ n. count_below (λ i. lacks t (i / 16) (i % 16)) (16 * n) + 1) (sym as_many)
+
+pub few_lacked : (s : Sealed) → lacked_count s ≤ 65536
+few_lacked s =
+    let few : length s.stripes ≤ 4096 = s.shaped.few in
+    let bound = count_bound (λ i. lacks s (i / 16) (i % 16)) (16 * length s.stripes) in
+    omega arith
+
+-- ---- the value with its number
+pub moved : (s v u t : Sealed) (j f : ℕ) (x : Option (List ℕ)) → v ≡ s → t ≡ u → IsChanged v j f x u → IsChanged s j f x t
+moved s v u t j f x e d changed = let P : Sealed → Type 0 = λ r. IsChanged r j f x u in subst (IsChanged s j f x) (sym d) (subst P e changed)
+
+pub with_one_more : (s t : Sealed) (j f n : ℕ) → n ≡ lacked_count s → IsChanged s j f None t → j < stripe_count s.code s.width s.len → f < fragment_count s.code → absent_in s j f ≡ false
+    → n + 1 ≡ lacked_count t
+with_one_more s t j f n count changed below inside present = omega (arith, count, one_more s t j f None changed below inside present refl)
+
+pub with_one_less : (s t : Sealed) (j f n : ℕ) (x : List ℕ) → n ≡ lacked_count s → IsChanged s j f (Some x) t → j < stripe_count s.code s.width s.len → f < fragment_count s.code → absent_in s j f ≡ true
+    → n ≡ lacked_count t + 1
+with_one_less s t j f n x count changed below inside gone = count ∙ one_less s t j f (Some x) changed below inside gone refl
+
+pub is_without : (s t : Sealed) (j f : ℕ) → IsChanged s j f None t → IsWith (λ lost. set.insert lost (j, f)) s t
+is_without s t j f changed =
+    record { version = changed.version; width = changed.width; code = changed.code; stands = λ b lost stands. without_stands s t b lost j f changed stands }
+
+pub is_with : (s t : Sealed) (j f : ℕ) (x : List ℕ) → IsChanged s j f (Some x) t → IsFragmentOf s j f x → IsWith (λ lost. set.remove lost (j, f)) s t
+is_with s t j f x changed own =
+    record { version = changed.version; width = changed.width; code = changed.code; stands = λ b lost stands. with_stands s t b lost j f x changed stands (own b lost stands) }
+
+-- ---- what is rebuilt
+whole_range : (xs : List ℕ) (n : ℕ) → length xs ≡ n → slice_range xs 0 n ≡ xs
+whole_range xs n e = grind (arith, common_steps, e)
+
+lacks_here : (s : Sealed) (j f : ℕ) → j < stripe_count s.code s.width s.len → f < fragment_count s.code → lacks s j f ≡ absent_in s j f
+lacks_here s j f below inside =
+    let c : length s.stripes ≡ stripe_count s.code s.width s.len = s.shaped.count in
+    λ i. is_lt j (length s.stripes) (omega arith) i && (is_lt f (fragment_count s.code) inside i && absent_in s j f)
+
+none_kept : (found : Option (Bor (List ℕ))) → is_none found ≡ is_none (option_map (λ x. x.now) found)
+none_kept None = refl
+none_kept (Some x) = refl
+
+module _ (s : Sealed) (j f : ℕ) (code : Code) (fragments : List (Option (Bor (List ℕ)))) (g : ℕ) (same_code : code ≡ s.code) (same_f : g ≡ f) (left : AreLeft s j fragments)
+    (below : j < stripe_count s.code s.width s.len) (inside : f < fragment_count s.code) where
+  alike : (i : ℕ) → i < fragment_count s.code → is_absent fragments i ≡ lacks s j i
+  alike i l = none_kept (slot fragments i) ∙ ap is_none (left i (let few = few_fragments s.code in omega arith)) ∙ sym (lacks_here s j i below l)
+
+  own_code : Open code (is_absent fragments) g ≡ Open s.code (is_absent fragments) f
+  own_code = λ i. Open (same_code i) (is_absent fragments) (same_f i)
+
+  pub opened : Open code (is_absent fragments) g → open_test s.code (lacks s j) f ≡ true
+  opened o = (exact s.code (lacks s j) f inside).1 (open_same s.code (is_absent fragments) (lacks s j) f alike (subst (λ X. X) own_code o))
+
+  pub not_opened : (Open code (is_absent fragments) g → ⊥) → open_test s.code (lacks s j) f ≡ false
+  not_opened closed =
+      elim (cases_Bool (open_test s.code (lacks s j) f)) [
+        | inl is_open ↦ absurd (closed (subst (λ X. X) (sym own_code) (open_same s.code (lacks s j) (is_absent fragments) f (λ i l. sym (alike i l)) ((exact s.code (lacks s j) f inside).0 is_open))))
+        | inr not_open ↦ not_open
+      ]
+
+  pub whole : (to : ℕ) (bytes : List ℕ) → to ≡ s.width → Rebuilds code fragments g 0 to bytes → IsFragmentOf s j f bytes
+  whole to bytes wide rebuilt b lost stands =
+      built s (record { stripe = j; fragment = f; from = 0; to = to }) code fragments g bytes same_code same_f left below (omega (arith, wide)) rebuilt b lost stands
+      ∙ whole_range (fragment s.code s.width b j f) to (length-map-range_with_len (λ p. column s.code (data_at s.code s.width b j p) f) 0 s.width ∙ sym wide)
+
+-- ---- by the result
+pub unless_open : {A : Type 0} (r : Result A Rebuild) (P : Type 0) → ((r ≡ Err OpenFound → ⊥) → P) → IfOk r (λ a. P)
+unless_open {A} (Ok a) P h = h (λ e. let no : ◌≡◌ {A = Result A Rebuild} (Ok a) (Err OpenFound) = e in cc)
+unless_open (Err e) P h = tt
+
+pub at_ok : {A : Type 0} (r : Result A Rebuild) (P Q : A → Type 0) → ((a : A) → P a → Q a) → IfOk r P → IfOk r Q
+at_ok (Ok a) P Q h p = h a p
+at_ok (Err e) P Q h p = tt

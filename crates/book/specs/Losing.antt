@@ -1,0 +1,47 @@
+-- What a loss or a repair makes of a catalogue.
+use Rattle.std.specs.Prelude.{◌≡◌, ℕ, List, Option, None, Some, cond}
+use Rattle.std.specs.FinSet as set
+use Rattle.std.specs.Map.{lookup}
+use Rattle.std.specs.BTreeMap.{is_at}
+use Rattle.sealed.specs.declared.value.Sealed.{Sealed}
+use Rattle.sealed.specs.Blob.{Lost, fragment}
+use Rattle.sealed.specs.Sealed.{StandsFor}
+use Rattle.book.specs.declared.note.Note.{Note}
+use Rattle.book.specs.declared.note.Note.TheVariants as note
+use Rattle.book.specs.Lacking.{reply_for}
+use Rattle.book.specs.Names.{name_cmp}
+use Rattle.book.specs.Views.{View}
+
+-- the new value stands for the bytes of the old one, with its lost fragments changed
+pub record IsWith (change : Lost → Lost) (old new : Sealed) : Type 0 where
+  pub version : new.version ≡ old.version
+  pub width : new.width ≡ old.width
+  pub code : new.code ≡ old.code
+  pub stands : (b : List ℕ) (lost : Lost) → StandsFor old b lost → StandsFor new b (change lost)
+
+-- the bytes are the fragment f of stripe j, in each blob that the value stands for
+abbrev pub IsFragmentOf : Sealed → ℕ → ℕ → List ℕ → Type 0
+IsFragmentOf s j f bytes = (b : List ℕ) (lost : Lost) → StandsFor s b lost → bytes ≡ fragment s.code s.width b j f
+
+-- the value after a loss with this note
+abbrev pub Loses : ℕ → ℕ → Note → Sealed → Sealed → Type 0
+Loses j f (note.Lost v) old new = IsWith (λ lost. set.insert lost (j, f)) old new
+Loses j f m old new = new ≡ old
+
+-- and after a repair
+abbrev pub Mends : ℕ → ℕ → Note → Sealed → Sealed → Type 0
+Mends j f (note.Repaired v) old new = IsWith (λ lost. set.remove lost (j, f)) old new
+Mends j f m old new = new ≡ old
+
+abbrev pub Catalogue : Type 0
+Catalogue = List (List ℕ × Sealed)
+
+abbrev pub value_at : Catalogue → List ℕ → Option Sealed
+value_at catalogue n = lookup (is_at (name_cmp n)) catalogue
+
+-- the note is the reply by the value of the name, which alone is replaced
+pub record Replaces (reply : ℕ → Option View → Note) (Becomes : Sealed → Sealed → Type 0) (old new : Catalogue) (n : List ℕ) (m : Note) : Type 0 where
+  pub note_is : m ≡ reply_for reply (value_at old n)
+  pub absent : value_at old n ≡ None → new ≡ old
+  pub present : (s : Sealed) → value_at old n ≡ Some s
+      → (t : Sealed) × Becomes s t × ((q : List ℕ) → value_at new q ≡ cond (is_at (name_cmp n) q) (Some t) (value_at old q))

@@ -1,0 +1,71 @@
+//! Losing a fragment.
+ghost use Rattle.std.specs.Prelude.{◌≡◌, ◌⊎◌, ◌↔◌, length, IfOk, IfErr, OnErr};
+ghost use Rattle.book.specs.Losing.{Loses, Replaces};
+ghost use Rattle.book.specs.Notes.{note_of};
+ghost use Rattle.book.specs.Step.{lose as lose_of};
+ghost use Rattle.book.specs.Tells.{CarriesOn};
+ghost use Rattle.book.specs.Views.{lose_reply};
+
+use crate::book::Book;
+use crate::shelved::Shelved;
+use crate::{Answer, Call, Entry, Fault, Name};
+use std::alloc::Global;
+use std::collections::BTreeMap;
+
+impl Book {
+    /// Loses a fragment of a name's blob: its bytes are given up, unless a grant still holds them.
+    ///
+    /// The answer is `NoName` where the name has no blob; else `NoFragment` where the blob has no such stripe, or its code no such fragment; else
+    /// `AlreadyLost` where it was lost before; else `Lost`, with the version.
+    ///
+    /// `JournalFull` where the journal holds as many entries as its limit, and then nothing was asked of memory; else `NoMemory` where memory is
+    /// refused. After either the book is as it was.
+    pub fn lose(
+        &mut self,
+        alloc: Global,
+        who: u32,
+        name: Name,
+        stripe: u64,
+        fragment: u64,
+    ) -> Result<Answer, Fault>
+        ensures ok { IfOk result (CarriesOn self.old self.new who (lose_of name stripe fragment)) }
+        ensures full { (result ≡ Err Fault.JournalFull) ↔ (length self.old.entries ≡ self.old.limit) }
+        ensures kept { (self.new.width ≡ self.old.width) × (self.new.limit ≡ self.old.limit) × (self.new.base ≡ self.old.base) }
+        ensures faults { IfErr result (λ e. (e ≡ Fault.NoMemory) ⊎ (e ≡ Fault.JournalFull)) }
+        ensures err { OnErr result (self.new ≡ self.old) }
+    {
+        if self.is_full() {
+            return Err(Fault::JournalFull);
+        }
+        let answer = match lose_in(&mut self.catalogue, alloc, &name, stripe, fragment) {
+            Ok(answer) => answer,
+            Err(error) => return Err(error),
+        };
+        let note = answer.note();
+        let call = Call::Lose {
+            name,
+            stripe,
+            fragment,
+        };
+        self.journal.push(Entry { who, call, note });
+        Ok(answer)
+    }
+}
+
+/// Loses a fragment of a name's blob in the catalogue. The only fault is `NoMemory`.
+fn lose_in(
+    catalogue: &mut BTreeMap<Name, Shelved>,
+    alloc: Global,
+    name: &Name,
+    stripe: u64,
+    fragment: u64,
+) -> Result<Answer, Fault>
+    ensures ok { IfOk result (λ a. Replaces (λ w x. lose_reply w x stripe fragment) (Loses stripe fragment (note_of a)) catalogue.old.entries catalogue.new.entries name.now (note_of a)) }
+    ensures faults { IfErr result (λ e. e ≡ Fault.NoMemory) }
+    ensures err { OnErr result (catalogue.new.entries ≡ catalogue.old.entries) }
+{
+    match catalogue.get_mut(name) {
+        Some(shelved) => shelved.lose(alloc, stripe, fragment),
+        None => Ok(Answer::NoName),
+    }
+}
