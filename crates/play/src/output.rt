@@ -8,8 +8,13 @@ use crate::rows::Outcome;
 use book::{Book, Entry, is_lawful};
 use std::alloc::{AllocError, Global};
 
-/// A line for each row: its number, from 1, and its reply. Grants are walked here.
-fn reply_lines(alloc: Global, outcomes: Vec<Outcome>) -> Result<String, AllocError> {
+/// A line for each row: its number, from 1, and its reply. Grants are walked here. Then a line for each entry: its number, from 1, its caller's label,
+/// its call and its note.
+fn lines_of(
+    alloc: Global,
+    outcomes: Vec<Outcome>,
+    entries: &[Entry],
+) -> Result<String, AllocError> {
     let mut text = String::new(alloc);
     let mut number: u64 = 0;
     for outcome in outcomes {
@@ -17,17 +22,12 @@ fn reply_lines(alloc: Global, outcomes: Vec<Outcome>) -> Result<String, AllocErr
         let reply = reply_to(alloc, outcome)?;
         writeln!(text, "{number} {reply}")?;
     }
-    Ok(text)
-}
-
-/// A line for each entry of the journal: its number, from 1, its caller's label, its call and its note.
-fn history_lines(text: &mut String, entries: &[Entry]) -> Result<(), AllocError> {
     let mut number: u64 = 0;
     for entry in entries {
         number = number.saturating_add(1);
         writeln!(text, "h {number} {entry}")?;
     }
-    Ok(())
+    Ok(text)
 }
 
 /// Whether the journal's entries are lawful, as it is printed: they are.
@@ -52,11 +52,10 @@ pub(crate) fn print(
     requires { IsLawful book.now.width book.now.entries }
     ensures { IfOk result (λ text. IsOutput (string_bytes text)) }
 {
-    let mut lines = reply_lines(alloc, outcomes)?;
-    if history {
-        history_lines(&mut lines, book.entries())?;
-    }
-    let calls = book.entries().len();
+    let entries = book.entries();
+    let shown = if history { entries } else { &[] };
+    let lines = lines_of(alloc, outcomes, shown)?;
+    let calls = entries.len();
     let lawful = lawful_text(alloc, book)?;
     match format!(in alloc; "{lines}calls {calls}\nlawful {lawful}\n") {
         Ok(text) => Ok(text),
