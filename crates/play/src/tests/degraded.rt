@@ -4,6 +4,7 @@ use super::options;
 use crate::play;
 use std::test::Fail;
 
+#[derive(Drop)]
 struct Case {
     name: &'static str,
     width: u32,
