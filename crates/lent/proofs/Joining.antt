@@ -1,5 +1,5 @@
 -- The bytes of the parts of a range, joined.
-use Rattle.std.proofs.Common.{◌≡◌, ℕ, ◌+◌, ◌-◌, ◌<◌, ◌≤◌, Bool, true, false, List, ◌∷◌, ◌++◌, map, length, get_or, None, Some, cond, refl, sym, ap, ap₂, ◌∙◌, subst, arith, suc}
+use Rattle.std.proofs.Common.{◌≡◌, ℕ, ◌+◌, ◌-◌, ◌<◌, ◌≤◌, Bool, true, false, List, ◌∷◌, ◌++◌, Option, map, length, get_or, None, Some, cond, refl, sym, ap, ap₂, ◌∙◌, subst, arith, suc}
 use Rattle.std.specs.Prelude.{slice_index_or, slice_range}
 use Rattle.std.specs.List.{range_with_len}
 use Rattle.std.proofs.lemmas.List.{map-append, ext_get_or}
@@ -22,6 +22,7 @@ use Rattle.lent.specs.Ahead.{Ahead}
 use Rattle.lent.specs.Cut.{IsCut, part_of, numbers_of, all_numbers}
 use Rattle.lent.specs.Pieces.{IsPieceBy, IsPieceOf, bytes_of}
 use Rattle.lent.specs.Walk.{Gives, Joins}
+use Rattle.lent.specs.Spans.{span_of, spans_of}
 
 data_is_counted : (code : Code) → data_count code ≤ fragment_count code
 data_is_counted Wide = omega arith
@@ -89,13 +90,25 @@ cut_bytes code w start len parts b is inside =
 abbrev pub ahead_at : Sealed → ℕ → ℕ → ℕ → ℕ → Ahead
 ahead_at s start end n k = record { sealed = s; parts = map (part_of s.code s.width start end) (range_with_len k (n - k)) }
 
+-- of the parts from the k-th data fragment on, the first is the k-th one's
+next_parts : (s : Sealed) (start end n k : ℕ) → k < n → (part : Part) → part ≡ part_of s.code s.width start end k → (ahead_at s start end n k).parts ≡ part ∷ (ahead_at s start end n (k + 1)).parts
+next_parts s start end n k l part at =
+    let parts_at : ℕ → List Part = λ m. map (part_of s.code s.width start end) (range_with_len m (n - m)) in
+    ap (λ m. map (part_of s.code s.width start end) (range_with_len k m)) (let e : n - k ≡ suc (n - (k + 1)) = omega arith in e) ∙ ap (λ p. p ∷ parts_at (k + 1)) (sym at)
+
+-- the same of the spans, for a walk that is seen as the value `old`
+pub step_spans : (s : Sealed) (start end n k : ℕ) → k < n → (part : Part) → part ≡ part_of s.code s.width start end k → (old : Ahead) → ahead_at s start end n k ≡ old
+    → (span : Part × Option (List ℕ)) → span ≡ span_of s part → spans_of old.sealed old.parts ≡ span ∷ spans_of s (ahead_at s start end n (k + 1)).parts
+step_spans s start end n k l part at old seen span is =
+    subst (λ (o : Ahead). spans_of o.sealed o.parts ≡ span ∷ spans_of s (ahead_at s start end n (k + 1)).parts) seen
+    (ap (spans_of s) (next_parts s start end n k l part at) ∙ ap (λ x. x ∷ spans_of s (ahead_at s start end n (k + 1)).parts) (sym is))
+
 module _ (s : Sealed) (start end n k : ℕ) (l : k < n) (part : Part) (at : part ≡ part_of s.code s.width start end k) (piece : Piece) (is : IsPieceOf s part piece) where
   gives : Gives (ahead_at s start end n k) (ahead_at s start end n (k + 1)) piece
   gives =
-      let parts_at : ℕ → List Part = λ m. map (part_of s.code s.width start end) (range_with_len m (n - m)) in
       record {
         part = part;
-        next = ap (λ m. map (part_of s.code s.width start end) (range_with_len k m)) (let e : n - k ≡ suc (n - (k + 1)) = omega arith in e) ∙ ap (λ p. p ∷ parts_at (k + 1)) (sym at);
+        next = next_parts s start end n k l part at;
         is = is;
         same = refl;
       }

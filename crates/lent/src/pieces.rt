@@ -1,5 +1,5 @@
 //! How pieces are made.
-ghost use Rattle.std.specs.Prelude.{◌≡◌, ◌<◌, ◌≤◌, [], None, IfOk, OnErr};
+ghost use Rattle.std.specs.Prelude.{◌≡◌, ◌≢◌, ◌<◌, ◌≤◌, [], None, IfOk, OnErr};
 ghost use Rattle.lrc_code.specs.Code.{fragment_count, Open};
 ghost use Rattle.sealed.specs.Layout.{stripe_count};
 ghost use Rattle.sealed.specs.Stripes.{fragment_at};
@@ -7,7 +7,7 @@ ghost use Rattle.sealed.specs.Sealed.{absent_in};
 ghost use Rattle.lent.specs.Pieces.{AreBytesOf, IsPieceOf, bytes_of};
 
 use crate::{Part, Piece};
-use lrc_code::{NoMemory, Rebuild, rebuild};
+use lrc_code::{NoMemory, Plans, Rebuild, rebuild};
 use sealed::Sealed;
 use std::alloc::{AllocError, Global};
 
@@ -32,8 +32,14 @@ impl Default for Piece<'_> {
     }
 }
 
-/// The piece of a part of a fragment that is not open. Only that of an absent fragment asks for memory.
-pub(crate) fn piece_of(alloc: Global, sealed: &Sealed, part: Part) -> Result<Piece<'_>, NoMemory>
+/// The piece of a part of a fragment that is not open. Only that of an absent fragment asks for memory. It is built by the recipes that `plans` keeps,
+/// where there are plans.
+pub(crate) fn piece_of<'a>(
+    alloc: Global,
+    sealed: &'a Sealed,
+    part: Part,
+    plans: Option<&mut Plans>,
+) -> Result<Piece<'a>, NoMemory>
     requires stripe { part.stripe < stripe_count sealed.now.code sealed.now.width sealed.now.len }
     requires fragment { part.fragment < fragment_count sealed.now.code }
     requires closed { Open sealed.now.code (absent_in sealed.now part.stripe) part.fragment → ⊥ }
@@ -43,7 +49,7 @@ pub(crate) fn piece_of(alloc: Global, sealed: &Sealed, part: Part) -> Result<Pie
 {
     match sealed.fragment(part.stripe, part.fragment) {
         Some(bytes) => Ok(Piece::Lent(&bytes[part.from..part.to])),
-        None => match build(alloc, sealed, part) {
+        None => match build(alloc, sealed, part, plans) {
             Ok(bytes) => Ok(Piece::Built(bytes)),
             Err(error) => Err(error),
         },
@@ -51,7 +57,12 @@ pub(crate) fn piece_of(alloc: Global, sealed: &Sealed, part: Part) -> Result<Pie
 }
 
 /// The bytes of a part of an absent fragment that is not open.
-fn build(alloc: Global, sealed: &Sealed, part: Part) -> Result<Vec<u8>, NoMemory>
+fn build(
+    alloc: Global,
+    sealed: &Sealed,
+    part: Part,
+    plans: Option<&mut Plans>,
+) -> Result<Vec<u8>, NoMemory>
     requires stripe { part.stripe < stripe_count sealed.now.code sealed.now.width sealed.now.len }
     requires fragment { part.fragment < fragment_count sealed.now.code }
     requires absent { fragment_at sealed.now.stripes part.stripe part.fragment ≡ None }
@@ -60,7 +71,19 @@ fn build(alloc: Global, sealed: &Sealed, part: Part) -> Result<Vec<u8>, NoMemory
     ensures { IfOk result (λ bytes. AreBytesOf sealed.now part bytes.items) }
 {
     let left = sealed.left(part.stripe);
-    match rebuild(alloc, &left, usize::from(part.fragment), part.from, part.to) {
+    let f = usize::from(part.fragment);
+    match plans {
+        Some(plans) => closed(plans.rebuild(alloc, &left, f, part.from, part.to)),
+        None => closed(rebuild(alloc, &left, f, part.from, part.to)),
+    }
+}
+
+/// What was rebuilt of a fragment that is not open.
+fn closed(rebuilt: Result<Vec<u8>, Rebuild>) -> Result<Vec<u8>, NoMemory>
+    requires { rebuilt ≢ Err Rebuild.Open }
+    ensures { IfOk result (λ bytes. rebuilt ≡ Ok bytes) }
+{
+    match rebuilt {
         Ok(bytes) => Ok(bytes),
         Err(Rebuild::NoMemory) => Err(AllocError),
         Err(Rebuild::Open) => unreachable!(),

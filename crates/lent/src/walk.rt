@@ -1,12 +1,15 @@
 //! A walk over a range, piece by piece.
 ghost use Rattle.std.specs.Prelude.{◌≡◌, ◌+◌, ℕ, List, [], IfOk, IfSome, IfNone, OnErr, length, slice_range};
+ghost use Rattle.std.specs.Iterator.{YieldsFirstBy};
 ghost use Rattle.lent.specs.Cut.{IsCut};
+ghost use Rattle.lent.specs.Spans.{seen, spans_of};
 ghost use Rattle.lent.specs.Walk.{IsStep, IsAbsent, Joins, bytes_ahead};
 
 use crate::cut::{met_by, part_at};
 use crate::pieces::piece_of;
-use crate::{Grant, Piece};
-use lrc_code::NoMemory;
+use crate::spans::span_at;
+use crate::{Grant, Piece, Span};
+use lrc_code::{NoMemory, Plans};
 use std::alloc::Global;
 use std::marker::Model;
 
@@ -60,16 +63,44 @@ impl<'a> Walk<'a> {
         ensures err { OnErr result (self.new ≡ self.old) }
         ensures refused { OnErr result (IsAbsent self.old.sealed self.old.parts) }
     {
+        self.step(alloc, None)
+    }
+
+    /// The same, where an absent fragment is built by the recipes that `plans` keeps, if there are plans.
+    pub(crate) fn step(
+        &mut self,
+        alloc: Global,
+        plans: Option<&mut Plans>,
+    ) -> Result<Option<Piece<'a>>, NoMemory>
+        ensures ok { IfOk result (IsStep self.old self.new) }
+        ensures joins { IfOk result (λ r. IfSome r (Joins self.old self.new)) }
+        ensures end { IfOk result (λ r. IfNone r ((b : List ℕ) → bytes_ahead self.old b ≡ [])) }
+        ensures err { OnErr result (self.new ≡ self.old) }
+        ensures refused { OnErr result (IsAbsent self.old.sealed self.old.parts) }
+    {
         if self.at == self.end {
             return Ok(None);
         }
         let grant: &'a Grant = self.grant;
         let part = part_at(grant, self.at);
-        let piece = match piece_of(alloc, &grant.sealed, part) {
+        let piece = match piece_of(alloc, &grant.sealed, part, plans) {
             Ok(piece) => piece,
             Err(error) => return Err(error),
         };
         self.at += 1;
         Ok(Some(piece))
+    }
+
+    /// The span of the next part, or `None` behind the last.
+    pub(crate) fn next_span(&mut self) -> Option<Span<'a>>
+        ensures { YieldsFirstBy seen (λ ahead. spans_of ahead.sealed ahead.parts) self.old result self.new }
+    {
+        if self.at == self.end {
+            return None;
+        }
+        let grant: &'a Grant = self.grant;
+        let part = part_at(grant, self.at);
+        self.at += 1;
+        Some(span_at(&grant.sealed, part))
     }
 }
