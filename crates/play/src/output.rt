@@ -6,9 +6,11 @@ ghost use Rattle.play.specs.Output.{IsOutput};
 use crate::reply::reply_to;
 use crate::rows::Outcome;
 use book::{Book, Entry, is_lawful};
+use lrc_code::Plans;
 use std::alloc::{AllocError, Global};
 
-/// A line for each row: its number, from 1, and its reply. Grants are walked here. Then a line for each entry: its number, from 1, its caller's label,
+/// A line for each row: its number, from 1, and its reply. Grants are walked here, with one
+/// table of recipes. Then a line for each entry: its number, from 1, its caller's label,
 /// its call and its note.
 fn lines_of(
     alloc: Global,
@@ -16,10 +18,11 @@ fn lines_of(
     entries: &[Entry],
 ) -> Result<String, AllocError> {
     let mut text = String::new(alloc);
+    let mut plans = Plans::new(alloc);
     let mut number: u64 = 0;
     for outcome in outcomes {
         number = number.saturating_add(1);
-        let reply = reply_to(alloc, outcome)?;
+        let reply = reply_to(alloc, outcome, &mut plans)?;
         writeln!(text, "{number} {reply}")?;
     }
     let mut number: u64 = 0;

@@ -6,6 +6,7 @@ ghost use Rattle.sealed.specs.Sealed.{StandsFor};
 use crate::rows::Outcome;
 use book::{Answer, Note};
 use lent::{Grant, Piece};
+use lrc_code::Plans;
 use std::alloc::{AllocError, Global};
 use std::fmt;
 
@@ -62,8 +63,8 @@ impl fmt::Display for Reply {
     }
 }
 
-/// Walks a grant to its end.
-fn walked(alloc: Global, grant: &Grant) -> Result<Reading, AllocError>
+/// Walks a grant to its end, by the recipes that are kept in `plans`.
+fn walked(alloc: Global, grant: &Grant, plans: &mut Plans) -> Result<Reading, AllocError>
     ensures version { IfOk result (λ reading. reading.version ≡ grant.now.sealed.value.version) }
     ensures bytes { IfOk result (λ reading. (b : List ℕ) (lost : Lost) → StandsFor grant.now.sealed.value b lost
         → reading.bytes.items ≡ slice_range b grant.now.start (grant.now.start + grant.now.len)) }
@@ -71,7 +72,7 @@ fn walked(alloc: Global, grant: &Grant) -> Result<Reading, AllocError>
     let mut bytes = Vec::new(alloc);
     let mut lent: u64 = 0;
     let mut built: u64 = 0;
-    let mut walk = grant.walk();
+    let mut walk = grant.walk_with(plans);
     while let Some(piece) = walk.next_piece(alloc)? {
         match &piece {
             Piece::Lent(_) => lent = lent.saturating_add(1),
@@ -87,10 +88,16 @@ fn walked(alloc: Global, grant: &Grant) -> Result<Reading, AllocError>
     })
 }
 
-/// The reply to a row. A grant is walked here.
-pub(crate) fn reply_to(alloc: Global, outcome: Outcome) -> Result<Reply, AllocError> {
+/// The reply to a row. A grant is walked here, by the recipes that are kept in `plans`.
+pub(crate) fn reply_to(
+    alloc: Global,
+    outcome: Outcome,
+    plans: &mut Plans,
+) -> Result<Reply, AllocError> {
     match outcome {
-        Outcome::Answered(Answer::Granted(grant)) => Ok(Reply::Granted(walked(alloc, &grant)?)),
+        Outcome::Answered(Answer::Granted(grant)) => {
+            Ok(Reply::Granted(walked(alloc, &grant, plans)?))
+        }
         Outcome::Answered(answer) => Ok(Reply::Noted(answer.note())),
         Outcome::Full => Ok(Reply::Full),
         Outcome::TooLong => Ok(Reply::TooLong),
