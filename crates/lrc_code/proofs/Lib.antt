@@ -1,5 +1,6 @@
 pub mod Computed
 pub mod Sums
+pub mod SixSums
 pub mod Algebra
 pub mod Witness
 pub mod Opening

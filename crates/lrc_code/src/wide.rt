@@ -1,5 +1,5 @@
-//! The parities of LRC(12,2,2), sixteen places at a time. Each data fragment is read once.
-ghost use Rattle.std.specs.Prelude.{◌≡◌, ◌<◌, ◌≤◌, ◌+◌, ℕ, [], ◌∷◌, map, length, slice_index, All};
+//! The parities of LRC(12,2,2), and the sum of six lists, sixteen places at a time. Each list is read once.
+ghost use Rattle.std.specs.Prelude.{◌≡◌, ◌<◌, ◌≤◌, ◌+◌, ℕ, [], ◌∷◌, map, length, slice_index, All, EachIndex};
 ghost use Rattle.lrc_code.specs.Doublings.{sum_of_6, with_bit_0, with_bit_1, with_bit_2};
 ghost use Rattle.lrc_code.specs.Stripe.{AreParities, bytes_at, list_at};
 
@@ -8,11 +8,10 @@ use crate::blocks::{LANES, fourth_each, load, store, sum_3, sum_4, third_each};
 use crate::place::parities;
 use std::simd::prelude::*;
 
-/// The sixteen bytes of fragment `f` from `at` on.
+/// The sixteen bytes of list `f` from `at` on.
 #[inline(always)]
 fn load_from(sources: &[&[u8]], f: usize, at: usize) -> u8x16
-    requires f_below { f < 12 }
-    requires count { length sources.now ≡ 12 }
+    requires f_below { f < length sources.now }
     requires inside { All (λ s. at + LANES ≤ length s.now) sources.now }
     ensures lanes { (k : ℕ) → k < LANES → slice_index result k ≡ slice_index (list_at (map (λ s. s.now) sources.now) f) (at + k) }
     ensures bytes { (k : ℕ) → k < LANES → slice_index result k < 256 }
@@ -33,8 +32,7 @@ struct Sums {
 /// The sums of the six fragments from `first` on.
 #[inline(always)]
 fn sums_of(sources: &[&[u8]], first: usize, at: usize) -> Sums
-    requires count { length sources.now ≡ 12 }
-    requires first_below { first + 6 ≤ 12 }
+    requires first_below { first + 6 ≤ length sources.now }
     requires inside { All (λ s. at + LANES ≤ length s.now) sources.now }
     ensures bytes { (i k : ℕ) → i < 6 → k < LANES → bytes_at (map (λ s. s.now) sources.now) (at + k) (first + i) < 256 }
     ensures whole { (k : ℕ) → k < LANES → slice_index result.whole k ≡ sum_of_6 (λ i. bytes_at (map (λ s. s.now) sources.now) (at + k) (first + i)) }
@@ -55,6 +53,29 @@ fn sums_of(sources: &[&[u8]], first: usize, at: usize) -> Sums
         bit_1: sum_3(x1, x2, x5),
         bit_2: sum_3(x3, x4, x5),
     }
+}
+
+/// Makes the target the sum of six lists of its length, sixteen places at a time.
+pub(crate) fn sum_of_six(target: &mut [u8], sources: &[&[u8]; 6])
+    requires wide { LANES ≤ length target.old }
+    requires same { All (λ s. length s.now ≡ length target.old) sources.now }
+    ensures bytes { (i k : ℕ) → i < 6 → k < length target.new → bytes_at (map (λ s. s.now) sources.now) k i < 256 }
+    ensures sums { EachIndex target.new (λ k. slice_index target.new k ≡ sum_of_6 (bytes_at (map (λ s. s.now) sources.now) k)) }
+{
+    // a copy, which a store to the target cannot change
+    let lists = *sources;
+    let width = target.len();
+    let mut at = 0;
+    'six: while width - at > LANES {
+        store(sums_of(&lists, 0, at).whole, target, at);
+        at += LANES;
+    }
+    // the last block ends with the lists, and may overlap the one before
+    store(
+        sums_of(&lists, 0, width - LANES).whole,
+        target,
+        width - LANES,
+    );
 }
 
 /// Writes the parities of sixteen places from `at` on.
