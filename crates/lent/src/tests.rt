@@ -1,5 +1,6 @@
 use super::*;
 use bytes::Bytes;
+use lrc_code::Plans;
 use sealed::{Sealed, Width, count_stripes, seal};
 use std::alloc::Global;
 use std::process::Abort;
@@ -81,14 +82,21 @@ fn ranges_outside(rt: HostRuntime) -> Result<(), Fail> {
     Ok(())
 }
 
-/// The value without these fragments of its first stripe.
-fn without(rt: &impl Abort, alloc: Global, sealed: &Arc<Sealed>, lost: &[u8]) -> Arc<Sealed> {
+/// The value without these fragments of a stripe.
+fn without(
+    rt: &impl Abort,
+    alloc: Global,
+    sealed: &Arc<Sealed>,
+    stripe: u64,
+    lost: &[u8],
+) -> Arc<Sealed> {
     let mut value = Arc::try_clone(sealed).expect(rt, "memory");
     for f in lost {
         assert!(rt;
-            0 < count_stripes(value.code, value.width, value.len) && *f < value.code.fragments()
+            stripe < count_stripes(value.code, value.width, value.len)
+                && *f < value.code.fragments()
         );
-        match value.without(alloc, 0, *f) {
+        match value.without(alloc, stripe, *f) {
             Ok(next) => value = Arc::new(alloc, next).expect(rt, "memory"),
             Err(fault) => panic!(rt; "{fault}"),
         }
@@ -96,11 +104,39 @@ fn without(rt: &impl Abort, alloc: Global, sealed: &Arc<Sealed>, lost: &[u8]) ->
     value
 }
 
+/// Twelve bytes at width 1 without these fragments.
+fn twelve_without(rt: &impl Abort, alloc: Global, lost: &[u8]) -> Arc<Sealed> {
+    without(rt, alloc, &blob(rt, alloc, b"ABCDEFGHIJKL", 1), 0, lost)
+}
+
+fn is_unrecoverable(rt: &impl Abort, sealed: &Arc<Sealed>, start: u64, len: u64) -> bool {
+    matches!(
+        Grant::ask(sealed, start, len).expect(rt, "memory"),
+        Asked::Unrecoverable
+    )
+}
+
+/// That the pieces of a range are so many lent and so many built ones, and join to these bytes.
+fn joins(rt: &impl Abort, alloc: Global, grant: &Grant, counts: (u32, u32), bytes: &[u8]) {
+    let pieces = grant.collect(alloc).expect(rt, "memory");
+    let mut joined = Vec::new(alloc);
+    let (mut lent, mut built) = (0u32, 0u32);
+    for piece in pieces.as_slice() {
+        match piece {
+            Piece::Lent(_) => lent = lent.wrapping_add(1),
+            Piece::Built(_) => built = built.wrapping_add(1),
+        }
+        joined.extend_from_slice(piece.bytes()).expect(rt, "memory");
+    }
+    assert_eq!(rt; (lent, built), counts);
+    assert!(rt; joined.as_slice() == bytes);
+}
+
 #[test]
 fn an_absent_fragment_is_built(rt: HostRuntime) -> Result<(), Fail> {
     let letters = b"ABCDEFGHIJKLMNOPQRSTUVWXYZabcdefghijklmnopqrstuv";
     let sealed = blob(&rt, rt.alloc(), letters, 4);
-    let range = grant(&rt, &without(&rt, rt.alloc(), &sealed, &[1]), 3, 6);
+    let range = grant(&rt, &without(&rt, rt.alloc(), &sealed, 0, &[1]), 3, 6);
     let pieces = range.collect(rt.alloc()).expect(&rt, "memory");
     assert!(rt; pieces.len() == 3);
     assert!(rt; matches!(&pieces[0], Piece::Lent(_)) && pieces[0].bytes() == b"D".as_slice());
@@ -110,16 +146,119 @@ fn an_absent_fragment_is_built(rt: HostRuntime) -> Result<(), Fail> {
 }
 
 #[test]
+fn one_absent(rt: HostRuntime) -> Result<(), Fail> {
+    let lost = twelve_without(&rt, rt.alloc(), &[0]);
+    let all = grant(&rt, &lost, 0, 12);
+    joins(&rt, rt.alloc(), &all, (11, 1), b"ABCDEFGHIJKL");
+    Ok(())
+}
+
+#[test]
+fn two_absent_of_each_group(rt: HostRuntime) -> Result<(), Fail> {
+    let lost = twelve_without(&rt, rt.alloc(), &[0, 1, 6, 7]);
+    let all = grant(&rt, &lost, 0, 12);
+    joins(&rt, rt.alloc(), &all, (8, 4), b"ABCDEFGHIJKL");
+    Ok(())
+}
+
+#[test]
 fn four_absent_of_a_group(rt: HostRuntime) -> Result<(), Fail> {
-    let sealed = blob(&rt, rt.alloc(), b"ABCDEFGHIJKL", 1);
-    let lost = without(&rt, rt.alloc(), &sealed, &[0, 1, 2, 3]);
-    let first = Grant::ask(&lost, 0, 1).expect(&rt, "memory");
-    assert!(rt; matches!(first, Asked::Unrecoverable));
-    gives(
-        &rt,
-        rt.alloc(),
-        &grant(&rt, &lost, 4, 2),
-        &[b"E".as_slice(), b"F".as_slice()],
-    );
+    let lost = twelve_without(&rt, rt.alloc(), &[0, 1, 2, 3]);
+    assert!(rt; is_unrecoverable(&rt, &lost, 0, 1));
+    let others = grant(&rt, &lost, 4, 8);
+    joins(&rt, rt.alloc(), &others, (8, 0), b"EFGHIJKL");
+    Ok(())
+}
+
+/// The local parity of its group gives a fragment though others are open.
+#[test]
+fn built_beside_open_fragments(rt: HostRuntime) -> Result<(), Fail> {
+    let lost = twelve_without(&rt, rt.alloc(), &[0, 1, 6, 14, 15]);
+    let seventh = grant(&rt, &lost, 6, 1);
+    joins(&rt, rt.alloc(), &seventh, (0, 1), b"G");
+    assert!(rt; is_unrecoverable(&rt, &lost, 0, 1));
+    Ok(())
+}
+
+#[test]
+fn five_absent_of_the_data(rt: HostRuntime) -> Result<(), Fail> {
+    let lost = twelve_without(&rt, rt.alloc(), &[0, 1, 2, 6, 7]);
+    let last = grant(&rt, &lost, 8, 4);
+    joins(&rt, rt.alloc(), &last, (4, 0), b"IJKL");
+    assert!(rt; is_unrecoverable(&rt, &lost, 6, 2));
+    Ok(())
+}
+
+#[test]
+fn open_in_the_last_stripe(rt: HostRuntime) -> Result<(), Fail> {
+    let sealed = blob(&rt, rt.alloc(), b"ABCDEFGHIJKLM", 1);
+    let lost = without(&rt, rt.alloc(), &sealed, 1, &[0, 1, 2, 3]);
+    assert!(rt; is_unrecoverable(&rt, &lost, 12, 1));
+    let first = grant(&rt, &lost, 0, 12);
+    joins(&rt, rt.alloc(), &first, (12, 0), b"ABCDEFGHIJKL");
+    let lost = without(&rt, rt.alloc(), &sealed, 1, &[1, 2, 3, 4]);
+    let last = grant(&rt, &lost, 12, 1);
+    joins(&rt, rt.alloc(), &last, (1, 0), b"M");
+    Ok(())
+}
+
+#[test]
+fn spans_are_the_cut(rt: HostRuntime) -> Result<(), Fail> {
+    let letters = b"ABCDEFGHIJKLMNOPQRSTUVWXYZabcdefghijklmnopqrstuv";
+    let sealed = blob(&rt, rt.alloc(), letters, 4);
+    let range = grant(&rt, &without(&rt, rt.alloc(), &sealed, 0, &[1]), 3, 6);
+    let mut spans = range.spans();
+    for (fragment, from, to, bytes) in [
+        (0u8, 3usize, 4usize, Some(b"D".as_slice())),
+        (1, 0, 4, None),
+        (2, 0, 1, Some(b"I".as_slice())),
+    ] {
+        let span = spans.next().expect(&rt, "a span");
+        assert_eq!(rt; (span.stripe, span.fragment), (0, fragment));
+        assert_eq!(rt; (span.from, span.to), (from, to));
+        assert!(rt; span.bytes == bytes);
+    }
+    assert!(rt; spans.next().is_none());
+    let empty = grant(&rt, &sealed, 5, 0);
+    assert!(rt; empty.spans().next().is_none());
+    Ok(())
+}
+
+/// Walks a range of fragments of one byte, and counts the pieces that are built.
+fn built_with(
+    rt: &impl Abort,
+    alloc: Global,
+    grant: &Grant,
+    plans: &mut Plans,
+    bytes: &[u8],
+) -> u32 {
+    let mut walk = grant.walk_with(plans);
+    let mut built = 0u32;
+    for byte in bytes {
+        let piece = walk
+            .next_piece(alloc)
+            .expect(rt, "memory")
+            .expect(rt, "a piece");
+        assert!(rt; piece.bytes() == [*byte].as_slice());
+        if matches!(piece, Piece::Built(_)) {
+            built = built.wrapping_add(1);
+        }
+    }
+    assert!(rt; walk.next_piece(alloc).expect(rt, "memory").is_none());
+    built
+}
+
+#[test]
+fn stripes_share_recipes(rt: HostRuntime) -> Result<(), Fail> {
+    let letters = b"ABCDEFGHIJKLMNOPQRSTUVWXYZabcdefghij";
+    let mut sealed = blob(&rt, rt.alloc(), letters, 1);
+    for stripe in 0..3u64 {
+        sealed = without(&rt, rt.alloc(), &sealed, stripe, &[0, 1]);
+    }
+    let all = grant(&rt, &sealed, 0, 36);
+    let mut plans = Plans::new(rt.alloc());
+    let built = built_with(&rt, rt.alloc(), &all, &mut plans, letters.as_slice());
+    assert_eq!(rt; built, 6);
+    assert_eq!(rt; plans.known(), 2);
     Ok(())
 }

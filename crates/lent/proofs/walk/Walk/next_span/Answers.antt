@@ -1,4 +1,4 @@
-use Rattle.std.proofs.Common.{◌≡◌, ◌+◌, ◌∙◌, ap, arith}
+use Rattle.std.proofs.Common.{◌+◌, ◌∙◌, ap, arith}
 use Rattle.sealed.specs.declared.value.Sealed.{Sealed}
 use Rattle.lent.specs.declared.grant.Grant.{Grant}
 use Rattle.lent.specs.Spans.{span_of}
