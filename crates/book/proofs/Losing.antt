@@ -1,13 +1,11 @@
 -- A loss or a repair carries histories on.
-use Rattle.std.proofs.Common.{◌≡◌, ℕ, Bool, true, false, List, [], ◌∷◌, ◌++◌, Option, None, Some, Result, Ok, Err, IfOk, OnErr, IsSome, cond, rules, refl, sym, ap, ◌∙◌, subst, inl, inr}
+use Rattle.std.proofs.Common.{◌≡◌, ℕ, Bool, true, false, List, [], ◌∷◌, ◌++◌, Option, None, Some, Result, Ok, Err, IfOk, OnErr, IsSome, cond, rules, refl, sym, ap, ◌∙◌, subst}
 use Rattle.std.specs.FinMap as finite
 use Rattle.std.specs.FinSet as set
 use Rattle.std.specs.BTreeMap.{is_at}
 use Rattle.std.specs.Cmp.{Equal-is}
 use Rattle.std.specs.Cmp.Lexicographic.{nat_list_cmp_total}
 use Rattle.std.specs.Map.{lookup, set_value}
-use Rattle.std.specs.Ordering.{eq_by_cmp}
-use Rattle.std.proofs.lemmas.Bool.{cases_Bool}
 use Rattle.std.proofs.lemmas.Cmp.{eq_by_cmp_equiv}
 use Rattle.sealed.specs.declared.value.Sealed.{Sealed}
 use Rattle.sealed.specs.Blob.{Lost}
@@ -21,7 +19,7 @@ use Rattle.book.specs.Names.{name_cmp}
 use Rattle.book.specs.Notes.{note_of}
 use Rattle.book.specs.State.{State, Blob}
 use Rattle.book.specs.Step.{Operation, lose, repair, IsReply, after, with_lost}
-use Rattle.book.specs.History.{Event, History, state_of, entry_of, call_of}
+use Rattle.book.specs.History.{History, state_of, call_of}
 use Rattle.book.specs.Contents.{Contents, sealed_at}
 use Rattle.book.specs.Tells.{Tells, Represents, Correspond, CarriesOn}
 use Rattle.book.specs.Views.{View, lose_reply, repair_reply}
