@@ -83,7 +83,7 @@ module _ (w : ℕ) (s : State) (n : List ℕ) where
       (out_of_catalogue (is_at (name_cmp n) q) x (finite.get s.names q) (no_such_name q here) same)
   without_name (Some v) (Some blob) m here both is q x same =
       let gone : finite.get (finite.remove s.names n) q ≡ cond (is_at (name_cmp n) q) None (finite.get s.names q) =
-        finite.get-remove nat_list_cmp_total s.names n q ∙ ap (λ b. cond b None (finite.get s.names q)) (symmetric q) in
+      finite.get-remove nat_list_cmp_total s.names n q ∙ ap (λ b. cond b None (finite.get s.names q)) (symmetric q) in
       subst (λ k. Correspond w (cond (is_at (name_cmp n) q) None x) (finite.get (after s (delete n) k).names q)) (sym is)
       (subst (Correspond w (cond (is_at (name_cmp n) q) None x)) (sym gone) (out_of_both (is_at (name_cmp n) q) x (finite.get s.names q) same))
   without_name None (Some blob) m here both is q x same = absurd both

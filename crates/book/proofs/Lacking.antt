@@ -91,15 +91,15 @@ counted (suc n) lost below =
     let rest : Lost = set.remove lost here in
     let contains : (p : ℕ × ℕ) → set.contains rest p ≡ (not (eq_by_cmp pair_cmp p here) && set.contains lost p) = set.contains-remove pairs_total lost here in
     let under : (j f : ℕ) → lost_in rest j f ≡ true → (f < 16) × (16 * j + f < n) = λ j f h.
-      let parts = and_parts (not (eq_by_cmp pair_cmp (j, f) here)) (set.contains lost (j, f)) (sym (contains (j, f)) ∙ h) in
-      let l = below j f parts.1 in
-      (l.0, not_the_last j f n l.0 l.1 parts.0) in
+    let parts = and_parts (not (eq_by_cmp pair_cmp (j, f) here)) (set.contains lost (j, f)) (sym (contains (j, f)) ∙ h) in
+    let l = below j f parts.1 in
+    (l.0, not_the_last j f n l.0 l.1 parts.0) in
     let before : count_below (λ i. lost_in lost (i / 16) (i % 16)) n ≡ count_below (λ i. lost_in rest (i / 16) (i % 16)) n =
-      count_same _ _ n (λ i l. sym (contains (i / 16, i % 16) ∙ ap (λ b. not b && set.contains lost (i / 16, i % 16)) (other_number i n l))) in
+    count_same _ _ n (λ i l. sym (contains (i / 16, i % 16) ∙ ap (λ b. not b && set.contains lost (i / 16, i % 16)) (other_number i n l))) in
     last_one (set.contains lost here) _ _ (set.len lost) (at_least_one lost here) (before ∙ counted n rest under) (set.len-remove pairs_total lost here)
   where
-  not_the_last : (j f n : ℕ) → f < 16 → 16 * j + f < suc n → not (eq_by_cmp pair_cmp (j, f) (n / 16, n % 16)) ≡ true → 16 * j + f < n
-  not_the_last j f n l below other = grind (arith, common_steps)
+    not_the_last : (j f n : ℕ) → f < 16 → 16 * j + f < suc n → not (eq_by_cmp pair_cmp (j, f) (n / 16, n % 16)) ≡ true → 16 * j + f < n
+    not_the_last j f n l below other = grind (arith, common_steps)
 
 -- ---- a value with nothing lost
 is_there : (b : Bool) (x : List ℕ) → b ≡ false → is_none (cond b None (Some x)) ≡ false

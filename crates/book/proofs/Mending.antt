@@ -50,8 +50,8 @@ module _ (s t : Sealed) (j f : ℕ) (x : Option (List ℕ)) (changed : IsChanged
         | inr apart ↦ apart
       ]
     where
-    number : (k j f : ℕ) → ((k / 16 == j) && (k % 16 == f)) ≡ true → k ≡ 16 * j + f
-    number k j f e = grind (arith, common_steps)
+      number : (k j f : ℕ) → ((k / 16 == j) && (k % 16 == f)) ≡ true → k ≡ 16 * j + f
+      number k j f e = grind (arith, common_steps)
 
   same_elsewhere : (k : ℕ) → k ≢ 16 * j + f → lacks t (k / 16) (k % 16) ≡ lacks s (k / 16) (k % 16)
   same_elsewhere k other =
