@@ -13,14 +13,14 @@ use Rattle.book.specs.declared.note.Note.{Note}
 use Rattle.book.specs.declared.note.Note.TheVariants as note
 use Rattle.book.specs.declared.note.Call.TheVariants.{Delete, Stat}
 use Rattle.book.specs.declared.answer.Answer.{Answer}
-use Rattle.book.specs.Lacking.{seen_of, reply_for}
+use Rattle.book.specs.Lacking.{reply_for}
 use Rattle.book.specs.Names.{name_cmp}
 use Rattle.book.specs.Notes.{note_of}
 use Rattle.book.specs.State.{State, Blob, IsLostInside}
 use Rattle.book.specs.Step.{Operation, delete, stat, IsReply, after}
-use Rattle.book.specs.History.{Event, History, state_of, entry_of, call_of}
+use Rattle.book.specs.History.{History, state_of, call_of}
 use Rattle.book.specs.Contents.{Contents, sealed_at}
-use Rattle.book.specs.Tells.{Tells, Represents, Correspond, CarriesOn}
+use Rattle.book.specs.Tells.{Tells, Correspond, CarriesOn}
 use Rattle.book.specs.Views.{View, view_of, delete_reply, stat_reply}
 use Rattle.book.proofs.Carrying.{carried}
 use Rattle.book.proofs.Inside.{lost_inside}

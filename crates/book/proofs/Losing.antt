@@ -1,13 +1,11 @@
 -- A loss or a repair carries histories on.
-use Rattle.std.proofs.Common.{◌≡◌, ℕ, Bool, true, false, List, [], ◌∷◌, ◌++◌, Option, None, Some, Result, Ok, Err, IfOk, OnErr, IsSome, cond, rules, refl, sym, ap, ◌∙◌, subst, inl, inr}
+use Rattle.std.proofs.Common.{◌≡◌, ℕ, Bool, true, false, List, [], ◌∷◌, ◌++◌, Option, None, Some, Result, Ok, Err, IfOk, OnErr, IsSome, cond, rules, refl, sym, ap, ◌∙◌, subst}
 use Rattle.std.specs.FinMap as finite
 use Rattle.std.specs.FinSet as set
 use Rattle.std.specs.BTreeMap.{is_at}
 use Rattle.std.specs.Cmp.{Equal-is}
 use Rattle.std.specs.Cmp.Lexicographic.{nat_list_cmp_total}
 use Rattle.std.specs.Map.{lookup, set_value}
-use Rattle.std.specs.Ordering.{eq_by_cmp}
-use Rattle.std.proofs.lemmas.Bool.{cases_Bool}
 use Rattle.std.proofs.lemmas.Cmp.{eq_by_cmp_equiv}
 use Rattle.sealed.specs.declared.value.Sealed.{Sealed}
 use Rattle.sealed.specs.Blob.{Lost}
@@ -21,7 +19,7 @@ use Rattle.book.specs.Names.{name_cmp}
 use Rattle.book.specs.Notes.{note_of}
 use Rattle.book.specs.State.{State, Blob}
 use Rattle.book.specs.Step.{Operation, lose, repair, IsReply, after, with_lost}
-use Rattle.book.specs.History.{Event, History, state_of, entry_of, call_of}
+use Rattle.book.specs.History.{History, state_of, call_of}
 use Rattle.book.specs.Contents.{Contents, sealed_at}
 use Rattle.book.specs.Tells.{Tells, Represents, Correspond, CarriesOn}
 use Rattle.book.specs.Views.{View, lose_reply, repair_reply}
@@ -78,11 +76,13 @@ module _ (w : ℕ) (state : State) (n : List ℕ) (blob : Blob) (here : finite.g
 
   with_others : (change : Lost → Lost) (s t : Sealed) → Represents w s blob → IsWith change s t → HasBlob t (with_lost state n (finite.get state.names n) change)
   with_others change s t is new =
-      let later : Blob = record blob { lost = change blob.lost } in
-      (later, with_represents w change s t blob is new,
-      λ q. ap (λ found. finite.get (with_lost state n found change).names q) here
-      ∙ finite.get-insert nat_list_cmp_total state.names n later q
-      ∙ ap (λ b. cond b (Some later) (finite.get state.names q)) ((eq_by_cmp_equiv nat_list_cmp_total).symm q n))
+      let later : Blob = record blob { lost = change blob.lost } in (
+        later,
+        with_represents w change s t blob is new,
+        λ q. ap (λ found. finite.get (with_lost state n found change).names q) here
+            ∙ finite.get-insert nat_list_cmp_total state.names n later q
+            ∙ ap (λ b. cond b (Some later) (finite.get state.names q)) ((eq_by_cmp_equiv nat_list_cmp_total).symm q n),
+      )
 
   after_loss : (j f : ℕ) (m : Note) (s t : Sealed) → Represents w s blob → Loses j f m s t → HasBlob t (after state (lose n j f) m)
   after_loss j f (note.Lost v) s t is new = with_others (λ lost. set.insert lost (j, f)) s t is new
@@ -99,7 +99,7 @@ module _ (old new : Contents) (who : ℕ) (n : List ℕ) (o : Operation) (answer
     (is_reply : (h : History) → Tells old h → IsReply old.width (state_of h) o (note_of answer))
     (none_after : (s : State) → finite.get s.names n ≡ None → note_of answer ≡ note.NoName → after s o (note_of answer) ≡ s)
     (some_after : (state : State) (blob : Blob) (here : finite.get state.names n ≡ Some blob) (s t : Sealed) → Represents old.width s blob → Becomes s t
-      → HasBlob old.width state n blob here t (after state o (note_of answer))) where
+    → HasBlob old.width state n blob here t (after state o (note_of answer))) where
   afterwards : (state : State) (found : Option Sealed) (had : Option Blob) → sealed_at old n ≡ found → finite.get state.names n ≡ had → Correspond old.width found had
       → ((q : List ℕ) → Correspond old.width (sealed_at old q) (finite.get state.names q)) → (q : List ℕ) → Correspond old.width (sealed_at new q) (finite.get (after state o (note_of answer)).names q)
   afterwards state None None is here both each q =

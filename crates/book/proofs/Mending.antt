@@ -1,11 +1,10 @@
 -- One fragment taken out of a sealed value, or put back.
 use Rattle.std.proofs.Common.{◌≡◌, ◌≢◌, ℕ, ◌+◌, ◌*◌, ◌/◌, ◌%◌, ◌<◌, ◌≤◌, Bool, true, false, ◌&&◌, ◌==◌, List, Option, None, Some, Bor, is_none, cond, length, Result, Ok, Err, IfOk, refl, sym, ap, ◌∙◌, subst, inl, inr, arith}
-use Rattle.std.specs.Prelude.{nat_lt, slice_range, ◌↔◌}
+use Rattle.std.specs.Prelude.{nat_lt, slice_range}
 use Rattle.std.specs.Option.{option_map}
 use Rattle.std.specs.FinSet as set
 use Rattle.std.proofs.lemmas.List.FromFn.{length-map-range_with_len}
-use Rattle.std.proofs.lemmas.Bool.{cases_Bool, false≢true}
-use Rattle.std.proofs.lemmas.Nat.{div-mul-add, mod-mul-add}
+use Rattle.std.proofs.lemmas.Bool.{cases_Bool}
 use Rattle.std.proofs.lemmas.Grind.{common_steps}
 use Rattle.lrc_code.specs.declared.Code.{Code}
 use Rattle.lrc_code.specs.Code.{fragment_count, Open}
@@ -18,15 +17,15 @@ use Rattle.lrc_code.proofs.Stripes.{open_same}
 use Rattle.sealed.specs.declared.value.Sealed.{Sealed}
 use Rattle.sealed.specs.Layout.{stripe_count}
 use Rattle.sealed.specs.Stripes.{fragment_at}
-use Rattle.sealed.specs.Blob.{Lost, fragment, data_at}
-use Rattle.sealed.specs.Sealed.{StandsFor, absent_in}
+use Rattle.sealed.specs.Blob.{fragment, data_at}
+use Rattle.sealed.specs.Sealed.{absent_in}
 use Rattle.sealed.specs.Change.{IsChanged}
 use Rattle.sealed.proofs.Changing.{without_stands, with_stands}
 use Rattle.lent.proofs.Building.{AreLeft, built}
 use Rattle.book.specs.Lacking.{count_below, lacks, lacked_count}
 use Rattle.book.specs.Losing.{IsFragmentOf, IsWith}
 use Rattle.book.specs.Views.{open_test}
-use Rattle.book.proofs.Keeping.{few_fragments, is_lt, both}
+use Rattle.book.proofs.Keeping.{few_fragments, is_lt}
 use Rattle.book.proofs.Lacking.{count_bound, count_more}
 
 -- ---- what the changed value lacks
@@ -51,8 +50,8 @@ module _ (s t : Sealed) (j f : ℕ) (x : Option (List ℕ)) (changed : IsChanged
         | inr apart ↦ apart
       ]
     where
-    number : (k j f : ℕ) → ((k / 16 == j) && (k % 16 == f)) ≡ true → k ≡ 16 * j + f
-    number k j f e = grind (arith, common_steps)
+      number : (k j f : ℕ) → ((k / 16 == j) && (k % 16 == f)) ≡ true → k ≡ 16 * j + f
+      number k j f e = grind (arith, common_steps)
 
   same_elsewhere : (k : ℕ) → k ≢ 16 * j + f → lacks t (k / 16) (k % 16) ≡ lacks s (k / 16) (k % 16)
   same_elsewhere k other =

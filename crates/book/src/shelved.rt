@@ -149,13 +149,7 @@ impl Shelved {
     }
 
     /// Puts back an absent fragment.
-    fn put_back(
-        &mut self,
-        alloc: Global,
-        stripe: u64,
-        f: u8,
-        bytes: Vec<u8>,
-    ) -> Result<(), Fault>
+    fn put_back(&mut self, alloc: Global, stripe: u64, f: u8, bytes: Vec<u8>) -> Result<(), Fault>
         requires stripe_below { stripe < stripe_count self.old.code self.old.width self.old.len }
         requires f_below { f < fragment_count self.old.code }
         requires gone { absent_in self.old stripe f ≡ true }

@@ -1,4 +1,3 @@
-use Rattle.std.proofs.Common.{◌≡◌, ◌∙◌, ℕ}
 use Rattle.book.specs.Losing.{IsFragmentOf}
 use Rattle.book.proofs.Mending.{opened, not_opened, whole, unless_open, at_ok}
 use Rattle.book.proofs.shelved.rebuild_whole.Goals as goal

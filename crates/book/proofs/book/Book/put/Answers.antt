@@ -1,4 +1,4 @@
-use Rattle.std.proofs.Common.{◌≡◌, ◌≤◌, sym, ap, ◌∙◌, ◌+◌, arith, length, cond, Some}
+use Rattle.std.proofs.Common.{◌≡◌, ◌≤◌, ap, ◌∙◌, ◌+◌, arith, length, cond, Some}
 use Rattle.std.specs.BTreeMap.{is_at}
 use Rattle.book.specs.Names.{name_cmp}
 use Rattle.std.specs.Prelude.{count_by}

@@ -1,4 +1,4 @@
-use Rattle.std.proofs.Common.{◌≡◌, ◌+◌, ◌∙◌, ℕ, Some, List, sym, ap, subst, arith}
+use Rattle.std.proofs.Common.{◌∙◌, ℕ, Some, List, sym, ap, subst, arith}
 use Rattle.sealed.specs.Change.{IsChanged}
 use Rattle.book.specs.Lacking.{lacked_count}
 use Rattle.book.specs.Losing.{IsFragmentOf}

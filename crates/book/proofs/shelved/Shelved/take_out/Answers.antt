@@ -1,4 +1,4 @@
-use Rattle.std.proofs.Common.{◌≡◌, ◌∙◌, None, ap, arith}
+use Rattle.std.proofs.Common.{◌∙◌, None, ap, arith}
 use Rattle.sealed.specs.Change.{IsChanged}
 use Rattle.book.specs.Lacking.{lacked_count}
 use Rattle.book.proofs.Mending.{moved, few_lacked, with_one_more, is_without}
