@@ -9,23 +9,23 @@ use Rattle.std.specs.Cmp.Lexicographic.{nat_list_cmp_total}
 use Rattle.std.specs.Ordering.{eq_by_cmp}
 use Rattle.std.proofs.lemmas.Cmp.{eq_by_cmp_equiv}
 use Rattle.sealed.specs.declared.value.Sealed.{Sealed}
-use Rattle.book.specs.declared.note.Note.{Note}
-use Rattle.book.specs.declared.note.Note.TheVariants as note
-use Rattle.book.specs.declared.note.Call.TheVariants.{Delete, Stat}
+use Rattle.history.specs.declared.note.Note.{Note}
+use Rattle.history.specs.declared.note.Note.TheVariants as note
+use Rattle.history.specs.declared.note.Call.TheVariants.{Delete, Stat}
 use Rattle.book.specs.declared.answer.Answer.{Answer}
 use Rattle.book.specs.Lacking.{reply_for}
-use Rattle.book.specs.Names.{name_cmp}
+use Rattle.history.specs.Names.{name_cmp}
 use Rattle.book.specs.Notes.{note_of}
-use Rattle.book.specs.State.{State, Blob, IsLostInside}
-use Rattle.book.specs.Step.{Operation, delete, stat, IsReply, after}
-use Rattle.book.specs.History.{History, state_of, call_of}
+use Rattle.history.specs.State.{State, Blob, IsLostInside}
+use Rattle.history.specs.Step.{Operation, delete, stat, IsReply, after}
+use Rattle.history.specs.History.{History, state_of, call_of}
 use Rattle.book.specs.Contents.{Contents, sealed_at}
 use Rattle.book.specs.Tells.{Tells, Correspond, CarriesOn}
-use Rattle.book.specs.Views.{View, view_of, delete_reply, stat_reply}
+use Rattle.history.specs.Views.{View, view_of, delete_reply, stat_reply}
 use Rattle.book.proofs.Carrying.{carried}
-use Rattle.book.proofs.Inside.{lost_inside}
+use Rattle.history.proofs.Inside.{lost_inside}
 use Rattle.book.proofs.Lacking.{view_alike}
-use Rattle.book.proofs.Replies.{reply_is}
+use Rattle.history.proofs.Replies.{reply_is}
 
 -- ---- the reply
 reply_at : (w : ℕ) (found : Option Sealed) (had : Option Blob) (reply : ℕ → Option View → Note) (m : Note) → ((v : ℕ) → reply v None ≡ note.NoName)

@@ -1,22 +1,19 @@
 -- A history with one call more.
-use Rattle.std.proofs.Common.{◌≡◌, ℕ, ◌+◌, ◌≤◌, List, [], ◌∷◌, ◌++◌, map, take, drop, length, Option, None, refl, sym, ap, ◌∙◌, subst, arith, length-append}
-use Rattle.std.proofs.lemmas.List.{map-append, take-append-le, drop-append-le}
+use Rattle.std.proofs.Common.{◌≡◌, ℕ, ◌+◌, ◌≤◌, List, [], ◌∷◌, ◌++◌, map, take, drop, length, Option, None, sym, ap, ◌∙◌, subst, arith, length-append}
+use Rattle.std.proofs.lemmas.List.{map-append, take-append-le, drop-append-le, take-append-drop}
 use Rattle.std.specs.FinMap as finite
 use Rattle.std.specs.Map.{lookup}
 use Rattle.std.specs.BTreeMap.{is_at}
 use Rattle.sealed.specs.declared.value.Sealed.{Sealed}
-use Rattle.book.specs.Names.{name_cmp}
-use Rattle.book.specs.State.{State, Blob, empty_state}
-use Rattle.book.specs.Step.{IsReply, after}
-use Rattle.book.specs.History.{Event, History, after_all, IsLegalFrom, IsLegal, state_of, entry_of}
-use Rattle.book.specs.Base.{Outlines, empty_base}
+use Rattle.history.specs.Names.{name_cmp}
+use Rattle.history.specs.State.{State, Blob, empty_state}
+use Rattle.history.specs.Step.{IsReply, after}
+use Rattle.history.specs.History.{Event, History, after_all, IsLegalFrom, IsLegal, state_of, entry_of}
+use Rattle.history.specs.Base.{Outlines, empty_base}
 use Rattle.book.specs.Contents.{Contents, sealed_at}
 use Rattle.book.specs.Tells.{Tells, Correspond}
-use Rattle.book.proofs.Beginnings.{empty_outlined}
-
-pub after_all-append : (s : State) (one two : History) → after_all s (one ++ two) ≡ after_all (after_all s one) two
-after_all-append s [] two = refl
-after_all-append s (e ∷ one) two = after_all-append (after s e.operation e.note) one two
+use Rattle.history.specs.Lawful.{IsLawfulFrom}
+use Rattle.history.proofs.Beginnings.{after_all-append, legal_rest, empty_outlined}
 
 legal_push : (w : ℕ) (s : State) (h : History) (e : Event) → IsLegalFrom w s h → IsReply w (after_all s h) e.operation e.note → IsLegalFrom w s (h ++ e ∷ [])
 legal_push w s [] e legal reply = (reply, tt)
@@ -57,4 +54,15 @@ tells_none book base entries catalogue =
           let K : Option Sealed → Type 0 = λ found. Correspond book.width found (finite.get empty_state.names n) in
           let none : Correspond book.width None (finite.get empty_state.names n) = subst (λ (b : Option Blob). Correspond book.width None b) (sym (finite.get-empty name_cmp n)) tt in
           subst K (sym (ap (λ (c : List (List ℕ × Sealed)). lookup (is_at (name_cmp n)) c) catalogue)) none;
+    }
+
+-- the entries of a book that tells a history are lawful from its base
+pub told_is_lawful : (book : Contents) (h : History) → Tells book h → IsLawfulFrom book.base book.width book.entries
+told_is_lawful book h told =
+    record {
+      state = state_of (take book.base.trimmed h);
+      outlined = told.base;
+      events = drop book.base.trimmed h;
+      legal = legal_rest book.width empty_state (take book.base.trimmed h) (drop book.base.trimmed h) (subst (IsLegal book.width) (sym (take-append-drop book.base.trimmed h)) told.legal);
+      entries_are = sym told.entries;
     }

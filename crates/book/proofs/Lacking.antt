@@ -11,11 +11,11 @@ use Rattle.sealed.specs.Layout.{stripe_count}
 use Rattle.sealed.specs.Blob.{Lost, nothing, lost_in, pair_cmp}
 use Rattle.sealed.specs.Sealed.{StandsFor, absent_in}
 use Rattle.book.specs.Lacking.{count_below, lacks, lacked_count, seen_of}
-use Rattle.book.specs.State.{Blob, IsLostInside}
+use Rattle.history.specs.State.{Blob, IsLostInside}
 use Rattle.book.specs.Tells.{Represents}
-use Rattle.book.specs.Views.{view_of}
-use Rattle.book.proofs.Keeping.{same_truth, lt_of, is_lt, both, few_fragments}
-use Rattle.book.proofs.Replies.{pairs_total}
+use Rattle.history.specs.Views.{view_of}
+use Rattle.history.proofs.Keeping.{same_truth, lt_of, is_lt, both, few_fragments}
+use Rattle.history.proofs.Replies.{pairs_total}
 use Rattle.book.proofs.Same.{same_lost}
 
 -- ---- counting

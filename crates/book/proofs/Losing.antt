@@ -9,23 +9,23 @@ use Rattle.std.specs.Map.{lookup, set_value}
 use Rattle.std.proofs.lemmas.Cmp.{eq_by_cmp_equiv}
 use Rattle.sealed.specs.declared.value.Sealed.{Sealed}
 use Rattle.sealed.specs.Blob.{Lost}
-use Rattle.book.specs.declared.note.Note.{Note}
-use Rattle.book.specs.declared.note.Note.TheVariants as note
-use Rattle.book.specs.declared.note.Call.TheVariants.{Lose, Repair}
+use Rattle.history.specs.declared.note.Note.{Note}
+use Rattle.history.specs.declared.note.Note.TheVariants as note
+use Rattle.history.specs.declared.note.Call.TheVariants.{Lose, Repair}
 use Rattle.book.specs.declared.answer.Answer.{Answer}
 use Rattle.book.specs.Lacking.{reply_for}
 use Rattle.book.specs.Losing.{IsWith, Loses, Mends, Catalogue, value_at, Replaces}
-use Rattle.book.specs.Names.{name_cmp}
+use Rattle.history.specs.Names.{name_cmp}
 use Rattle.book.specs.Notes.{note_of}
-use Rattle.book.specs.State.{State, Blob}
-use Rattle.book.specs.Step.{Operation, lose, repair, IsReply, after, with_lost}
-use Rattle.book.specs.History.{History, state_of, call_of}
+use Rattle.history.specs.State.{State, Blob}
+use Rattle.history.specs.Step.{Operation, lose, repair, IsReply, after, with_lost}
+use Rattle.history.specs.History.{History, state_of, call_of}
 use Rattle.book.specs.Contents.{Contents, sealed_at}
 use Rattle.book.specs.Tells.{Tells, Represents, Correspond, CarriesOn}
-use Rattle.book.specs.Views.{View, lose_reply, repair_reply}
+use Rattle.history.specs.Views.{View, lose_reply, repair_reply}
 use Rattle.book.proofs.Answering.{replied}
 use Rattle.book.proofs.Carrying.{carried}
-use Rattle.book.proofs.Replies.{reply_is}
+use Rattle.history.proofs.Replies.{reply_is}
 use Rattle.book.proofs.Storing.{corresponds}
 
 -- a value that is written over itself leaves the catalogue as it is

@@ -24,8 +24,8 @@ use Rattle.sealed.proofs.Changing.{without_stands, with_stands}
 use Rattle.lent.proofs.Building.{AreLeft, built}
 use Rattle.book.specs.Lacking.{count_below, lacks, lacked_count}
 use Rattle.book.specs.Losing.{IsFragmentOf, IsWith}
-use Rattle.book.specs.Views.{open_test}
-use Rattle.book.proofs.Keeping.{few_fragments, is_lt}
+use Rattle.history.specs.Views.{open_test}
+use Rattle.history.proofs.Keeping.{few_fragments, is_lt}
 use Rattle.book.proofs.Lacking.{count_bound, count_more}
 
 -- ---- what the changed value lacks

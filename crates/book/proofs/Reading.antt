@@ -8,14 +8,14 @@ use Rattle.sealed.specs.declared.value.Sealed.{Sealed}
 use Rattle.lent.specs.Range.{is_outside, IsReadable}
 use Rattle.book.specs.declared.answer.Answer.{Answer}
 use Rattle.book.specs.declared.answer.Answer.TheVariants.{Stored, NoName, OutOfRange, Unrecoverable, Granted, Lost as LostAnswer, NoFragment, AlreadyLost, Repaired, NotLost, Deleted, Shape}
-use Rattle.book.specs.declared.note.Note.TheVariants as note
-use Rattle.book.specs.declared.note.Call.TheVariants.{Read}
+use Rattle.history.specs.declared.note.Note.TheVariants as note
+use Rattle.history.specs.declared.note.Call.TheVariants.{Read}
 use Rattle.book.specs.Asked.{IsReadAnswer}
-use Rattle.book.specs.Names.{name_cmp}
+use Rattle.history.specs.Names.{name_cmp}
 use Rattle.book.specs.Notes.{note_of}
-use Rattle.book.specs.State.{Blob}
-use Rattle.book.specs.Step.{read, IsReply, IsReadReply}
-use Rattle.book.specs.History.{state_of}
+use Rattle.history.specs.State.{Blob}
+use Rattle.history.specs.Step.{read, IsReply, IsReadReply}
+use Rattle.history.specs.History.{state_of}
 use Rattle.book.specs.Contents.{Contents, sealed_at}
 use Rattle.book.specs.Tells.{Represents, Correspond, CarriesOn}
 use Rattle.book.proofs.Carrying.{carried}

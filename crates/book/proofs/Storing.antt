@@ -1,52 +1,28 @@
 -- A put carries histories on.
-use Rattle.std.proofs.Common.{◌≡◌, ℕ, ◌+◌, ◌≤◌, Bool, true, false, List, [], ◌∷◌, ◌++◌, map, take, drop, Option, None, Some, cond, length, refl, sym, ap, ◌∙◌, subst, arith}
+use Rattle.std.proofs.Common.{◌≡◌, ℕ, ◌+◌, ◌≤◌, Bool, true, false, List, [], ◌∷◌, ◌++◌, take, drop, Option, Some, cond, length, refl, sym, ap, ◌∙◌, subst, arith}
 use Rattle.std.specs.Prelude.{count_by}
 use Rattle.std.specs.FinMap as finite
 use Rattle.std.specs.Cmp.Lexicographic.{nat_list_cmp_total}
 use Rattle.std.proofs.lemmas.Cmp.{eq_by_cmp_equiv}
 use Rattle.std.proofs.lemmas.List.{take-append-drop}
-use Rattle.std.proofs.lemmas.List.Sums.{sum_by-cons}
 use Rattle.std.specs.BTreeMap.{is_at}
 use Rattle.sealed.specs.declared.value.Sealed.{Sealed}
 use Rattle.sealed.specs.Layout.{stripe_count}
 use Rattle.sealed.specs.Blob.{nothing, IsBlob}
 use Rattle.sealed.specs.Sealed.{StandsFor}
-use Rattle.book.specs.Names.{name_cmp}
-use Rattle.book.specs.State.{State, Blob, empty_state}
-use Rattle.book.specs.Step.{Operation, put, read, lose, repair, delete, stat, after, with_lost}
-use Rattle.book.specs.History.{Event, History, after_all, state_of, call_of, entry_of}
+use Rattle.history.specs.Names.{name_cmp}
+use Rattle.history.specs.State.{State, Blob, empty_state}
+use Rattle.history.specs.Step.{put}
+use Rattle.history.specs.History.{Event, History, after_all, state_of, entry_of}
 use Rattle.book.specs.Contents.{Contents, sealed_at}
 use Rattle.book.specs.Tells.{Tells, Represents, Correspond, CarriesOn}
-use Rattle.book.specs.Notes.{is_put, is_put_call}
-use Rattle.book.specs.declared.note.Note.{Note}
-use Rattle.book.specs.declared.note.Note.TheVariants as note
-use Rattle.book.specs.declared.note.Call.TheVariants.{Put}
-use Rattle.book.specs.declared.note.Entry.{Entry}
+use Rattle.history.specs.History.{is_put}
+use Rattle.history.specs.declared.note.Note.TheVariants as note
+use Rattle.history.specs.declared.note.Call.TheVariants.{Put}
 use Rattle.book.specs.declared.answer.Answer.TheVariants.{Stored}
-use Rattle.book.proofs.Carrying.{after_all-append, carried}
-
-puts-with_lost : (s : State) (n : List ℕ) (blob : Option Blob) (change : _) → (with_lost s n blob change).puts ≡ s.puts
-puts-with_lost s n None change = refl
-puts-with_lost s n (Some blob) change = refl
-
--- a put counts one, and nothing else does
-puts-after : (s : State) (o : Operation) (m : Note) → (after s o m).puts ≡ s.puts + cond (is_put_call (call_of o)) 1 0
-puts-after s (put n code b) m = refl
-puts-after s (read n start len) m = omega arith
-puts-after s (lose n j f) (note.Lost v) = puts-with_lost s n (finite.get s.names n) _ ∙ omega arith
-puts-after s (lose n j f) m = omega arith
-puts-after s (repair n j f) (note.Repaired v) = puts-with_lost s n (finite.get s.names n) _ ∙ omega arith
-puts-after s (repair n j f) m = omega arith
-puts-after s (delete n) (note.Deleted v) = omega arith
-puts-after s (delete n) m = omega arith
-puts-after s (stat n) m = omega arith
-
-count_cons : (x : Entry) (xs : List Entry) → count_by is_put (x ∷ xs) ≡ cond (is_put x) 1 0 + count_by is_put xs
-count_cons x xs = sum_by-cons (λ y. cond (is_put y) 1 0) x xs
-
-puts-after_all : (s : State) (h : History) → (after_all s h).puts ≡ s.puts + count_by is_put (map entry_of h)
-puts-after_all s [] = omega arith
-puts-after_all s (e ∷ h) = puts-after_all (after s e.operation e.note) h ∙ omega (arith, puts-after s e.operation e.note, count_cons (entry_of e) (map entry_of h))
+use Rattle.history.proofs.Beginnings.{after_all-append}
+use Rattle.history.proofs.Puts.{puts-after_all}
+use Rattle.book.proofs.Carrying.{carried}
 
 -- the number of puts is that of the base and of the entries
 puts_counted : (book : Contents) (h : History) → Tells book h → (state_of h).puts ≡ book.base.puts + count_by is_put book.entries

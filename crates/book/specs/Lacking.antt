@@ -3,9 +3,9 @@ use Rattle.std.specs.Prelude.{ℕ, zero, suc, ◌+◌, ◌*◌, ◌/◌, ◌%◌
 use Rattle.lrc_code.specs.Code.{fragment_count}
 use Rattle.sealed.specs.declared.value.Sealed.{Sealed}
 use Rattle.sealed.specs.Sealed.{absent_in}
-use Rattle.book.specs.declared.note.Note.{Note}
-use Rattle.book.specs.declared.note.Note.TheVariants.{NoName}
-use Rattle.book.specs.Views.{View}
+use Rattle.history.specs.declared.note.Note.{Note}
+use Rattle.history.specs.declared.note.Note.TheVariants.{NoName}
+use Rattle.history.specs.Views.{View}
 
 -- how many of the numbers below n pass
 abbrev pub count_below : (ℕ → Bool) → ℕ → ℕ

@@ -6,11 +6,11 @@ use Rattle.std.specs.BTreeMap.{is_at}
 use Rattle.sealed.specs.declared.value.Sealed.{Sealed}
 use Rattle.sealed.specs.Blob.{Lost, fragment}
 use Rattle.sealed.specs.Sealed.{StandsFor}
-use Rattle.book.specs.declared.note.Note.{Note}
-use Rattle.book.specs.declared.note.Note.TheVariants as note
+use Rattle.history.specs.declared.note.Note.{Note}
+use Rattle.history.specs.declared.note.Note.TheVariants as note
 use Rattle.book.specs.Lacking.{reply_for}
-use Rattle.book.specs.Names.{name_cmp}
-use Rattle.book.specs.Views.{View}
+use Rattle.history.specs.Names.{name_cmp}
+use Rattle.history.specs.Views.{View}
 
 -- the new value stands for the bytes of the old one, with its lost fragments changed
 pub record IsWith (change : Lost → Lost) (old new : Sealed) : Type 0 where

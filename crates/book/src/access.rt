@@ -1,7 +1,7 @@
 //! A new book, and what it shows.
 ghost use Rattle.std.specs.Prelude.{◌≡◌, ◌≤◌, ◌↔◌, [], length, IsTrue, IfOk, IfErr};
 ghost use Rattle.std.specs.Option.{option_map};
-ghost use Rattle.book.specs.Base.{empty_base};
+ghost use Rattle.history.specs.Base.{empty_base};
 ghost use Rattle.book.specs.Contents.{sealed_at};
 ghost use Rattle.book.specs.Tells.{Tells};
 

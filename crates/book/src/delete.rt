@@ -2,9 +2,9 @@
 ghost use Rattle.std.specs.Prelude.{◌≡◌, ◌↔◌, length, IfOk, IfErr, OnErr};
 ghost use Rattle.book.specs.Lacking.{reply_for};
 ghost use Rattle.book.specs.Notes.{note_of};
-ghost use Rattle.book.specs.Step.{delete as delete_of};
+ghost use Rattle.history.specs.Step.{delete as delete_of};
 ghost use Rattle.book.specs.Tells.{CarriesOn};
-ghost use Rattle.book.specs.Views.{delete_reply};
+ghost use Rattle.history.specs.Views.{delete_reply};
 
 use crate::book::Book;
 use crate::shelved::Shelved;

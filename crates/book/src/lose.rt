@@ -2,9 +2,9 @@
 ghost use Rattle.std.specs.Prelude.{◌≡◌, ◌⊎◌, ◌↔◌, length, IfOk, IfErr, OnErr};
 ghost use Rattle.book.specs.Losing.{Loses, Replaces};
 ghost use Rattle.book.specs.Notes.{note_of};
-ghost use Rattle.book.specs.Step.{lose as lose_of};
+ghost use Rattle.history.specs.Step.{lose as lose_of};
 ghost use Rattle.book.specs.Tells.{CarriesOn};
-ghost use Rattle.book.specs.Views.{lose_reply};
+ghost use Rattle.history.specs.Views.{lose_reply};
 
 use crate::book::Book;
 use crate::shelved::Shelved;

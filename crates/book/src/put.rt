@@ -2,8 +2,8 @@
 ghost use Rattle.std.specs.Prelude.{◌≡◌, ◌⊎◌, ◌↔◌, ◌+◌, List, ℕ, length, count_by, IfOk, IfErr, OnErr};
 ghost use Rattle.sealed.specs.Blob.{nothing};
 ghost use Rattle.sealed.specs.Sealed.{StandsFor};
-ghost use Rattle.book.specs.Notes.{is_put};
-ghost use Rattle.book.specs.Step.{put as put_of};
+ghost use Rattle.history.specs.History.{is_put};
+ghost use Rattle.history.specs.Step.{put as put_of};
 ghost use Rattle.book.specs.Tells.{CarriesOn};
 
 use crate::book::Book;

@@ -3,7 +3,7 @@ ghost use Rattle.std.specs.Prelude.{◌≡◌, ◌⊎◌, IfErr, ◌↔◌, leng
 ghost use Rattle.std.specs.Option.{option_map};
 ghost use Rattle.book.specs.Asked.{IsReadAnswer, IsGrantable};
 ghost use Rattle.book.specs.Contents.{sealed_at};
-ghost use Rattle.book.specs.Step.{read as read_of};
+ghost use Rattle.history.specs.Step.{read as read_of};
 ghost use Rattle.book.specs.Tells.{CarriesOn};
 
 use crate::book::Book;

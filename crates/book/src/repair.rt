@@ -2,9 +2,9 @@
 ghost use Rattle.std.specs.Prelude.{◌≡◌, ◌⊎◌, ◌↔◌, length, IfOk, IfErr, OnErr};
 ghost use Rattle.book.specs.Losing.{Mends, Replaces};
 ghost use Rattle.book.specs.Notes.{note_of};
-ghost use Rattle.book.specs.Step.{repair as repair_of};
+ghost use Rattle.history.specs.Step.{repair as repair_of};
 ghost use Rattle.book.specs.Tells.{CarriesOn};
-ghost use Rattle.book.specs.Views.{repair_reply};
+ghost use Rattle.history.specs.Views.{repair_reply};
 
 use crate::book::Book;
 use crate::shelved::Shelved;

@@ -8,7 +8,7 @@ ghost use Rattle.sealed.specs.Sealed.{StandsFor, absent_in};
 ghost use Rattle.book.specs.Lacking.{reply_for, lacks, seen_of};
 ghost use Rattle.book.specs.Losing.{IsFragmentOf, IsWith, Loses, Mends};
 ghost use Rattle.book.specs.Notes.{note_of};
-ghost use Rattle.book.specs.Views.{no_such, open_test, lose_reply, repair_reply, stat_reply};
+ghost use Rattle.history.specs.Views.{no_such, open_test, lose_reply, repair_reply, stat_reply};
 
 use crate::{Answer, Fault};
 use bytes::Bytes;

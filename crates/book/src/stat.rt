@@ -3,9 +3,9 @@ ghost use Rattle.std.specs.Prelude.{◌≡◌, ◌↔◌, length, IfOk, IfErr, O
 ghost use Rattle.std.specs.Option.{option_copied};
 ghost use Rattle.book.specs.Lacking.{reply_for};
 ghost use Rattle.book.specs.Notes.{note_of};
-ghost use Rattle.book.specs.Step.{stat as stat_of};
+ghost use Rattle.history.specs.Step.{stat as stat_of};
 ghost use Rattle.book.specs.Tells.{CarriesOn};
-ghost use Rattle.book.specs.Views.{stat_reply};
+ghost use Rattle.history.specs.Views.{stat_reply};
 
 use crate::book::Book;
 use crate::shelved::Shelved;

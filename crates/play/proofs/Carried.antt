@@ -4,12 +4,12 @@ use Rattle.std.specs.Prelude.{IfOk, OnErr, Result, Ok, Err}
 use Rattle.sealed.specs.declared.fault.Fault.{Fault}
 use Rattle.book.specs.declared.answer.Answer.{Answer}
 use Rattle.book.specs.Notes.{note_of}
-use Rattle.book.specs.Step.{Operation}
+use Rattle.history.specs.Step.{Operation}
 use Rattle.book.specs.Contents.{Contents}
 use Rattle.book.specs.Tells.{CarriesOn}
-use Rattle.book.specs.Base.{Checkpoint, empty_base}
-use Rattle.book.specs.Lawful.{IsLawful, IsLawfulFrom}
-use Rattle.book.proofs.Beginnings.{told_is_lawful}
+use Rattle.history.specs.Base.{Checkpoint, empty_base}
+use Rattle.history.specs.Lawful.{IsLawful, IsLawfulFrom}
+use Rattle.book.proofs.Carrying.{told_is_lawful}
 use Rattle.play.specs.Runs.{TellsSome}
 
 -- a book that told some history before a call tells some history after it

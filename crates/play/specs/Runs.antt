@@ -4,9 +4,9 @@ use Rattle.sealed.specs.declared.fault.Fault.{Fault}
 use Rattle.sealed.specs.declared.fault.Fault.TheVariants.{NoMemory, JournalFull, TooLong}
 use Rattle.script.specs.declared.rows.Ask.{Ask}
 use Rattle.script.specs.declared.rows.Ask.TheVariants.{Put, Read, Lose, Repair, Delete, Stat}
-use Rattle.book.specs.Step.{Operation, put, read, lose, repair, delete, stat}
+use Rattle.history.specs.Step.{Operation, put, read, lose, repair, delete, stat}
 use Rattle.book.specs.Contents.{Contents}
-use Rattle.book.specs.History.{History}
+use Rattle.history.specs.History.{History}
 use Rattle.book.specs.Tells.{Tells}
 
 -- the operation that a row asks for

@@ -1,6 +1,6 @@
 //! The printed text of a run.
 ghost use Rattle.std.specs.Prelude.{◌≡◌, IfOk, codes, string_bytes};
-ghost use Rattle.book.specs.Lawful.{IsLawful};
+ghost use Rattle.history.specs.Lawful.{IsLawful};
 ghost use Rattle.play.specs.Output.{IsOutput};
 
 use crate::reply::reply_to;

@@ -1,7 +1,7 @@
 -- Names of blobs, as a test.
 use Rattle.std.specs.Prelude.{ℕ, List, Bool, ◌&&◌, length, nat_le}
 use Rattle.std.specs.List.{list_all}
-use Rattle.book.specs.Names.{is_name_byte}
+use Rattle.history.specs.Names.{is_name_byte}
 
 -- whether bytes are a name
 unfoldable pub is_name : List ℕ → Bool

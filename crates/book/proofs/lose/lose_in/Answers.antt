@@ -2,9 +2,9 @@ use Rattle.std.proofs.Common.{◌∙◌, sym, ap}
 use Rattle.std.specs.BTreeMap.{is_at}
 use Rattle.std.specs.Map.{set_value}
 use Rattle.book.specs.Losing.{Loses, Replaces}
-use Rattle.book.specs.Names.{name_cmp}
+use Rattle.history.specs.Names.{name_cmp}
 use Rattle.book.specs.Notes.{note_of}
-use Rattle.book.specs.Views.{lose_reply}
+use Rattle.history.specs.Views.{lose_reply}
 use Rattle.book.proofs.Losing.{same_value, is_some_at, replaced_by, at_both, at_err}
 use Rattle.book.proofs.lose.lose_in.Goals as goal
 

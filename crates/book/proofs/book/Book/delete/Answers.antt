@@ -2,8 +2,8 @@ use Rattle.std.proofs.Common.{◌≡◌, ◌∙◌, None, cond, ap}
 use Rattle.std.specs.BTreeMap.{is_at}
 use Rattle.book.specs.Contents.{Contents, sealed_at}
 use Rattle.book.specs.Lacking.{reply_for}
-use Rattle.book.specs.Names.{name_cmp}
-use Rattle.book.specs.Views.{delete_reply}
+use Rattle.history.specs.Names.{name_cmp}
+use Rattle.history.specs.Views.{delete_reply}
 use Rattle.book.proofs.Answering.{carries_delete}
 use Rattle.book.proofs.book.Book.delete.Goals as goal
 

@@ -2,7 +2,7 @@ use Rattle.std.proofs.Common.{◌≡◌, ap, subst}
 use Rattle.book.specs.Contents.{Contents}
 use Rattle.book.specs.Losing.{Loses, Catalogue, Replaces}
 use Rattle.book.specs.Notes.{note_of}
-use Rattle.book.specs.Views.{lose_reply}
+use Rattle.history.specs.Views.{lose_reply}
 use Rattle.book.proofs.Losing.{carries_lose}
 use Rattle.book.proofs.book.Book.lose.Goals as goal
 

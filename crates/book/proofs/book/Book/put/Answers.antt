@@ -1,10 +1,10 @@
 use Rattle.std.proofs.Common.{◌≡◌, ◌≤◌, ap, ◌∙◌, ◌+◌, arith, length, cond, Some}
 use Rattle.std.specs.BTreeMap.{is_at}
-use Rattle.book.specs.Names.{name_cmp}
+use Rattle.history.specs.Names.{name_cmp}
 use Rattle.std.specs.Prelude.{count_by}
 use Rattle.std.proofs.lemmas.List.Sums.{count_by-le-length}
-use Rattle.book.specs.Notes.{is_put}
-use Rattle.book.specs.Base.{Checkpoint}
+use Rattle.history.specs.History.{is_put}
+use Rattle.history.specs.Base.{Checkpoint}
 use Rattle.book.specs.Contents.{Contents, sealed_at}
 use Rattle.book.proofs.Storing.{carries_put}
 use Rattle.book.proofs.book.Book.put.Goals as goal

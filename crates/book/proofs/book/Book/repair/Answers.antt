@@ -2,7 +2,7 @@ use Rattle.std.proofs.Common.{◌≡◌, ap, subst}
 use Rattle.book.specs.Contents.{Contents}
 use Rattle.book.specs.Losing.{Mends, Catalogue, Replaces}
 use Rattle.book.specs.Notes.{note_of}
-use Rattle.book.specs.Views.{repair_reply}
+use Rattle.history.specs.Views.{repair_reply}
 use Rattle.book.proofs.Losing.{carries_repair}
 use Rattle.book.proofs.book.Book.repair.Goals as goal
 

@@ -1,7 +1,7 @@
 use Rattle.std.proofs.Common.{◌≡◌, ◌∙◌, ap}
 use Rattle.book.specs.Contents.{Contents, sealed_at}
 use Rattle.book.specs.Lacking.{reply_for}
-use Rattle.book.specs.Views.{stat_reply}
+use Rattle.history.specs.Views.{stat_reply}
 use Rattle.book.proofs.Answering.{carries_stat}
 use Rattle.book.proofs.book.Book.stat.Goals as goal
 

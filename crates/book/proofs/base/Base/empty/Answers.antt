@@ -1,6 +1,0 @@
-use Rattle.std.proofs.Common.{arith}
-use Rattle.book.proofs.Beginnings.{none_rise}
-use Rattle.book.proofs.base.Base.empty.Goals as goal
-
-pub invariant_of-result : goal.invariant_of-result
-invariant_of-result c = rw c.new.ensures.items (omega arith, none_rise)

@@ -1,0 +1,16 @@
+-- What is known of a fragment that was rebuilt outside the book.
+use Rattle.std.specs.Prelude.{◌≡◌, ℕ, ◌<◌, List, length}
+use Rattle.lrc_code.specs.declared.Code.{Code}
+use Rattle.lrc_code.specs.Code.{fragment_count}
+use Rattle.sealed.specs.Layout.{stripe_count}
+use Rattle.sealed.specs.Blob.{fragment}
+use Rattle.history.specs.History.{History, HasPut}
+
+-- the history's put of this version, under this name, has bytes whose fragment f of stripe j this is
+pub record IsFragmentIn (h : History) (w : ℕ) (name : List ℕ) (version j f : ℕ) (found : List ℕ) : Type 0 where
+  pub code : Code
+  pub bytes : List ℕ
+  pub put : HasPut h version name code bytes
+  pub stripe : j < stripe_count code w (length bytes)
+  pub number : f < fragment_count code
+  pub is : found ≡ fragment code w bytes j f

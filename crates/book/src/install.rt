@@ -1,0 +1,43 @@
+//! Mending by a fragment that was rebuilt elsewhere.
+ghost use Rattle.std.specs.Prelude.{◌≡◌, ◌⊎◌, ◌↔◌, length, IfOk, IfErr, OnErr};
+ghost use Rattle.history.specs.History.{History};
+ghost use Rattle.history.specs.Step.{repair as repair_of};
+ghost use Rattle.book.specs.Known.{IsFragmentIn};
+ghost use Rattle.book.specs.Tells.{Tells, CarriesOn};
+
+use crate::book::Book;
+use crate::{Answer, Fault, Name};
+use bytes::Bytes;
+use std::alloc::Global;
+
+impl Book {
+    /// Mends a lost fragment of a name's blob with bytes that were rebuilt from the blob of this version, without the book, before.
+    ///
+    /// It answers as `repair` does, by what the book holds now: where the name has another version by now, and the fragment is lost and can be told from
+    /// those left, it is rebuilt here and the bytes aren't used.
+    ///
+    /// `JournalFull` where the journal holds as many entries as its limit, and then nothing was asked of memory; else `NoMemory` where memory is
+    /// refused. After either the book is as it was.
+    pub fn install(
+        &mut self,
+        alloc: Global,
+        who: u32,
+        name: Name,
+        version: u64,
+        stripe: u64,
+        fragment: u64,
+        bytes: Bytes,
+    ) -> Result<Answer, Fault>
+        requires known { (h : History) × Tells self.old h × IsFragmentIn h self.old.width name version stripe fragment bytes }
+        ensures ok { IfOk result (CarriesOn self.old self.new who (repair_of name stripe fragment)) }
+        ensures full { (result ≡ Err Fault.JournalFull) ↔ (length self.old.entries ≡ self.old.limit) }
+        ensures kept { (self.new.width ≡ self.old.width) × (self.new.limit ≡ self.old.limit) × (self.new.base ≡ self.old.base) }
+        ensures faults { IfErr result (λ e. (e ≡ Fault.NoMemory) ⊎ (e ≡ Fault.JournalFull)) }
+        ensures err { OnErr result (self.new ≡ self.old) }
+    {
+        if self.is_full() {
+            return Err(Fault::JournalFull);
+        }
+        Err(Fault::NoMemory)
+    }
+}

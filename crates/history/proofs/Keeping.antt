@@ -1,0 +1,137 @@
+-- What is kept of a blob tells which fragments are open.
+use Rattle.std.proofs.Common.{◌≡◌, ℕ, ◌+◌, ◌-◌, ◌*◌, ◌/◌, ◌%◌, ◌<◌, ◌≤◌, Bool, true, false, ◌&&◌, List, [], ◌∷◌, refl, sym, ap, ◌∙◌, subst, arith, inl, inr}
+use Rattle.std.specs.Prelude.{nat_le, nat_lt, IsTrue, ◌↔◌}
+use Rattle.std.specs.List.{list_any}
+use Rattle.std.specs.BTreeMap.{is_at}
+use Rattle.std.proofs.Math.Nat.{div-mul-le_self}
+use Rattle.std.proofs.lemmas.Nat.{le-div, div-mul-add}
+use Rattle.std.proofs.lemmas.Bool.{or_cases, or_left, or_right, and_parts, cases_Bool, false≢true}
+use Rattle.std.proofs.lemmas.Grind.{common_steps}
+use Rattle.lrc_code.specs.declared.Code.{Code}
+use Rattle.lrc_code.specs.declared.Code.TheVariants.{Wide, Small}
+use Rattle.lrc_code.specs.Code.{fragment_count, data_count, Open}
+use Rattle.lrc_code.proofs.Recoverable.{exact, not_open_left}
+use Rattle.lrc_code.proofs.Stripes.{open_same}
+use Rattle.sealed.specs.Layout.{stripe_of, fragment_of}
+use Rattle.sealed.specs.Blob.{pair_cmp}
+use Rattle.sealed.proofs.Places.{fragment_inside, stripe_by_count, fragment_by_count}
+use Rattle.lent.specs.Range.{HasOpen}
+use Rattle.lent.proofs.Readable.{Meets, has_open}
+use Rattle.history.specs.Views.{open_test, open_in_range}
+use Rattle.history.specs.Kept.{lost_of, is_open_between}
+use Rattle.history.specs.declared.kept.Kept.{Kept}
+use Rattle.history.proofs.Replies.{open_found}
+
+pub same_truth : (a b : Bool) → (a ≡ true → b ≡ true) → (b ≡ true → a ≡ true) → a ≡ b
+same_truth true b forth back = sym (forth refl)
+same_truth false true forth back = back refl
+same_truth false false forth back = refl
+
+data_is_counted : (code : Code) → data_count code ≤ fragment_count code
+data_is_counted Wide = omega arith
+data_is_counted Small = omega arith
+
+some_data : (code : Code) → 1 ≤ data_count code
+some_data Wide = omega arith
+some_data Small = omega arith
+
+pub few_fragments : (code : Code) → fragment_count code ≤ 16
+few_fragments Wide = omega arith
+few_fragments Small = omega arith
+
+-- a set of lost fragments tells what is open
+pub open_known : (code : Code) (known lost : ℕ → Bool) (f : ℕ) (r : Bool) → f < fragment_count code → IsTrue r ↔ Open code known f
+    → ((g : ℕ) → g < 16 → known g ≡ lost g) → r ≡ open_test code lost f
+open_known code known lost f r l is same =
+    let few = few_fragments code in
+    same_truth r (open_test code lost f)
+    (λ t. (exact code lost f l).1 (open_same code known lost f (λ i h. same i (omega arith)) (is.0 t)))
+    (λ t. is.1 (open_same code lost known f (λ i h. sym (same i (omega arith))) ((exact code lost f l).0 t)))
+
+-- ---- lists of pairs
+same_pair : (j f a b : ℕ) → is_at (pair_cmp (j, f)) (a, b) ≡ true → (j ≡ a) × (f ≡ b)
+same_pair j f a b e = (grind (arith, common_steps), grind (arith, common_steps))
+
+any_at : (test : ℕ × ℕ → Bool) (j f : ℕ) (pairs : List (ℕ × ℕ)) → list_any (is_at (pair_cmp (j, f))) pairs ≡ true → test (j, f) ≡ true → list_any test pairs ≡ true
+any_at test j f [] h t = h
+any_at test j f ((a, b) ∷ pairs) h t =
+    elim (or_cases (is_at (pair_cmp (j, f)) (a, b)) _ h) [
+      | inl here ↦ let same = same_pair j f a b here in or_left (test (a, b)) _ (subst (λ x. test (a, x) ≡ true) same.1 (subst (λ x. test (x, f) ≡ true) same.0 t))
+      | inr later ↦ or_right (test (a, b)) _ (any_at test j f pairs later t)
+    ]
+
+some_pair : (test : ℕ × ℕ → Bool) (pairs : List (ℕ × ℕ)) → list_any test pairs ≡ true → (p : ℕ × ℕ) × (test p ≡ true)
+some_pair test [] h = absurd (false≢true h)
+some_pair test (p ∷ pairs) h = elim (or_cases (test p) _ h) [ inl here ↦ (p, here) | inr later ↦ some_pair test pairs later ]
+
+-- ---- open data fragments
+le_of : (a b : ℕ) → nat_le a b ≡ true → a ≤ b
+le_of a b h = grind (arith, common_steps)
+
+pub lt_of : (a b : ℕ) → nat_lt a b ≡ true → a < b
+lt_of a b h = grind (arith, common_steps)
+
+is_le : (a b : ℕ) → a ≤ b → nat_le a b ≡ true
+is_le a b h = grind (arith, common_steps)
+
+pub is_lt : (a b : ℕ) → a < b → nat_lt a b ≡ true
+is_lt a b h = grind (arith, common_steps)
+
+pub both : (a b : Bool) → a ≡ true → b ≡ true → (a && b) ≡ true
+both a b h k = grind (arith, common_steps)
+
+div_mono : (w a b : ℕ) → 1 ≤ w → a ≤ b → a / w ≤ b / w
+div_mono w a b some le = let under : a / w * w ≤ a = div-mul-le_self a w in le-div (a / w) b w some (omega arith)
+
+module _ (k : Kept) (w start len : ℕ) (some : 1 ≤ w) (bytes : 0 < len) where
+  meets : (n : ℕ) → start / w ≤ n → n ≤ (start + len - 1) / w → Meets w start len n
+  meets n low high = record { first = low; last = grind arith }
+
+  -- the number of a pair's fragment gives the pair
+  stripe_back : (j f : ℕ) → f < data_count k.code → (data_count k.code * j + f) / data_count k.code ≡ j
+  stripe_back j f l = ap (λ n. n / data_count k.code) (let e : data_count k.code * j + f ≡ j * data_count k.code + f = omega arith in e) ∙ div-mul-add j (data_count k.code) f l
+
+  fragment_back : (j f : ℕ) → f < data_count k.code → (data_count k.code * j + f) % data_count k.code ≡ f
+  fragment_back j f l =
+      let q : (data_count k.code * j + f) / data_count k.code ≡ j = stripe_back j f l in
+      let n = data_count k.code * j + f in
+      let whole : data_count k.code * (n / data_count k.code) + n % data_count k.code ≡ n = (let s = some_data k.code in omega arith) in
+      let whole' : data_count k.code * j + n % data_count k.code ≡ n = subst (λ (x : ℕ). data_count k.code * x + n % data_count k.code ≡ n) q whole in
+      omega arith
+
+  has_one : list_any (is_open_between k (start / w) ((start + len - 1) / w)) k.lost.keys ≡ true → HasOpen k.code w (lost_of k) start len
+  has_one h =
+      let found = some_pair (is_open_between k (start / w) ((start + len - 1) / w)) k.lost.keys h in
+      let j = found.0.0 in
+      let f = found.0.1 in
+      let n = data_count k.code * j + f in
+      let parts = and_parts (nat_lt f (data_count k.code) && (nat_le (start / w) n && nat_le n ((start + len - 1) / w))) _ found.1 in
+      let inner = and_parts (nat_lt f (data_count k.code)) _ parts.0 in
+      let ends = and_parts (nat_le (start / w) n) _ inner.1 in
+      let l : f < data_count k.code = lt_of f (data_count k.code) inner.0 in
+      let more = data_is_counted k.code in
+      let opened : Open k.code (lost_of k j) f = (exact k.code (lost_of k j) f (omega arith)).0 parts.1 in
+      has_open k.code w some start len (lost_of k) n (meets n (le_of (start / w) n ends.0) (le_of n ((start + len - 1) / w) ends.1))
+      (subst (λ x. Open k.code (lost_of k x) (n % data_count k.code)) (sym (stripe_back j f l)) (subst (λ x. Open k.code (lost_of k j) x) (sym (fragment_back j f l)) opened))
+
+  is_one : HasOpen k.code w (lost_of k) start len → list_any (is_open_between k (start / w) ((start + len - 1) / w)) k.lost.keys ≡ true
+  is_one o =
+      let i = o.0 in
+      let j = stripe_of k.code w i in
+      let f = fragment_of k.code w i in
+      let l : f < data_count k.code = fragment_inside k.code w some i in
+      let more = data_is_counted k.code in
+      let inside : f < fragment_count k.code = omega arith in
+      let number : data_count k.code * j + f ≡ i / w =
+      (λ t. data_count k.code * stripe_by_count k.code w some i t + fragment_by_count k.code w some i t) ∙ (let s = some_data k.code in omega arith) in
+      let low : start / w ≤ i / w = div_mono w start i some o.1 in
+      let high : i / w ≤ (start + len - 1) / w = div_mono w i (start + len - 1) some (let h = o.2 in omega arith) in
+      let lost : lost_of k j f ≡ true = elim (cases_Bool (lost_of k j f)) [ inl t ↦ t | inr t ↦ absurd (not_open_left k.code (lost_of k j) f inside t o.3) ] in
+      any_at (is_open_between k (start / w) ((start + len - 1) / w)) j f k.lost.keys lost
+      (both _ _ (both _ _ (is_lt f (data_count k.code) l) (both _ _ (is_le (start / w) (data_count k.code * j + f) (omega arith)) (is_le (data_count k.code * j + f) ((start + len - 1) / w) (omega arith))))
+      ((exact k.code (lost_of k j) f inside).1 o.3))
+
+  pub open_between : list_any (is_open_between k (start / w) ((start + len - 1) / w)) k.lost.keys ≡ open_in_range k.code w (lost_of k) start len
+  open_between =
+      let range = open_found k.code w (lost_of k) start len in
+      same_truth _ _ (λ t. range.1 (has_one t)) (λ t. is_one (range.0 t))

@@ -1,0 +1,10 @@
+pub mod Replies
+pub mod Rows
+pub mod Inside
+pub mod Beginnings
+pub mod Puts
+pub mod NoBase
+pub mod Catalogue
+pub mod Keeping
+pub mod Replaying
+pub mod Shapes

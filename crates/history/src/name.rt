@@ -1,0 +1,106 @@
+//! The names of blobs.
+ghost use Rattle.std.specs.Prelude.{◌≡◌, ◌↔◌, IsOk, IfOk, IfErr, nat_eq, refl, Some};
+ghost use Rattle.std.specs.Ordering.{nat_cmp};
+ghost use Rattle.std.specs.Cmp.Lexicographic.{pointwise, slice_cmp, nat_list_eq_equiv, nat_list_cmp_total, texts_ties, texts_po};
+ghost use Rattle.std.specs.Cmp.{partial_equiv_from_equiv};
+ghost use Rattle.history.specs.Names.{IsName, is_name_byte as is_plain};
+
+use crate::Fault;
+use arrayvec::ArrayString;
+use std::cmp::Ordering;
+use std::marker::Model;
+
+/// The name of a blob: from 1 to 32 bytes of `a-z`, `0-9`, `.`, `_` and `-`.
+#[derive(Drop)]
+pub struct Name {
+    text: ArrayString<32>,
+}
+
+impl Model for Name {
+    ghost use Rattle.std.specs.Prelude.{List, ℕ};
+    ghost use Rattle.history.specs.Names.{IsName};
+
+    ghost Value = { List ℕ };
+
+    ghost view = { λ n. n.text.bytes };
+
+    ghost invariant = { λ n. IsName n.text.bytes };
+}
+
+impl Name {
+    /// The name of this text. `BadName` where it is none.
+    pub fn new(text: &str) -> Result<Name, Fault>
+        ensures variant { IsOk result ↔ IsName text.now }
+        ensures ok { IfOk result (λ n. n ≡ text.now) }
+        ensures err { IfErr result (λ e. e ≡ Fault.BadName) }
+    {
+        let bytes = text.as_bytes();
+        if bytes.is_empty() || !bytes.iter().all(|&c| is_name_byte(c)) {
+            return Err(Fault::BadName);
+        }
+        match ArrayString::from(text) {
+            Ok(text) => Ok(Name { text }),
+            Err(_) => Err(Fault::BadName),
+        }
+    }
+
+    /// A copy. It asks for no memory.
+    pub fn duplicate(&self) -> Name
+        ensures { result ≡ self.now }
+    {
+        Name { text: self.text }
+    }
+
+    /// Its text.
+    pub fn as_str(&self) -> &str
+        ensures value { result.now ≡ self.now }
+        ensures name { IsName self.now }
+    {
+        self.text.as_str()
+    }
+}
+
+/// Whether a name may have this byte.
+fn is_name_byte(c: u8) -> bool
+    ensures { result ≡ is_plain c }
+{
+    matches!(c, b'a'..=b'z' | b'0'..=b'9' | b'.' | b'_' | b'-')
+}
+
+impl PartialEq for Name {
+    ghost eq = { pointwise nat_eq };
+
+    ghost laws = { partial_equiv_from_equiv nat_list_eq_equiv };
+
+    fn eq(&self, other: &Self) -> bool {
+        self.as_str() == other.as_str()
+    }
+}
+
+impl Eq for Name {
+    ghost laws = { nat_list_eq_equiv };
+}
+
+impl PartialOrd for Name {
+    ghost partial_cmp = { λ x y. Some (slice_cmp nat_cmp x y) };
+
+    ghost laws = { texts_po };
+
+    fn partial_cmp(&self, other: &Self) -> Option<Ordering> {
+        Some(self.cmp(other))
+    }
+}
+
+impl Ord for Name {
+    ghost cmp = { slice_cmp nat_cmp };
+
+    ghost total = { nat_list_cmp_total };
+
+    ghost matches_partial_cmp = { λ x y. refl };
+
+    ghost matches_eq = { texts_ties };
+
+    fn cmp(&self, other: &Self) -> Ordering {
+        self.as_str().cmp(other.as_str())
+    }
+}

@@ -1,0 +1,218 @@
+//! The object of one thread without its bytes: what it replies to each call, and what is kept after it.
+ghost use Rattle.std.specs.Prelude.{◌≡◌, ◌≤◌, ◌+◌, ◌↔◌, IsTrue, OnOk, replicate};
+ghost use Rattle.std.specs.Option.{option_map};
+ghost use Rattle.sealed.specs.Layout.{stripe_count};
+ghost use Rattle.history.specs.Kept.{seen_as, views_of};
+ghost use Rattle.history.specs.Views.{read_reply, lose_reply, repair_reply, delete_reply, stat_reply, empty_views, view_after, added, taken, changed, IsNoted, next};
+ghost use Rattle.history.specs.Step.{put};
+
+use crate::kept::Kept;
+use crate::{Call, Entry, Name, Note};
+use lrc_code::Code;
+use sealed::{Width, count_stripes};
+use std::alloc::{AllocError, Global};
+use std::collections::{BTreeMap, BTreeSet};
+
+/// The names with what is kept of their blobs, and how many puts there were.
+#[derive(Drop)]
+pub struct Replay {
+    pub names: BTreeMap<Name, Kept>,
+    pub puts: u64,
+    pub width: Width,
+}
+
+impl Replay {
+    /// No name, and no put so far.
+    pub fn new(alloc: Global, width: Width) -> Replay
+        ensures views { views_of result ≡ empty_views }
+        ensures width { result.width ≡ width }
+    {
+        Replay {
+            names: BTreeMap::new(alloc),
+            puts: 0,
+            width,
+        }
+    }
+
+    /// Whether the note of an entry is the reply to its call.
+    pub fn expects(&self, entry: &Entry) -> bool
+        ensures { IsTrue result ↔ IsNoted self.now.width (views_of self.now) entry.now }
+    {
+        match &entry.call {
+            Call::Put { code, len, .. } => self.expects_put(*code, *len, entry.note),
+            Call::Read { name, start, len } => entry.note == self.read(name, *start, *len),
+            Call::Lose {
+                name,
+                stripe,
+                fragment,
+            } => entry.note == self.lose(name, *stripe, *fragment),
+            Call::Repair {
+                name,
+                stripe,
+                fragment,
+            } => entry.note == self.repair(name, *stripe, *fragment),
+            Call::Delete { name } => entry.note == self.delete(name),
+            Call::Stat { name } => entry.note == self.stat(name),
+        }
+    }
+
+    /// Whether so many bytes can be put, and the note is the reply.
+    fn expects_put(&self, code: Code, len: u64, note: Note) -> bool
+        ensures { IsTrue result ↔ ((stripe_count code self.now.width len ≤ 4096) × (note ≡ Note.Stored (self.now.puts + 1))) }
+    {
+        match note {
+            Note::Stored(version) => {
+                version > 0
+                    && version - 1 == self.puts
+                    && count_stripes(code, self.width, len) <= 4096
+            }
+            _ => false,
+        }
+    }
+
+    /// What is kept of a name's blob.
+    fn find(&self, name: &Name) -> Option<&Kept>
+        ensures { option_map (λ k. seen_as k.now) result ≡ (views_of self.now).names name.now }
+    {
+        self.names.get(name)
+    }
+
+    /// The reply to a read.
+    fn read(&self, name: &Name, start: u64, len: u64) -> Note
+        ensures { result ≡ read_reply self.now.width ((views_of self.now).names name.now) start len }
+    {
+        match self.find(name) {
+            Some(kept) => kept.read(self.width, start, len),
+            None => Note::NoName,
+        }
+    }
+
+    /// The reply to a loss.
+    fn lose(&self, name: &Name, stripe: u64, fragment: u64) -> Note
+        ensures { result ≡ lose_reply self.now.width ((views_of self.now).names name.now) stripe fragment }
+    {
+        match self.find(name) {
+            Some(kept) => kept.lose(self.width, stripe, fragment),
+            None => Note::NoName,
+        }
+    }
+
+    /// The reply to a repair.
+    fn repair(&self, name: &Name, stripe: u64, fragment: u64) -> Note
+        ensures { result ≡ repair_reply self.now.width ((views_of self.now).names name.now) stripe fragment }
+    {
+        match self.find(name) {
+            Some(kept) => kept.repair(self.width, stripe, fragment),
+            None => Note::NoName,
+        }
+    }
+
+    /// The reply to a deletion.
+    fn delete(&self, name: &Name) -> Note
+        ensures { result ≡ delete_reply self.now.width ((views_of self.now).names name.now) }
+    {
+        match self.find(name) {
+            Some(kept) => Note::Deleted(kept.version),
+            None => Note::NoName,
+        }
+    }
+
+    /// The reply to a question for a blob's shape.
+    fn stat(&self, name: &Name) -> Note
+        ensures { result ≡ stat_reply self.now.width ((views_of self.now).names name.now) }
+    {
+        match self.find(name) {
+            Some(kept) => kept.stat(self.width),
+            None => Note::NoName,
+        }
+    }
+
+    /// Takes in an entry whose note is the reply to its call.
+    pub fn apply(&mut self, alloc: Global, entry: &Entry) -> Result<(), AllocError>
+        requires { IsNoted self.old.width (views_of self.old) entry.now }
+        ensures views { OnOk result (views_of self.new ≡ next (views_of self.old) entry.now) }
+        ensures width { self.new.width ≡ self.old.width }
+    {
+        match &entry.call {
+            Call::Put { name, code, len } => match entry.note {
+                Note::Stored(version) => self.apply_put(alloc, name, *code, *len, version),
+                _ => Ok(()),
+            },
+            Call::Lose {
+                name,
+                stripe,
+                fragment,
+            } => match entry.note {
+                Note::Lost(_) => self.add_lost(name, *stripe, *fragment as u8),
+                _ => Ok(()),
+            },
+            Call::Repair {
+                name,
+                stripe,
+                fragment,
+            } => {
+                if let Note::Repaired(_) = entry.note {
+                    self.take_lost(name, *stripe, *fragment as u8);
+                }
+                Ok(())
+            }
+            Call::Delete { name } => {
+                if let Note::Deleted(_) = entry.note {
+                    self.names.remove(name);
+                }
+                Ok(())
+            }
+            Call::Read { .. } | Call::Stat { .. } => Ok(()),
+        }
+    }
+
+    /// The name has a new blob, under the next version.
+    fn apply_put(
+        &mut self,
+        alloc: Global,
+        name: &Name,
+        code: Code,
+        len: u64,
+        version: u64,
+    ) -> Result<(), AllocError>
+        requires { version ≡ self.old.puts + 1 }
+        ensures views { OnOk result (views_of self.new ≡ view_after (views_of self.old) (put name.now code (replicate len 0)) (Note.Stored version)) }
+        ensures width { self.new.width ≡ self.old.width }
+    {
+        let kept = Kept {
+            version,
+            len,
+            code,
+            lost: BTreeSet::new(alloc),
+        };
+        let Ok(_) = self.names.insert(name.duplicate(), kept) else {
+            return Err(AllocError);
+        };
+        self.puts = version;
+        Ok(())
+    }
+
+    /// A fragment of the name's blob is lost.
+    fn add_lost(&mut self, name: &Name, stripe: u64, f: u8) -> Result<(), AllocError>
+        ensures views { OnOk result (views_of self.new ≡ changed (views_of self.old) name.now ((views_of self.old).names name.now) (added stripe f)) }
+        ensures width { self.new.width ≡ self.old.width }
+    {
+        let Some(kept) = self.names.get_mut(name) else {
+            return Ok(());
+        };
+        let Ok(_) = kept.lost.insert((stripe, f)) else {
+            return Err(AllocError);
+        };
+        Ok(())
+    }
+
+    /// A fragment of the name's blob is there again.
+    fn take_lost(&mut self, name: &Name, stripe: u64, f: u8)
+        ensures views { views_of self.new ≡ changed (views_of self.old) name.now ((views_of self.old).names name.now) (taken stripe f) }
+        ensures width { self.new.width ≡ self.old.width }
+    {
+        if let Some(kept) = self.names.get_mut(name) {
+            kept.lost.remove(&(stripe, f));
+        }
+    }
+}

@@ -1,0 +1,111 @@
+use super::*;
+use lrc_code::Code;
+use sealed::Width;
+use std::alloc::Global;
+use std::process::Abort;
+use std::test::Fail;
+
+#[test]
+fn another_version_is_not_lawful(rt: HostRuntime) -> Result<(), Fail> {
+    let alloc = rt.alloc();
+    let (width, name) = (Width::new(1).expect(&rt, "a width"), Name::new("a")?);
+    for (version, lawful) in [(1, true), (2, false)] {
+        let mut entries = Vec::new(alloc);
+        let put = Call::Put {
+            name: name.duplicate(),
+            code: Code::Wide,
+            len: 5,
+        };
+        note(&mut entries, put, Note::Stored(version))?;
+        assert_eq!(rt; is_lawful(alloc, &entries, width)?, lawful);
+    }
+    Ok(())
+}
+
+/// Adds a call of the first caller with its note.
+fn note(entries: &mut Vec<Entry>, call: Call, note: Note) -> Result<(), Fault> {
+    match entries.push(Entry { who: 1, call, note }) {
+        Ok(()) => Ok(()),
+        Err(_) => Err(Fault::NoMemory),
+    }
+}
+
+/// Five fragments of twelve letters are lost. The sixth data fragment is alone lost in its group, and the first is not.
+fn losses(alloc: Global, name: &Name) -> Result<Vec<Entry>, Fault> {
+    let mut entries = Vec::new(alloc);
+    let name = || name.duplicate();
+    let put = Call::Put {
+        name: name(),
+        code: Code::Wide,
+        len: 12,
+    };
+    note(&mut entries, put, Note::Stored(1))?;
+    for fragment in [0, 1, 6, 14, 15] {
+        let lose = Call::Lose {
+            name: name(),
+            stripe: 0,
+            fragment,
+        };
+        note(&mut entries, lose, Note::Lost(1))?;
+    }
+    let read = Call::Read {
+        name: name(),
+        start: 6,
+        len: 1,
+    };
+    note(&mut entries, read, Note::Granted(1))?;
+    let read = Call::Read {
+        name: name(),
+        start: 0,
+        len: 1,
+    };
+    note(&mut entries, read, Note::Unrecoverable(1))?;
+    let repair = Call::Repair {
+        name: name(),
+        stripe: 0,
+        fragment: 6,
+    };
+    note(&mut entries, repair, Note::Repaired(1))?;
+    let shape = Note::Shape {
+        version: 1,
+        len: 12,
+        stripes: 1,
+        lost: 4,
+    };
+    note(&mut entries, Call::Stat { name: name() }, shape)?;
+    note(
+        &mut entries,
+        Call::Delete { name: name() },
+        Note::Deleted(1),
+    )?;
+    Ok(entries)
+}
+
+#[test]
+fn all_six_calls_are_judged(rt: HostRuntime) -> Result<(), Fail> {
+    let alloc = rt.alloc();
+    let (width, name) = (Width::new(1).expect(&rt, "a width"), Name::new("a")?);
+    let mut entries = losses(alloc, &name)?;
+    assert!(rt; is_lawful(alloc, &entries, width)?);
+    note(&mut entries, Call::Stat { name }, Note::NoName)?;
+    assert!(rt; is_lawful(alloc, &entries, width)?);
+    let name = Name::new("a")?;
+    note(&mut entries, Call::Delete { name }, Note::Deleted(1))?;
+    assert!(rt; !is_lawful(alloc, &entries, width)?);
+    Ok(())
+}
+
+#[test]
+fn the_longest_put_is_not_lawful(rt: HostRuntime) -> Result<(), Fail> {
+    let alloc = rt.alloc();
+    let (width, name) = (Width::new(1).expect(&rt, "a width"), Name::new("a")?);
+    let mut entries = Vec::new(alloc);
+    let put = Call::Put {
+        name,
+        code: Code::Wide,
+        len: u64::MAX,
+    };
+    note(&mut entries, put, Note::Stored(1))?;
+    assert!(rt; !is_lawful(alloc, &entries, width)?);
+    Ok(())
+}
