@@ -4,6 +4,7 @@
 mod fail;
 mod output;
 mod reply;
+mod report;
 mod rows;
 mod run;
 

@@ -1,20 +1,21 @@
 //! The printed text of a run.
 ghost use Rattle.std.specs.Prelude.{◌≡◌, IfOk, codes, string_bytes};
-ghost use Rattle.history.specs.Lawful.{IsLawful};
+ghost use Rattle.history.specs.Lawful.{IsLawfulFrom};
 ghost use Rattle.play.specs.Output.{IsOutput};
 
 use crate::reply::reply_to;
 use crate::rows::Outcome;
-use book::{Book, Entry, is_lawful};
+use book::{Book, Entry, is_lawful_from};
 use lrc_code::Plans;
 use std::alloc::{AllocError, Global};
 
 /// A line for each row: its number, from 1, and its reply. Grants are walked here, with one
-/// table of recipes. Then a line for each entry: its number, from 1, its caller's label,
-/// its call and its note.
+/// table of recipes. Then a line for each entry: its number, which counts the calls that were
+/// given up before, its caller's label, its call and its note.
 fn lines_of(
     alloc: Global,
     outcomes: Vec<Outcome>,
+    trimmed: u64,
     entries: &[Entry],
 ) -> Result<String, AllocError> {
     let mut text = String::new(alloc);
@@ -25,7 +26,7 @@ fn lines_of(
         let reply = reply_to(alloc, outcome, &mut plans)?;
         writeln!(text, "{number} {reply}")?;
     }
-    let mut number: u64 = 0;
+    let mut number = trimmed;
     for entry in entries {
         number = number.saturating_add(1);
         writeln!(text, "h {number} {entry}")?;
@@ -33,32 +34,33 @@ fn lines_of(
     Ok(text)
 }
 
-/// Whether the journal's entries are lawful, as it is printed: they are.
+/// Whether the journal's entries are lawful from its base, as it is printed: they are.
 fn lawful_text(alloc: Global, book: &Book) -> Result<&'static str, AllocError>
-    requires { IsLawful book.now.width book.now.entries }
+    requires { IsLawfulFrom book.now.base book.now.width book.now.entries }
     ensures { IfOk result (λ text. text.now ≡ codes "yes") }
 {
-    if is_lawful(alloc, book.entries(), book.width())? {
+    if is_lawful_from(alloc, book.base(), book.entries(), book.width())? {
         Ok("yes")
     } else {
         Ok("no")
     }
 }
 
-/// The printed text: a line for each row, where `history` is asked for one for each entry, then the number of the journal's entries and whether they are lawful.
+/// The printed text: a line for each row, where `history` is asked for one for each entry, then the number of calls that were made, and whether the journal is lawful.
 pub(crate) fn print(
     alloc: Global,
     outcomes: Vec<Outcome>,
     book: &Book,
     history: bool,
 ) -> Result<String, AllocError>
-    requires { IsLawful book.now.width book.now.entries }
+    requires { IsLawfulFrom book.now.base book.now.width book.now.entries }
     ensures { IfOk result (λ text. IsOutput (string_bytes text)) }
 {
     let entries = book.entries();
     let shown = if history { entries } else { &[] };
-    let lines = lines_of(alloc, outcomes, shown)?;
-    let calls = entries.len();
+    let trimmed = book.base().trimmed;
+    let lines = lines_of(alloc, outcomes, trimmed, shown)?;
+    let calls = trimmed.saturating_add(entries.len() as u64);
     let lawful = lawful_text(alloc, book)?;
     match format!(in alloc; "{lines}calls {calls}\nlawful {lawful}\n") {
         Ok(text) => Ok(text),

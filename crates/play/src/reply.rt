@@ -3,6 +3,7 @@ ghost use Rattle.std.specs.Prelude.{◌≡◌, ◌+◌, ℕ, List, IfOk, slice_r
 ghost use Rattle.sealed.specs.Blob.{Lost};
 ghost use Rattle.sealed.specs.Sealed.{StandsFor};
 
+use crate::report::Report;
 use crate::rows::Outcome;
 use book::{Answer, Note};
 use lent::{Grant, Piece};
@@ -15,6 +16,8 @@ use std::fmt;
 pub(crate) enum Reply {
     Noted(Note),
     Granted(Reading),
+    Trimmed(u64),
+    Mended(Report),
     Full,
     TooLong,
 }
@@ -57,6 +60,8 @@ impl fmt::Display for Reply {
         match self {
             Reply::Noted(note) => note.fmt(f),
             Reply::Granted(reading) => reading.fmt(f),
+            Reply::Trimmed(count) => write!(f, "trimmed {count}"),
+            Reply::Mended(report) => report.fmt(f),
             Reply::Full => f.write_str("full"),
             Reply::TooLong => f.write_str("too-long"),
         }
@@ -99,6 +104,8 @@ pub(crate) fn reply_to(
             Ok(Reply::Granted(walked(alloc, &grant, plans)?))
         }
         Outcome::Answered(answer) => Ok(Reply::Noted(answer.note())),
+        Outcome::Trimmed(count) => Ok(Reply::Trimmed(count)),
+        Outcome::Mended(report) => Ok(Reply::Mended(report)),
         Outcome::Full => Ok(Reply::Full),
         Outcome::TooLong => Ok(Reply::TooLong),
     }

@@ -1,12 +1,17 @@
 -- What is known of rows that no test refused.
-use Rattle.std.proofs.Common.{◌≡◌, ◌<◌, ◌+◌, ℕ, List, [], ◌∷◌, ◌++◌, length, true, false, Bool, Option, None, rules, arith, refl, ◌∙◌, length-append, below_more, map, ◌≤◌}
-use Rattle.std.specs.Prelude.{◌==◌}
+use Rattle.std.proofs.Common.{◌≡◌, ◌≤◌, ◌<◌, ◌+◌, ◌-◌, ℕ, List, [], ◌∷◌, ◌++◌, length, true, false, Bool, not, ◌&&◌, ◌||◌, Some, None, arith, refl, ◌∙◌, length-append, nat_le, below_more, map}
+use Rattle.std.specs.Prelude.{◌==◌, slice_get}
+use Rattle.std.specs.List.{list_any}
+use Rattle.std.proofs.lemmas.Bool.Decides.{nat_tests}
 use Rattle.std.proofs.lemmas.List.{get_or_append_left, take-append-le}
 use Rattle.std.proofs.Math.Seq.{get_or-append_seam, take-append_seam}
+use Rattle.std.proofs.lemmas.List.Folds.{list_any-append}
+use Rattle.std.proofs.lemmas.List.Elements.{All-push}
 use Rattle.script.specs.declared.rows.Row.{Row}
 use Rattle.script.specs.declared.rows.Word.{Word}
-use Rattle.script.specs.Fields.{Record, row_of}
-use Rattle.script.specs.Script.{first_word, refused_at, AcceptedBefore, refusal, tests}
+use Rattle.script.specs.Numbers.{value}
+use Rattle.script.specs.Fields.{Record, is_number_in, round_field, row_of}
+use Rattle.script.specs.Script.{IsTidy, breaks_mend, first_word, is_in_round, is_mend, is_mend_in_round, refused_at, AcceptedBefore, last_round, last_row, refusal, tests}
 
 -- each test passes
 abbrev AllPassed : List (Bool × Word) → Type 0
@@ -18,10 +23,75 @@ all-passed [] h = tt
 all-passed ((true, w) ∷ ts) h = cc h
 all-passed ((false, w) ∷ ts) h = (refl, all-passed ts h)
 
--- a record that no test refuses stands among the first 65,536
-pub room-left : (workers : ℕ) (earlier : List Row) (r : Record) → refusal workers earlier r ≡ None → (length earlier == 65536) ≡ false
+-- what the tests say of a record that none refuses
+pub record Passed (workers : ℕ) (earlier : List Row) (r : Record) : Type 0 where
+  pub room : (length earlier == 65536) ≡ false
+  pub rises : last_round earlier ≤ value (round_field r)
+  pub alone : breaks_mend earlier (row_of r) ≡ false
+
+last-both : (p q : Bool) → not (p && q) ≡ false → q ≡ true
+last-both true true h = refl
+last-both true false h = cc h
+last-both false q h = cc h
+
+pub passed-all : (workers : ℕ) (earlier : List Row) (r : Record) → refusal workers earlier r ≡ None → Passed workers earlier r
 unfolding refusal
-room-left workers earlier r h = (all-passed (tests workers earlier r) h).0
+passed-all workers earlier r h =
+    let passed = all-passed (tests workers earlier r) h in
+    let rounds = passed.1.1.0 in
+    let up = last-both (is_number_in 1 4294967295 (round_field r)) (nat_le (last_round earlier) (value (round_field r))) rounds in
+    record { room = passed.0; rises = grind (arith, nat_tests); alone = passed.1.1.1.1.1.1.1.0 }
+
+last-place : {X : Type 0} (xs : List X) (x : X) → slice_get (xs ++ (x ∷ [])) (length xs) ≡ Some x
+last-place [] x = refl
+last-place (y ∷ ys) x = last-place ys x
+
+pub last-of-more : (rows : List Row) (row : Row) → last_row (rows ++ (row ∷ [])) ≡ Some row
+last-of-more rows row =
+    let at : length (rows ++ (row ∷ [])) - 1 ≡ length rows = omega (arith, length-append rows (row ∷ [])) in
+    rw at (last-place rows row)
+
+-- where a row breaks no rule of `mend`, its round has no earlier one
+no-mend : (p q s : Bool) → (s ≡ true → p ≡ true) → (p && (q || s)) ≡ false → s ≡ false
+no-mend true true s i h = cc h
+no-mend true false s i h = h
+no-mend false q true i h = cc (i refl)
+no-mend false q false i h = refl
+
+first-of : (p q : Bool) → (p && q) ≡ true → p ≡ true
+first-of true q h = refl
+first-of false q h = cc h
+
+either : (p q x y : Bool) → (p ≡ true → x ≡ true) → (q ≡ true → y ≡ true) → (p || q) ≡ true → (x || y) ≡ true
+either p q true y f g h = refl
+either true q false y f g h = cc (f refl)
+either false q false y f g h = g h
+
+same : (n : ℕ) → (n == n) ≡ true
+same n = grind (arith, nat_tests)
+
+or-false : (b : Bool) → (b || false) ≡ b
+or-false true = refl
+or-false false = refl
+
+-- a `mend` of a round is a row of it
+in-round : (round : ℕ) (rows : List Row) → list_any (is_mend_in_round round) rows ≡ true → list_any (is_in_round round) rows ≡ true
+in-round round [] h = h
+in-round round (row ∷ rows) h =
+    either (is_mend_in_round round row) (list_any (is_mend_in_round round) rows) (is_in_round round row) (list_any (is_in_round round) rows)
+    (first-of (is_in_round round row) (is_mend row.task)) (in-round round rows) h
+
+pub tidy-none : IsTidy []
+tidy-none = record { rises = λ k d l. absurd (omega arith); alone = refl }
+
+pub tidy-more : (workers : ℕ) (rows : List Row) (r : Record) → IsTidy rows → Passed workers rows r → IsTidy (rows ++ (row_of r ∷ []))
+tidy-more workers rows r t p =
+    let last = last-of-more rows (row_of r) in
+    let none = no-mend (list_any (is_in_round (row_of r).round) rows) (is_mend (row_of r).task) (list_any (is_mend_in_round (row_of r).round) rows) (in-round (row_of r).round rows) p.alone in
+    record {
+      rises = rw last (All-push (λ row. row.round ≤ (row_of r).round) rows (row_of r) (λ k d l. let le = t.rises k d l in let up = p.rises in omega arith) (omega arith));
+      alone = rw (last, list_any-append, none, same (value (round_field r))) (or-false (is_mend (row_of r).task));
+    }
 
 -- a record that stands among the first is refused as it is among them alone
 pub refused-among : (workers : ℕ) (done rest : List Record) (i : ℕ) → i < length done → refused_at workers (done ++ rest) i ≡ refused_at workers done i

@@ -1,5 +1,5 @@
 -- How far the reading of a script has come.
-use Rattle.std.proofs.Common.{Bor, ◌≡◌, ◌≤◌, ◌<◌, ◌+◌, ℕ, List, [], ◌∷◌, ◌++◌, length, map, true, false, Bool, Option, Some, None, inl, rules, arith, refl, sym, ap, ◌∙◌, append_assoc, length-append}
+use Rattle.std.proofs.Common.{Bor, ◌≡◌, ◌≤◌, ◌+◌, ℕ, List, [], ◌∷◌, ◌++◌, length, map, true, false, Option, Some, None, inl, arith, refl, ap, ◌∙◌, append_assoc, length-append}
 use Rattle.std.specs.Prelude.{◌==◌}
 use Rattle.std.proofs.lemmas.Bool.Decides.{nat_tests}
 use Rattle.std.proofs.lemmas.List.{length-map, map-append}
@@ -13,8 +13,8 @@ use Rattle.script.specs.declared.rows.Refusal.TheVariants as refusal_is
 use Rattle.script.specs.declared.rows.Row.{Row}
 use Rattle.script.specs.declared.rows.Word.{Word}
 use Rattle.script.specs.Fields.{Record, row_of}
-use Rattle.script.specs.Script.{AcceptedBefore, Explains, Tells, at_row, refusal, refused_at, script_records}
-use Rattle.script.proofs.Accepted.{accepted-among, accepted-more, refused-next, room-left}
+use Rattle.script.specs.Script.{AcceptedBefore, Explains, Tells, IsTidy, at_row, refusal, script_records}
+use Rattle.script.proofs.Accepted.{accepted-among, accepted-more, passed-all, refused-next, tidy-more, tidy-none}
 use Rattle.script.proofs.NextRecords.{Rest, read-end, read-more}
 
 -- the bytes that a slice has left
@@ -27,6 +27,7 @@ pub record Progress (text : List ℕ) (workers : ℕ) (rows : List Row) (rdr : R
   pub ready : Ready rdr
   pub config : reader_config rdr ≡ default_config
   pub few : length rows ≤ 65536
+  pub tidy : IsTidy rows
   pub done : List Record
   pub are : rows ≡ map row_of done
   pub accepted : AcceptedBefore workers done (length done)
@@ -45,6 +46,7 @@ progress-start text workers a t ready config source state =
       ready = ready;
       config = config;
       few = omega arith;
+      tidy = tidy-none;
       done = [];
       are = refl;
       accepted = λ i l. absurd (omega arith);
@@ -56,14 +58,16 @@ progress-start text workers a t ready config source state =
 pub progress-more : (text : List ℕ) (workers : ℕ) (rows : List Row) (a b : Reader (Bor (List ℕ))) (r : Record) → Progress text workers rows a
     → ReadRecord left_of a b true r → took_first b ≡ true → refusal workers rows r ≡ None → Progress text workers (rows ++ (row_of r ∷ [])) b
 progress-more text workers rows a b r p read first none =
+    let passed = passed-all workers rows r none in
     let more = read-more left_of a b r (script_records text) p.done p.left p.config p.source p.rest read in
     let next : refusal workers (map row_of p.done) r ≡ None = rw (← p.are) none in
-    let few = below (length rows) p.few (room-left workers rows r none) in
+    let few = below (length rows) p.few passed.room in
     record {
       trim = read.3 ∙ p.trim;
       ready = inl first;
       config = read.2 ∙ p.config;
       few = omega (arith, length-append rows (row_of r ∷ []));
+      tidy = tidy-more workers rows r p.tidy passed;
       done = p.done ++ (r ∷ []);
       are = rw (map-append row_of p.done (r ∷ [])) (ap (λ (x : List Row). x ++ (row_of r ∷ [])) p.are);
       accepted = accepted-more workers p.done r p.accepted next;

@@ -6,10 +6,10 @@ use Rattle.script.specs.Names.{is_name}
 use Rattle.script.specs.Numbers.{is_number, value}
 use Rattle.script.specs.declared.rows.Ask.TheVariants as ask
 use Rattle.script.specs.declared.rows.Operation.{Operation}
-use Rattle.script.specs.declared.rows.Operation.TheVariants.{Put, PutSmall, Read, Lose, Repair, Delete, Stat}
+use Rattle.script.specs.declared.rows.Operation.TheVariants.{Put, PutSmall, Read, Lose, Repair, Delete, Stat, Trim, Mend}
 use Rattle.script.specs.declared.rows.Row.{Row}
 use Rattle.script.specs.declared.rows.Task.{Task}
-use Rattle.script.specs.declared.rows.Task.TheVariants.{Make}
+use Rattle.script.specs.declared.rows.Task.TheVariants as task
 
 -- a record is the list of its fields
 abbrev pub Record : Type 0
@@ -44,11 +44,24 @@ operation_of text =
     else if bytes_eq text (codes "repair") then Some Repair
     else if bytes_eq text (codes "delete") then Some Delete
     else if bytes_eq text (codes "stat") then Some Stat
+    else if bytes_eq text (codes "trim") then Some Trim
+    else if bytes_eq text (codes "mend") then Some Mend
     else None
 
 -- a number from low to high
 abbrev pub is_number_in : ℕ → ℕ → List ℕ → Bool
 is_number_in low high text = is_number text && nat_le low (value text) && nat_le (value text) high
+
+-- the worker of a `mend` is `0`, any other is one of the workers
+abbrev pub is_worker : ℕ → Option Operation → List ℕ → Bool
+is_worker workers (Some Mend) text = bytes_eq text (codes "0")
+is_worker workers operation text = is_number_in 1 workers text
+
+-- a trim and a `mend` have no name
+abbrev pub fits_name : Option Operation → List ℕ → Bool
+fits_name (Some Trim) text = length text == 0
+fits_name (Some Mend) text = length text == 0
+fits_name operation text = is_name text
 
 -- a digit of a byte in hexadecimal
 abbrev pub is_hex_digit : ℕ → Bool
@@ -90,18 +103,22 @@ fits_arguments (Some Lose) a b = are_numbers a b
 fits_arguments (Some Repair) a b = are_numbers a b
 fits_arguments (Some Delete) a b = are_empty a b
 fits_arguments (Some Stat) a b = are_empty a b
+fits_arguments (Some Trim) a b = is_number a && (length b == 0)
+fits_arguments (Some Mend) a b = are_empty a b
 fits_arguments None a b = true
 
 -- what a record that is not refused asks for. One whose operation is none is refused
 abbrev pub task_of : Option Operation → List ℕ → List ℕ → List ℕ → Task
-task_of (Some Put) name a b = Make (ask.Put name Wide (bytes_of a b))
-task_of (Some PutSmall) name a b = Make (ask.Put name Small (bytes_of a b))
-task_of (Some Read) name a b = Make (ask.Read name (value a) (value b))
-task_of (Some Lose) name a b = Make (ask.Lose name (value a) (value b))
-task_of (Some Repair) name a b = Make (ask.Repair name (value a) (value b))
-task_of (Some Delete) name a b = Make (ask.Delete name)
-task_of (Some Stat) name a b = Make (ask.Stat name)
-task_of None name a b = Make (ask.Stat name)
+task_of (Some Put) name a b = task.Make (ask.Put name Wide (bytes_of a b))
+task_of (Some PutSmall) name a b = task.Make (ask.Put name Small (bytes_of a b))
+task_of (Some Read) name a b = task.Make (ask.Read name (value a) (value b))
+task_of (Some Lose) name a b = task.Make (ask.Lose name (value a) (value b))
+task_of (Some Repair) name a b = task.Make (ask.Repair name (value a) (value b))
+task_of (Some Delete) name a b = task.Make (ask.Delete name)
+task_of (Some Stat) name a b = task.Make (ask.Stat name)
+task_of (Some Trim) name a b = task.Make (ask.Trim (value a))
+task_of (Some Mend) name a b = task.Mend
+task_of None name a b = task.Mend
 
 -- the row that a record which is not refused stands for
 abbrev pub row_of : Record → Row

@@ -1,9 +1,9 @@
 -- Which records of a script are refused, and why.
-use Rattle.std.specs.Prelude.{ℕ, List, [], ◌∷◌, Bool, Option, Some, None, is_some, ◌&&◌, ◌==◌, ◌≡◌, ◌<◌, ◌+◌, ◌-◌, ◌≤◌, not, length, map, take, slice_get, slice_index_or, nat_le, if◌then◌else◌}
+use Rattle.std.specs.Prelude.{ℕ, List, [], ◌∷◌, All, Bool, true, false, Option, Some, None, is_some, ◌&&◌, ◌||◌, ◌==◌, ◌≡◌, ◌<◌, ◌+◌, ◌-◌, ◌≤◌, not, length, map, take, slice_get, slice_index_or, nat_le, if◌then◌else◌}
+use Rattle.std.specs.List.{list_any}
 use Rattle.csv.specs.Reading.{default_config, records, strip_bom}
-use Rattle.script.specs.Names.{is_name}
 use Rattle.script.specs.Numbers.{value}
-use Rattle.script.specs.Fields.{Record, a_field, b_field, fits_arguments, is_number_in, name_field, operation_field, operation_of, round_field, row_of, worker_field}
+use Rattle.script.specs.Fields.{Record, a_field, b_field, fits_arguments, fits_name, is_number_in, is_worker, name_field, operation_field, operation_of, round_field, row_of, worker_field}
 use Rattle.script.specs.declared.rows.BadScript.{BadScript}
 use Rattle.script.specs.declared.rows.BadScript.TheVariants as bad
 use Rattle.script.specs.declared.rows.Head.{Head}
@@ -11,8 +11,18 @@ use Rattle.script.specs.declared.rows.Operation.{Operation}
 use Rattle.script.specs.declared.rows.Refusal.{Refusal}
 use Rattle.script.specs.declared.rows.Refusal.TheVariants as refusal_is
 use Rattle.script.specs.declared.rows.Row.{Row}
+use Rattle.script.specs.declared.rows.Task.{Task}
+use Rattle.script.specs.declared.rows.Task.TheVariants as task
 use Rattle.script.specs.declared.rows.Word.{Word}
 use Rattle.script.specs.declared.rows.Word.TheVariants as word
+
+-- whether a task is a `mend`
+abbrev pub is_mend : Task → Bool
+is_mend task.Mend = true
+is_mend (task.Make a) = false
+
+abbrev pub last_row : List Row → Option Row
+last_row rows = slice_get rows (length rows - 1)
 
 abbrev pub round_of : Option Row → ℕ
 round_of None = 0
@@ -20,7 +30,20 @@ round_of (Some row) = row.round
 
 -- the round of the last row, 0 where there is none
 abbrev pub last_round : List Row → ℕ
-last_round rows = round_of (slice_get rows (length rows - 1))
+last_round rows = round_of (last_row rows)
+
+-- a row of the round
+abbrev pub is_in_round : ℕ → Row → Bool
+is_in_round round row = row.round == round
+
+-- a `mend` of the round
+abbrev pub is_mend_in_round : ℕ → Row → Bool
+is_mend_in_round round row = is_in_round round row && is_mend row.task
+
+-- the round has an earlier row, and this row or an earlier one of the round is a `mend`
+abbrev pub breaks_mend : List Row → Row → Bool
+breaks_mend earlier row =
+    list_any (is_in_round row.round) earlier && (is_mend row.task || list_any (is_mend_in_round row.round) earlier)
 
 -- the first word whose test refuses
 abbrev pub first_word : List (Bool × Word) → Option Word
@@ -33,10 +56,11 @@ tests workers earlier r =
     (length earlier == 65536, word.Rows)
     ∷ (not (length r == 6), word.Fields)
     ∷ (not (is_number_in 1 4294967295 (round_field r) && nat_le (last_round earlier) (value (round_field r))), word.Round)
-    ∷ (not (is_number_in 1 workers (worker_field r)), word.Worker)
+    ∷ (not (is_worker workers (operation_of (operation_field r)) (worker_field r)), word.Worker)
     ∷ (not (is_some (operation_of (operation_field r))), word.Op)
-    ∷ (not (is_name (name_field r)), word.Name)
+    ∷ (not (fits_name (operation_of (operation_field r)) (name_field r)), word.Name)
     ∷ (not (fits_arguments (operation_of (operation_field r)) (a_field r) (b_field r)), word.Argument)
+    ∷ (breaks_mend earlier (row_of r), word.Mend)
     ∷ []
 
 -- the word that refuses a record after these rows, if one does
@@ -50,21 +74,36 @@ Tells refusal_is.NoMemory o = Unit {0}
 
 -- the word that refuses a record's name or arguments, if one does
 abbrev pub task_refusal : Option Operation → List ℕ → List ℕ → List ℕ → Option Word
-task_refusal o name a b = first_word ((not (is_name name), word.Name) ∷ (not (fits_arguments o a b), word.Argument) ∷ [])
+task_refusal o name a b = first_word ((not (fits_name o name), word.Name) ∷ (not (fits_arguments o a b), word.Argument) ∷ [])
+
+abbrev pub is_mend_row : Option Row → Bool
+is_mend_row None = false
+is_mend_row (Some row) = is_mend row.task
+
+-- no row is of a later round than the last one, and the last round has a `mend` only where the last row is one
+pub record IsTidy (rows : List Row) : Type 0 where
+  pub rises : All (λ row. row.round ≤ last_round rows) rows
+  pub alone : list_any (is_mend_in_round (last_round rows)) rows ≡ is_mend_row (last_row rows)
 
 -- a refusal of the row of this number
 abbrev pub at_row : Refusal → ℕ → BadScript
 at_row (refusal_is.Refused w) row = bad.Refused row w
 at_row refusal_is.NoMemory row = bad.NoMemory
 
--- the last two tests of a record that passed the others
-abbrev pub late_word : Record → Option Word
-late_word r = task_refusal (operation_of (operation_field r)) (name_field r) (a_field r) (b_field r)
+-- the last three tests of a record that passed the others
+abbrev pub late_word : List Row → Record → Option Word
+late_word earlier r =
+    first_word (
+    (not (fits_name (operation_of (operation_field r)) (name_field r)), word.Name)
+    ∷ (not (fits_arguments (operation_of (operation_field r)) (a_field r) (b_field r)), word.Argument)
+    ∷ (breaks_mend earlier (row_of r), word.Mend)
+    ∷ [])
 
 -- the first tests are passed, and this is what the first three fields say
 pub record Heads (workers : ℕ) (earlier : List Row) (r : Record) (head : Head) : Type 0 where
-  pub late : refusal workers earlier r ≡ late_word r
+  pub late : refusal workers earlier r ≡ late_word earlier r
   pub round : head.round ≡ value (round_field r)
+  pub rises : last_round earlier ≤ head.round
   pub worker : head.worker ≡ value (worker_field r)
   pub operation : operation_of (operation_field r) ≡ Some head.operation
 

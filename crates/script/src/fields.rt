@@ -1,9 +1,9 @@
 //! The fields of a record.
 
-ghost use Rattle.std.specs.Prelude.{◌≡◌, ◌<◌, [], ◌∷◌, true, false, not, MatchOption, MatchResult, IfOk};
+ghost use Rattle.std.specs.Prelude.{◌≡◌, ◌≢◌, ◌<◌, [], ◌∷◌, true, false, not, MatchOption, MatchResult, IfOk};
 ghost use Rattle.script.specs.Names.{is_name};
 ghost use Rattle.script.specs.Numbers.{value};
-ghost use Rattle.script.specs.Fields.{are_bytes, are_empty, are_hex_bytes, are_numbers, bytes_of, fits_arguments, hex_bytes, hex_digit, is_hex_digit, is_number_in, operation_of, task_of};
+ghost use Rattle.script.specs.Fields.{are_bytes, are_empty, are_hex_bytes, are_numbers, bytes_of, fits_arguments, hex_bytes, hex_digit, is_hex_digit, is_number_in, is_worker, operation_of, task_of};
 ghost use Rattle.script.specs.Script.{first_word, task_refusal, Tells};
 
 use crate::numbers::number;
@@ -42,6 +42,8 @@ pub(crate) fn operation(text: &[u8]) -> Option<Operation>
         b"repair" => Some(Operation::Repair),
         b"delete" => Some(Operation::Delete),
         b"stat" => Some(Operation::Stat),
+        b"trim" => Some(Operation::Trim),
+        b"mend" => Some(Operation::Mend),
         _ => None,
     }
 }
@@ -113,6 +115,19 @@ fn name_of(text: &[u8]) -> Option<Name>
     }
 }
 
+/// The worker of a row: one of the workers, and 0 for a `mend`.
+pub(crate) fn worker(operation: Option<Operation>, text: &[u8], workers: u32) -> Option<u32>
+    ensures { MatchOption result (is_worker workers operation text.now ≡ false) (λ n. (is_worker workers operation text.now ≡ true) × (n ≡ value text.now)) }
+{
+    if operation != Some(Operation::Mend) {
+        return number_in(text, 1, workers);
+    }
+    match text {
+        b"0" => Some(0),
+        _ => None,
+    }
+}
+
 /// What a record asks for, by its operation, its name and its arguments.
 pub(crate) fn task(
     alloc: Global,
@@ -125,14 +140,52 @@ pub(crate) fn task(
         (λ task. (task_refusal (Some operation) name.now a.now b.now ≡ None) × (task ≡ task_of (Some operation) name.now a.now b.now))
         (λ e. Tells e (task_refusal (Some operation) name.now a.now b.now)) }
 {
+    if operation == Operation::Mend {
+        return mend(name, a, b);
+    }
+    if operation == Operation::Trim {
+        return trim(name, a, b);
+    }
     let Some(name) = name_of(name) else {
         return Err(Refusal::Refused(Word::Name));
     };
     Ok(Task::Make(ask(alloc, operation, name, a, b)?))
 }
 
-/// A call, by its operation, its name and its arguments.
+/// A `mend`, which has no name and no arguments.
+fn mend(name: &[u8], a: &[u8], b: &[u8]) -> Result<Task, Refusal>
+    ensures { MatchResult result
+        (λ task. (task_refusal (Some Operation.Mend) name.now a.now b.now ≡ None) × (task ≡ task_of (Some Operation.Mend) name.now a.now b.now))
+        (λ e. Tells e (task_refusal (Some Operation.Mend) name.now a.now b.now)) }
+{
+    if !name.is_empty() {
+        return Err(Refusal::Refused(Word::Name));
+    }
+    if !a.is_empty() || !b.is_empty() {
+        return Err(Refusal::Refused(Word::Argument));
+    }
+    Ok(Task::Mend)
+}
+
+/// A trim, which has no name, and one number.
+fn trim(name: &[u8], a: &[u8], b: &[u8]) -> Result<Task, Refusal>
+    ensures { MatchResult result
+        (λ task. (task_refusal (Some Operation.Trim) name.now a.now b.now ≡ None) × (task ≡ task_of (Some Operation.Trim) name.now a.now b.now))
+        (λ e. Tells e (task_refusal (Some Operation.Trim) name.now a.now b.now)) }
+{
+    if !name.is_empty() {
+        return Err(Refusal::Refused(Word::Name));
+    }
+    match number(a) {
+        Some(keep) if b.is_empty() => Ok(Task::Make(Ask::Trim { keep })),
+        _ => Err(Refusal::Refused(Word::Argument)),
+    }
+}
+
+/// A call under a name, by its operation, its name and its arguments.
 fn ask(alloc: Global, operation: Operation, name: Name, a: &[u8], b: &[u8]) -> Result<Ask, Refusal>
+    requires mend { operation ≢ Operation.Mend }
+    requires trim { operation ≢ Operation.Trim }
     ensures { MatchResult result
         (λ ask. (fits_arguments (Some operation) a.now b.now ≡ true) × (Task.Make ask ≡ task_of (Some operation) name a.now b.now))
         (λ e. Tells e (first_word ((not (fits_arguments (Some operation) a.now b.now), Word.Argument) ∷ []))) }
@@ -168,6 +221,7 @@ fn ask(alloc: Global, operation: Operation, name: Name, a: &[u8], b: &[u8]) -> R
             nothing(a, b)?;
             Ok(Ask::Stat { name })
         }
+        Operation::Trim | Operation::Mend => unreachable!(),
     }
 }
 

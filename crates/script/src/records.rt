@@ -1,12 +1,12 @@
 //! One record of a script.
 
-ghost use Rattle.std.specs.Prelude.{◌≡◌, [], None, Some, MatchResult, slice_index_or};
+ghost use Rattle.std.specs.Prelude.{◌≡◌, ◌≤◌, [], None, Some, MatchResult, slice_index_or};
 ghost use Rattle.csv.specs.Records.{fields_of};
 ghost use Rattle.script.specs.Fields.{row_of};
-ghost use Rattle.script.specs.Script.{Heads, last_round, refusal, Tells};
+ghost use Rattle.script.specs.Script.{breaks_mend, Heads, is_mend, IsTidy, last_round, refusal, Tells};
 
-use crate::fields::{number_in, operation, task};
-use crate::rows::{Head, Refusal, Row, Word};
+use crate::fields::{number_in, operation, task, worker};
+use crate::rows::{Head, Refusal, Row, Task, Word};
 use csv::ByteRecord;
 use std::alloc::Global;
 
@@ -36,6 +36,31 @@ fn last_round(rows: &[Row]) -> u32
     }
 }
 
+/// Whether a row stands in one round with an earlier one, and one of them is a `mend`.
+fn breaks_mend(earlier: &[Row], row: &Row) -> bool
+    requires tidy { IsTidy earlier.now }
+    requires rises { last_round earlier.now ≤ row.now.round }
+    ensures { result ≡ breaks_mend earlier.now row.now }
+{
+    let Some(last) = earlier.last() else {
+        return false;
+    };
+    if last.round != row.round {
+        return false;
+    }
+    is_mend(&row.task) || is_mend(&last.task)
+}
+
+/// Whether a task is a `mend`.
+fn is_mend(task: &Task) -> bool
+    ensures { result ≡ is_mend task.now }
+{
+    match task {
+        Task::Mend => true,
+        Task::Make(_) => false,
+    }
+}
+
 /// What the first three fields of a record say, if they are not refused.
 #[tactic(auto, using(crate::proofs::Refusals::refusal_late), unfolding(crate::specs::Script::refusal))]
 fn head(fields: &ByteRecord, earlier: &[Row], workers: u32) -> Result<Head, Word>
@@ -55,10 +80,11 @@ fn head(fields: &ByteRecord, earlier: &[Row], workers: u32) -> Result<Head, Word
     if round < last_round(earlier) {
         return Err(Word::Round);
     }
-    let Some(worker) = number_in(field(fields, 1), 1, workers) else {
+    let operation = operation(field(fields, 2));
+    let Some(worker) = worker(operation, field(fields, 1), workers) else {
         return Err(Word::Worker);
     };
-    let Some(operation) = operation(field(fields, 2)) else {
+    let Some(operation) = operation else {
         return Err(Word::Op);
     };
     Ok(Head {
@@ -75,6 +101,7 @@ pub(crate) fn row(
     earlier: &[Row],
     workers: u32,
 ) -> Result<Row, Refusal>
+    requires { IsTidy earlier.now }
     ensures { MatchResult result
         (λ row. (refusal workers earlier.now (fields_of fields.now) ≡ None) × (row ≡ row_of (fields_of fields.now)))
         (λ e. Tells e (refusal workers earlier.now (fields_of fields.now))) }
@@ -88,9 +115,13 @@ pub(crate) fn row(
         Ok(task) => task,
         Err(error) => return Err(error),
     };
-    Ok(Row {
+    let row = Row {
         round: head.round,
         worker: head.worker,
         task,
-    })
+    };
+    if breaks_mend(earlier, &row) {
+        return Err(Refusal::Refused(Word::Mend));
+    }
+    Ok(row)
 }

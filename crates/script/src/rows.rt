@@ -41,6 +41,10 @@ pub enum Ask {
     Stat {
         name: Name,
     },
+    /// Gives up all entries of the journal but the last `keep`.
+    Trim {
+        keep: u64,
+    },
 }
 
 /// What a row asks for.
@@ -48,6 +52,8 @@ pub enum Ask {
 pub enum Task {
     /// A call.
     Make(Ask),
+    /// To mend all lost fragments.
+    Mend,
 }
 
 /// A row of a script.
@@ -55,7 +61,7 @@ pub enum Task {
 pub struct Row {
     /// The round in which it runs, from 1. No row is of an earlier round than the row before it.
     pub round: u32,
-    /// The worker that runs it, from 1.
+    /// The worker that runs it, from 1, or 0 where all workers do.
     pub worker: u32,
     /// What it asks for.
     pub task: Task,
@@ -78,6 +84,8 @@ pub enum Word {
     Name,
     /// Its arguments don't fit the operation.
     Argument,
+    /// Its round has an earlier row, and this row or an earlier one of the round is a `mend`.
+    Mend,
 }
 
 impl fmt::Display for Word {
@@ -90,6 +98,7 @@ impl fmt::Display for Word {
             Word::Op => "op",
             Word::Name => "name",
             Word::Argument => "argument",
+            Word::Mend => "mend",
         })
     }
 }
@@ -120,6 +129,8 @@ pub(crate) enum Operation {
     Repair,
     Delete,
     Stat,
+    Trim,
+    Mend,
 }
 
 /// Why one record is refused.

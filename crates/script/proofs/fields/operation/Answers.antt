@@ -1,4 +1,4 @@
-use Rattle.std.proofs.Common.{rules, arith, sym, ◌≡◌, codes, refl}
+use Rattle.std.proofs.Common.{rules, arith, ◌≡◌, codes, refl}
 use Rattle.std.proofs.lemmas.Slice.Eq.{text_from_reads}
 use Rattle.script.specs.Fields.{operation_of}
 use Rattle.script.proofs.fields.operation.Goals as goal

@@ -1,9 +1,6 @@
-use Rattle.std.proofs.Common.{Bor, List, ℕ, ◌≡◌, ◌+◌, ◌∙◌, sym, refl, ap, arith, rules, inl, inr, true, map, Some, ◌∷◌, [], length, length-append}
+use Rattle.std.proofs.Common.{◌≡◌, ◌∙◌, refl, rules, inr, true, [], length}
 use Rattle.std.specs.Result.{is_ok}
-use Rattle.csv.specs.Reading.{default_config, strip_bom}
 use Rattle.csv.specs.Records.{fields_of}
-use Rattle.script.specs.Fields.{row_of}
-use Rattle.script.specs.Script.{script_records}
 use Rattle.script.proofs.Progress.{progress-end, progress-more, progress-refused, progress-start}
 use Rattle.script.proofs.reading.script.Goals as goal
 
