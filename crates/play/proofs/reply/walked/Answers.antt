@@ -1,4 +1,4 @@
-use Rattle.std.proofs.Common.{rules, ◌+◌, ◌++◌, ◌≡◌, slice_range, List, ℕ, [], append-nil, ap, sym, ◌∙◌}
+use Rattle.std.proofs.Common.{rules, ◌+◌, ◌++◌, ◌≡◌, slice_range, List, ℕ, append-nil, ap, sym, ◌∙◌}
 use Rattle.lent.specs.Pieces.{bytes_of}
 use Rattle.play.proofs.Walked.{split-more}
 use Rattle.play.proofs.reply.walked.Goals as goal
