@@ -140,4 +140,5 @@ fn broken_ends(rt: HostRuntime) -> Result<(), Fail> {
     Ok(())
 }
 
+mod bent;
 mod degraded;

@@ -17,7 +17,7 @@ struct Case {
 #[test]
 fn scripts(rt: HostRuntime) -> Result<(), Fail> {
     let alloc = rt.alloc();
-    let cases: [Case; 17] = [
+    let cases: [Case; 20] = [
         Case {
             name: "one lost, with history",
             width: 1,
@@ -153,6 +153,30 @@ fn scripts(rt: HostRuntime) -> Result<(), Fail> {
             history: true,
             script: b"1,1,put6,s,text,ABCDEF",
             output: b"1 stored 1\nh 1 1 put6 s 6 stored 1\ncalls 1\nlawful yes\n",
+        },
+        Case {
+            name: "a trimmed journal has room again",
+            width: 1,
+            limit: 3,
+            history: true,
+            script: b"1,1,put,a,text,ABCDEFGHIJKL\n1,1,stat,a,,\n1,1,trim,,0,\n1,1,stat,a,,\n1,1,stat,a,,\n1,1,stat,a,,\n1,1,stat,a,,",
+            output: b"1 stored 1\n2 shape 1 12 1 0\n3 trimmed 2\n4 shape 1 12 1 0\n5 shape 1 12 1 0\n6 shape 1 12 1 0\n7 full\nh 3 1 stat a shape 1 12 1 0\nh 4 1 stat a shape 1 12 1 0\nh 5 1 stat a shape 1 12 1 0\ncalls 5\nlawful yes\n",
+        },
+        Case {
+            name: "a loss before the trim",
+            width: 1,
+            limit: 4096,
+            history: true,
+            script: b"1,1,put,a,text,ABCDEFGHIJKL\n1,1,lose,a,0,0\n1,1,trim,,1,\n1,1,lose,a,0,0",
+            output: b"1 stored 1\n2 lost 1\n3 trimmed 1\n4 already-lost\nh 2 1 lose a 0 0 lost 1\nh 3 1 lose a 0 0 already-lost\ncalls 3\nlawful yes\n",
+        },
+        Case {
+            name: "mended",
+            width: 1,
+            limit: 4096,
+            history: false,
+            script: b"1,1,put,a,text,ABCDEFGHIJKL\n1,1,lose,a,0,0\n1,1,lose,a,0,6\n2,0,mend,,,\n3,1,stat,a,,",
+            output: b"1 stored 1\n2 lost 1\n3 lost 1\n4 mended 2 0 0 0\n5 shape 1 12 1 0\ncalls 6\nlawful yes\n",
         },
     ];
     for case in &cases {

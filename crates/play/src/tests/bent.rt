@@ -1,0 +1,103 @@
+//! Scripts that are cut, bent or too large.
+
+use super::{options, two_workers};
+use crate::{Fail as PlayFail, play};
+use script::{BadScript, Word};
+use std::alloc::AllocError;
+use std::test::Fail;
+
+/// What a script comes to: its output, or the row and the word that refuse it.
+#[derive(Clone, Copy, PartialEq, Eq, Debug)]
+enum End {
+    Prints(&'static [u8]),
+    Refuses(u32, Word),
+}
+
+/// Whether a script with one worker ends so.
+fn ends(rt: &HostRuntime, text: &[u8], end: End) -> Result<bool, AllocError> {
+    let mut options = options(rt.alloc(), 1, 4096, false)?;
+    options.workers = 1;
+    let mut out: Vec<u8> = Vec::new(rt.alloc());
+    let result = play(rt.alloc(), &options, text, &mut out);
+    Ok(match end {
+        End::Prints(wanted) => result == Ok(()) && out.as_slice() == wanted,
+        End::Refuses(row, word) => {
+            let refused = BadScript::Refused { row, word };
+            result == Err(PlayFail::Script(refused)) && out.is_empty()
+        }
+    })
+}
+
+/// Two rows, cut after each number of bytes.
+#[test]
+fn cut_anywhere(rt: HostRuntime) -> Result<(), Fail> {
+    let text: &[u8] = b"1,1,put,a,text,AB\n1,1,read,a,0,2\n";
+    for n in 0..text.len() + 1 {
+        let end = match n {
+            0 => End::Prints(b"calls 0\nlawful yes\n"),
+            1..=14 => End::Refuses(1, Word::Fields),
+            15..=18 => End::Prints(b"1 stored 1\ncalls 1\nlawful yes\n"),
+            19..=30 => End::Refuses(2, Word::Fields),
+            31 => End::Refuses(2, Word::Argument),
+            _ => End::Prints(b"1 stored 1\n2 granted 1 2 0 4142\ncalls 2\nlawful yes\n"),
+        };
+        assert!(rt; ends(&rt, &text[..n], end)?, "{n}");
+    }
+    Ok(())
+}
+
+/// Single rows after a put of twelve letters, and what refuses them.
+#[test]
+fn bent_rows(rt: HostRuntime) -> Result<(), Fail> {
+    let alloc = rt.alloc();
+    let rows: [(&str, Word); 15] = [
+        ("4294967296,1,stat,a,,", Word::Round),
+        ("1,0,stat,a,,", Word::Worker),
+        ("1,2,stat,a,,", Word::Worker),
+        ("1,1,mend,,,", Word::Worker),
+        ("1,0,mend,,,", Word::Mend),
+        ("2,0,mend,a,,", Word::Name),
+        ("2,0,mend,,0,", Word::Argument),
+        ("1,1,move,a,,", Word::Op),
+        ("1,1,stat,A,,", Word::Name),
+        ("1,1,read,a,18446744073709551616,0", Word::Argument),
+        ("1,1,read,a,00,1", Word::Argument),
+        ("1,1,put,a,hex,0", Word::Argument),
+        ("1,1,put,a,hex,0F", Word::Argument),
+        ("1,1,trim,a,0,", Word::Name),
+        ("1,1,trim,,0,0", Word::Argument),
+    ];
+    for (row, word) in rows {
+        let text = format!(in alloc; "1,1,put,a,text,ABCDEFGHIJKL\n{row}\n")?;
+        assert!(rt; ends(&rt, text.as_bytes(), End::Refuses(2, word))?, "{row}");
+    }
+    let no_utf8: &[u8] = b"1,1,put,a,text,AB\n1,1,stat,\xff,,\n";
+    assert!(rt; ends(&rt, no_utf8, End::Refuses(2, Word::Name))?);
+    Ok(())
+}
+
+/// As many rows as a script may have, and one more, whatever it holds.
+#[test]
+fn too_many_rows(rt: HostRuntime) -> Result<(), Fail> {
+    let alloc = rt.alloc();
+    let options = two_workers(alloc)?;
+    let mut text = "1,1,stat,a,,\n".repeat(alloc, 65536)?;
+    let mut out: Vec<u8> = Vec::new(alloc);
+    assert_eq!(rt; play(alloc, &options, text.as_bytes(), &mut out), Ok(()));
+    assert!(rt;
+        out.as_slice()
+            .ends_with(b"\n65536 full\ncalls 4096\nlawful yes\n")
+    );
+    text.push_str("no row\n")?;
+    out.clear();
+    let refused = BadScript::Refused {
+        row: 65537,
+        word: Word::Rows,
+    };
+    assert_eq!(rt;
+        play(alloc, &options, text.as_bytes(), &mut out),
+        Err(PlayFail::Script(refused))
+    );
+    assert!(rt; out.is_empty());
+    Ok(())
+}
