@@ -5,7 +5,7 @@ use Rattle.std.specs.Option.{option_map}
 use Rattle.std.specs.FinMap as finite
 use Rattle.std.specs.List.{AllByRecursion, list_any, flat_map}
 use Rattle.std.specs.List.Sorted.{IsStrictlySortedBy}
-use Rattle.std.specs.Map.{keys_of}
+use Rattle.std.specs.Map.{keys_of, lookup}
 use Rattle.std.specs.BTreeMap.{is_at}
 use Rattle.std.specs.declared.cmp.Ordering.TheVariants.{Less}
 use Rattle.std.specs.Cmp.Lexicographic.{nat_list_cmp_total}
@@ -21,16 +21,22 @@ use Rattle.sealed.specs.Blob.{pair_cmp}
 use Rattle.history.specs.Names.{name_cmp}
 use Rattle.history.specs.State.{Blob, IsLostInside}
 use Rattle.history.specs.History.{History, state_of}
-use Rattle.history.proofs.Catalogue.{lookup-map}
+use Rattle.history.proofs.Catalogue.{option_map-cond}
 use Rattle.history.proofs.Inside.{lost_inside}
 use Rattle.history.proofs.Keeping.{same_truth, few_fragments, lt_of}
 use Rattle.book.specs.Contents.{Contents, sealed_at}
 use Rattle.book.specs.Lacking.{count_below, lacks, lacked_count, lacked_below}
-use Rattle.book.specs.Plan.{pairs_of, items_for, plan_of, items_lacked}
+use Rattle.history.specs.Base.{pairs_of}
+use Rattle.book.specs.Plan.{items_for, plan_of, items_lacked}
 use Rattle.book.specs.Tells.{Tells, Represents, Correspond}
 use Rattle.book.specs.declared.plan.Item.{Item}
 use Rattle.book.proofs.Lacking.{lacks_alike}
-use Rattle.book.proofs.Rising.{keys_rise, same_found, all_push, rises_push, pairs_of-has, pairs_rise, same_pairs}
+use Rattle.history.proofs.Rising.{keys_rise, same_found, pairs_of-has, pairs_rise, same_pairs}
+use Rattle.book.proofs.Rising.{all_push, rises_push}
+
+lookup-map : {K X Y : Type 0} (f : X → Y) (t : K → Bool) (es : List (K × X)) → lookup t (map {B = K × Y} (λ (e : K × X). (e.0, f e.1)) es) ≡ option_map f (lookup t es)
+lookup-map f t [] = refl
+lookup-map f t (e ∷ es) = ap (cond (t e.0) (Some (f e.1))) (lookup-map f t es) ∙ option_map-cond f (t e.0) e.1 (lookup t es)
 
 -- ---- the list rises
 rising_numbers : (n m : ℕ) → n < m → pair_cmp (n / 16, n % 16) (m / 16, m % 16) ≡ Less
