@@ -305,17 +305,21 @@ fn stripes_share_recipes(rt: HostRuntime) -> Result<(), Fail> {
     Ok(())
 }
 
+/// How many lost fragments of a stripe the global parities have to make up for.
+fn excess(rt: &impl Abort, sealed: &Arc<Sealed>, stripe: u64) -> u8 {
+    assert!(rt; stripe < count_stripes(sealed.code, sealed.width, sealed.len));
+    sealed.lost(stripe).excess_in(sealed.code)
+}
+
 /// Four stripes of LRC(6,2,2), the last of them filled up, without two data fragments of each group. The last two share their recipes.
 #[test]
 fn two_absent_of_each_small_group(rt: HostRuntime) -> Result<(), Fail> {
     let letters = b"ABCDEFGHIJKLMNOPQRSTUVWXYZabcdefghijklmnopqrstu";
     let mut sealed = blob_in(&rt, rt.alloc(), Code::Small, letters, 2);
     let lost = [[0, 1, 3, 4], [0, 2, 4, 5], [1, 2, 3, 5], [1, 2, 3, 5]];
-    let mut stripe = 0u64;
-    for fragments in &lost {
+    for (stripe, fragments) in (0u64..4).zip(lost) {
         sealed = without(&rt, rt.alloc(), &sealed, stripe, fragments.as_slice());
-        assert_eq!(rt; sealed.lost(stripe).excess_in(Code::Small), 2);
-        stripe = stripe.wrapping_add(1);
+        assert_eq!(rt; excess(&rt, &sealed, stripe), 2);
     }
     let all = grant(&rt, &sealed, 0, 47);
     joins(&rt, rt.alloc(), &all, (8, 16), letters.as_slice());
