@@ -1,19 +1,30 @@
 use super::*;
 use bytes::Bytes;
-use lrc_code::Plans;
-use sealed::{Sealed, Width, count_stripes, seal};
+use lrc_code::{Code, Plans};
+use sealed::{Sealed, Width, count_stripes, seal_as};
 use std::alloc::Global;
 use std::process::Abort;
 use std::sync::Arc;
 use std::test::Fail;
 
-/// A blob that is sealed with fragments of `w` bytes.
-fn blob(rt: &impl Abort, alloc: Global, bytes: &'static [u8], w: u32) -> Arc<Sealed> {
+/// A blob that is sealed in a code with fragments of `w` bytes.
+fn blob_in(
+    rt: &impl Abort,
+    alloc: Global,
+    code: Code,
+    bytes: &'static [u8],
+    w: u32,
+) -> Arc<Sealed> {
     let width = Width::new(w).expect(rt, "a width");
-    match seal(alloc, Bytes::from_static(bytes), width) {
+    match seal_as(alloc, Bytes::from_static(bytes), width, code) {
         Ok(sealed) => Arc::new(alloc, sealed).expect(rt, "memory"),
         Err(fault) => panic!(rt; "{fault}"),
     }
+}
+
+/// The same in LRC(12,2,2).
+fn blob(rt: &impl Abort, alloc: Global, bytes: &'static [u8], w: u32) -> Arc<Sealed> {
+    blob_in(rt, alloc, Code::Wide, bytes, w)
 }
 
 fn grant(rt: &impl Abort, sealed: &Arc<Sealed>, start: u64, len: u64) -> Grant {
@@ -116,20 +127,47 @@ fn is_unrecoverable(rt: &impl Abort, sealed: &Arc<Sealed>, start: u64, len: u64)
     )
 }
 
+/// How many pieces are lent and how many are built, and what they join to.
+#[derive(Drop)]
+struct Tally {
+    lent: u32,
+    built: u32,
+    joined: Vec<u8>,
+}
+
+impl Tally {
+    fn new(alloc: Global) -> Tally {
+        Tally {
+            lent: 0,
+            built: 0,
+            joined: Vec::new(alloc),
+        }
+    }
+
+    fn add(&mut self, rt: &impl Abort, piece: &Piece) {
+        match piece {
+            Piece::Lent(_) => self.lent = self.lent.wrapping_add(1),
+            Piece::Built(_) => self.built = self.built.wrapping_add(1),
+        }
+        self.joined
+            .extend_from_slice(piece.bytes())
+            .expect(rt, "memory");
+    }
+
+    fn is(&self, rt: &impl Abort, counts: (u32, u32), bytes: &[u8]) {
+        assert_eq!(rt; (self.lent, self.built), counts);
+        assert!(rt; self.joined.as_slice() == bytes);
+    }
+}
+
 /// That the pieces of a range are so many lent and so many built ones, and join to these bytes.
 fn joins(rt: &impl Abort, alloc: Global, grant: &Grant, counts: (u32, u32), bytes: &[u8]) {
     let pieces = grant.collect(alloc).expect(rt, "memory");
-    let mut joined = Vec::new(alloc);
-    let (mut lent, mut built) = (0u32, 0u32);
+    let mut tally = Tally::new(alloc);
     for piece in pieces.as_slice() {
-        match piece {
-            Piece::Lent(_) => lent = lent.wrapping_add(1),
-            Piece::Built(_) => built = built.wrapping_add(1),
-        }
-        joined.extend_from_slice(piece.bytes()).expect(rt, "memory");
+        tally.add(rt, piece);
     }
-    assert_eq!(rt; (lent, built), counts);
-    assert!(rt; joined.as_slice() == bytes);
+    tally.is(rt, counts, bytes);
 }
 
 #[test]
@@ -224,28 +262,26 @@ fn spans_are_the_cut(rt: HostRuntime) -> Result<(), Fail> {
     Ok(())
 }
 
-/// Walks a range of fragments of one byte, and counts the pieces that are built.
-fn built_with(
+/// The same of a walk with recipes that are kept.
+fn joins_with(
     rt: &impl Abort,
     alloc: Global,
     grant: &Grant,
     plans: &mut Plans,
+    counts: (u32, u32),
     bytes: &[u8],
-) -> u32 {
+) {
     let mut walk = grant.walk_with(plans);
-    let mut built = 0u32;
-    for byte in bytes {
+    let mut tally = Tally::new(alloc);
+    for _ in 0..counts.0.wrapping_add(counts.1) {
         let piece = walk
             .next_piece(alloc)
             .expect(rt, "memory")
             .expect(rt, "a piece");
-        assert!(rt; piece.bytes() == [*byte].as_slice());
-        if matches!(piece, Piece::Built(_)) {
-            built = built.wrapping_add(1);
-        }
+        tally.add(rt, &piece);
     }
     assert!(rt; walk.next_piece(alloc).expect(rt, "memory").is_none());
-    built
+    tally.is(rt, counts, bytes);
 }
 
 #[test]
@@ -257,8 +293,47 @@ fn stripes_share_recipes(rt: HostRuntime) -> Result<(), Fail> {
     }
     let all = grant(&rt, &sealed, 0, 36);
     let mut plans = Plans::new(rt.alloc());
-    let built = built_with(&rt, rt.alloc(), &all, &mut plans, letters.as_slice());
-    assert_eq!(rt; built, 6);
+    joins_with(
+        &rt,
+        rt.alloc(),
+        &all,
+        &mut plans,
+        (30, 6),
+        letters.as_slice(),
+    );
     assert_eq!(rt; plans.known(), 2);
+    Ok(())
+}
+
+/// How many lost fragments of a stripe the global parities have to make up for.
+fn excess(rt: &impl Abort, sealed: &Arc<Sealed>, stripe: u64) -> u8 {
+    assert!(rt; stripe < count_stripes(sealed.code, sealed.width, sealed.len));
+    sealed.lost(stripe).excess_in(sealed.code)
+}
+
+/// Four stripes of LRC(6,2,2), the last of them filled up, without two data fragments of each group. The last two share their recipes.
+#[test]
+fn two_absent_of_each_small_group(rt: HostRuntime) -> Result<(), Fail> {
+    let letters = b"ABCDEFGHIJKLMNOPQRSTUVWXYZabcdefghijklmnopqrstu";
+    let mut sealed = blob_in(&rt, rt.alloc(), Code::Small, letters, 2);
+    let lost = [[0, 1, 3, 4], [0, 2, 4, 5], [1, 2, 3, 5], [1, 2, 3, 5]];
+    for (stripe, fragments) in (0u64..4).zip(lost) {
+        sealed = without(&rt, rt.alloc(), &sealed, stripe, fragments.as_slice());
+        assert_eq!(rt; excess(&rt, &sealed, stripe), 2);
+    }
+    let all = grant(&rt, &sealed, 0, 47);
+    joins(&rt, rt.alloc(), &all, (8, 16), letters.as_slice());
+    let mut plans = Plans::new(rt.alloc());
+    for _ in 0..2 {
+        joins_with(
+            &rt,
+            rt.alloc(),
+            &all,
+            &mut plans,
+            (8, 16),
+            letters.as_slice(),
+        );
+        assert_eq!(rt; plans.known(), 12);
+    }
     Ok(())
 }
