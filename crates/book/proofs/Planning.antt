@@ -5,7 +5,7 @@ use Rattle.std.specs.Option.{option_map}
 use Rattle.std.specs.FinMap as finite
 use Rattle.std.specs.List.{AllByRecursion, list_any, flat_map}
 use Rattle.std.specs.List.Sorted.{IsStrictlySortedBy}
-use Rattle.std.specs.Map.{keys_of, lookup}
+use Rattle.std.specs.Map.{keys_of}
 use Rattle.std.specs.BTreeMap.{is_at}
 use Rattle.std.specs.declared.cmp.Ordering.TheVariants.{Less}
 use Rattle.std.specs.Cmp.Lexicographic.{nat_list_cmp_total}
@@ -14,14 +14,13 @@ use Rattle.std.proofs.lemmas.Grind.{common_steps}
 use Rattle.std.proofs.lemmas.List.{map-append, append-nil, append_assoc}
 use Rattle.std.proofs.lemmas.List.Folds.{list_any-append, flat_map-map}
 use Rattle.std.proofs.lemmas.Map.Lookups.{exact_bytes}
-use Rattle.std.proofs.lemmas.Simd.{map-map}
+use Rattle.std.proofs.lemmas.Map.Made.{lookup-map_values, keys_of-map_values}
 use Rattle.lrc_code.specs.Code.{fragment_count}
 use Rattle.sealed.specs.declared.value.Sealed.{Sealed}
 use Rattle.sealed.specs.Blob.{pair_cmp}
 use Rattle.history.specs.Names.{name_cmp}
 use Rattle.history.specs.State.{Blob, IsLostInside}
 use Rattle.history.specs.History.{History, state_of}
-use Rattle.history.proofs.Catalogue.{option_map-cond}
 use Rattle.history.proofs.Inside.{lost_inside}
 use Rattle.history.proofs.Keeping.{same_truth, few_fragments, lt_of}
 use Rattle.book.specs.Contents.{Contents, sealed_at}
@@ -33,10 +32,6 @@ use Rattle.book.specs.declared.plan.Item.{Item}
 use Rattle.book.proofs.Lacking.{lacks_alike}
 use Rattle.history.proofs.Rising.{keys_rise, same_found, pairs_of-has, pairs_rise, same_pairs}
 use Rattle.book.proofs.Rising.{all_push, rises_push}
-
-lookup-map : {K X Y : Type 0} (f : X → Y) (t : K → Bool) (es : List (K × X)) → lookup t (map {B = K × Y} (λ (e : K × X). (e.0, f e.1)) es) ≡ option_map f (lookup t es)
-lookup-map f t [] = refl
-lookup-map f t (e ∷ es) = ap (cond (t e.0) (Some (f e.1))) (lookup-map f t es) ∙ option_map-cond f (t e.0) e.1 (lookup t es)
 
 -- ---- the list rises
 rising_numbers : (n m : ℕ) → n < m → pair_cmp (n / 16, n % 16) (m / 16, m % 16) ≡ Less
@@ -182,18 +177,15 @@ same_of w (Some s) None same inside = absurd same
 abbrev with_values : {X Y : Type 0} → (X → Y) → List (List ℕ × X) → List (List ℕ × Y)
 with_values f es = map (λ e. (e.0, f e.1)) es
 
-keys_kept : {X Y : Type 0} (f : X → Y) (es : List (List ℕ × X)) → keys_of es ≡ keys_of (with_values f es)
-keys_kept f es = sym (map-map (λ e. e.0) (λ e. (e.0, f e.1)) es)
-
 pub plan_is : (book : Contents) (h : History) → IsStrictlySortedBy name_cmp (keys_of book.catalogue) → Tells book h → flat_map items_lacked book.catalogue ≡ plan_of (state_of h)
 plan_is book h rises told =
     let names = (state_of h).names in
     let same : with_values of_value book.catalogue ≡ with_values of_blob (finite.entries names) =
-    same_found nat_list_cmp_total exact_bytes _ _ (subst (IsStrictlySortedBy name_cmp) (keys_kept of_value book.catalogue) rises)
-    (subst (IsStrictlySortedBy name_cmp) (keys_kept of_blob (finite.entries names)) (keys_rise names))
-    (λ q. lookup-map of_value (is_at (name_cmp q)) book.catalogue
+    same_found nat_list_cmp_total exact_bytes _ _ (subst (IsStrictlySortedBy name_cmp) (sym (keys_of-map_values of_value book.catalogue)) rises)
+    (subst (IsStrictlySortedBy name_cmp) (sym (keys_of-map_values of_blob (finite.entries names))) (keys_rise names))
+    (λ q. lookup-map_values of_value (is_at (name_cmp q)) book.catalogue
     ∙ same_of book.width (sealed_at book q) (finite.get names q) (told.catalogue q) (λ blob here. lost_inside book.width h told.legal q blob here)
     ∙ ap (option_map of_blob) (finite.get-entries names q)
-    ∙ sym (lookup-map of_blob (is_at (name_cmp q)) (finite.entries names))) in
+    ∙ sym (lookup-map_values of_blob (is_at (name_cmp q)) (finite.entries names))) in
     let items : List ℕ × (ℕ × List (ℕ × ℕ)) → List Item = λ e. items_for e.0 e.1.0 e.1.1 in
     sym (flat_map-map items (λ e. (e.0, of_value e.1)) book.catalogue) ∙ ap (flat_map items) same ∙ flat_map-map items (λ e. (e.0, of_blob e.1)) (finite.entries names)
