@@ -1,0 +1,11 @@
+//! The store that threads share: a book behind a gate. Each caller has a pass, and knows one legal history that begins with all that it had seen and
+//! ends with its call.
+#![tactic(auto)]
+
+mod kept;
+mod pass;
+mod store;
+
+pub use kept::Kept;
+pub use pass::Pass;
+pub use store::Store;
