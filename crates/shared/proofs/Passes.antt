@@ -4,10 +4,9 @@ use mathlib.Core.List.{IsPrefix}
 use Rattle.gate.specs.Places.{SeatState, last_of, IsWithin, times, AreApart, HasAll}
 use Rattle.gate.proofs.Events.{history_prefix, events_at_prefix, events_at-append, once_each, all_made, all_below, once_below_length, within_prefix}
 use Rattle.gate.proofs.Lists.{times-append}
-use Rattle.book.specs.Contents.{Contents}
 use Rattle.book.specs.Tells.{Tells}
 use Rattle.shared.specs.declared.kept.Kept.{Kept}
-use Rattle.shared.specs.Passes.{between_kept, seen_of, made_of, width_of, limit_of, shows, TellsAs, IsTold, IsPass}
+use Rattle.shared.specs.Passes.{between_kept, seen_of, made_of, width_of, limit_of, TellsAs, IsTold, IsPass}
 use Rattle.shared.proofs.Between.{one_call, told_length}
 
 -- a longer list begins with the same book
@@ -55,9 +54,6 @@ module _ (a b q : SeatState Kept) (pass : IsPass a) (other : IsPass b) (first : 
       let all : times k (made_of q.list q.own) ≡ times k (made_of a.list a.own) + times k (made_of b.list b.own) =
       ap (times k) joined_made ∙ times-append k (made_of a.list a.own) (made_of b.list b.own) in
       omega arith
-
-pub joined_store : (a q : SeatState Kept) → IsPass a → q.gate ≡ a.gate → IsPrefix a.list q.list → (shows q 0).store ≡ (shows a 0).store
-joined_store a q pass gate first = λ i. record { table = gate i; width = width_stays a.list q.list pass.told.0 pass.told.1 first i; limit = limit_stays a.list q.list pass.told.0 pass.told.1 first i }
 
 pub joined_seen : (a q : SeatState Kept) → IsPass a → IsPrefix a.list q.list → IsPrefix (seen_of a.list) (seen_of q.list)
 joined_seen a q pass first = history_prefix between_kept a.list q.list pass.told.0 pass.told.1 first

@@ -1,3 +1,5 @@
 pub mod Bytes
 pub mod Between
 pub mod Passes
+pub mod Calls
+pub mod Requests

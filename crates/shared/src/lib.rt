@@ -2,8 +2,10 @@
 //! ends with its call.
 #![tactic(auto)]
 
+mod entry;
 mod kept;
 mod pass;
+mod request;
 mod store;
 
 pub use kept::Kept;
