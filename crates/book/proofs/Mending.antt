@@ -1,5 +1,5 @@
 -- One fragment taken out of a sealed value, or put back.
-use Rattle.std.proofs.Common.{◌≡◌, ◌≢◌, ℕ, ◌+◌, ◌*◌, ◌/◌, ◌%◌, ◌<◌, ◌≤◌, Bool, true, false, ◌&&◌, ◌==◌, List, Option, None, Some, Bor, is_none, cond, length, Result, Ok, Err, IfOk, refl, sym, ap, ◌∙◌, subst, inl, inr, arith}
+use Rattle.std.proofs.Common.{◌≡◌, ◌≢◌, ℕ, ◌+◌, ◌*◌, ◌/◌, ◌%◌, ◌<◌, ◌≤◌, Bool, true, false, ◌&&◌, ◌==◌, List, Option, None, Some, Bor, is_none, cond, length, Result, Ok, Err, refl, sym, ap, ◌∙◌, subst, inl, inr, arith}
 use Rattle.std.specs.Prelude.{nat_lt, slice_range}
 use Rattle.std.specs.Option.{option_map}
 use Rattle.std.specs.FinSet as set
@@ -115,7 +115,7 @@ is_with s t j f x changed own =
 whole_range : (xs : List ℕ) (n : ℕ) → length xs ≡ n → slice_range xs 0 n ≡ xs
 whole_range xs n e = grind (arith, common_steps, e)
 
-lacks_here : (s : Sealed) (j f : ℕ) → j < stripe_count s.code s.width s.len → f < fragment_count s.code → lacks s j f ≡ absent_in s j f
+pub lacks_here : (s : Sealed) (j f : ℕ) → j < stripe_count s.code s.width s.len → f < fragment_count s.code → lacks s j f ≡ absent_in s j f
 lacks_here s j f below inside =
     let c : length s.stripes ≡ stripe_count s.code s.width s.len = s.shaped.count in
     λ i. is_lt j (length s.stripes) (omega arith) i && (is_lt f (fragment_count s.code) inside i && absent_in s j f)
@@ -147,11 +147,5 @@ module _ (s : Sealed) (j f : ℕ) (code : Code) (fragments : List (Option (Bor (
       built s (record { stripe = j; fragment = f; from = 0; to = to }) code fragments g bytes same_code same_f left below (omega (arith, wide)) rebuilt b lost stands
       ∙ whole_range (fragment s.code s.width b j f) to (length-map-range_with_len (λ p. column s.code (data_at s.code s.width b j p) f) 0 s.width ∙ sym wide)
 
--- ---- by the result
-pub unless_open : {A : Type 0} (r : Result A Rebuild) (P : Type 0) → ((r ≡ Err OpenFound → ⊥) → P) → IfOk r (λ a. P)
-unless_open {A} (Ok a) P h = h (λ e. let no : ◌≡◌ {A = Result A Rebuild} (Ok a) (Err OpenFound) = e in cc)
-unless_open (Err e) P h = tt
-
-pub at_ok : {A : Type 0} (r : Result A Rebuild) (P Q : A → Type 0) → ((a : A) → P a → Q a) → IfOk r P → IfOk r Q
-at_ok (Ok a) P Q h p = h a p
-at_ok (Err e) P Q h p = tt
+pub no_err : {A : Type 0} (a : A) → ◌≡◌ {A = Result A Rebuild} (Ok a) (Err OpenFound) → ⊥
+no_err a e = cc

@@ -1,14 +1,19 @@
 //! Mending by a fragment that was rebuilt elsewhere.
-ghost use Rattle.std.specs.Prelude.{◌≡◌, ◌⊎◌, ◌↔◌, length, IfOk, IfErr, OnErr};
+ghost use Rattle.std.specs.Prelude.{◌≡◌, ◌⊎◌, ◌↔◌, length, IfSome, IfOk, IfErr, OnErr};
 ghost use Rattle.history.specs.History.{History};
 ghost use Rattle.history.specs.Step.{repair as repair_of};
-ghost use Rattle.book.specs.Known.{IsFragmentIn};
+ghost use Rattle.history.specs.Views.{repair_reply};
+ghost use Rattle.book.specs.Known.{IsFragmentIn, Serves};
+ghost use Rattle.book.specs.Losing.{Mends, Replaces, value_at};
+ghost use Rattle.book.specs.Notes.{note_of};
 ghost use Rattle.book.specs.Tells.{Tells, CarriesOn};
 
 use crate::book::Book;
-use crate::{Answer, Fault, Name};
+use crate::shelved::Shelved;
+use crate::{Answer, Call, Entry, Fault, Name};
 use bytes::Bytes;
 use std::alloc::Global;
+use std::collections::BTreeMap;
 
 impl Book {
     /// Mends a lost fragment of a name's blob with bytes that were rebuilt from the blob of this version, without the book, before.
@@ -38,6 +43,46 @@ impl Book {
         if self.is_full() {
             return Err(Fault::JournalFull);
         }
-        Err(Fault::NoMemory)
+        let answer = match install_in(
+            &mut self.catalogue,
+            alloc,
+            &name,
+            version,
+            stripe,
+            fragment,
+            bytes,
+        ) {
+            Ok(answer) => answer,
+            Err(error) => return Err(error),
+        };
+        let note = answer.note();
+        let call = Call::Repair {
+            name,
+            stripe,
+            fragment,
+        };
+        self.journal.push(Entry { who, call, note });
+        Ok(answer)
+    }
+}
+
+/// Mends a lost fragment of a name's blob in the catalogue, with these bytes where the blob has this version. The only fault is `NoMemory`.
+fn install_in(
+    catalogue: &mut BTreeMap<Name, Shelved>,
+    alloc: Global,
+    name: &Name,
+    version: u64,
+    stripe: u64,
+    fragment: u64,
+    bytes: Bytes,
+) -> Result<Answer, Fault>
+    requires { IfSome (value_at catalogue.old.entries name.now) (Serves version stripe fragment bytes) }
+    ensures ok { IfOk result (λ a. Replaces (λ w x. repair_reply w x stripe fragment) (Mends stripe fragment (note_of a)) catalogue.old.entries catalogue.new.entries name.now (note_of a)) }
+    ensures faults { IfErr result (λ e. e ≡ Fault.NoMemory) }
+    ensures err { OnErr result (catalogue.new.entries ≡ catalogue.old.entries) }
+{
+    match catalogue.get_mut(name) {
+        Some(shelved) => shelved.install(alloc, version, stripe, fragment, bytes),
+        None => Ok(Answer::NoName),
     }
 }

@@ -5,6 +5,7 @@ ghost use Rattle.lrc_code.specs.Code.{fragment_count};
 ghost use Rattle.sealed.specs.Layout.{stripe_count};
 ghost use Rattle.sealed.specs.Blob.{nothing};
 ghost use Rattle.sealed.specs.Sealed.{StandsFor, absent_in};
+ghost use Rattle.book.specs.Known.{Serves, is_mendable};
 ghost use Rattle.book.specs.Lacking.{reply_for, lacks, seen_of};
 ghost use Rattle.book.specs.Losing.{IsFragmentOf, IsWith, Loses, Mends};
 ghost use Rattle.book.specs.Notes.{note_of};
@@ -12,7 +13,7 @@ ghost use Rattle.history.specs.Views.{no_such, open_test, lose_reply, repair_rep
 
 use crate::{Answer, Fault};
 use bytes::Bytes;
-use lrc_code::{Rebuild, rebuild};
+use lrc_code::{Rebuild, is_open_in, rebuild};
 use sealed::Sealed;
 use std::alloc::Global;
 use std::marker::Model;
@@ -148,20 +149,51 @@ impl Shelved {
         }
     }
 
+    /// Whether a fragment is lost and can be told from those left.
+    fn is_mendable(&self, stripe: u64, fragment: u64) -> bool
+        ensures { result ≡ is_mendable self.now stripe fragment }
+    {
+        if self.is_no_fragment(stripe, fragment) || !self.is_lost(stripe, fragment as u8) {
+            return false;
+        }
+        !is_open_in(self.sealed.code, self.sealed.lost(stripe), fragment as u8)
+    }
+
+    /// Does as `repair` does, but puts back these bytes where the blob has this version. The only fault is `NoMemory`. After it the blob is as it was.
+    pub fn install(
+        &mut self,
+        alloc: Global,
+        version: u64,
+        stripe: u64,
+        fragment: u64,
+        bytes: Bytes,
+    ) -> Result<Answer, Fault>
+        requires { Serves version stripe fragment bytes self.old }
+        ensures answer { IfOk result (λ a. note_of a ≡ reply_for (λ w x. repair_reply w x stripe fragment) (Some self.old)) }
+        ensures changed { IfOk result (λ a. Mends stripe fragment (note_of a) self.old self.new) }
+        ensures faults { IfErr result (λ e. e ≡ Fault.NoMemory) }
+        ensures err { OnErr result (self.new ≡ self.old) }
+    {
+        if self.sealed.version != version || !self.is_mendable(stripe, fragment) {
+            return self.repair(alloc, stripe, fragment);
+        }
+        match self.put_back(alloc, stripe, fragment as u8, bytes) {
+            Ok(()) => Ok(Answer::Repaired(version)),
+            Err(error) => Err(error),
+        }
+    }
+
     /// Puts back an absent fragment.
-    fn put_back(&mut self, alloc: Global, stripe: u64, f: u8, bytes: Vec<u8>) -> Result<(), Fault>
+    fn put_back(&mut self, alloc: Global, stripe: u64, f: u8, bytes: Bytes) -> Result<(), Fault>
         requires stripe_below { stripe < stripe_count self.old.code self.old.width self.old.len }
         requires f_below { f < fragment_count self.old.code }
         requires gone { absent_in self.old stripe f ≡ true }
-        requires long { length bytes.items ≡ self.old.width }
-        requires own { IsFragmentOf self.old stripe f bytes.items }
+        requires long { length bytes ≡ self.old.width }
+        requires own { IsFragmentOf self.old stripe f bytes }
         ensures ok { OnOk result (IsWith (λ lost. set.remove lost (stripe, f)) self.old self.new) }
         ensures faults { IfErr result (λ e. e ≡ Fault.NoMemory) }
         ensures err { OnErr result (self.new ≡ self.old) }
     {
-        let Ok(bytes) = Bytes::from_vec(bytes) else {
-            return Err(Fault::NoMemory);
-        };
         let Ok(sealed) = self.sealed.with(alloc, stripe, f, bytes) else {
             return Err(Fault::NoMemory);
         };
@@ -175,15 +207,21 @@ impl Shelved {
 }
 
 /// The bytes of an absent fragment, or why there are none.
-fn rebuild_whole(alloc: Global, sealed: &Sealed, stripe: u64, f: u8) -> Result<Vec<u8>, Rebuild>
+fn rebuild_whole(alloc: Global, sealed: &Sealed, stripe: u64, f: u8) -> Result<Bytes, Rebuild>
     requires stripe_below { stripe < stripe_count sealed.now.code sealed.now.width sealed.now.len }
     requires f_below { f < fragment_count sealed.now.code }
     requires gone { absent_in sealed.now stripe f ≡ true }
     ensures open { result ≡ Err Rebuild.Open → open_test sealed.now.code (lacks sealed.now stripe) f ≡ true }
     ensures closed { IfOk result (λ bytes. open_test sealed.now.code (lacks sealed.now stripe) f ≡ false) }
-    ensures long { IfOk result (λ bytes. length bytes.items ≡ sealed.now.width) }
-    ensures own { IfOk result (λ bytes. IsFragmentOf sealed.now stripe f bytes.items) }
+    ensures long { IfOk result (λ bytes. length bytes ≡ sealed.now.width) }
+    ensures own { IfOk result (λ bytes. IsFragmentOf sealed.now stripe f bytes) }
 {
     let left = sealed.left(stripe);
-    rebuild(alloc, &left, usize::from(f), 0, sealed.width.get() as usize)
+    match rebuild(alloc, &left, usize::from(f), 0, sealed.width.get() as usize) {
+        Ok(bytes) => match Bytes::from_vec(bytes) {
+            Ok(bytes) => Ok(bytes),
+            Err(_) => Err(Rebuild::NoMemory),
+        },
+        Err(error) => Err(error),
+    }
 }

@@ -1,0 +1,134 @@
+-- A fragment that was rebuilt outside the book is the fragment of each blob that the value of its version stands for.
+use Rattle.std.proofs.Common.{◌≡◌, ℕ, ◌<◌, Bool, true, false, not, ◌&&◌, List, Option, None, Some, is_none, cond, length, refl, sym, ap, ◌∙◌, subst, inl, inr}
+use Rattle.std.specs.Prelude.{◌↔◌, IsTrue, IfSome, nat_le, nat_lt, slice_index}
+use Rattle.std.specs.FinMap as finite
+use Rattle.std.proofs.lemmas.Bool.{cases_eq, and_parts, or_parts, not-true, false≢true, true≢false}
+use Rattle.std.proofs.lemmas.Grind.{same_number_lists}
+use Rattle.std.proofs.lemmas.List.FromFn.{length-map-range_with_len}
+use Rattle.lrc_code.specs.declared.Code.{Code}
+use Rattle.lrc_code.specs.Code.{fragment_count, Open}
+use Rattle.lrc_code.specs.Column.{column}
+use Rattle.lrc_code.proofs.Recoverable.{exact}
+use Rattle.lrc_code.proofs.Stripes.{open_same}
+use Rattle.sealed.specs.declared.value.Sealed.{Sealed}
+use Rattle.sealed.specs.Layout.{stripe_count}
+use Rattle.sealed.specs.Stripes.{fragment_at}
+use Rattle.sealed.specs.Blob.{Lost, fragment, data_at, lost_in}
+use Rattle.sealed.specs.Sealed.{StandsFor, absent_in}
+use Rattle.sealed.proofs.Fragments.{fragments_are}
+use Rattle.history.specs.State.{Blob}
+use Rattle.history.specs.Step.{put}
+use Rattle.history.specs.History.{History, IsLegal, HasPut, state_of}
+use Rattle.history.specs.Views.{no_such, open_test}
+use Rattle.history.proofs.Keeping.{same_truth, lt_of}
+use Rattle.history.proofs.Replies.{below_of}
+use Rattle.book.specs.Contents.{Contents, sealed_at}
+use Rattle.book.specs.Known.{IsFragmentIn, is_mendable, Serves}
+use Rattle.book.specs.Lacking.{lacks, seen_of}
+use Rattle.book.specs.Losing.{IsFragmentOf}
+use Rattle.book.specs.Tells.{Tells, Represents, Correspond}
+use Rattle.book.proofs.Mending.{lacks_here}
+use Rattle.book.proofs.Versions.{was_put, only_put}
+
+-- ---- what can be mended
+-- the test by the fragments that the stripe lacks
+pub tested : (s : Sealed) (j f : ℕ) (code : Code) (known : ℕ → Bool) (r : Bool) → code ≡ s.code → ((g : ℕ) → g < fragment_count s.code → known g ≡ absent_in s j g)
+    → IsTrue r ↔ Open code known f → no_such s.width (seen_of s) j f ≡ false → lacks s j f ≡ true → not r ≡ is_mendable s j f
+tested s j f code known r same_code same is there gone =
+    let parts = or_parts (nat_le (stripe_count s.code s.width s.len) j) _ there in
+    let below : j < stripe_count s.code s.width s.len = below_of _ j parts.0 in
+    let inside : f < fragment_count s.code = below_of _ f parts.1 in
+    let alike : (g : ℕ) → g < fragment_count s.code → known g ≡ lacks s j g = λ g l. same g l ∙ sym (lacks_here s j g below l) in
+    let own : Open code known f ≡ Open s.code known f = λ i. Open (same_code i) known f in
+    let as_tested : r ≡ open_test s.code (lacks s j) f = same_truth r _
+    (λ t. (exact s.code (lacks s j) f inside).1 (open_same s.code known (lacks s j) f alike (subst (λ X. X) own (is.0 t))))
+    (λ t. is.1 (subst (λ X. X) (sym own) (open_same s.code (lacks s j) known f (λ g l. sym (alike g l)) ((exact s.code (lacks s j) f inside).0 t)))) in
+    λ i. sym gone i && not (as_tested i)
+
+module _ (s : Sealed) (j f : ℕ) (mendable : is_mendable s j f ≡ true) where
+  parts : (lacks s j f ≡ true) × (not (open_test s.code (lacks s j) f) ≡ true)
+  parts = and_parts (lacks s j f) _ mendable
+
+  closed : open_test s.code (lacks s j) f ≡ false
+  closed = not-true _ parts.1
+
+  lacking_place : (j < stripe_count s.code s.width s.len) × (f < fragment_count s.code)
+  lacking_place =
+      let first = and_parts (nat_lt j (length s.stripes)) _ parts.0 in
+      let second = and_parts (nat_lt f (fragment_count s.code)) _ first.1 in
+      (subst (λ n. j < n) s.shaped.count (lt_of j _ first.0), lt_of f _ second.0)
+
+  not_open : Open s.code (absent_in s j) f → ⊥
+  not_open o =
+      false≢true (sym closed ∙ (exact s.code (lacks s j) f lacking_place.1).1
+      (open_same s.code (absent_in s j) (lacks s j) f (λ g l. sym (lacks_here s j g lacking_place.0 l)) o))
+
+-- ---- two blobs that one value stands for
+both_there : (x : Option (List ℕ)) (gone also : Bool) (p q : List ℕ) → x ≡ cond gone None (Some p) → x ≡ cond also None (Some q) → is_none x ≡ false → p ≡ q
+both_there x true also p q e d there = absurd (true≢false (sym (ap is_none e) ∙ there))
+both_there x false true p q e d there = absurd (true≢false (sym (ap is_none d) ∙ there))
+both_there x false false p q e d there = (let same : Some p ≡ Some q = sym e ∙ d in cc)
+
+module _ (s : Sealed) (b c : List ℕ) (lost also : Lost) (one : StandsFor s b lost) (other : StandsFor s c also) (j : ℕ) (below : j < stripe_count s.code s.width s.len) where
+  same_there : (i : ℕ) → i < fragment_count s.code → absent_in s j i ≡ false → fragment s.code s.width b j i ≡ fragment s.code s.width c j i
+  same_there i l there = both_there (fragment_at s.stripes j i) (lost_in lost j i) (lost_in also j i) _ _ (one.fragments j i below l) (other.fragments j i below l) there
+
+  long : (x : List ℕ) (f : ℕ) → length (fragment s.code s.width x j f) ≡ s.width
+  long x f = length-map-range_with_len (λ p. column s.code (data_at s.code s.width x j p) f) 0 s.width
+
+  -- they agree at each fragment that can be told from those left
+  pub same_closed : (f : ℕ) → f < fragment_count s.code → (Open s.code (absent_in s j) f → ⊥) → fragment s.code s.width b j f ≡ fragment s.code s.width c j f
+  same_closed f inside closed =
+      same_number_lists _ _ (long b f ∙ sym (long c f))
+      (λ k l. elim (cases_eq (slice_index (fragment s.code s.width b j f) k) (slice_index (fragment s.code s.width c j f) k)) [
+        | inl same ↦ same
+        | inr differ ↦
+            let place : k < s.width = subst (λ n. k < n) (long b f) l in
+            absurd (closed (record {
+              inside = inside;
+              one = λ i. slice_index (fragment s.code s.width b j i) k;
+              other = λ i. slice_index (fragment s.code s.width c j i) k;
+              one_is = (fragments_are s.code s.width b j one.bytes).stripe.columns k place;
+              other_is = (fragments_are s.code s.width c j other.bytes).stripe.columns k place;
+              agree = λ i il there. ap (λ x. slice_index x k) (same_there i il there);
+              differ = differ;
+            }))
+      ])
+
+-- ---- what is known by a history serves
+same_code : (n m : List ℕ) (code code' : Code) (b c : List ℕ) → put m code' c ≡ put n code b → code' ≡ code
+same_code n m code code' b c e = cc
+
+same_bytes : (n m : List ℕ) (code code' : Code) (b c : List ℕ) → put m code' c ≡ put n code b → c ≡ b
+same_bytes n m code code' b c e = cc
+
+module _ (w : ℕ) (h : History) (n : List ℕ) (v j f : ℕ) (found : List ℕ) (legal : IsLegal w h) (known : IsFragmentIn h w n v j f found) where
+  -- the value represents a blob that the name has after the history
+  module _ (s : Sealed) (blob : Blob) (here : finite.get (state_of h).names n ≡ Some blob) (is : Represents w s blob) where
+    same_put : v ≡ s.version → put n known.code known.bytes ≡ put n blob.code blob.bytes
+    same_put e =
+        only_put w h legal blob.version n n blob.code known.code blob.bytes known.bytes (was_put w h legal n blob here)
+        (subst (λ u. HasPut h u n known.code known.bytes) (e ∙ is.version) known.put)
+
+    own_fragment : v ≡ s.version → found ≡ fragment s.code s.width blob.bytes j f
+    own_fragment e =
+        let code : known.code ≡ blob.code = same_code n n blob.code known.code blob.bytes known.bytes (same_put e) in
+        let bytes : known.bytes ≡ blob.bytes = same_bytes n n blob.code known.code blob.bytes known.bytes (same_put e) in
+        known.is ∙ (λ i. fragment ((code ∙ sym is.code) i) (sym is.width i) (bytes i) j f)
+
+    of_each : v ≡ s.version → is_mendable s j f ≡ true → IsFragmentOf s j f found
+    of_each e mendable c also stands =
+        let place = lacking_place s j f mendable in
+        own_fragment e ∙ same_closed s blob.bytes c blob.lost also is.stands stands j place.0 f place.1 (not_open s j f mendable)
+
+    serves : Serves v j f found s
+    serves = record { long = ap length known.is ∙ length-map-range_with_len (λ p. column known.code (data_at known.code w known.bytes j p) f) 0 w ∙ sym is.width; own = of_each }
+
+  serves_at : (x : Option Sealed) (had : Option Blob) → finite.get (state_of h).names n ≡ had → Correspond w x had → IfSome x (Serves v j f found)
+  serves_at None had here both = tt
+  serves_at (Some s) None here both = absurd both
+  serves_at (Some s) (Some blob) here both = serves s blob here both
+
+pub known_serves : (book : Contents) (h : History) (n : List ℕ) (v j f : ℕ) (found : List ℕ) → Tells book h → IsFragmentIn h book.width n v j f found → IfSome (sealed_at book n) (Serves v j f found)
+known_serves book h n v j f found told known =
+    serves_at book.width h n v j f found told.legal known (sealed_at book n) (finite.get (state_of h).names n) refl (told.catalogue n)
