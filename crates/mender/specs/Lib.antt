@@ -1,0 +1,4 @@
+pub mod Answers
+pub mod Drawn
+pub mod Rule
+pub mod Gathered
