@@ -2,11 +2,13 @@
 //! ends with its call.
 #![tactic(auto)]
 
+mod calls;
 mod entry;
 mod kept;
 mod pass;
 mod request;
 mod store;
+mod tries;
 
 pub use kept::Kept;
 pub use pass::Pass;
