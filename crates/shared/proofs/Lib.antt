@@ -4,3 +4,4 @@ pub mod Passes
 pub mod Steps
 pub mod Requests
 pub mod Grants
+pub mod Mends

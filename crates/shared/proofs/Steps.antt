@@ -105,6 +105,15 @@ stays p q x g who s = (s.store, refl, s.room)
 pub looked : (p q : SeatState Kept) (x : Kept) (who : ℕ) → Stepped p q x [] → Looks (shows p who) (shows q who)
 looked p q x who s = ((s.others, sym (s.seen ∙ append-nil (seen_of p.list ++ s.others))), s.made ∙ append-nil (made_of p.list p.own))
 
+pub same_goes_on : (old new : Contents) → new ≡ old → GoesOn old new []
+same_goes_on old new same = record {
+  width = ap (λ (c : Contents). c.width) same;
+  limit = ap (λ (c : Contents). c.limit) same;
+  few = omega arith;
+  told = λ h told. subst (Tells new) (sym (append-nil h)) (subst (λ (c : Contents). Tells c h) (sym same) told);
+  held = λ h told. subst (λ (c : Contents). c.base.trimmed ≤ length h) (sym same) told.long;
+}
+
 -- ---- calls
 -- the event of a call, where it was made
 abbrev pub events_of : Result Answer Fault → ℕ → Operation → History
@@ -121,13 +130,7 @@ call_goes_on (Ok a) old new who o kept carries err = record {
   told = carries;
   held = λ h told. subst (λ base. base.trimmed ≤ length h) (sym kept.2) told.long;
 }
-call_goes_on (Err e) old new who o kept carries err = record {
-  width = kept.0;
-  limit = kept.1;
-  few = omega arith;
-  told = λ h told. subst (Tells new) (sym (append-nil h)) (subst (λ (c : Contents). Tells c h) (sym err) told);
-  held = λ h told. subst (λ base. base.trimmed ≤ length h) (sym kept.2) told.long;
-}
+call_goes_on (Err e) old new who o kept carries err = same_goes_on old new err
 
 -- a full journal holds as many entries as its limit, so as many calls were seen
 full_seen : (p q : SeatState Kept) (x : Kept) → Stepped p q x [] → length x.0.entries ≡ x.0.limit → limit_of q.list ≤ length (seen_of q.list)

@@ -5,6 +5,7 @@
 mod calls;
 mod entry;
 mod kept;
+mod mending;
 mod pass;
 mod request;
 mod store;
