@@ -1,7 +1,7 @@
 -- What lies between two books.
-use Rattle.std.proofs.Common.{◌≡◌, ℕ, ◌+◌, ◌-◌, ◌≤◌, true, List, [], ◌∷◌, ◌++◌, length, map, take, drop, cond, Option, None, Some, Result, Ok, Err, IfOk, OnErr, refl, ap, sym, subst, ◌∙◌, arith, length-append}
+use Rattle.std.proofs.Common.{◌≡◌, ℕ, ◌+◌, ◌-◌, ◌≤◌, List, [], ◌∷◌, ◌++◌, length, map, drop, cond, Option, None, Some, refl, ap, sym, subst, ◌∙◌, arith}
 use Rattle.std.proofs.Math.Seq.{drop-append_seam}
-use Rattle.std.proofs.lemmas.List.{map-append, append-nil, drop-append-le, length-map, length-drop}
+use Rattle.std.proofs.lemmas.List.{map-append, drop-append-le, length-map, length-drop}
 use Rattle.std.specs.FinMap as finite
 use Rattle.std.specs.Cmp.Lexicographic.{nat_list_cmp_total}
 use Rattle.std.proofs.lemmas.Cmp.{eq_by_cmp_equiv}
@@ -15,8 +15,7 @@ use Rattle.history.specs.Step.{Operation, put, read, lose, repair, delete, stat,
 use Rattle.history.specs.History.{Event, History, state_of, call_of, entry_of}
 use Rattle.history.proofs.Beginnings.{after_all-append}
 use Rattle.book.specs.Contents.{Contents, sealed_at}
-use Rattle.book.specs.Tells.{Tells, Represents, Correspond}
-use Rattle.shared.specs.Bytes.{bytes_of}
+use Rattle.book.specs.Tells.{Tells, Correspond}
 use Rattle.shared.specs.Between.{bytes_found, operation_in, first_in, between, MayFollow}
 use Rattle.shared.proofs.Bytes.{bytes_are}
 

@@ -1,12 +1,12 @@
 -- The bytes that are read out of a sealed blob with nothing lost.
-use Rattle.std.proofs.Common.{◌≡◌, ℕ, ◌<◌, ◌≤◌, List, length, None, Some, cond, sym, ap, ◌∙◌, arith}
-use Rattle.std.specs.Prelude.{slice_index, slice_index_or}
+use Rattle.std.proofs.Common.{◌≡◌, ℕ, ◌<◌, ◌≤◌, List, None, Some, cond, sym, ap, ◌∙◌, arith}
+use Rattle.std.specs.Prelude.{slice_index}
 use Rattle.std.specs.FinSet as set
 use Rattle.std.proofs.lemmas.List.FromFn.{get_or-map-range_with_len, fill_by_all}
 use Rattle.lrc_code.specs.Column.{column}
 use Rattle.lrc_code.proofs.Columns.{column_data, count_with_parities}
 use Rattle.sealed.specs.declared.value.Sealed.{Sealed}
-use Rattle.sealed.specs.Layout.{stripe_of, fragment_of, place_of, stripe_count}
+use Rattle.sealed.specs.Layout.{stripe_of, fragment_of, place_of}
 use Rattle.sealed.specs.Stripes.{fragment_at}
 use Rattle.sealed.specs.Blob.{data_at, fragment, nothing, pair_cmp}
 use Rattle.sealed.specs.Sealed.{StandsFor}

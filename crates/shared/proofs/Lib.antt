@@ -3,3 +3,5 @@ pub mod Between
 pub mod Passes
 pub mod Steps
 pub mod Requests
+pub mod Grants
+pub mod Mends

@@ -1,5 +1,5 @@
 -- What a call adds to what a pass shows.
-use Rattle.std.proofs.Common.{◌≡◌, ◌⊎◌, ℕ, ◌+◌, ◌≤◌, ◌<◌, false, List, [], ◌∷◌, ◌++◌, length, Some, Result, Ok, Err, IfOk, OnErr, refl, ap, sym, subst, ◌∙◌, arith, append_assoc, length-append}
+use Rattle.std.proofs.Common.{◌≡◌, ℕ, ◌+◌, ◌≤◌, false, List, [], ◌∷◌, ◌++◌, length, Some, Result, Ok, Err, IfOk, OnErr, refl, ap, sym, subst, ◌∙◌, arith, append_assoc}
 use Rattle.std.proofs.lemmas.List.{append-nil}
 use mathlib.Core.List.{IsPrefix}
 use Rattle.gate.specs.Places.{SeatState, last_of, IsChain, IsWithin}
@@ -14,8 +14,8 @@ use Rattle.book.specs.declared.answer.Answer.{Answer}
 use Rattle.book.specs.Contents.{Contents}
 use Rattle.book.specs.Tells.{Tells, CarriesOn}
 use Rattle.shared.specs.declared.kept.Kept.{Kept}
-use Rattle.shared.specs.Between.{between, MayFollow}
-use Rattle.shared.specs.Passes.{Which, Shows, between_kept, seen_of, made_of, width_of, limit_of, shows, TellsAs, IsTold, IsPass, Stays, Calls, Looks}
+use Rattle.shared.specs.Between.{MayFollow}
+use Rattle.shared.specs.Passes.{between_kept, seen_of, made_of, width_of, limit_of, shows, TellsAs, IsPass, Stays, Looks}
 use Rattle.shared.specs.Calls.{event, Called}
 use Rattle.shared.proofs.Between.{GoesOn, between_is, goes_follows, told_length}
 use Rattle.shared.proofs.Passes.{width_stays, limit_stays}
@@ -56,8 +56,8 @@ found p m x pass enters =
 pub record Stepped (p q : SeatState Kept) (x : Kept) (g : History) : Type 0 where
   pub others : History
   pub told : TellsAs (width_of q.list) (limit_of q.list) x (seen_of p.list ++ others)
-  pub width : width_of q.list ≡ width_of p.list
-  pub limit : limit_of q.list ≡ limit_of p.list
+  pub store : (shows q 0).store ≡ (shows p 0).store
+  pub room : q.room ≡ p.room
   pub seen : seen_of q.list ≡ (seen_of p.list ++ others) ++ g
   pub made : made_of q.list q.own ≡ made_of p.list p.own ++ number_if (length (seen_of p.list ++ others)) g
   pub legal : IsLegal (width_of q.list) (seen_of q.list)
@@ -83,8 +83,8 @@ stepped p m q x y g pass enters leaves on =
     record {
       others = f.before.0;
       told = record { width = f.told.width ∙ sym width; limit = f.told.limit ∙ sym limit; tells = subst (Tells x.0) (sym f.before.1) f.told.tells };
-      width = width;
-      limit = limit;
+      store = λ i. record { table = (leaves.same.0 ∙ enters.same.0) i; width = width i; limit = limit i };
+      room = leaves.same.1 ∙ enters.same.1;
       seen = seen ∙ (λ i. sym f.before.1 i ++ lies i);
       made =
           (λ i. made_of (leaves.list i) (places i))
@@ -98,13 +98,21 @@ stepped p m q x y g pass enters leaves on =
       };
     }
 
-pub stays : (p m q : SeatState Kept) (x y : Kept) (g : History) (who : ℕ) → Enters p m x → Leaves m q y → Stepped p q x g → Stays (shows p who) (shows q who)
-stays p m q x y g who enters leaves s =
-    ((λ i. record { table = (leaves.same.0 ∙ enters.same.0) i; width = s.width i; limit = s.limit i }), refl, leaves.same.1 ∙ enters.same.1)
+pub stays : (p q : SeatState Kept) (x : Kept) (g : History) (who : ℕ) → Stepped p q x g → Stays (shows p who) (shows q who)
+stays p q x g who s = (s.store, refl, s.room)
 
 -- nothing was done
 pub looked : (p q : SeatState Kept) (x : Kept) (who : ℕ) → Stepped p q x [] → Looks (shows p who) (shows q who)
 looked p q x who s = ((s.others, sym (s.seen ∙ append-nil (seen_of p.list ++ s.others))), s.made ∙ append-nil (made_of p.list p.own))
+
+pub same_goes_on : (old new : Contents) → new ≡ old → GoesOn old new []
+same_goes_on old new same = record {
+  width = ap (λ (c : Contents). c.width) same;
+  limit = ap (λ (c : Contents). c.limit) same;
+  few = omega arith;
+  told = λ h told. subst (Tells new) (sym (append-nil h)) (subst (λ (c : Contents). Tells c h) (sym same) told);
+  held = λ h told. subst (λ (c : Contents). c.base.trimmed ≤ length h) (sym same) told.long;
+}
 
 -- ---- calls
 -- the event of a call, where it was made
@@ -122,13 +130,7 @@ call_goes_on (Ok a) old new who o kept carries err = record {
   told = carries;
   held = λ h told. subst (λ base. base.trimmed ≤ length h) (sym kept.2) told.long;
 }
-call_goes_on (Err e) old new who o kept carries err = record {
-  width = kept.0;
-  limit = kept.1;
-  few = omega arith;
-  told = λ h told. subst (Tells new) (sym (append-nil h)) (subst (λ (c : Contents). Tells c h) (sym err) told);
-  held = λ h told. subst (λ base. base.trimmed ≤ length h) (sym kept.2) told.long;
-}
+call_goes_on (Err e) old new who o kept carries err = same_goes_on old new err
 
 -- a full journal holds as many entries as its limit, so as many calls were seen
 full_seen : (p q : SeatState Kept) (x : Kept) → Stepped p q x [] → length x.0.entries ≡ x.0.limit → limit_of q.list ≤ length (seen_of q.list)
@@ -139,25 +141,22 @@ full_seen p q x s full =
     let limit : x.0.limit ≡ limit_of q.list = s.told.limit in
     omega arith
 
-by_fault : {e f : Fault} → ◌≡◌ {A = Result Answer Fault} (Err e) (Err f) → e ≡ f
-by_fault is = cc (is)
-
 no_fault : {a : Answer} {f : Fault} → ◌≡◌ {A = Result Answer Fault} (Ok a) (Err f) → ⊥
 no_fault is = cc (is)
 
 -- what a call on the book makes of a pass
-pub called : (p m q : SeatState Kept) (x y : Kept) (who : ℕ) (o : Operation) (r : Result Answer Fault) → Enters p m x → Leaves m q y → Stepped p q x (events_of r who o)
-    → (r ≡ Err JournalFull → length x.0.entries ≡ x.0.limit) → (r ≡ Err TooLong → ⊥) → Called (shows p who) o r (shows q who)
-called p m q x y who o (Ok a) enters leaves s full short = record {
-  stays = stays p m q x y (event who o a ∷ []) who enters leaves s;
+pub called : (p q : SeatState Kept) (x : Kept) (who : ℕ) (o : Operation) (r : Result Answer Fault) → Stepped p q x (events_of r who o) → (r ≡ Err JournalFull → length x.0.entries ≡ x.0.limit)
+    → (r ≡ Err TooLong → ⊥) → Called (shows p who) o r (shows q who)
+called p q x who o (Ok a) s full short = record {
+  stays = stays p q x (event who o a ∷ []) who s;
   legal = s.legal;
   ok = (s.others, s.seen, s.made);
   err = tt;
   full = λ is. absurd (no_fault is);
   too_long = λ is. absurd (no_fault is);
 }
-called p m q x y who o (Err e) enters leaves s full short = record {
-  stays = stays p m q x y [] who enters leaves s;
+called p q x who o (Err e) s full short = record {
+  stays = stays p q x [] who s;
   legal = s.legal;
   ok = tt;
   err = looked p q x who s;

@@ -1,5 +1,5 @@
 -- What a call leaves of a pass.
-use Rattle.std.specs.Prelude.{◌≡◌, ◌⊎◌, ℕ, ◌≤◌, ◌<◌, List, [], ◌∷◌, length, Some, Result, Ok, Err, IfOk, OnErr}
+use Rattle.std.specs.Prelude.{◌≡◌, ℕ, ◌≤◌, ◌<◌, List, length, Some, Result, Err, IfOk, OnErr}
 use Rattle.std.specs.FinMap as finite
 use Rattle.lrc_code.specs.declared.Code.{Code}
 use Rattle.sealed.specs.declared.fault.Fault.{Fault}
@@ -13,7 +13,7 @@ use Rattle.book.specs.declared.answer.Answer.{Answer}
 use Rattle.book.specs.declared.answer.Answer.TheVariants.{Granted}
 use Rattle.book.specs.Notes.{note_of}
 use Rattle.book.specs.Tells.{Represents}
-use Rattle.shared.specs.Passes.{Which, Shows, Stays, Calls, Looks}
+use Rattle.shared.specs.Passes.{Shows, Stays, Calls, Looks}
 
 abbrev pub event : ℕ → Operation → Answer → Event
 event who operation answer = record { who = who; operation = operation; note = note_of answer }
@@ -41,7 +41,7 @@ pub record GrantedIn (h : History) (w : ℕ) (n : List ℕ) (start len : ℕ) (g
   pub here : finite.get (state_of h).names n ≡ Some blob
   pub represents : Represents w g.sealed.value blob
   pub put_is : HasPut h blob.version n blob.code blob.bytes
-  pub only : (other : List ℕ) (code : Code) (bytes : List ℕ) → HasPut h blob.version other code bytes → (code ≡ blob.code) × (bytes ≡ blob.bytes)
+  pub only : (other : List ℕ) (code : Code) (bytes : List ℕ) → HasPut h blob.version other code bytes → put other code bytes ≡ put n blob.code blob.bytes
 
 -- where the answer is a grant
 abbrev pub IfGranted : Answer → (Grant → Type 0) → Type 0

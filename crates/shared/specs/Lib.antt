@@ -3,3 +3,4 @@ pub mod Between
 pub mod Passes
 pub mod Calls
 pub mod Requests
+pub mod Mends

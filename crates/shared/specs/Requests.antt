@@ -1,5 +1,5 @@
 -- Calls as they are made on the book in the gate.
-use Rattle.std.specs.Prelude.{◌≡◌, ◌⊎◌, ℕ, List, IfOk}
+use Rattle.std.specs.Prelude.{◌≡◌, ◌⊎◌, ℕ, List}
 use Rattle.sealed.specs.declared.fault.Fault.{Fault}
 use Rattle.sealed.specs.declared.fault.Fault.TheVariants.{NoMemory, JournalFull}
 use Rattle.sealed.specs.Blob.{nothing}
@@ -15,7 +15,7 @@ use Rattle.shared.specs.declared.request.Request.{Request}
 use Rattle.shared.specs.declared.request.Request.TheVariants.{Put, Read, Lose, Install, Delete, Stat}
 use Rattle.shared.specs.Bytes.{bytes_of}
 use Rattle.shared.specs.Calls.{IfGranted, GrantedIn}
-use Rattle.shared.specs.Passes.{Which, Shows}
+use Rattle.shared.specs.Passes.{Shows}
 
 abbrev pub operation_of : Request → Operation
 operation_of (Put alloc n s) = put n s.code (bytes_of s)

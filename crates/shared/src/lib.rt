@@ -2,11 +2,14 @@
 //! ends with its call.
 #![tactic(auto)]
 
+mod calls;
 mod entry;
 mod kept;
+mod mending;
 mod pass;
 mod request;
 mod store;
+mod tries;
 
 pub use kept::Kept;
 pub use pass::Pass;

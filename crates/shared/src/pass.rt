@@ -2,9 +2,10 @@
 ghost use Rattle.std.specs.Prelude.{◌≡◌, ◌⊎◌, ◌↔◌, ◌+◌, ◌-◌, ◌≤◌, ◌++◌, [], IfOk, IfErr, OnOk, OnErr};
 ghost use mathlib.Core.List.{IsPrefix};
 ghost use Rattle.gate.specs.Places.{AreApart};
+ghost use Rattle.history.specs.History.{IsLegal};
 
 use crate::{Kept, Store};
-use book::Fault;
+use book::{Answer, Fault};
 use gate::Seat;
 use std::marker::Model;
 
@@ -75,5 +76,15 @@ impl Pass {
     {
         let Pass { seat, who: _ } = other;
         self.seat.join(&store.gate, seat);
+    }
+
+    /// The answer to a call that was refused before the gate was entered.
+    pub(crate) fn refuse(&self, fault: Fault) -> Result<Answer, Fault>
+        ensures refused { result ≡ Err fault }
+        ensures legal { IsLegal self.now.store.width self.now.seen }
+    {
+        // Once a field is read, it is known what every pass keeps.
+        let _seat = &self.seat;
+        Err(fault)
     }
 }
