@@ -1,3 +1,6 @@
 pub mod Counts
 pub mod Moves
 pub mod Judged
+pub mod Making
+pub mod Answering
+pub mod Working

@@ -2,3 +2,5 @@ pub mod Answers
 pub mod Drawn
 pub mod Rule
 pub mod Gathered
+pub mod Made
+pub mod Worked

@@ -8,11 +8,13 @@ mod report;
 mod results;
 mod tickets;
 mod view;
+mod workers;
 
 pub use done::{Done, WorkFault};
 pub use report::{Gather, Report};
 pub use results::gather;
 pub use tickets::{Drawer, Tickets};
+pub use workers::work;
 
 #[cfg(test)]
 mod tests;

@@ -1,0 +1,38 @@
+-- What a worker did.
+use Rattle.std.specs.Prelude.{◌≡◌, ◌⊎◌, ℕ, ◌+◌, ◌<◌, ◌≤◌, List, [], ◌∷◌, ◌++◌, length, map, All}
+use Rattle.book.specs.declared.plan.Item.{Item}
+use Rattle.gate.specs.Places.{times}
+use Rattle.history.specs.Step.{Operation, repair}
+use Rattle.history.specs.History.{History}
+use Rattle.shared.specs.Calls.{event}
+use Rattle.mender.specs.declared.done.Done.{Done}
+use Rattle.mender.specs.Drawn.{Hand}
+use Rattle.mender.specs.Gathered.{tickets_of, IsOfPlan}
+
+-- the repair of an item
+abbrev pub repair_of : Item → Operation
+repair_of item = repair item.name item.stripe item.f
+
+-- the repairs behind these results, in order, under this label
+abbrev pub repairs_of : ℕ → List Done → History
+repairs_of who done = map (λ d. event who (repair_of d.item) d.answer) done
+
+-- the drawer drew just these numbers, in this order
+pub record Draws (old : Hand) (numbers : List ℕ) (new : Hand) : Type 0 where
+  pub tickets : new.tickets ≡ old.tickets
+  pub allowance : new.allowance + length numbers ≡ old.allowance
+  pub drawn : new.drawn ≡ old.drawn ++ numbers
+
+-- the drawer drew the results' tickets, each once, and then the others; each result is of the plan
+pub record Worked (plan : List Item) (old new : Hand) (done : List Done) (others : List ℕ) : Type 0 where
+  pub draws : Draws old (tickets_of done ++ others) new
+  pub of_plan : All (IsOfPlan plan) done
+  pub once : (n : ℕ) → times n (tickets_of done) ≤ 1
+
+-- each ticket that was drawn has its result, but a last one past the plan's end; without such a one the allowance is 0
+abbrev pub Finished : List Item → Hand → Hand → List Done → Type 0
+Finished plan old new done = (Worked plan old new done [] × (new.allowance ≡ 0)) ⊎ ((n : ℕ) × (length plan ≤ n) × Worked plan old new done (n ∷ []))
+
+-- each ticket that was drawn has its result, but the one in hand, which is below the plan's length
+abbrev pub Stopped : List Item → Hand → Hand → List Done → Type 0
+Stopped plan old new done = (n : ℕ) × (n < length plan) × (times n (tickets_of done) ≡ 0) × Worked plan old new done (n ∷ [])
