@@ -5,3 +5,4 @@ pub mod Steps
 pub mod Requests
 pub mod Grants
 pub mod Mends
+pub mod Looks

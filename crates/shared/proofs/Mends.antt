@@ -22,11 +22,11 @@ use Rattle.book.proofs.Versions.{was_put}
 use Rattle.shared.specs.declared.kept.Kept.{Kept}
 use Rattle.shared.specs.declared.mending.Look.{Look}
 use Rattle.shared.specs.declared.mending.Look.TheVariants.{Done, Refused, Mendable}
-use Rattle.shared.specs.Passes.{Shows, Stays, Looks, Calls, seen_of, width_of, shows}
-use Rattle.shared.specs.Calls.{event, Called}
+use Rattle.shared.specs.Passes.{Shows, Calls, seen_of, width_of, shows}
+use Rattle.shared.specs.Calls.{event, Called, Looked}
 use Rattle.shared.specs.Mends.{IsMendable, IsKnown, FoundIn, Found}
 use Rattle.shared.proofs.Between.{GoesOn}
-use Rattle.shared.proofs.Steps.{Stepped, stays, looked, call_goes_on, same_goes_on, called}
+use Rattle.shared.proofs.Steps.{Stepped, looked, call_goes_on, same_goes_on, called}
 
 -- the event of a repair, where the look made it
 abbrev pub events_at_look : Look → ℕ → Operation → History
@@ -64,9 +64,7 @@ look_found p q x y who n j f (Refused e) step is =
     (λ full. ⊎_elim (λ (none : e ≡ NoMemory). absurd (cc (none, full))) (λ (there : (e ≡ JournalFull) × (length x.0.entries ≡ x.0.limit)). there.1) is.1)
     (λ long. ⊎_elim (λ (none : e ≡ NoMemory). cc (none, long)) (λ (there : (e ≡ JournalFull) × (length x.0.entries ≡ x.0.limit)). cc (there.0, long)) is.1)
 look_found p q x y who n j f (Mendable s) step is = record {
-  stays = stays p q x [] who step;
-  legal = step.legal;
-  looks = looked p q x who step;
+  looked = looked p q x who step;
   known = known p q x n s.value step is.1;
   mendable = is.2;
 }
@@ -83,23 +81,24 @@ known_fragment h w n s j f bytes k m is = record {
 }
 
 -- a look, and then a call
-pub looks_then_called : (u v w : Shows) (o : Operation) (r : Result Answer Fault) → Stays u v → Looks u v → Called v o r w → Called u o r w
-looks_then_called u v w o (Ok a) stays looks c =
+pub looks_then_called : (u v w : Shows) (o : Operation) (r : Result Answer Fault) → Looked u v → Called v o r w → Called u o r w
+looks_then_called u v w o (Ok a) l c =
     let k = c.ok in
-    let all : u.seen ++ (looks.0.0 ++ k.0) ≡ v.seen ++ k.0 = sym (append_assoc u.seen looks.0.0 k.0) ∙ ap (λ h. h ++ k.0) looks.0.1 in
+    let first = l.looks.0 in
+    let all : u.seen ++ (first.0 ++ k.0) ≡ v.seen ++ k.0 = sym (append_assoc u.seen first.0 k.0) ∙ ap (λ h. h ++ k.0) first.1 in
     record {
-      stays = (c.stays.0 ∙ stays.0, c.stays.1 ∙ stays.1, c.stays.2 ∙ stays.2);
+      stays = (c.stays.0 ∙ l.stays.0, c.stays.1 ∙ l.stays.1, c.stays.2 ∙ l.stays.2);
       legal = c.legal;
-      ok = subst (λ (who : ℕ). Calls u (event who o a) w) stays.1 (looks.0.0 ++ k.0, k.1 ∙ ap (λ h. h ++ event v.who o a ∷ []) (sym all), k.2 ∙ (λ i. looks.1 i ++ length (sym all i) ∷ []));
+      ok = subst (λ (who : ℕ). Calls u (event who o a) w) l.stays.1 (first.0 ++ k.0, k.1 ∙ ap (λ h. h ++ event v.who o a ∷ []) (sym all), k.2 ∙ (λ i. l.looks.1 i ++ length (sym all i) ∷ []));
       err = tt;
       full = c.full;
       too_long = c.too_long;
     }
-looks_then_called u v w o (Err e) stays looks c = record {
-  stays = (c.stays.0 ∙ stays.0, c.stays.1 ∙ stays.1, c.stays.2 ∙ stays.2);
+looks_then_called u v w o (Err e) l c = record {
+  stays = (c.stays.0 ∙ l.stays.0, c.stays.1 ∙ l.stays.1, c.stays.2 ∙ l.stays.2);
   legal = c.legal;
   ok = tt;
-  err = (prefix_trans u.seen v.seen w.seen looks.0 c.err.0, c.err.1 ∙ looks.1);
+  err = (prefix_trans u.seen v.seen w.seen l.looks.0 c.err.0, c.err.1 ∙ l.looks.1);
   full = c.full;
   too_long = c.too_long;
 }

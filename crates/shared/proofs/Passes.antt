@@ -6,7 +6,7 @@ use Rattle.gate.proofs.Events.{history_prefix, events_at_prefix, events_at-appen
 use Rattle.gate.proofs.Lists.{times-append}
 use Rattle.book.specs.Tells.{Tells}
 use Rattle.shared.specs.declared.kept.Kept.{Kept}
-use Rattle.shared.specs.Passes.{between_kept, seen_of, made_of, width_of, limit_of, TellsAs, IsTold, IsPass}
+use Rattle.shared.specs.Passes.{between_kept, seen_of, made_of, width_of, limit_of, trimmed_of, TellsAs, IsTold, IsPass}
 use Rattle.shared.proofs.Between.{one_call, told_length}
 
 -- a longer list begins with the same book
@@ -17,6 +17,11 @@ width_stays (z ∷ zs) ys x e p = ap width_of (sym p.1)
 pub limit_stays : (xs ys : List Kept) (x : Kept) → last_of xs ≡ Some x → IsPrefix xs ys → limit_of ys ≡ limit_of xs
 limit_stays [] ys x e p = absurd (cc)
 limit_stays (z ∷ zs) ys x e p = ap limit_of (sym p.1)
+
+pub trimmed_is : (xs : List Kept) (x : Kept) → last_of xs ≡ Some x → trimmed_of xs ≡ x.0.base.trimmed
+trimmed_is [] x e = absurd (cc)
+trimmed_is (y ∷ []) x e = let same : y ≡ x = cc in ap (λ (k : Kept). k.0.base.trimmed) same
+trimmed_is (y ∷ z ∷ zs) x e = trimmed_is (z ∷ zs) x e
 
 pub opened : (p : SeatState Kept) (x : Kept) → p.list ≡ x ∷ [] → p.own ≡ [] → p.inside ≡ false → Tells x.0 [] → IsPass p
 opened p x list own outside tells = record {

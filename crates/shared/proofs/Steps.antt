@@ -15,8 +15,8 @@ use Rattle.book.specs.Contents.{Contents}
 use Rattle.book.specs.Tells.{Tells, CarriesOn}
 use Rattle.shared.specs.declared.kept.Kept.{Kept}
 use Rattle.shared.specs.Between.{MayFollow}
-use Rattle.shared.specs.Passes.{between_kept, seen_of, made_of, width_of, limit_of, shows, TellsAs, IsPass, Stays, Looks}
-use Rattle.shared.specs.Calls.{event, Called}
+use Rattle.shared.specs.Passes.{between_kept, seen_of, made_of, width_of, limit_of, shows, TellsAs, IsPass, Stays}
+use Rattle.shared.specs.Calls.{event, Called, Looked}
 use Rattle.shared.proofs.Between.{GoesOn, between_is, goes_follows, told_length}
 use Rattle.shared.proofs.Passes.{width_stays, limit_stays}
 
@@ -98,21 +98,30 @@ stepped p m q x y g pass enters leaves on =
       };
     }
 
-pub stays : (p q : SeatState Kept) (x : Kept) (g : History) (who : ℕ) → Stepped p q x g → Stays (shows p who) (shows q who)
+stays : (p q : SeatState Kept) (x : Kept) (g : History) (who : ℕ) → Stepped p q x g → Stays (shows p who) (shows q who)
 stays p q x g who s = (s.store, refl, s.room)
 
 -- nothing was done
-pub looked : (p q : SeatState Kept) (x : Kept) (who : ℕ) → Stepped p q x [] → Looks (shows p who) (shows q who)
-looked p q x who s = ((s.others, sym (s.seen ∙ append-nil (seen_of p.list ++ s.others))), s.made ∙ append-nil (made_of p.list p.own))
+pub looked : (p q : SeatState Kept) (x : Kept) (who : ℕ) → Stepped p q x [] → Looked (shows p who) (shows q who)
+looked p q x who s = record {
+  stays = stays p q x [] who s;
+  legal = s.legal;
+  looks = ((s.others, sym (s.seen ∙ append-nil (seen_of p.list ++ s.others))), s.made ∙ append-nil (made_of p.list p.own));
+}
+
+-- a book that tells what the other told
+pub still_goes_on : (old new : Contents) → new.width ≡ old.width → new.limit ≡ old.limit → ((h : History) → Tells old h → Tells new h) → GoesOn old new []
+still_goes_on old new width limit told = record {
+  width = width;
+  limit = limit;
+  few = omega arith;
+  told = λ h before. subst (Tells new) (sym (append-nil h)) (told h before);
+  held = λ h before. (told h before).long;
+}
 
 pub same_goes_on : (old new : Contents) → new ≡ old → GoesOn old new []
-same_goes_on old new same = record {
-  width = ap (λ (c : Contents). c.width) same;
-  limit = ap (λ (c : Contents). c.limit) same;
-  few = omega arith;
-  told = λ h told. subst (Tells new) (sym (append-nil h)) (subst (λ (c : Contents). Tells c h) (sym same) told);
-  held = λ h told. subst (λ (c : Contents). c.base.trimmed ≤ length h) (sym same) told.long;
-}
+same_goes_on old new same =
+    still_goes_on old new (ap (λ (c : Contents). c.width) same) (ap (λ (c : Contents). c.limit) same) (λ h told. subst (λ (c : Contents). Tells c h) (sym same) told)
 
 -- ---- calls
 -- the event of a call, where it was made
@@ -159,7 +168,7 @@ called p q x who o (Err e) s full short = record {
   stays = stays p q x [] who s;
   legal = s.legal;
   ok = tt;
-  err = looked p q x who s;
+  err = (looked p q x who s).looks;
   full = λ is. full_seen p q x s (full is);
   too_long = λ is. absurd (short is);
 }

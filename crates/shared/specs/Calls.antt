@@ -1,5 +1,5 @@
 -- What a call leaves of a pass.
-use Rattle.std.specs.Prelude.{◌≡◌, ℕ, ◌≤◌, ◌<◌, List, length, Some, Result, Err, IfOk, OnErr}
+use Rattle.std.specs.Prelude.{◌≡◌, ℕ, ◌+◌, ◌-◌, ◌≤◌, ◌<◌, List, length, Some, Result, Err, IfOk, OnErr}
 use Rattle.std.specs.FinMap as finite
 use Rattle.lrc_code.specs.declared.Code.{Code}
 use Rattle.sealed.specs.declared.fault.Fault.{Fault}
@@ -13,10 +13,21 @@ use Rattle.book.specs.declared.answer.Answer.{Answer}
 use Rattle.book.specs.declared.answer.Answer.TheVariants.{Granted}
 use Rattle.book.specs.Notes.{note_of}
 use Rattle.book.specs.Tells.{Represents}
+use Rattle.book.specs.Trimming.{given_up}
 use Rattle.shared.specs.Passes.{Shows, Stays, Calls, Looks}
 
 abbrev pub event : ℕ → Operation → Answer → Event
 event who operation answer = record { who = who; operation = operation; note = note_of answer }
+
+-- what the pass shows afterwards where no call was made
+pub record Looked (v w : Shows) : Type 0 where
+  pub stays : Stays v w
+  pub legal : IsLegal w.store.width w.seen
+  pub looks : Looks v w
+
+-- so many calls were given up at last, where `before` had been given up before
+abbrev pub Trims : ℕ → ℕ → Shows → Type 0
+Trims keep n w = (before : ℕ) × (w.trimmed ≡ before + n) × (n ≡ given_up before (length w.seen - before) keep)
 
 -- a put of more than 4,096 stripes
 abbrev pub IsTooLong : ℕ → Operation → Type 0

@@ -8,13 +8,13 @@ use Rattle.sealed.specs.Layout.{stripe_count}
 use Rattle.sealed.specs.Sealed.{absent_in}
 use Rattle.history.specs.State.{Blob}
 use Rattle.history.specs.Step.{repair}
-use Rattle.history.specs.History.{History, IsLegal, HasPut}
+use Rattle.history.specs.History.{History, HasPut}
 use Rattle.book.specs.Contents.{Contents, sealed_at}
 use Rattle.book.specs.Tells.{CarriesOn, Represents}
 use Rattle.shared.specs.declared.mending.Look.{Look}
 use Rattle.shared.specs.declared.mending.Look.TheVariants.{Done, Refused, Mendable}
-use Rattle.shared.specs.Passes.{Shows, Stays, Looks}
-use Rattle.shared.specs.Calls.{Called}
+use Rattle.shared.specs.Passes.{Shows}
+use Rattle.shared.specs.Calls.{Called, Looked}
 
 -- the value lacks the fragment, which can be told from those left
 pub record IsMendable (s : Sealed) (j f : ℕ) : Type 0 where
@@ -37,9 +37,7 @@ FoundIn old new who n j f (Mendable s) = (new ≡ old) × (sealed_at old n ≡ S
 
 -- a pass found that the fragment can be rebuilt from this value
 pub record CanMend (v : Shows) (n : List ℕ) (j f : ℕ) (s : Sealed) (w : Shows) : Type 0 where
-  pub stays : Stays v w
-  pub legal : IsLegal w.store.width w.seen
-  pub looks : Looks v w
+  pub looked : Looked v w
   pub known : IsKnown w.seen w.store.width n s
   pub mendable : IsMendable s j f
 

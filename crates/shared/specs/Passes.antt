@@ -14,12 +14,13 @@ pub record Which : Type 0 where
   pub width : ℕ
   pub limit : ℕ
 
--- what a clause sees of a pass
+-- what a clause sees of a pass. Of the calls that it has seen, so many were given up when it was inside last
 pub record Shows : Type 0 where
   pub store : Which
   pub who : ℕ
   pub room : ℕ
   pub seen : History
+  pub trimmed : ℕ
   pub made : List ℕ
 
 abbrev pub between_kept : Kept → Kept → History
@@ -40,12 +41,19 @@ abbrev pub limit_of : List Kept → ℕ
 limit_of [] = 0
 limit_of (x ∷ xs) = x.0.limit
 
+-- of the last book
+abbrev pub trimmed_of : List Kept → ℕ
+trimmed_of [] = 0
+trimmed_of (x ∷ []) = x.0.base.trimmed
+trimmed_of (x ∷ y ∷ ys) = trimmed_of (y ∷ ys)
+
 abbrev pub shows : SeatState Kept → ℕ → Shows
 shows p who = record {
   store = record { table = p.gate; width = width_of p.list; limit = limit_of p.list };
   who = who;
   room = p.room;
   seen = seen_of p.list;
+  trimmed = trimmed_of p.list;
   made = made_of p.list p.own;
 }
 

@@ -7,9 +7,11 @@ mod entry;
 mod kept;
 mod mending;
 mod pass;
+mod plan;
 mod request;
 mod store;
 mod tries;
+mod trim;
 
 pub use kept::Kept;
 pub use pass::Pass;

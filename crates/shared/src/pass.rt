@@ -50,7 +50,7 @@ impl Pass {
     pub fn split(&mut self, store: &Store, who: u32) -> Result<Pass, Fault>
         requires store { self.old.store ≡ store.now }
         ensures kept { OnOk result (self.new ≡ record self.old { room = self.old.room - 1 }) }
-        ensures given { IfOk result (λ p. p ≡ record { store = self.old.store; who = who; room = 1; seen = self.old.seen; made = [] }) }
+        ensures given { IfOk result (λ p. p ≡ record { store = self.old.store; who = who; room = 1; seen = self.old.seen; trimmed = self.old.trimmed; made = [] }) }
         ensures no_pass { (result ≡ Err Fault.NoPass) ↔ (self.old.room ≡ 1) }
         ensures faults { IfErr result (λ e. (e ≡ Fault.NoMemory) ⊎ (e ≡ Fault.NoPass)) }
         ensures err { OnErr result (self.new ≡ self.old) }

@@ -33,7 +33,7 @@ impl Store {
     /// `BadWidth` where the width is not in 1..=65,536; else `NoMemory` where memory is refused.
     pub fn open(alloc: Global, width: u32, limit: Limit) -> Result<(Store, Pass), Fault>
         ensures store { IfOk result (λ r. (r.0.width ≡ width) × (r.0.limit ≡ limit)) }
-        ensures pass { IfOk result (λ r. r.1 ≡ record { store = r.0; who = 0; room = 64; seen = []; made = [] }) }
+        ensures pass { IfOk result (λ r. r.1 ≡ record { store = r.0; who = 0; room = 64; seen = []; trimmed = 0; made = [] }) }
         ensures bad_width { (result ≡ Err Fault.BadWidth) ↔ ((1 ≤ width) × (width ≤ 65536) → ⊥) }
         ensures faults { IfErr result (λ e. (e ≡ Fault.NoMemory) ⊎ (e ≡ Fault.BadWidth)) }
     {
@@ -58,6 +58,7 @@ impl Store {
         ensures told { Tells result pass.seen }
         ensures made { (k : ℕ) → k < length pass.seen → times k pass.made ≡ 1 }
         ensures count { length pass.made ≡ length pass.seen }
+        ensures trimmed { result.base.trimmed ≡ pass.trimmed }
         ensures entries { result.base.trimmed + length result.entries ≡ length pass.made }
         ensures kept { (result.width ≡ self.width) × (result.limit ≡ self.limit) }
     {

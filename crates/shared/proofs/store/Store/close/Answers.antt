@@ -1,6 +1,6 @@
-use Rattle.std.proofs.Common.{◌≡◌, ℕ, ◌+◌, ◌<◌, length, subst}
+use Rattle.std.proofs.Common.{◌≡◌, ℕ, ◌+◌, ◌<◌, length, sym, subst}
 use Rattle.gate.specs.Places.{times}
-use Rattle.shared.proofs.Passes.{closed, closed_count, closed_entries}
+use Rattle.shared.proofs.Passes.{closed, closed_count, closed_entries, trimmed_is}
 use Rattle.shared.proofs.store.Store.close.Goals as goal
 
 pub returns-clause-made : goal.returns-clause-made
@@ -14,3 +14,7 @@ returns-clause-entries c =
     let book = c.close-book.result.0 in
     subst (λ v. book.base.trimmed + length book.entries ≡ length v.made) c.pass.view_is
     (closed_entries c.pass.inside.seat c.close-book.result c.pass.invariant c.close-book.ensures.last c.close-book.ensures.own)
+
+pub returns-clause-trimmed : goal.returns-clause-trimmed
+returns-clause-trimmed c =
+    subst (λ v. c.close-book.result.0.base.trimmed ≡ v.trimmed) c.pass.view_is (sym (trimmed_is c.pass.inside.seat.list c.close-book.result c.close-book.ensures.last))
