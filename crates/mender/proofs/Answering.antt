@@ -1,8 +1,6 @@
 -- What a repair answers.
-use Rattle.std.proofs.Common.{◌≡◌, ℕ, ◌++◌, ◌∷◌, [], List, Bool, true, false, Option, None, Some, Ok, refl, ap, sym, subst, ◌∙◌, ⊎_elim}
-use Rattle.std.specs.Bool.{MatchBool}
+use Rattle.std.proofs.Common.{◌≡◌, ℕ, ◌++◌, ◌∷◌, [], List, Bool, true, false, Option, None, Some, Ok, MatchBool, refl, ap, subst, ◌∙◌, ⊎_elim}
 use Rattle.std.specs.FinMap as finite
-use Rattle.lrc_code.specs.Code.{Open}
 use Rattle.sealed.specs.Blob.{lost_in}
 use Rattle.history.specs.declared.note.Note.{Note}
 use Rattle.history.specs.declared.note.Note.TheVariants as note
@@ -44,19 +42,19 @@ by_test : (b : Bool) (P Q R : Type 0) → (P → R) → (Q → R) → MatchBool 
 by_test true P Q R p q m = p m
 by_test false P Q R p q m = q m
 
-is : (n m : Note) → n ≡ m → is_noted m ≡ true → is_noted n ≡ true
-is n m same e = ap is_noted same ∙ e
+by_case : (P A B R : Type 0) → (A → R) → (B → R) → IfHolds P A B → R
+by_case P A B R a b h = ⊎_elim (λ (t : P × A). a t.1) (λ (t : (P → ⊥) × B). b t.1) h
+
+as_noted : (n m : Note) → is_noted m ≡ true → n ≡ m → is_noted n ≡ true
+as_noted n m e same = ap is_noted same ∙ e
 
 reply_noted : (w : ℕ) (found : Option Blob) (j f : ℕ) (n : Note) → IsRepairReply w found j f n → is_noted n ≡ true
-reply_noted w None j f n reply = is n note.NoName reply refl
+reply_noted w None j f n reply = as_noted n note.NoName refl reply
 reply_noted w (Some blob) j f n reply =
-    by_test (is_no_fragment w blob j f) _ _ (is_noted n ≡ true)
-    (λ none. is n note.NoFragment none refl)
-    (by_test (lost_in blob.lost j f) _ _ (is_noted n ≡ true)
-    (⊎_elim
-    (λ (t : Open blob.code (lost_in blob.lost j) f × (n ≡ note.Unrecoverable blob.version)). is n (note.Unrecoverable blob.version) t.1 refl)
-    (λ (t : (Open blob.code (lost_in blob.lost j) f → ⊥) × (n ≡ note.Repaired blob.version)). is n (note.Repaired blob.version) t.1 refl))
-    (λ there. is n note.NotLost there refl))
+    by_test (is_no_fragment w blob j f) _ _ _ (as_noted n note.NoFragment refl)
+    (by_test (lost_in blob.lost j f) _ _ _
+    (by_case _ _ _ _ (as_noted n (note.Unrecoverable blob.version) refl) (as_noted n (note.Repaired blob.version) refl))
+    (as_noted n note.NotLost refl))
     reply
 
 -- a repair answers by one of its five answers

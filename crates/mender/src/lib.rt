@@ -14,7 +14,7 @@ pub use done::{Done, WorkFault};
 pub use report::{Gather, Report};
 pub use results::gather;
 pub use tickets::{Drawer, Tickets};
-pub use workers::work;
+pub use workers::{scrub, work};
 
 #[cfg(test)]
 mod tests;

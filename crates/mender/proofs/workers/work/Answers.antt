@@ -1,26 +1,37 @@
-use Rattle.std.proofs.Common.{rules, ◌≡◌, ◌⊎◌, ◌≤◌, ◌^◌, [], length, IfOk, IfErr, ℕ, ◌+◌, ◌-◌, ◌*◌, ◌<◌, ◌/◌, ◌%◌, Bool, true, false, nat_eq, nat_lt, List, ◌∷◌, ◌++◌, slice_index_or, slice_set, bit_and, bit_or, Fits, w8, w32, w64, Bor, MutBor}
-use Rattle.history.specs.History.{state_of}
-use Rattle.book.specs.Plan.{plan_of}
-use Rattle.mender.specs.Made.{Makes}
-use Rattle.mender.specs.Worked.{Finished, Stopped, repairs_of}
+use Rattle.std.proofs.Common.{◌∙◌, refl}
+use Rattle.mender.proofs.Answering.{answer_of_repair}
+use Rattle.mender.proofs.Working.{InHand, in_hand, stopped, made_more, made_no_more, did_more}
+use Rattle.mender.proofs.workers.work.Given as given
 use Rattle.mender.proofs.workers.work.Goals as goal
 
--- src/workers.rt:44:13
 pub returns-then-is_err-clause-err : goal.returns-then-is_err-clause-err
-returns-then-is_err-clause-err g c = ?
+returns-then-is_err-clause-err g c =
+    let drew = c.in-Some.ensures in
+    let found = c.in-Some-get.ensures.lookup.3 in
+    let h = in_hand _ _ _ _ c.draw.new.drawer _ c.in-Some.ticket c.in-Some-get.item.now c.loop-ticket.invariant.worked drew.some.0 drew.some.1 drew.fresh c.deref.ensures.value found.0 (found.1 _) in
+    stopped _ _ _ _ _ _ _ h c.reserve.ensures.items
 
--- src/workers.rt:51:27
 pub invariant_of-push_reserved : goal.invariant_of-push_reserved
-invariant_of-push_reserved g c = ?
+invariant_of-push_reserved g c = record { of_repair = answer_of_repair _ _ _ _ _ _ c.in-Ok.ensures.called }
 
--- src/workers.rt:39:5
 pub loop-ticket-preserved : goal.loop-ticket-preserved
-loop-ticket-preserved g c = ?
+loop-ticket-preserved g c =
+    let inv = c.loop-ticket.invariant in
+    let drew = c.in-Some.ensures in
+    let found = c.in-Some-get.ensures.lookup.3 in
+    let h = in_hand _ _ _ _ c.draw.new.drawer _ c.in-Some.ticket c.in-Some-get.item.now inv.worked drew.some.0 drew.some.1 drew.fresh c.deref.ensures.value found.0 (found.1 _) in record {
+      store = c.in-Ok.ensures.called.stays.0 ∙ inv.store;
+      tickets = cc;
+      made = made_more _ _ _ _ _ _ _ _ inv.made c.in-Ok.ensures.called (cc) c.reserve.ensures.items c.push_reserved.ensures.items;
+      worked = did_more _ _ _ _ _ _ _ _ _ h refl c.duplicate.ensures c.reserve.ensures.items c.push_reserved.ensures.items;
+    }
 
--- src/workers.rt:56:27
 pub returns-in-Err-clause-err : goal.returns-in-Err-clause-err
-returns-in-Err-clause-err g c = ?
+returns-in-Err-clause-err g c =
+    let drew = c.in-Some.ensures in
+    let found = c.in-Some-get.ensures.lookup.3 in
+    let h = in_hand _ _ _ _ c.draw.new.drawer _ c.in-Some.ticket c.in-Some-get.item.now c.loop-ticket.invariant.worked drew.some.0 drew.some.1 drew.fresh c.deref.ensures.value found.0 (found.1 _) in
+    stopped _ _ _ _ _ _ _ h c.reserve.ensures.items
 
--- src/workers.rt:56:27
-pub returns-in-Err-clause-made_before : goal.returns-in-Err-clause-made_before
-returns-in-Err-clause-made_before g c = ?
+pub returns-in-Err-clause-made_by_then : goal.returns-in-Err-clause-made_by_then
+returns-in-Err-clause-made_by_then g c = made_no_more _ _ _ _ _ _ _ c.loop-ticket.invariant.made c.in-Err.ensures.called c.reserve.ensures.items
