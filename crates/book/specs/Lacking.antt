@@ -1,5 +1,5 @@
 -- What a sealed value lacks, and what the replies for it depend on.
-use Rattle.std.specs.Prelude.{ℕ, zero, suc, ◌+◌, ◌*◌, ◌/◌, ◌%◌, Bool, ◌&&◌, Option, None, Some, cond, nat_lt, length}
+use Rattle.std.specs.Prelude.{ℕ, zero, suc, ◌+◌, ◌*◌, ◌/◌, ◌%◌, Bool, ◌&&◌, List, [], ◌∷◌, ◌++◌, Option, None, Some, cond, nat_lt, length}
 use Rattle.lrc_code.specs.Code.{fragment_count}
 use Rattle.sealed.specs.declared.value.Sealed.{Sealed}
 use Rattle.sealed.specs.Sealed.{absent_in}
@@ -19,6 +19,11 @@ lacks s j f = nat_lt j (length s.stripes) && (nat_lt f (fragment_count s.code) &
 -- how many fragments the value lacks. The fragment f of stripe j is counted as the number 16 j + f
 abbrev pub lacked_count : Sealed → ℕ
 lacked_count s = count_below (λ i. lacks s (i / 16) (i % 16)) (16 * length s.stripes)
+
+-- those of them that are numbered below n, in order
+abbrev pub lacked_below : Sealed → ℕ → List (ℕ × ℕ)
+lacked_below s zero = []
+lacked_below s (suc n) = cond (lacks s (n / 16) (n % 16)) (lacked_below s n ++ (n / 16, n % 16) ∷ []) (lacked_below s n)
 
 abbrev pub seen_of : Sealed → View
 seen_of s = record { version = s.version; len = s.len; code = s.code; lost = lacks s; count = lacked_count s }

@@ -1,5 +1,5 @@
 //! The journal, whose room is made at once.
-ghost use Rattle.std.specs.Prelude.{◌≡◌, ◌<◌, ◌≤◌, [], ◌∷◌, ◌++◌, ◌==◌, length, vec_len, IfOk};
+ghost use Rattle.std.specs.Prelude.{◌≡◌, ◌<◌, ◌≤◌, [], ◌∷◌, ◌++◌, ◌==◌, drop, length, vec_len, IfOk};
 ghost use Rattle.std.specs.Vec.{vec_capacity};
 
 use crate::{Entry, Limit};
@@ -40,5 +40,14 @@ impl Journal {
         let Ok(()) = self.entries.push(entry) else {
             unreachable!();
         };
+    }
+
+    /// Gives up the first `n` entries. The room stays.
+    pub fn give_up(&mut self, n: usize)
+        requires { n ≤ length self.old.entries.items }
+        ensures entries { self.new.entries.items ≡ drop n self.old.entries.items }
+        ensures limit { self.new.limit ≡ self.old.limit }
+    {
+        drop(self.entries.drain(..n));
     }
 }

@@ -1,5 +1,5 @@
 //! A sealed blob in the catalogue.
-ghost use Rattle.std.specs.Prelude.{◌≡◌, ◌<◌, List, ℕ, Some, true, false, length, IfOk, IfErr, OnOk, OnErr};
+ghost use Rattle.std.specs.Prelude.{◌≡◌, ◌<◌, ◌++◌, List, ℕ, Some, true, false, length, IfOk, IfErr, OnOk, OnErr};
 ghost use Rattle.std.specs.FinSet as set;
 ghost use Rattle.lrc_code.specs.Code.{fragment_count};
 ghost use Rattle.sealed.specs.Layout.{stripe_count};
@@ -9,13 +9,15 @@ ghost use Rattle.book.specs.Known.{Serves, is_mendable};
 ghost use Rattle.book.specs.Lacking.{reply_for, lacks, seen_of};
 ghost use Rattle.book.specs.Losing.{IsFragmentOf, IsWith, Loses, Mends};
 ghost use Rattle.book.specs.Notes.{note_of};
+ghost use Rattle.book.specs.Plan.{items_lacked};
 ghost use Rattle.history.specs.Views.{no_such, open_test, lose_reply, repair_reply, stat_reply};
 
-use crate::{Answer, Fault};
+use crate::plan::Item;
+use crate::{Answer, Fault, Name};
 use bytes::Bytes;
 use lrc_code::{Rebuild, is_open_in, rebuild};
 use sealed::Sealed;
-use std::alloc::Global;
+use std::alloc::{AllocError, Global};
 use std::marker::Model;
 use std::sync::Arc;
 
@@ -83,6 +85,30 @@ impl Shelved {
         ensures absent { result ≡ absent_in self.now stripe f }
     {
         self.sealed.fragment(stripe, f).is_none()
+    }
+
+    /// Adds an item for each lost fragment, by stripe and then by fragment. `AllocError` where memory is refused.
+    pub fn list_lost(&self, name: &Name, items: &mut Vec<Item>) -> Result<(), AllocError>
+        ensures { OnOk result (items.new.items ≡ items.old.items ++ items_lacked (name.now, self.now)) }
+    {
+        if self.lost == 0 {
+            return Ok(());
+        }
+        let version = self.sealed.version;
+        for stripe in 0..self.sealed.stripes.len() as u64 {
+            for f in 0..self.sealed.code.fragments() {
+                if self.is_lost(stripe, f) {
+                    let name = name.duplicate();
+                    items.push(Item {
+                        name,
+                        version,
+                        stripe,
+                        f,
+                    })?;
+                }
+            }
+        }
+        Ok(())
     }
 
     /// Loses a fragment. The only fault is `NoMemory`. After it the blob is as it was.

@@ -26,10 +26,17 @@ impl Book {
         ensures faults { IfErr result (λ e. e ≡ Fault.NoMemory) }
         ensures err { OnErr result (self.new ≡ self.old) }
     {
-        let count = self.journal.entries.len() as u64;
+        let count = self.entries().len() as u64;
         if count <= keep || self.base.trimmed + (count - keep) > 1 << 63 {
             return Ok(0);
         }
-        Err(Fault::NoMemory)
+        let n = count - keep;
+        let given_up = &self.entries()[..n as usize];
+        let Ok(base) = self.base.after(alloc, given_up, self.width) else {
+            return Err(Fault::NoMemory);
+        };
+        self.journal.give_up(n as usize);
+        self.base = base;
+        Ok(n)
     }
 }
