@@ -1,5 +1,5 @@
 -- A fragment that was rebuilt outside the book is the fragment of each blob that the value of its version stands for.
-use Rattle.std.proofs.Common.{◌≡◌, ℕ, ◌<◌, Bool, true, false, not, ◌&&◌, List, Option, None, Some, is_none, cond, length, refl, sym, ap, ◌∙◌, subst, inl, inr}
+use Rattle.std.proofs.Common.{◌≡◌, ℕ, ◌<◌, Bool, true, false, not, ◌&&◌, List, [], ◌∷◌, ◌++◌, Option, None, Some, is_none, cond, length, refl, sym, ap, ◌∙◌, subst, inl, inr}
 use Rattle.std.specs.Prelude.{◌↔◌, IsTrue, IfSome, nat_le, nat_lt, slice_index}
 use Rattle.std.specs.FinMap as finite
 use Rattle.std.proofs.lemmas.Bool.{cases_eq, and_parts, or_parts, not-true, false≢true, true≢false}
@@ -18,7 +18,7 @@ use Rattle.sealed.specs.Sealed.{StandsFor, absent_in}
 use Rattle.sealed.proofs.Fragments.{fragments_are}
 use Rattle.history.specs.State.{Blob}
 use Rattle.history.specs.Step.{put}
-use Rattle.history.specs.History.{History, IsLegal, HasPut, state_of}
+use Rattle.history.specs.History.{Event, History, IsLegal, HasPut, state_of}
 use Rattle.history.specs.Views.{no_such, open_test}
 use Rattle.history.proofs.Keeping.{same_truth, lt_of}
 use Rattle.history.proofs.Replies.{below_of}
@@ -28,7 +28,7 @@ use Rattle.book.specs.Lacking.{lacks, seen_of}
 use Rattle.book.specs.Losing.{IsFragmentOf}
 use Rattle.book.specs.Tells.{Tells, Represents, Correspond}
 use Rattle.book.proofs.Mending.{lacks_here}
-use Rattle.book.proofs.Versions.{was_put, only_put}
+use Rattle.book.proofs.Versions.{was_put, put_later, only_put}
 
 -- ---- what can be mended
 -- the test by the fragments that the stripe lacks
@@ -132,3 +132,20 @@ module _ (w : ℕ) (h : History) (n : List ℕ) (v j f : ℕ) (found : List ℕ)
 pub known_serves : (book : Contents) (h : History) (n : List ℕ) (v j f : ℕ) (found : List ℕ) → Tells book h → IsFragmentIn h book.width n v j f found → IfSome (sealed_at book n) (Serves v j f found)
 known_serves book h n v j f found told known =
     serves_at book.width h n v j f found told.legal known (sealed_at book n) (finite.get (state_of h).names n) refl (told.catalogue n)
+
+-- ---- what is known stays known after a call
+pub fragment_later : (h more : History) (w : ℕ) (n : List ℕ) (v j f : ℕ) (found : List ℕ) → IsFragmentIn h w n v j f found → IsFragmentIn (h ++ more) w n v j f found
+fragment_later h more w n v j f found known =
+    record {
+      code = known.code;
+      bytes = known.bytes;
+      put = put_later h more v n known.code known.bytes known.put;
+      stripe = known.stripe;
+      number = known.number;
+      is = known.is;
+    }
+
+pub known_after : (old new : Contents) (n : List ℕ) (v j f : ℕ) (found : List ℕ) (e : Event) → new.width ≡ old.width → ((h : History) → Tells old h → Tells new (h ++ e ∷ []))
+    → (h : History) → Tells old h → IsFragmentIn h old.width n v j f found → (h : History) × Tells new h × IsFragmentIn h new.width n v j f found
+known_after old new n v j f found e width carries h told known =
+    (h ++ e ∷ [], carries h told, subst (λ w. IsFragmentIn (h ++ e ∷ []) w n v j f found) (sym width) (fragment_later h (e ∷ []) old.width n v j f found known))

@@ -4,6 +4,7 @@ use Rattle.std.specs.FinMap as finite
 use Rattle.std.specs.Cmp.{Equal-is}
 use Rattle.std.specs.Cmp.Lexicographic.{nat_list_cmp_total}
 use Rattle.std.specs.Ordering.{eq_by_cmp}
+use Rattle.std.proofs.lemmas.List.{append_assoc}
 use Rattle.std.proofs.lemmas.Map.Lookups.{exact_bytes}
 use Rattle.lrc_code.specs.declared.Code.{Code}
 use Rattle.sealed.specs.Blob.{Lost, nothing}
@@ -91,6 +92,16 @@ was_put w h legal n blob is =
       | inl had ↦ absurd (no_blob had.0 (sym (finite.get-empty name_cmp n) ∙ had.1))
       | inr there ↦ there
     ]
+
+-- and stays put where more is made
+pub put_later : (h more : History) (v : ℕ) (n : List ℕ) (code : Code) (b : List ℕ) → HasPut h v n code b → HasPut (h ++ more) v n code b
+put_later h more v n code b is =
+    record {
+      who = is.who;
+      before = is.before;
+      later = is.later ++ more;
+      whole = ap (λ (l : History). l ++ more) is.whole ∙ append_assoc is.before (record { who = is.who; operation = put n code b; note = note.Stored v } ∷ is.later) more;
+    }
 
 -- ---- no two puts have one version
 -- the event is among them

@@ -1,25 +1,23 @@
 -- Histories whose beginning is given up.
-use Rattle.std.proofs.Common.{◌≡◌, ℕ, true, false, List, [], ◌∷◌, ◌++◌, map, length, refl, sym, ap, ◌∙◌, subst, arith}
+use Rattle.std.proofs.Common.{◌≡◌, ℕ, List, [], ◌∷◌, ◌++◌, map, length, refl, sym, ap, ◌∙◌, subst, arith}
 use Rattle.std.specs.Prelude.{◌↔◌}
 use Rattle.std.specs.FinMap as finite
 use Rattle.std.specs.FinSet as set
 use Rattle.std.specs.Cmp.Lexicographic.{nat_list_cmp_total}
-use Rattle.std.proofs.lemmas.List.{length-map}
-use Rattle.std.specs.List.{range_with_len, list_any}
+use Rattle.std.proofs.lemmas.List.{length-map, nil_from_length}
+use Rattle.std.specs.List.{range_with_len}
 use Rattle.std.specs.List.Sorted.{IsStrictlySortedBy}
-use Rattle.std.specs.Ordering.{eq_by_cmp}
-use Rattle.std.proofs.lemmas.Bool.{or_parts, false≢true}
-use Rattle.std.proofs.lemmas.Grind.{common_steps}
 use Rattle.sealed.specs.Blob.{nothing, pair_cmp}
 use Rattle.history.specs.declared.note.Note.TheVariants.{Stored, Lost, AlreadyLost}
 use Rattle.history.proofs.Replies.{told}
+use Rattle.history.proofs.Rising.{pairs_of-length}
 use Rattle.history.proofs.Rows.{twice_lost}
 use Rattle.lrc_code.specs.declared.Code.TheVariants.{Wide}
 use Rattle.history.specs.Names.{name_cmp}
 use Rattle.history.specs.State.{State, Blob, empty_state}
 use Rattle.history.specs.Step.{put, lose, after}
 use Rattle.history.specs.History.{History, after_all, IsLegalFrom, IsLegal, entry_of}
-use Rattle.history.specs.Base.{Checkpoint, Outlines, outline_of, empty_base, IsRising}
+use Rattle.history.specs.Base.{Checkpoint, Outlines, outline_of, empty_base, IsRising, pairs_of}
 use Rattle.history.specs.Lawful.{IsLawfulFrom, IsLawful}
 use Rattle.history.specs.declared.note.Entry.{Entry}
 
@@ -40,12 +38,8 @@ no_entries names e =
 pub empty_alone : (s : State) → Outlines empty_base s → s ≡ empty_state
 empty_alone s is = λ i. record { names = no_entries s.names is.names i; puts = sym is.puts i }
 
-no_items : (es : List (List ℕ × Blob)) → length es ≡ 0 → es ≡ []
-no_items [] e = refl
-no_items (x ∷ es) e = absurd (omega arith)
-
 pub no_names : finite.entries (finite.empty {X = Blob} {R = name_cmp}) ≡ []
-no_names = no_items _ (sym (finite.len-entries finite.empty) ∙ finite.len-empty name_cmp Blob)
+no_names = nil_from_length _ (sym (finite.len-entries finite.empty) ∙ finite.len-empty name_cmp Blob)
 
 pub empty_outlined : Outlines empty_base empty_state
 empty_outlined = record { puts = refl; names = sym (ap (map outline_of) no_names) }
@@ -71,15 +65,8 @@ after_put = after empty_state (put a Wide (range_with_len 65 12)) (Stored 1)
 abbrev base_of_put : Checkpoint
 base_of_put = record { trimmed = 1; puts = 1; names = record { name = a; version = 1; len = 12; code = Wide; lost = [] } ∷ [] }
 
-tied : (p : ℕ × ℕ) → eq_by_cmp pair_cmp p p ≡ true
-tied (j, f) = grind (arith, common_steps)
-
-none_any : (xs : List (ℕ × ℕ)) → ((q : ℕ × ℕ) → list_any (eq_by_cmp pair_cmp q) xs ≡ false) → xs ≡ []
-none_any [] none = refl
-none_any (x ∷ xs) none = absurd (false≢true (sym (or_parts (eq_by_cmp pair_cmp x x) _ (none x)).0 ∙ tied x))
-
-no_pairs : set.items nothing ≡ []
-no_pairs = none_any (set.items nothing) (λ q. sym (set.contains-items nothing q) ∙ set.contains-empty pair_cmp q)
+no_pairs : pairs_of nothing ≡ []
+no_pairs = nil_from_length (pairs_of nothing) (pairs_of-length nothing ∙ set.len-empty pair_cmp)
 
 outlined : Outlines base_of_put after_put
 outlined =

@@ -8,3 +8,6 @@ pub mod Catalogue
 pub mod Keeping
 pub mod Replaying
 pub mod Shapes
+pub mod Rising
+pub mod Outlining
+pub mod Following

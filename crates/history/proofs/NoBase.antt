@@ -3,7 +3,6 @@ use Rattle.std.proofs.Common.{◌≡◌, ℕ, Bool, true, false, List, [], ◌�
 use Rattle.std.specs.Prelude.{MatchBool}
 use Rattle.std.specs.List.{list_any}
 use Rattle.std.specs.FinMap as finite
-use Rattle.std.specs.FinSet as set
 use Rattle.std.specs.Ordering.{eq_by_cmp}
 use Rattle.std.proofs.lemmas.Bool.{false≢true}
 use Rattle.lrc_code.specs.declared.Code.TheVariants.{Wide}
@@ -12,7 +11,7 @@ use Rattle.history.specs.Names.{name_cmp}
 use Rattle.history.specs.State.{State, Blob}
 use Rattle.history.specs.Step.{Operation, put, read, lose, repair, delete, stat, IsReply, IsLoseReply, is_no_fragment}
 use Rattle.history.specs.History.{History, IsLegalFrom, call_of, entry_of}
-use Rattle.history.specs.Base.{Checkpoint, Outline, outline_of}
+use Rattle.history.specs.Base.{Checkpoint, Outline, outline_of, pairs_of}
 use Rattle.history.specs.Lawful.{IsLawfulFrom}
 use Rattle.history.specs.declared.note.Entry.{Entry}
 use Rattle.history.specs.declared.note.Call.{Call}
@@ -20,6 +19,7 @@ use Rattle.history.specs.declared.note.Call.TheVariants.{Lose}
 use Rattle.history.specs.declared.note.Note.{Note}
 use Rattle.history.specs.declared.note.Note.TheVariants as note
 use Rattle.history.proofs.Beginnings.{a, two_losses}
+use Rattle.history.proofs.Rising.{pairs_of-has}
 
 abbrev present : Outline
 present = record { name = a; version = 1; len = 12; code = Wide; lost = (0, 0) ∷ [] }
@@ -31,14 +31,14 @@ not_none : (o : Outline) (xs : List Outline) → o ∷ xs ≡ [] → ⊥
 not_none o xs e = cc
 
 -- the first name of such a state has the pair lost
-first_name : (es : List (List ℕ × Blob)) → present ∷ [] ≡ map outline_of es → (blob : Blob) × (finite.find name_cmp a es ≡ Some blob) × (set.items blob.lost ≡ (0, 0) ∷ [])
+first_name : (es : List (List ℕ × Blob)) → present ∷ [] ≡ map outline_of es → (blob : Blob) × (finite.find name_cmp a es ≡ Some blob) × (pairs_of blob.lost ≡ (0, 0) ∷ [])
 first_name [] e = absurd (not_none present [] e)
 first_name ((n, blob) ∷ es) e =
     let same = head_of present (outline_of (n, blob)) [] (map outline_of es) e in
     (blob, subst (λ (k : List ℕ). finite.find name_cmp a ((k, blob) ∷ es) ≡ Some blob) (ap (λ (o : Outline). o.name) same) refl, sym (ap (λ (o : Outline). o.lost) same))
 
-is_lost : (lost : Lost) → set.items lost ≡ (0, 0) ∷ [] → lost_in lost 0 0 ≡ true
-is_lost lost e = set.contains-items lost (0, 0) ∙ ap (list_any (eq_by_cmp pair_cmp (0, 0))) e
+is_lost : (lost : Lost) → pairs_of lost ≡ (0, 0) ∷ [] → lost_in lost 0 0 ≡ true
+is_lost lost e = sym (pairs_of-has lost (0, 0)) ∙ ap (list_any (eq_by_cmp pair_cmp (0, 0))) e
 
 abbrev is_fresh : Note → Bool
 is_fresh (note.Lost v) = true

@@ -6,17 +6,20 @@ use Rattle.std.proofs.lemmas.List.{length-replicate}
 use Rattle.std.proofs.lemmas.Grind.{common_steps}
 use Rattle.sealed.specs.Layout.{stripe_count}
 use Rattle.history.specs.Names.{name_cmp}
-use Rattle.history.specs.State.{empty_state}
-use Rattle.history.specs.Step.{Operation, put, read, lose, repair, delete, stat}
-use Rattle.history.specs.History.{Event, History, call_of, entry_of}
-use Rattle.history.specs.Lawful.{IsLawful}
-use Rattle.history.specs.Views.{Views, view, reply, CanPut, view_after, empty_views, operation_of, IsNoted, AreNoted, next}
+use Rattle.history.specs.State.{State}
+use Rattle.history.specs.Step.{Operation, put, read, lose, repair, delete, stat, after}
+use Rattle.history.specs.History.{Event, History, IsLegalFrom, after_all, call_of, entry_of}
+use Rattle.history.specs.Base.{Checkpoint, Outlines, IsRising}
+use Rattle.history.specs.Kept.{outlines_of, views_of}
+use Rattle.history.specs.Lawful.{IsLawfulFrom}
+use Rattle.history.specs.Views.{Views, view, reply, CanPut, view_after, operation_of, IsNoted, AreNoted, next, all_next}
+use Rattle.history.specs.declared.replay.Replay.{Replay}
 use Rattle.history.specs.declared.note.Note.{Note}
 use Rattle.history.specs.declared.note.Entry.{Entry}
 use Rattle.history.specs.declared.note.Call.{Call}
 use Rattle.history.specs.declared.note.Call.TheVariants.{Put, Read, Lose, Repair, Delete, Stat}
-use Rattle.history.proofs.Replies.{Follows, legal_is, empty_view}
-use Rattle.history.proofs.Beginnings.{empty_alone, empty_outlined}
+use Rattle.history.proofs.Replies.{Follows, legal_is, view_is}
+use Rattle.history.proofs.Outlining.{state_from, state_from-outlined, view_outlined}
 
 zero_bytes : (n : ℕ) → All (λ x. x < 256) (replicate n 0)
 zero_bytes n k d l = grind (arith, common_steps)
@@ -49,7 +52,7 @@ after_zero v (repair n j f) m = refl
 after_zero v (delete n) m = refl
 after_zero v (stat n) m = refl
 
-pub noted : (w : ℕ) (v : Views) (h : History) → Follows w v h → AreNoted w v (map entry_of h)
+noted : (w : ℕ) (v : Views) (h : History) → Follows w v h → AreNoted w v (map entry_of h)
 noted w v [] follows = tt
 noted w v (e ∷ h) follows = (
   (can_zero w e.operation follows.0.0, follows.0.1 ∙ reply_zero w v e.operation),
@@ -60,7 +63,7 @@ noted w v (e ∷ h) follows = (
 abbrev pub event_of : Entry → Event
 event_of e = record { who = e.who; operation = operation_of e.call; note = e.note }
 
-pub follows_zeros : (w : ℕ) (v : Views) (es : List Entry) → AreNoted w v es → Follows w v (map event_of es)
+follows_zeros : (w : ℕ) (v : Views) (es : List Entry) → AreNoted w v es → Follows w v (map event_of es)
 follows_zeros w v [] noted = tt
 follows_zeros w v (e ∷ es) noted = (noted.0, follows_zeros w (next v e) es noted.1)
 
@@ -72,30 +75,44 @@ call_back (Repair n j f) = refl
 call_back (Delete n) = refl
 call_back (Stat n) = refl
 
-pub entries_back : (es : List Entry) → map entry_of (map event_of es) ≡ es
+entries_back : (es : List Entry) → map entry_of (map event_of es) ≡ es
 entries_back [] = refl
 entries_back (e ∷ es) = λ i. record e { call = call_back e.call i } ∷ entries_back es i
 
-pub lawful_noted : (w : ℕ) (es : List Entry) → IsLawful w es ↔ AreNoted w empty_views es
-lawful_noted w es = (
-  λ l.
-      let s = l.state in
-      let empty : view s ≡ empty_views = ap view (empty_alone s l.outlined) ∙ empty_view in
-      let follows : Follows w empty_views l.events = subst (λ (v : Views). Follows w v l.events) empty ((legal_is w s l.events).0 l.legal) in
-      subst (AreNoted w empty_views) l.entries_are (noted w empty_views l.events follows),
-  λ a.
-      let follows : Follows w (view empty_state) (map event_of es) = subst (λ (v : Views). Follows w v (map event_of es)) (sym empty_view) (follows_zeros w empty_views es a) in
-      record {
-        state = empty_state;
-        outlined = empty_outlined;
-        events = map event_of es;
-        legal = (legal_is w empty_state (map event_of es)).1 follows;
-        entries_are = entries_back es;
-      },
+-- where all states that a base outlines show the same, and there is one
+lawful_noted : (w : ℕ) (base : Checkpoint) (v : Views) (s : State) → Outlines base s → ((t : State) → Outlines base t → view t ≡ v) → (es : List Entry) → IsLawfulFrom base w es ↔ AreNoted w v es
+lawful_noted w base v s outlined shows es = (
+  λ l. subst (AreNoted w v) l.entries_are (noted w v l.events (subst (λ (x : Views). Follows w x l.events) (shows l.state l.outlined) ((legal_is w l.state l.events).0 l.legal))),
+  λ a. record {
+    state = s;
+    outlined = outlined;
+    events = map event_of es;
+    legal = (legal_is w s (map event_of es)).1 (subst (λ (x : Views). Follows w x (map event_of es)) (sym (shows s outlined)) (follows_zeros w v es a));
+    entries_are = entries_back es;
+  },
 )
 
+-- so of what is kept of a base
+pub lawful_kept : (w : ℕ) (base : Checkpoint) (r : Replay) → outlines_of r ≡ base.names → IsRising (outlines_of r) → r.puts ≡ base.puts → (es : List Entry) → IsLawfulFrom base w es ↔ AreNoted w (views_of r) es
+lawful_kept w base r names rise puts es =
+    lawful_noted w base (views_of r) (state_from base) (state_from-outlined base (subst IsRising names rise)) (λ t is. view_outlined base t r is names puts) es
+
+-- the entries of a legal history are noted, and give the views of the state after it
+pub legal_noted : (w : ℕ) (s : State) (h : History) → IsLegalFrom w s h → AreNoted w (view s) (map entry_of h)
+legal_noted w s h legal = noted w (view s) h ((legal_is w s h).0 legal)
+
+pub view_all : (s : State) (h : History) → view (after_all s h) ≡ all_next (view s) (map entry_of h)
+view_all s [] = refl
+view_all s (e ∷ h) =
+    view_all (after s e.operation e.note) h
+    ∙ ap (λ (v : Views). all_next v (map entry_of h)) (view_is s e.operation e.note ∙ after_zero (view s) e.operation e.note)
+
 -- one entry more
+split_at : (es : List Entry) (i : ℕ) (e : Entry) → i < length es → e ≡ get_or es i e → drop i es ≡ e ∷ drop (i + 1) es
+split_at es i e l is = rw (add-one, drop-cons es i e) (ap (λ (x : Entry). x ∷ drop (suc i) es) (sym is))
+
 pub noted_at : (w : ℕ) (v : Views) (es : List Entry) (i : ℕ) (e : Entry) → i < length es → e ≡ get_or es i e → AreNoted w v (drop i es) ↔ (IsNoted w v e × AreNoted w (next v e) (drop (i + 1) es))
-noted_at w v es i e l is =
-    let split : drop i es ≡ e ∷ drop (i + 1) es = rw (add-one, drop-cons es i e) (ap (λ (x : Entry). x ∷ drop (suc i) es) (sym is)) in
-    (subst (AreNoted w v) split, subst (AreNoted w v) (sym split))
+noted_at w v es i e l is = let split = split_at es i e l is in (subst (AreNoted w v) split, subst (AreNoted w v) (sym split))
+
+pub next_at : (v : Views) (es : List Entry) (i : ℕ) (e : Entry) → i < length es → e ≡ get_or es i e → all_next v (drop i es) ≡ all_next (next v e) (drop (i + 1) es)
+next_at v es i e l is = ap (all_next v) (split_at es i e l is)

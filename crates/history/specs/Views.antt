@@ -127,6 +127,10 @@ IsNoted w v e = CanPut w (operation_of e.call) × (e.note ≡ reply w v (operati
 abbrev pub next : Views → Entry → Views
 next v e = view_after v (operation_of e.call) e.note
 
+abbrev pub all_next : Views → List Entry → Views
+all_next v [] = v
+all_next v (e ∷ es) = all_next (next v e) es
+
 -- one after the other
 abbrev pub AreNoted : ℕ → Views → List Entry → Type 0
 AreNoted w v [] = Unit {0}

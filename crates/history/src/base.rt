@@ -4,6 +4,8 @@ ghost use Rattle.history.specs.Base.{Outlines, empty_base};
 ghost use Rattle.history.specs.History.{History, IsLegalFrom, after_all, entry_of, is_put};
 ghost use Rattle.history.specs.State.{State};
 
+use crate::note::count_puts;
+use crate::replay::Replay;
 use crate::{Entry, Name};
 use lrc_code::Code;
 use sealed::Width;
@@ -88,6 +90,13 @@ impl Base {
         ensures puts { IfOk result (λ b. b.puts ≡ self.now.puts + count_by is_put entries.now) }
         ensures outlines { IfOk result (λ b. (s : State) (h : History) → Outlines self.now s → IsLegalFrom width s h → map entry_of h ≡ entries.now → Outlines b (after_all s h)) }
     {
-        Err(AllocError)
+        let mut replay = Replay::from_base(alloc, self, width)?;
+        replay.follow(alloc, entries)?;
+        let names = replay.outlines(alloc)?;
+        Ok(Base {
+            trimmed: self.trimmed + entries.len() as u64,
+            puts: self.puts + count_puts(entries),
+            names,
+        })
     }
 }

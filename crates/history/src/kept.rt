@@ -1,13 +1,16 @@
 //! What is kept of a blob, to know the replies.
-ghost use Rattle.std.specs.Prelude.{◌≡◌, ℕ, ◌+◌, ◌<◌, ◌≤◌, Some, IsTrue};
+ghost use Rattle.std.specs.Prelude.{◌≡◌, ℕ, ◌+◌, ◌<◌, ◌≤◌, Some, IsTrue, IfOk};
 ghost use Rattle.std.specs.List.{list_any};
+ghost use Rattle.std.specs.List.Sorted.{IsStrictlySortedBy};
 ghost use Rattle.lrc_code.specs.Code.{fragment_count, is_lost};
-ghost use Rattle.history.specs.Kept.{lost_of, seen_as, is_open_between};
+ghost use Rattle.sealed.specs.Blob.{pair_cmp};
+ghost use Rattle.history.specs.Kept.{lost_of, seen_as, is_open_between, outline_kept, outline_seen};
 ghost use Rattle.history.specs.Views.{no_such, open_test, open_in_range, read_reply, lose_reply, repair_reply, stat_reply};
 
-use crate::Note;
+use crate::{Name, Note, Outline};
 use lrc_code::{Code, LostSet, is_open_in};
 use sealed::{Width, count_stripes};
+use std::alloc::{AllocError, Global};
 use std::collections::BTreeSet;
 
 /// A blob of a name, without its bytes.
@@ -21,6 +24,33 @@ pub struct Kept {
 }
 
 impl Kept {
+    /// What is kept of a blob that is outlined.
+    pub fn from_outline(alloc: Global, outline: &Outline) -> Result<Kept, AllocError>
+        requires { IsStrictlySortedBy pair_cmp outline.now.lost.items }
+        ensures { IfOk result (λ kept. outline_kept (outline.now.name, kept) ≡ outline_seen outline.now) }
+    {
+        Ok(Kept {
+            version: outline.version,
+            len: outline.len,
+            code: outline.code,
+            lost: outline.lost.iter().copied().collect(alloc)?,
+        })
+    }
+
+    /// The outline of the blob under its name.
+    pub fn outline(&self, alloc: Global, name: &Name) -> Result<Outline, AllocError>
+        ensures outline { IfOk result (λ outline. outline_seen outline ≡ outline_kept (name.now, self.now)) }
+        ensures rising { IsStrictlySortedBy pair_cmp self.now.lost.keys }
+    {
+        Ok(Outline {
+            name: name.duplicate(),
+            version: self.version,
+            len: self.len,
+            code: self.code,
+            lost: self.lost.iter().copied().collect(alloc)?,
+        })
+    }
+
     /// The lost fragments of a stripe.
     fn lost_in(&self, stripe: u64) -> LostSet
         ensures { (f : ℕ) → f < 16 → is_lost result f ≡ lost_of self.now stripe f }

@@ -14,14 +14,7 @@ use std::alloc::{AllocError, Global};
 pub fn is_lawful(alloc: Global, entries: &[Entry], width: Width) -> Result<bool, AllocError>
     ensures { IfOk result (λ lawful. IsTrue lawful ↔ IsLawful width entries.now) }
 {
-    let mut replay = Replay::new(alloc, width);
-    for entry in entries {
-        if !replay.expects(entry) {
-            return Ok(false);
-        }
-        replay.apply(alloc, entry)?;
-    }
-    Ok(true)
+    is_lawful_from(alloc, &Base::empty(alloc), entries, width)
 }
 
 /// Whether the entries are those of some list of calls that is legal, on a book of this width, from some state that the base outlines. No reply depends on
@@ -36,5 +29,5 @@ pub fn is_lawful_from(
 ) -> Result<bool, AllocError>
     ensures { IfOk result (λ lawful. IsTrue lawful ↔ IsLawfulFrom base.now width entries.now) }
 {
-    Err(AllocError)
+    Replay::from_base(alloc, base, width)?.follow(alloc, entries)
 }

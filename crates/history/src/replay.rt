@@ -1,13 +1,14 @@
 //! The object of one thread without its bytes: what it replies to each call, and what is kept after it.
-ghost use Rattle.std.specs.Prelude.{◌≡◌, ◌≤◌, ◌+◌, ◌↔◌, IsTrue, OnOk, replicate};
+ghost use Rattle.std.specs.Prelude.{◌≡◌, ◌≤◌, ◌+◌, ◌↔◌, IsTrue, IfOk, OnOk, map, replicate};
 ghost use Rattle.std.specs.Option.{option_map};
 ghost use Rattle.sealed.specs.Layout.{stripe_count};
-ghost use Rattle.history.specs.Kept.{seen_as, views_of};
-ghost use Rattle.history.specs.Views.{read_reply, lose_reply, repair_reply, delete_reply, stat_reply, empty_views, view_after, added, taken, changed, IsNoted, next};
+ghost use Rattle.history.specs.Kept.{seen_as, views_of, outlines_of, outline_seen};
+ghost use Rattle.history.specs.Base.{IsRising};
+ghost use Rattle.history.specs.Views.{read_reply, lose_reply, repair_reply, delete_reply, stat_reply, view_after, added, taken, changed, IsNoted, AreNoted, next, all_next};
 ghost use Rattle.history.specs.Step.{put};
 
 use crate::kept::Kept;
-use crate::{Call, Entry, Name, Note};
+use crate::{Base, Call, Entry, Name, Note, Outline};
 use lrc_code::Code;
 use sealed::{Width, count_stripes};
 use std::alloc::{AllocError, Global};
@@ -22,16 +23,51 @@ pub struct Replay {
 }
 
 impl Replay {
-    /// No name, and no put so far.
-    pub fn new(alloc: Global, width: Width) -> Replay
-        ensures views { views_of result ≡ empty_views }
-        ensures width { result.width ≡ width }
+    /// The names of a base, and how many puts there were.
+    pub fn from_base(alloc: Global, base: &Base, width: Width) -> Result<Replay, AllocError>
+        ensures names { IfOk result (λ replay. outlines_of replay ≡ base.now.names) }
+        ensures rising { IfOk result (λ replay. IsRising (outlines_of replay)) }
+        ensures puts { IfOk result (λ replay. replay.puts ≡ base.now.puts) }
+        ensures width { IfOk result (λ replay. replay.width ≡ width) }
     {
-        Replay {
-            names: BTreeMap::new(alloc),
-            puts: 0,
-            width,
+        let mut names = BTreeMap::new(alloc);
+        for outline in &base.names {
+            let kept = Kept::from_outline(alloc, outline)?;
+            let Ok(_) = names.insert(outline.name.duplicate(), kept) else {
+                return Err(AllocError);
+            };
         }
+        Ok(Replay {
+            names,
+            puts: base.puts,
+            width,
+        })
+    }
+
+    /// The outlines of the names, in order.
+    pub fn outlines(&self, alloc: Global) -> Result<Vec<Outline>, AllocError>
+        ensures names { IfOk result (λ outlines. map outline_seen outlines.items ≡ outlines_of self.now) }
+        ensures rising { IfOk result (λ outlines. IsRising (outlines_of self.now)) }
+    {
+        let mut outlines = Vec::new(alloc);
+        for (name, kept) in &self.names {
+            outlines.push(kept.outline(alloc, name)?)?;
+        }
+        Ok(outlines)
+    }
+
+    /// Takes in entries, up to the first whose note isn't the reply to its call. Whether there was none such.
+    pub fn follow(&mut self, alloc: Global, entries: &[Entry]) -> Result<bool, AllocError>
+        ensures variant { IfOk result (λ followed. IsTrue followed ↔ AreNoted self.old.width (views_of self.old) entries.now) }
+        ensures views { IfOk result (λ followed. IsTrue followed → views_of self.new ≡ all_next (views_of self.old) entries.now) }
+    {
+        for entry in entries {
+            if !self.expects(entry) {
+                return Ok(false);
+            }
+            self.apply(alloc, entry)?;
+        }
+        Ok(true)
     }
 
     /// Whether the note of an entry is the reply to its call.

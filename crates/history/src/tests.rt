@@ -109,3 +109,40 @@ fn the_longest_put_is_not_lawful(rt: HostRuntime) -> Result<(), Fail> {
     assert!(rt; !is_lawful(alloc, &entries, width)?);
     Ok(())
 }
+
+/// The loss of the blob's first fragment, with this note.
+fn first_loss(alloc: Global, name: &Name, noted: Note) -> Result<Vec<Entry>, Fault> {
+    let mut entries = Vec::new(alloc);
+    let lose = Call::Lose {
+        name: name.duplicate(),
+        stripe: 0,
+        fragment: 0,
+    };
+    note(&mut entries, lose, noted)?;
+    Ok(entries)
+}
+
+#[test]
+fn a_base_knows_what_was_lost(rt: HostRuntime) -> Result<(), Fail> {
+    let alloc = rt.alloc();
+    let (width, name) = (Width::new(1).expect(&rt, "a width"), Name::new("a")?);
+    let mut entries = Vec::new(alloc);
+    let put = Call::Put {
+        name: name.duplicate(),
+        code: Code::Wide,
+        len: 12,
+    };
+    note(&mut entries, put, Note::Stored(1))?;
+    let stored = Base::empty(alloc).after(alloc, &entries, width)?;
+    let lost = stored.after(alloc, &first_loss(alloc, &name, Note::Lost(1))?, width)?;
+    assert_eq!(rt; (lost.trimmed, lost.puts, lost.names.len()), (2, 1, 1));
+    for (noted, first, again) in [
+        (Note::Lost(1), true, false),
+        (Note::AlreadyLost, false, true),
+    ] {
+        let entries = first_loss(alloc, &name, noted)?;
+        assert_eq!(rt; is_lawful_from(alloc, &stored, &entries, width)?, first);
+        assert_eq!(rt; is_lawful_from(alloc, &lost, &entries, width)?, again);
+    }
+    Ok(())
+}

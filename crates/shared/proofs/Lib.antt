@@ -6,3 +6,4 @@ pub mod Requests
 pub mod Grants
 pub mod Mends
 pub mod Looks
+pub mod Runs

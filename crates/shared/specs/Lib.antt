@@ -4,3 +4,4 @@ pub mod Passes
 pub mod Calls
 pub mod Requests
 pub mod Mends
+pub mod Runs

@@ -4,15 +4,21 @@
 
 mod calls;
 mod entry;
+mod jobs;
 mod kept;
 mod mending;
 mod pass;
 mod plan;
 mod request;
+mod run;
 mod store;
 mod tries;
 mod trim;
 
+pub use jobs::{Ask, Cause, Job, Pace, Reply, Stopped};
 pub use kept::Kept;
 pub use pass::Pass;
 pub use store::Store;
+
+#[cfg(test)]
+mod tests;
