@@ -14,14 +14,13 @@ use Rattle.std.proofs.lemmas.Grind.{common_steps}
 use Rattle.std.proofs.lemmas.List.{map-append, append-nil, append_assoc}
 use Rattle.std.proofs.lemmas.List.Folds.{list_any-append, flat_map-map}
 use Rattle.std.proofs.lemmas.Map.Lookups.{exact_bytes}
-use Rattle.std.proofs.lemmas.Simd.{map-map}
+use Rattle.std.proofs.lemmas.Map.Made.{lookup-map_values, keys_of-map_values}
 use Rattle.lrc_code.specs.Code.{fragment_count}
 use Rattle.sealed.specs.declared.value.Sealed.{Sealed}
 use Rattle.sealed.specs.Blob.{pair_cmp}
 use Rattle.history.specs.Names.{name_cmp}
 use Rattle.history.specs.State.{Blob, IsLostInside}
 use Rattle.history.specs.History.{History, state_of}
-use Rattle.history.proofs.Catalogue.{lookup-map}
 use Rattle.history.proofs.Inside.{lost_inside}
 use Rattle.history.proofs.Keeping.{same_truth, few_fragments, lt_of}
 use Rattle.book.specs.Contents.{Contents, sealed_at}
@@ -176,18 +175,15 @@ same_of w (Some s) None same inside = absurd same
 abbrev with_values : {X Y : Type 0} → (X → Y) → List (List ℕ × X) → List (List ℕ × Y)
 with_values f es = map (λ e. (e.0, f e.1)) es
 
-keys_kept : {X Y : Type 0} (f : X → Y) (es : List (List ℕ × X)) → keys_of es ≡ keys_of (with_values f es)
-keys_kept f es = sym (map-map (λ e. e.0) (λ e. (e.0, f e.1)) es)
-
 pub plan_is : (book : Contents) (h : History) → IsStrictlySortedBy name_cmp (keys_of book.catalogue) → Tells book h → flat_map items_lacked book.catalogue ≡ plan_of (state_of h)
 plan_is book h rises told =
     let names = (state_of h).names in
     let same : with_values of_value book.catalogue ≡ with_values of_blob (finite.entries names) =
-    same_found nat_list_cmp_total exact_bytes _ _ (subst (IsStrictlySortedBy name_cmp) (keys_kept of_value book.catalogue) rises)
-    (subst (IsStrictlySortedBy name_cmp) (keys_kept of_blob (finite.entries names)) (keys_rise names))
-    (λ q. lookup-map of_value (is_at (name_cmp q)) book.catalogue
+    same_found nat_list_cmp_total exact_bytes _ _ (subst (IsStrictlySortedBy name_cmp) (sym (keys_of-map_values of_value book.catalogue)) rises)
+    (subst (IsStrictlySortedBy name_cmp) (sym (keys_of-map_values of_blob (finite.entries names))) (keys_rise names))
+    (λ q. lookup-map_values of_value (is_at (name_cmp q)) book.catalogue
     ∙ same_of book.width (sealed_at book q) (finite.get names q) (told.catalogue q) (λ blob here. lost_inside book.width h told.legal q blob here)
     ∙ ap (option_map of_blob) (finite.get-entries names q)
-    ∙ sym (lookup-map of_blob (is_at (name_cmp q)) (finite.entries names))) in
+    ∙ sym (lookup-map_values of_blob (is_at (name_cmp q)) (finite.entries names))) in
     let items : List ℕ × (ℕ × List (ℕ × ℕ)) → List Item = λ e. items_for e.0 e.1.0 e.1.1 in
     sym (flat_map-map items (λ e. (e.0, of_value e.1)) book.catalogue) ∙ ap (flat_map items) same ∙ flat_map-map items (λ e. (e.0, of_blob e.1)) (finite.entries names)
