@@ -1,6 +1,6 @@
 -- What a worker did, step by step.
-use Rattle.std.proofs.Common.{◌≡◌, ℕ, ◌-◌, ◌<◌, List, [], ◌∷◌, ◌++◌, length, get_or, slice_get, Some, Ok, Err, refl, ap, sym, subst, ◌∙◌, arith, append_assoc, append-nil, length-append}
-use Rattle.std.proofs.lemmas.List.{map-append}
+use Rattle.std.proofs.Common.{◌≡◌, ℕ, ◌-◌, ◌<◌, List, [], ◌∷◌, ◌++◌, length, map, get_or, slice_get, Some, Ok, Err, refl, ap, sym, subst, ◌∙◌, arith, append_assoc, append-nil, length-append}
+use Rattle.std.proofs.lemmas.List.{map-append, length-map}
 use Rattle.std.proofs.lemmas.List.Elements.{All-append, All-nil}
 use Rattle.book.specs.declared.plan.Item.{Item}
 use Rattle.gate.specs.Places.{times}
@@ -9,13 +9,15 @@ use Rattle.mender.specs.declared.done.Done.{Done}
 use Rattle.std.proofs.lemmas.Option.{slice_get-get_or, slice_get_within}
 use Rattle.mender.specs.Drawn.{Hand}
 use Rattle.mender.specs.Gathered.{tickets_of, IsOfPlan}
-use Rattle.mender.specs.Worked.{repair_of, repairs_of, Draws, Worked, Stopped}
+use Rattle.mender.specs.Worked.{repair_of, Repairs, Draws, Worked, Stopped}
 use Rattle.history.specs.Step.{Operation}
 use Rattle.sealed.specs.declared.fault.Fault.{Fault}
 use Rattle.shared.specs.Passes.{Shows}
-use Rattle.shared.specs.Calls.{event, Called}
-use Rattle.mender.specs.Made.{Makes}
-use Rattle.mender.proofs.Making.{makes_more, makes_no_more}
+use Rattle.shared.specs.Calls.{Called}
+use Rattle.shared.specs.Runs.{Runs}
+use Rattle.shared.specs.declared.jobs.Reply.TheVariants.{Made}
+use Rattle.shared.specs.declared.run.Outcome.TheVariants as outcome
+use Rattle.shared.proofs.Runs.{runs_looks, runs_longer, runs_more, served}
 use Rattle.mender.proofs.Judged.{all_one, one_more}
 
 pub begun : (plan : List Item) (hand : Hand) → Worked plan hand hand [] []
@@ -81,17 +83,22 @@ pub stopped : (plan : List Item) (old new : Hand) (done items : List Done) (n : 
 stopped plan old new done items n it h kept = subst (Stopped plan old new) (sym kept) (n, slice_get_within plan n it h.there, h.none, h.after)
 
 -- a repair more was made
-pub made_more : (v u w : Shows) (done items items' : List Done) (d : Done) (o : Operation) → Makes v (repairs_of v.who done) u → Called u o (Ok d.answer) w → o ≡ repair_of d.item
-    → items ≡ done → items' ≡ items ++ d ∷ [] → Makes v (repairs_of v.who items') w
+pub made_more : (v u w : Shows) (done items items' : List Done) (d : Done) (o : Operation) → Repairs v done u → Called u o (Ok d.answer) w → o ≡ repair_of d.item → items ≡ done → items' ≡ items ++ d ∷ []
+    → Repairs v items' w
 made_more v u w done items items' d o made called same kept pushed =
     let list : items' ≡ done ++ d ∷ [] = pushed ∙ ap (λ l. l ++ d ∷ []) kept in
-    let events : repairs_of v.who items' ≡ repairs_of v.who done ++ event v.who o d.answer ∷ [] =
-    ap (repairs_of v.who) list ∙ (map-append (λ e. event v.who (repair_of e.item) e.answer) done (d ∷ []) ∙ ap (λ operation. repairs_of v.who done ++ event v.who operation d.answer ∷ []) (sym same)) in
-    subst (λ l. Makes v l w) (sym events) (makes_more v u w (repairs_of v.who done) o d.answer made called)
+    let one : Runs u (Some (repair_of d.item) ∷ []) (Made d.answer ∷ []) w =
+    served u w (Some (repair_of d.item)) (outcome.Made (Ok d.answer)) (Made d.answer) (subst (λ operation. Called u operation (Ok d.answer) w) same called, tt) refl in
+    let both : Runs v (map (λ e. Some (repair_of e.item)) done ++ Some (repair_of d.item) ∷ []) (map (λ e. Made e.answer) done ++ Made d.answer ∷ []) w =
+    runs_more v u w _ _ _ _ (length-map _ done ∙ sym (length-map _ done)) made one in
+    subst (λ l. Repairs v l w) (sym list) (subst (λ l. Runs v l.0 l.1 w) (λ i. (sym (map-append (λ e. Some (repair_of e.item)) done (d ∷ [])) i, sym (map-append (λ e. Made e.answer) done (d ∷ [])) i)) both)
 
 -- a repair was refused
-pub made_no_more : (v u w : Shows) (done items : List Done) (o : Operation) (f : Fault) → Makes v (repairs_of v.who done) u → Called u o (Err f) w → items ≡ done → Makes v (repairs_of v.who items) w
-made_no_more v u w done items o f made called kept = subst (λ l. Makes v (repairs_of v.who l) w) (sym kept) (makes_no_more v u w (repairs_of v.who done) o f made called)
+pub made_no_more : (v u w : Shows) (done items : List Done) (o : Operation) (f : Fault) → Repairs v done u → Called u o (Err f) w → items ≡ done → Repairs v items w
+made_no_more v u w done items o f made called kept =
+    let longer : Runs v (map (λ e. Some (repair_of e.item)) done ++ []) (map (λ e. Made e.answer) done) w =
+    runs_longer v u w _ [] _ (length-map _ done ∙ sym (length-map _ done)) made (runs_looks u w [] called.stays called.err) in
+    subst (λ l. Repairs v l w) (sym kept) (subst (λ l. Runs v l (map (λ e. Made e.answer) done) w) (append-nil (map (λ e. Some (repair_of e.item)) done)) longer)
 
 pub did_more : (plan : List Item) (old new : Hand) (done items items' : List Done) (n : ℕ) (d : Done) (it : Item) → InHand plan old new done n it
     → d.ticket ≡ n → d.item ≡ it → items ≡ done → items' ≡ items ++ d ∷ [] → Worked plan old new items' []

@@ -2,5 +2,4 @@ pub mod Answers
 pub mod Drawn
 pub mod Rule
 pub mod Gathered
-pub mod Made
 pub mod Worked

@@ -1,10 +1,11 @@
 -- What a worker did.
-use Rattle.std.specs.Prelude.{◌≡◌, ◌⊎◌, ℕ, ◌+◌, ◌<◌, ◌≤◌, List, [], ◌∷◌, ◌++◌, length, map, All}
+use Rattle.std.specs.Prelude.{◌≡◌, ◌⊎◌, ℕ, ◌+◌, ◌<◌, ◌≤◌, List, [], ◌∷◌, ◌++◌, length, map, All, Some}
 use Rattle.book.specs.declared.plan.Item.{Item}
 use Rattle.gate.specs.Places.{times}
 use Rattle.history.specs.Step.{Operation, repair}
-use Rattle.history.specs.History.{History}
-use Rattle.shared.specs.Calls.{event}
+use Rattle.shared.specs.declared.jobs.Reply.TheVariants.{Made}
+use Rattle.shared.specs.Passes.{Shows}
+use Rattle.shared.specs.Runs.{Runs}
 use Rattle.mender.specs.declared.done.Done.{Done}
 use Rattle.mender.specs.Drawn.{Hand}
 use Rattle.mender.specs.Gathered.{tickets_of, IsOfPlan}
@@ -13,9 +14,9 @@ use Rattle.mender.specs.Gathered.{tickets_of, IsOfPlan}
 abbrev pub repair_of : Item → Operation
 repair_of item = repair item.name item.stripe item.f
 
--- the repairs behind these results, in order, under this label
-abbrev pub repairs_of : ℕ → List Done → History
-repairs_of who done = map (λ d. event who (repair_of d.item) d.answer) done
+-- the pass made just the repairs of the results' items, in this order, with their answers
+abbrev pub Repairs : Shows → List Done → Shows → Type 0
+Repairs v done w = Runs v (map (λ d. Some (repair_of d.item)) done) (map (λ d. Made d.answer) done) w
 
 -- the drawer drew just these numbers, in this order
 pub record Draws (old : Hand) (numbers : List ℕ) (new : Hand) : Type 0 where

@@ -3,8 +3,7 @@ ghost use Rattle.std.specs.Prelude.{◌≡◌, ◌⊎◌, ◌≤◌, ◌^◌, []
 ghost use Rattle.history.specs.History.{state_of};
 ghost use Rattle.book.specs.Plan.{plan_of};
 ghost use Rattle.shared.specs.Calls.{Looked};
-ghost use Rattle.mender.specs.Made.{Makes};
-ghost use Rattle.mender.specs.Worked.{Finished, Stopped, repairs_of};
+ghost use Rattle.mender.specs.Worked.{Finished, Stopped, Repairs};
 
 use crate::item::duplicate;
 use crate::{Done, Drawer, Tickets, WorkFault};
@@ -50,9 +49,9 @@ pub fn work<R: Wait>(
     requires store { pass.old.store ≡ store.now }
     requires tickets { drawer.old.tickets ≡ tickets.now }
     ensures ok { IfOk result (λ done. Finished plan.now.items.items drawer.old drawer.new done.items) }
-    ensures made { IfOk result (λ done. Makes pass.old (repairs_of pass.old.who done.items) pass.new) }
+    ensures made { IfOk result (λ done. Repairs pass.old done.items pass.new) }
     ensures err { IfErr result (λ stop. Stopped plan.now.items.items drawer.old drawer.new stop.done.items) }
-    ensures made_by_then { IfErr result (λ stop. Makes pass.old (repairs_of pass.old.who stop.done.items) pass.new) }
+    ensures made_by_then { IfErr result (λ stop. Repairs pass.old stop.done.items pass.new) }
     ensures faults { IfErr result (λ stop. (stop.fault ≡ Fault.NoMemory) ⊎ (stop.fault ≡ Fault.JournalFull)) }
     ensures full { IfErr result (λ stop. stop.fault ≡ Fault.JournalFull → pass.new.store.limit ≤ length pass.new.seen) }
 {

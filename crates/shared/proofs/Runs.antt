@@ -85,7 +85,7 @@ calls_none who [] = refl
 calls_none who (o ∷ jobs) = refl
 
 -- no job was done, and perhaps more was seen
-runs_looks : (v w : Shows) (jobs : List (Option Operation)) → Stays v w → Looks v w → Runs v jobs [] w
+pub runs_looks : (v w : Shows) (jobs : List (Option Operation)) → Stays v w → Looks v w → Runs v jobs [] w
 runs_looks v w jobs stays looks = record {
   stays = stays;
   seen = looks.0;

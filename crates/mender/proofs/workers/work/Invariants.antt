@@ -1,13 +1,12 @@
 use Rattle.std.proofs.Common.{◌≡◌, []}
-use Rattle.mender.specs.Made.{Makes}
-use Rattle.mender.specs.Worked.{Worked, repairs_of}
+use Rattle.mender.specs.Worked.{Worked, Repairs}
 use Rattle.mender.proofs.workers.work.Given as goal
 
 abbrev pub invariant-loop-ticket : goal.invariant-loop-ticket
 invariant-loop-ticket g l = record {
   store : l.pass.store ≡ l.store;
   tickets : l.drawer.tickets ≡ l.tickets;
-  made : Makes l.initial.pass (repairs_of l.initial.pass.who l.done.items) l.pass;
+  made : Repairs l.initial.pass l.done.items l.pass;
   worked : Worked l.plan.items.items l.initial.drawer l.drawer l.done.items [];
 }
 
