@@ -9,7 +9,7 @@ use Rattle.mender.specs.declared.done.Done.{Done}
 use Rattle.std.proofs.lemmas.Option.{slice_get-get_or, slice_get_within}
 use Rattle.mender.specs.Drawn.{Hand}
 use Rattle.mender.specs.Gathered.{tickets_of, IsOfPlan}
-use Rattle.mender.specs.Worked.{repair_of, Repairs, Draws, Worked, Stopped}
+use Rattle.mender.specs.Worked.{repair_of, repairs_of, replies_of, Repairs, Draws, Worked, Stopped}
 use Rattle.history.specs.Step.{Operation}
 use Rattle.sealed.specs.declared.fault.Fault.{Fault}
 use Rattle.shared.specs.Passes.{Shows}
@@ -82,23 +82,25 @@ in_hand plan ys old new new' done n it w some_left is fresh same lt here = recor
 pub stopped : (plan : List Item) (old new : Hand) (done items : List Done) (n : ℕ) (it : Item) → InHand plan old new done n it → items ≡ done → Stopped plan old new items
 stopped plan old new done items n it h kept = subst (Stopped plan old new) (sym kept) (n, slice_get_within plan n it h.there, h.none, h.after)
 
+as_many : (done : List Done) → length (replies_of done) ≡ length (repairs_of done)
+as_many done = length-map done (λ d. Made d.answer) ∙ sym (length-map done (λ d. Some (repair_of d.item)))
+
 -- a repair more was made
 pub made_more : (v u w : Shows) (done items items' : List Done) (d : Done) (o : Operation) → Repairs v done u → Called u o (Ok d.answer) w → o ≡ repair_of d.item → items ≡ done → items' ≡ items ++ d ∷ []
     → Repairs v items' w
 made_more v u w done items items' d o made called same kept pushed =
-    let list : items' ≡ done ++ d ∷ [] = pushed ∙ ap (λ l. l ++ d ∷ []) kept in
-    let one : Runs u (Some (repair_of d.item) ∷ []) (Made d.answer ∷ []) w =
-    served u w (Some (repair_of d.item)) (outcome.Made (Ok d.answer)) (Made d.answer) (subst (λ operation. Called u operation (Ok d.answer) w) same called, tt) refl in
-    let both : Runs v (map (λ e. Some (repair_of e.item)) done ++ Some (repair_of d.item) ∷ []) (map (λ e. Made e.answer) done ++ Made d.answer ∷ []) w =
-    runs_more v u w _ _ _ _ (length-map _ done ∙ sym (length-map _ done)) made one in
-    subst (λ l. Repairs v l w) (sym list) (subst (λ l. Runs v l.0 l.1 w) (λ i. (sym (map-append (λ e. Some (repair_of e.item)) done (d ∷ [])) i, sym (map-append (λ e. Made e.answer) done (d ∷ [])) i)) both)
+    let list : done ++ d ∷ [] ≡ items' = sym (pushed ∙ ap (λ l. l ++ d ∷ []) kept) in
+    let one : Repairs u (d ∷ []) w = served u w (Some (repair_of d.item)) (outcome.Made (Ok d.answer)) (Made d.answer) (subst (λ operation. Called u operation (Ok d.answer) w) same called, tt) refl in
+    let both : Runs v (repairs_of done ++ repairs_of (d ∷ [])) (replies_of done ++ replies_of (d ∷ [])) w = runs_more v u w (repairs_of done) (replies_of done) _ _ (as_many done) made one in
+    let repairs : repairs_of done ++ repairs_of (d ∷ []) ≡ repairs_of (done ++ d ∷ []) = sym (map-append (λ e. Some (repair_of e.item)) done (d ∷ [])) in
+    let replies : replies_of done ++ replies_of (d ∷ []) ≡ replies_of (done ++ d ∷ []) = sym (map-append (λ e. Made e.answer) done (d ∷ [])) in
+    subst (λ l. Repairs v l w) list (subst (λ l. Runs v (repairs_of (done ++ d ∷ [])) l w) replies (subst (λ l. Runs v l (replies_of done ++ replies_of (d ∷ [])) w) repairs both))
 
 -- a repair was refused
 pub made_no_more : (v u w : Shows) (done items : List Done) (o : Operation) (f : Fault) → Repairs v done u → Called u o (Err f) w → items ≡ done → Repairs v items w
 made_no_more v u w done items o f made called kept =
-    let longer : Runs v (map (λ e. Some (repair_of e.item)) done ++ []) (map (λ e. Made e.answer) done) w =
-    runs_longer v u w _ [] _ (length-map _ done ∙ sym (length-map _ done)) made (runs_looks u w [] called.stays called.err) in
-    subst (λ l. Repairs v l w) (sym kept) (subst (λ l. Runs v l (map (λ e. Made e.answer) done) w) (append-nil (map (λ e. Some (repair_of e.item)) done)) longer)
+    let longer : Runs v (repairs_of done ++ []) (replies_of done) w = runs_longer v u w (repairs_of done) [] (replies_of done) (as_many done) made (runs_looks u w [] called.stays called.err) in
+    subst (λ l. Repairs v l w) (sym kept) (subst (λ l. Runs v l (replies_of done) w) (append-nil (repairs_of done)) longer)
 
 pub did_more : (plan : List Item) (old new : Hand) (done items items' : List Done) (n : ℕ) (d : Done) (it : Item) → InHand plan old new done n it
     → d.ticket ≡ n → d.item ≡ it → items ≡ done → items' ≡ items ++ d ∷ [] → Worked plan old new items' []

@@ -1,8 +1,9 @@
 -- What a worker did.
-use Rattle.std.specs.Prelude.{◌≡◌, ◌⊎◌, ℕ, ◌+◌, ◌<◌, ◌≤◌, List, [], ◌∷◌, ◌++◌, length, map, All, Some}
+use Rattle.std.specs.Prelude.{◌≡◌, ◌⊎◌, ℕ, ◌+◌, ◌<◌, ◌≤◌, List, [], ◌∷◌, ◌++◌, length, map, All, Option, Some}
 use Rattle.book.specs.declared.plan.Item.{Item}
 use Rattle.gate.specs.Places.{times}
 use Rattle.history.specs.Step.{Operation, repair}
+use Rattle.shared.specs.declared.jobs.Reply.{Reply}
 use Rattle.shared.specs.declared.jobs.Reply.TheVariants.{Made}
 use Rattle.shared.specs.Passes.{Shows}
 use Rattle.shared.specs.Runs.{Runs}
@@ -14,9 +15,17 @@ use Rattle.mender.specs.Gathered.{tickets_of, IsOfPlan}
 abbrev pub repair_of : Item → Operation
 repair_of item = repair item.name item.stripe item.f
 
--- the pass made just the repairs of the results' items, in this order, with their answers
+-- the repairs of the results' items, in order
+abbrev pub repairs_of : List Done → List (Option Operation)
+repairs_of done = map (λ d. Some (repair_of d.item)) done
+
+-- the answers of the results, in order
+abbrev pub replies_of : List Done → List Reply
+replies_of done = map (λ d. Made d.answer) done
+
+-- the pass made just the repairs of the results' items, in order, with the results' answers
 abbrev pub Repairs : Shows → List Done → Shows → Type 0
-Repairs v done w = Runs v (map (λ d. Some (repair_of d.item)) done) (map (λ d. Made d.answer) done) w
+Repairs v done w = Runs v (repairs_of done) (replies_of done) w
 
 -- the drawer drew just these numbers, in this order
 pub record Draws (old : Hand) (numbers : List ℕ) (new : Hand) : Type 0 where
