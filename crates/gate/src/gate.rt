@@ -1,5 +1,5 @@
 //! The gate, its seats, and what is taken out and left.
-ghost use Rattle.std.specs.Prelude.{◌≡◌, ◌⊎◌, ◌+◌, ◌-◌, ◌<◌, ◌++◌, ◌∷◌, [], length, true, false, Some, IfSome, IfNone, IfOk, IsSome, OnOk, OnErr};
+ghost use Rattle.std.specs.Prelude.{◌≡◌, ◌⊎◌, ◌+◌, ◌-◌, ◌<◌, ◌≤◌, ◌++◌, ◌∷◌, [], length, true, false, Some, IfSome, IfNone, IfOk, IsSome, OnOk, OnErr};
 ghost use mathlib.Core.List.{IsPrefix};
 ghost use Rattle.gate.specs.Places.{last_of, IsChain, HasAll, AreApart};
 
@@ -185,9 +185,10 @@ impl<T: Follows + Drop> Gate<T> {
 }
 
 impl<T: Follows> Seat<T> {
-    /// How many seats can be made of it, with itself.
+    /// How many seats can be made of it, with itself: from 1 to 64.
     pub fn room(&self) -> u64
-        ensures { result ≡ self.now.room }
+        ensures value { result ≡ self.now.room }
+        ensures range { (1 ≤ result) × (result ≤ 64) }
     {
         let Seat { room, .. } = self;
         *room

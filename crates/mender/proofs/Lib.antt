@@ -1,0 +1,5 @@
+pub mod Counts
+pub mod Moves
+pub mod Judged
+pub mod Answering
+pub mod Working

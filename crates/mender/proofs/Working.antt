@@ -1,0 +1,111 @@
+-- What a worker did, step by step.
+use Rattle.std.proofs.Common.{◌≡◌, ℕ, ◌-◌, ◌<◌, List, [], ◌∷◌, ◌++◌, length, map, get_or, slice_get, Some, Ok, Err, refl, ap, sym, subst, ◌∙◌, arith, append_assoc, append-nil, length-append}
+use Rattle.std.proofs.lemmas.List.{map-append, length-map}
+use Rattle.std.proofs.lemmas.List.Elements.{All-append, All-nil}
+use Rattle.book.specs.declared.plan.Item.{Item}
+use Rattle.gate.specs.Places.{times}
+use Rattle.gate.proofs.Lists.{times-append}
+use Rattle.mender.specs.declared.done.Done.{Done}
+use Rattle.std.proofs.lemmas.Option.{slice_get-get_or, slice_get_within}
+use Rattle.mender.specs.Drawn.{Hand}
+use Rattle.mender.specs.Gathered.{tickets_of, IsOfPlan}
+use Rattle.mender.specs.Worked.{repair_of, repairs_of, replies_of, Repairs, Draws, Worked, Stopped}
+use Rattle.history.specs.Step.{Operation}
+use Rattle.sealed.specs.declared.fault.Fault.{Fault}
+use Rattle.shared.specs.Passes.{Shows}
+use Rattle.shared.specs.Calls.{Called}
+use Rattle.shared.specs.Runs.{Runs}
+use Rattle.shared.specs.declared.jobs.Reply.TheVariants.{Made}
+use Rattle.shared.specs.declared.run.Outcome.TheVariants as outcome
+use Rattle.shared.proofs.Runs.{runs_looks, runs_longer, runs_more, served}
+use Rattle.mender.proofs.Judged.{all_one, one_more}
+
+pub begun : (plan : List Item) (hand : Hand) → Worked plan hand hand [] []
+begun plan hand = record {
+  draws = record { tickets = refl; allowance = omega arith; drawn = sym (append-nil hand.drawn) };
+  of_plan = All-nil (IsOfPlan plan);
+  once = λ n. omega arith;
+}
+
+-- a number more was drawn
+pub drew : (plan : List Item) (old new new' : Hand) (done : List Done) (n : ℕ) → Worked plan old new done [] → 0 < new.allowance
+    → new' ≡ record new { allowance = new.allowance - 1; drawn = new.drawn ++ n ∷ [] } → Worked plan old new' done (n ∷ [])
+drew plan old new new' done n w some_left is = subst (λ h. Worked plan old h done (n ∷ [])) (sym is) record {
+  draws = record {
+    tickets = w.draws.tickets;
+    allowance =
+        let before = w.draws.allowance in
+        let a = length-append (tickets_of done) [] in
+        let b = length-append (tickets_of done) (n ∷ []) in
+        omega arith;
+    drawn = ap (λ l. l ++ n ∷ []) (w.draws.drawn ∙ ap (λ l. old.drawn ++ l) (append-nil (tickets_of done))) ∙ append_assoc old.drawn (tickets_of done) (n ∷ []);
+  };
+  of_plan = w.of_plan;
+  once = w.once;
+}
+
+-- a number that the drawer had not drawn has no result
+pub none_yet : (plan : List Item) (old new : Hand) (done : List Done) (n : ℕ) → Worked plan old new done [] → times n new.drawn ≡ 0 → times n (tickets_of done) ≡ 0
+none_yet plan old new done n w fresh =
+    let all : times n new.drawn ≡ times n (old.drawn ++ (tickets_of done ++ [])) = ap (times n) w.draws.drawn in
+    let one = times-append n old.drawn (tickets_of done ++ []) in
+    let two = times-append n (tickets_of done) [] in
+    omega arith
+
+-- the ticket in hand has its result
+pub did : (plan : List Item) (old new : Hand) (done : List Done) (d : Done) → Worked plan old new done (d.ticket ∷ []) → IsOfPlan plan d → times d.ticket (tickets_of done) ≡ 0
+    → Worked plan old new (done ++ d ∷ []) []
+did plan old new done d w of_plan none =
+    let tickets : tickets_of (done ++ d ∷ []) ++ [] ≡ tickets_of done ++ d.ticket ∷ [] = append-nil (tickets_of (done ++ d ∷ [])) ∙ map-append (λ e. e.ticket) done (d ∷ []) in record {
+      draws = subst (λ l. Draws old l new) (sym tickets) w.draws;
+      of_plan = All-append (IsOfPlan plan) done (d ∷ []) w.of_plan (all_one (IsOfPlan plan) d of_plan);
+      once = λ n. one_more done d n (w.once n) none;
+    }
+
+pub found_at : (xs ys : List Item) (n : ℕ) (it : Item) → ys ≡ xs → n < length ys → it ≡ get_or ys n it → slice_get xs n ≡ Some it
+found_at xs ys n it same lt there = subst (λ l. slice_get l n ≡ Some it) same (slice_get-get_or ys n it lt ∙ ap Some (sym there))
+
+-- a ticket that was drawn just now, with the plan's item there, and no result yet
+pub record InHand (plan : List Item) (old new : Hand) (done : List Done) (n : ℕ) (it : Item) : Type 0 where
+  pub there : slice_get plan n ≡ Some it
+  pub none : times n (tickets_of done) ≡ 0
+  pub after : Worked plan old new done (n ∷ [])
+
+pub in_hand : (plan ys : List Item) (old new new' : Hand) (done : List Done) (n : ℕ) (it : Item) → Worked plan old new done [] → 0 < new.allowance
+    → new' ≡ record new { allowance = new.allowance - 1; drawn = new.drawn ++ n ∷ [] } → times n new.drawn ≡ 0 → ys ≡ plan → n < length ys → it ≡ get_or ys n it → InHand plan old new' done n it
+in_hand plan ys old new new' done n it w some_left is fresh same lt here = record {
+  there = found_at plan ys n it same lt here;
+  none = none_yet plan old new done n w fresh;
+  after = drew plan old new new' done n w some_left is;
+}
+
+pub stopped : (plan : List Item) (old new : Hand) (done items : List Done) (n : ℕ) (it : Item) → InHand plan old new done n it → items ≡ done → Stopped plan old new items
+stopped plan old new done items n it h kept = subst (Stopped plan old new) (sym kept) (n, slice_get_within plan n it h.there, h.none, h.after)
+
+as_many : (done : List Done) → length (replies_of done) ≡ length (repairs_of done)
+as_many done = length-map done (λ d. Made d.answer) ∙ sym (length-map done (λ d. Some (repair_of d.item)))
+
+-- a repair more was made
+pub made_more : (v u w : Shows) (done items items' : List Done) (d : Done) (o : Operation) → Repairs v done u → Called u o (Ok d.answer) w → o ≡ repair_of d.item → items ≡ done → items' ≡ items ++ d ∷ []
+    → Repairs v items' w
+made_more v u w done items items' d o made called same kept pushed =
+    let list : done ++ d ∷ [] ≡ items' = sym (pushed ∙ ap (λ l. l ++ d ∷ []) kept) in
+    let one : Repairs u (d ∷ []) w = served u w (Some (repair_of d.item)) (outcome.Made (Ok d.answer)) (Made d.answer) (subst (λ operation. Called u operation (Ok d.answer) w) same called, tt) refl in
+    let both : Runs v (repairs_of done ++ repairs_of (d ∷ [])) (replies_of done ++ replies_of (d ∷ [])) w = runs_more v u w (repairs_of done) (replies_of done) _ _ (as_many done) made one in
+    let repairs : repairs_of done ++ repairs_of (d ∷ []) ≡ repairs_of (done ++ d ∷ []) = sym (map-append (λ e. Some (repair_of e.item)) done (d ∷ [])) in
+    let replies : replies_of done ++ replies_of (d ∷ []) ≡ replies_of (done ++ d ∷ []) = sym (map-append (λ e. Made e.answer) done (d ∷ [])) in
+    subst (λ l. Repairs v l w) list (subst (λ l. Runs v (repairs_of (done ++ d ∷ [])) l w) replies (subst (λ l. Runs v l (replies_of done ++ replies_of (d ∷ [])) w) repairs both))
+
+-- a repair was refused
+pub made_no_more : (v u w : Shows) (done items : List Done) (o : Operation) (f : Fault) → Repairs v done u → Called u o (Err f) w → items ≡ done → Repairs v items w
+made_no_more v u w done items o f made called kept =
+    let longer : Runs v (repairs_of done ++ []) (replies_of done) w = runs_longer v u w (repairs_of done) [] (replies_of done) (as_many done) made (runs_looks u w [] called.stays called.err) in
+    subst (λ l. Repairs v l w) (sym kept) (subst (λ l. Runs v l (replies_of done) w) (append-nil (repairs_of done)) longer)
+
+pub did_more : (plan : List Item) (old new : Hand) (done items items' : List Done) (n : ℕ) (d : Done) (it : Item) → InHand plan old new done n it
+    → d.ticket ≡ n → d.item ≡ it → items ≡ done → items' ≡ items ++ d ∷ [] → Worked plan old new items' []
+did_more plan old new done items items' n d it h ticket same kept pushed =
+    let list : items' ≡ done ++ d ∷ [] = pushed ∙ ap (λ l. l ++ d ∷ []) kept in
+    let of_plan : IsOfPlan plan d = ap (slice_get plan) ticket ∙ (h.there ∙ ap Some (sym same)) in
+    subst (λ l. Worked plan old new l []) (sym list)
+    (did plan old new done d (subst (λ m. Worked plan old new done (m ∷ [])) (sym ticket) h.after) of_plan (ap (λ m. times m (tickets_of done)) ticket ∙ h.none))

@@ -1,0 +1,14 @@
+use Rattle.std.proofs.Common.{◌≡◌, []}
+use Rattle.mender.specs.Worked.{Worked, Repairs}
+use Rattle.mender.proofs.workers.work.Given as goal
+
+abbrev pub invariant-loop-ticket : goal.invariant-loop-ticket
+invariant-loop-ticket g l = record {
+  store : l.pass.store ≡ l.store;
+  tickets : l.drawer.tickets ≡ l.tickets;
+  made : Repairs l.initial.pass l.done.items l.pass;
+  worked : Worked l.plan.items.items l.initial.drawer l.drawer l.done.items [];
+}
+
+abbrev pub decreases-loop-ticket : goal.decreases-loop-ticket
+decreases-loop-ticket g l = l.drawer.allowance

@@ -1,0 +1,5 @@
+pub mod Answers
+pub mod Drawn
+pub mod Rule
+pub mod Gathered
+pub mod Worked

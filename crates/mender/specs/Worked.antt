@@ -1,0 +1,48 @@
+-- What a worker did.
+use Rattle.std.specs.Prelude.{◌≡◌, ◌⊎◌, ℕ, ◌+◌, ◌<◌, ◌≤◌, List, [], ◌∷◌, ◌++◌, length, map, All, Option, Some}
+use Rattle.book.specs.declared.plan.Item.{Item}
+use Rattle.gate.specs.Places.{times}
+use Rattle.history.specs.Step.{Operation, repair}
+use Rattle.shared.specs.declared.jobs.Reply.{Reply}
+use Rattle.shared.specs.declared.jobs.Reply.TheVariants.{Made}
+use Rattle.shared.specs.Passes.{Shows}
+use Rattle.shared.specs.Runs.{Runs}
+use Rattle.mender.specs.declared.done.Done.{Done}
+use Rattle.mender.specs.Drawn.{Hand}
+use Rattle.mender.specs.Gathered.{tickets_of, IsOfPlan}
+
+-- the repair of an item
+abbrev pub repair_of : Item → Operation
+repair_of item = repair item.name item.stripe item.f
+
+-- the repairs of the results' items, in order
+abbrev pub repairs_of : List Done → List (Option Operation)
+repairs_of done = map (λ d. Some (repair_of d.item)) done
+
+-- the answers of the results, in order
+abbrev pub replies_of : List Done → List Reply
+replies_of done = map (λ d. Made d.answer) done
+
+-- the pass made just the repairs of the results' items, in order, with the results' answers
+abbrev pub Repairs : Shows → List Done → Shows → Type 0
+Repairs v done w = Runs v (repairs_of done) (replies_of done) w
+
+-- the drawer drew just these numbers, in this order
+pub record Draws (old : Hand) (numbers : List ℕ) (new : Hand) : Type 0 where
+  pub tickets : new.tickets ≡ old.tickets
+  pub allowance : new.allowance + length numbers ≡ old.allowance
+  pub drawn : new.drawn ≡ old.drawn ++ numbers
+
+-- the drawer drew the results' tickets, each once, and then the others; each result is of the plan
+pub record Worked (plan : List Item) (old new : Hand) (done : List Done) (others : List ℕ) : Type 0 where
+  pub draws : Draws old (tickets_of done ++ others) new
+  pub of_plan : All (IsOfPlan plan) done
+  pub once : (n : ℕ) → times n (tickets_of done) ≤ 1
+
+-- each ticket that was drawn has its result, but a last one past the plan's end; without such a one the allowance is 0
+abbrev pub Finished : List Item → Hand → Hand → List Done → Type 0
+Finished plan old new done = (Worked plan old new done [] × (new.allowance ≡ 0)) ⊎ ((n : ℕ) × (length plan ≤ n) × Worked plan old new done (n ∷ []))
+
+-- each ticket that was drawn has its result, but the one in hand, which is below the plan's length
+abbrev pub Stopped : List Item → Hand → Hand → List Done → Type 0
+Stopped plan old new done = (n : ℕ) × (n < length plan) × (times n (tickets_of done) ≡ 0) × Worked plan old new done (n ∷ [])

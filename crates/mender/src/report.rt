@@ -1,0 +1,41 @@
+//! What comes of a plan.
+use std::fmt;
+
+/// How many answers of each kind there are.
+#[derive(Clone, Copy, Debug, Default, PartialEq, Eq)]
+pub struct Report {
+    /// Fragments that are there again.
+    pub repaired: u64,
+    /// Fragments that were there already.
+    pub not_lost: u64,
+    /// Fragments of blobs that are gone: `NoName` or `NoFragment`.
+    pub gone: u64,
+    /// Fragments that can't be told from those left.
+    pub unrecoverable: u64,
+}
+
+/// Why results can't be gathered.
+#[derive(Clone, Copy, Debug, Drop, PartialEq, Eq)]
+pub enum Gather {
+    /// The ticket of a result is not below the plan's length, or its item is another than the plan's.
+    Stranger = 1,
+    /// The ticket of a result has a result before it.
+    Twice = 2,
+    /// An item of the plan has no result.
+    Missing = 3,
+    /// A request for memory was refused.
+    NoMemory = 4,
+}
+
+/// `mended`, and the four numbers: repaired, not lost, gone, unrecoverable.
+impl fmt::Display for Report {
+    fn fmt<W: fmt::Write>(&self, f: &mut fmt::Formatter<W>) -> fmt::Result {
+        let Report {
+            repaired,
+            not_lost,
+            gone,
+            unrecoverable,
+        } = self;
+        write!(f, "mended {repaired} {not_lost} {gone} {unrecoverable}")
+    }
+}

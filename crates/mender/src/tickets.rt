@@ -1,0 +1,119 @@
+//! Numbers that threads draw, each once.
+ghost use Rattle.std.specs.Prelude.{◌≡◌, ◌+◌, ◌-◌, ◌/◌, ◌^◌, ◌<◌, ◌++◌, ◌∷◌, [], IfSome, IfNone, IfOk, OnOk, OnErr};
+ghost use Rattle.gate.specs.Places.{times, AreApart};
+ghost use Rattle.mender.specs.Drawn.{IsWhole};
+
+use crate::view::{Draws, Halves, Joins, Looks, TicketRule, View};
+use atomic_table::{Seat, Table};
+use std::alloc::{AllocError, Global};
+use std::marker::Model;
+
+/// How many numbers can be drawn in all.
+const ALL: u64 = 1 << 40;
+
+/// The numbers from 0 on, of which each is drawn once. It is one word and one kind of step, the `fetch_add` of `draw`. A clause sees which tickets they are.
+#[derive(Drop)]
+pub struct Tickets {
+    table: Table<(), View, (), TicketRule, Global>,
+}
+
+impl Model for Tickets {
+    ghost use Rattle.std.specs.Prelude.{◌≡◌};
+    ghost use Rattle.gate.specs.Places.{TableId};
+
+    ghost Value = { TableId };
+
+    ghost view = { λ t. t.table.shared.table_id };
+
+    ghost invariant = { λ t. t.table.shared.table_id.words ≡ 1 };
+}
+
+/// The right to draw so many numbers more, its allowance. A clause sees which tickets they are of, the allowance, and the numbers drawn so far, with those of the
+/// drawers that were joined. Who drops a drawer drops its allowance.
+#[derive(Drop)]
+pub struct Drawer {
+    seat: Seat<(), View>,
+    allowance: u64,
+}
+
+impl Model for Drawer {
+    ghost use Rattle.mender.specs.Drawn.{Hand};
+
+    ghost Value = { Hand };
+
+    ghost use Rattle.mender.specs.Rule.{hand_of, IsDrawer};
+
+    ghost view = { λ d. hand_of d.seat };
+
+    ghost invariant = { λ d. IsDrawer d.seat.me d.allowance };
+}
+
+impl Tickets {
+    /// Tickets of which none is drawn, and the one drawer for them, with an allowance of 2^40. `AllocError` where memory is refused.
+    pub fn open(alloc: Global) -> Result<(Tickets, Drawer), AllocError>
+        ensures { IfOk result (λ r. r.1 ≡ record { tickets = r.0; allowance = 2 ^ 40; drawn = [] }) }
+    {
+        let Ok((table, seat)) = Table::of_words(alloc, &[0], &()) else {
+            return Err(AllocError);
+        };
+        Ok((
+            Tickets { table },
+            Drawer {
+                seat,
+                allowance: ALL,
+            },
+        ))
+    }
+
+    /// The next number, for one of the drawer's allowance; `None` exactly where the allowance is 0, and then the drawer is as it was. It asks for no memory.
+    ///
+    /// No drawer of these tickets draws the number again. A drawer that has all the others joined knows which numbers were drawn: those below their count.
+    pub fn draw(&self, drawer: &mut Drawer) -> Option<u64>
+        requires { drawer.old.tickets ≡ self.now }
+        ensures none { IfNone result ((drawer.old.allowance ≡ 0) × (drawer.new ≡ drawer.old)) }
+        ensures some { IfSome result (λ n. (0 < drawer.old.allowance) × (drawer.new ≡ record drawer.old { allowance = drawer.old.allowance - 1; drawn = drawer.old.drawn ++ n ∷ [] })) }
+        ensures fresh { IfSome result (λ n. times n drawer.old.drawn ≡ 0) }
+        ensures whole { IfSome result (λ _. IsWhole drawer.new) }
+    {
+        if drawer.allowance == 0 {
+            return None;
+        }
+        let number = self.table.shared.fetch_add::<Draws>(&mut drawer.seat, 0, 1);
+        drawer.allowance -= 1;
+        Some(number)
+    }
+}
+
+impl Drawer {
+    /// A new drawer of the same tickets, which has drawn nothing, with half of the allowance, rounded down. The old one keeps the rest, and what it has drawn.
+    ///
+    /// `AllocError` where memory is refused, and then the drawer is as it was.
+    pub fn split(&mut self, tickets: &Tickets) -> Result<Drawer, AllocError>
+        requires { self.old.tickets ≡ tickets.now }
+        ensures kept { OnOk result (self.new ≡ record self.old { allowance = self.old.allowance - self.old.allowance / 2 }) }
+        ensures given { IfOk result (λ d. d ≡ record { tickets = self.old.tickets; allowance = self.old.allowance / 2; drawn = [] }) }
+        ensures err { OnErr result (self.new ≡ self.old) }
+    {
+        let seat = tickets.table.shared.split_seat::<Halves>(&mut self.seat);
+        let half = self.allowance / 2;
+        self.allowance -= half;
+        Ok(Drawer {
+            seat,
+            allowance: half,
+        })
+    }
+
+    /// Takes in another drawer of the same tickets, with its allowance and all that it has drawn: the two had drawn no number in common. It asks for no memory.
+    pub fn join(&mut self, tickets: &Tickets, other: Drawer)
+        requires { (self.old.tickets ≡ tickets.now) × (other.tickets ≡ tickets.now) }
+        ensures both { self.new ≡ record self.old { allowance = self.old.allowance + other.allowance; drawn = self.old.drawn ++ other.drawn } }
+        ensures apart { AreApart self.old.drawn other.drawn }
+        ensures whole { IsWhole self.new }
+    {
+        let Drawer { seat, allowance } = other;
+        let shared = &tickets.table.shared;
+        shared.join_seat::<Joins>(&mut self.seat, seat);
+        shared.load::<Looks>(&mut self.seat, 0);
+        self.allowance += allowance;
+    }
+}

@@ -1,0 +1,60 @@
+//! What the drawers of one `Tickets` know, the rule that they keep, and what each step tells.
+use atomic_table::{Join, Play, Split, TableRule};
+use std::collections::LinkedList;
+
+/// What a drawer knows: how many numbers it may still draw, and which it has drawn. No value of it is made.
+pub struct View {
+    pub allowance: u64,
+    pub drawn: LinkedList<u64>,
+}
+
+/// The rule that the table keeps at every moment: the word is the count of all draws, and no two drawers hold one number.
+pub struct TicketRule;
+
+impl TableRule<(), View, ()> for TicketRule {
+    ghost use Rattle.mender.specs.Rule.{Kept, opening};
+
+    ghost holds = { λ _. Kept };
+
+    ghost first = { λ _. opening };
+}
+
+/// A number is drawn.
+pub(crate) struct Draws;
+
+impl Play<(), View> for Draws {
+    ghost use Rattle.mender.specs.Rule.{Drew};
+
+    ghost then = { Drew };
+}
+
+/// Half of the allowance goes to a new drawer.
+pub(crate) struct Halves;
+
+impl Split<View> for Halves {
+    ghost use Rattle.mender.specs.Rule.{kept_half, given_half};
+
+    ghost left = { kept_half };
+
+    ghost right = { given_half };
+}
+
+/// A drawer takes in what another one had.
+pub(crate) struct Joins;
+
+impl Join<View> for Joins {
+    ghost use Rattle.mender.specs.Rule.{both, spent};
+
+    ghost both = { both };
+
+    ghost spent = { spent };
+}
+
+/// A drawer learns what the rule says of it.
+pub(crate) struct Looks;
+
+impl Play<(), View> for Looks {
+    ghost use Rattle.mender.specs.Rule.{Looked};
+
+    ghost then = { Looked };
+}

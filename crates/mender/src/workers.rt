@@ -1,0 +1,80 @@
+//! Workers who draw the tickets of a plan and mend its items.
+ghost use Rattle.std.specs.Prelude.{◌≡◌, ◌⊎◌, ◌≤◌, ◌^◌, [], length, IfOk, IfErr};
+ghost use Rattle.history.specs.History.{state_of};
+ghost use Rattle.book.specs.Plan.{plan_of};
+ghost use Rattle.shared.specs.Calls.{Looked};
+ghost use Rattle.mender.specs.Worked.{Finished, Stopped, Repairs};
+
+use crate::item::duplicate;
+use crate::{Done, Drawer, Tickets, WorkFault};
+use book::{Fault, Plan};
+use shared::{Pass, Store};
+use std::alloc::Global;
+use std::sync::Wait;
+
+/// The plan of what is lost, tickets for it of which none is drawn, and the one drawer for them. It is no call of the history, of which the pass may have seen more.
+///
+/// `NoMemory` where memory is refused.
+pub fn scrub<R: Wait>(
+    rt: &R,
+    alloc: Global,
+    store: &Store,
+    pass: &mut Pass,
+) -> Result<(Plan, Tickets, Drawer), Fault>
+    requires { pass.old.store ≡ store.now }
+    ensures looked { Looked pass.old pass.new }
+    ensures plan { IfOk result (λ r. r.0.items.items ≡ plan_of (state_of pass.new.seen)) }
+    ensures drawer { IfOk result (λ r. r.2 ≡ record { tickets = r.1; allowance = 2 ^ 40; drawn = [] }) }
+    ensures faults { IfErr result (λ e. e ≡ Fault.NoMemory) }
+{
+    let plan = store.plan(rt, alloc, pass)?;
+    let (tickets, drawer) = Tickets::open(alloc)?;
+    Ok((plan, tickets, drawer))
+}
+
+/// Draws tickets and repairs the item of each, until a ticket is not below the plan's length or the allowance is 0. Each ticket below the plan's length that was drawn
+/// in this call has one result, with the answer of the one repair that was made for it.
+///
+/// `JournalFull` where a repair found the journal as long as its limit; `NoMemory` where memory is refused. Then the fault has the results so far; the ticket drawn last has
+/// none, and its repair was not made.
+pub fn work<R: Wait>(
+    rt: &R,
+    alloc: Global,
+    store: &Store,
+    pass: &mut Pass,
+    plan: &Plan,
+    tickets: &Tickets,
+    drawer: &mut Drawer,
+) -> Result<Vec<Done>, WorkFault>
+    requires store { pass.old.store ≡ store.now }
+    requires tickets { drawer.old.tickets ≡ tickets.now }
+    ensures ok { IfOk result (λ done. Finished plan.now.items.items drawer.old drawer.new done.items) }
+    ensures made { IfOk result (λ done. Repairs pass.old done.items pass.new) }
+    ensures err { IfErr result (λ stop. Stopped plan.now.items.items drawer.old drawer.new stop.done.items) }
+    ensures made_by_then { IfErr result (λ stop. Repairs pass.old stop.done.items pass.new) }
+    ensures faults { IfErr result (λ stop. (stop.fault ≡ Fault.NoMemory) ⊎ (stop.fault ≡ Fault.JournalFull)) }
+    ensures full { IfErr result (λ stop. stop.fault ≡ Fault.JournalFull → pass.new.store.limit ≤ length pass.new.seen) }
+{
+    let mut done = Vec::new(alloc);
+    while let Some(ticket) = tickets.draw(drawer) {
+        let Some(item) = plan.items.get(ticket as usize) else {
+            return Ok(done);
+        };
+        if done.reserve(1).is_err() {
+            return Err(WorkFault {
+                fault: Fault::NoMemory,
+                done,
+            });
+        }
+        let (name, fragment) = (item.name.duplicate(), u64::from(item.f));
+        match store.repair(rt, alloc, pass, name, item.stripe, fragment) {
+            Ok(answer) => done.push_reserved(Done {
+                ticket,
+                item: duplicate(item),
+                answer,
+            }),
+            Err(fault) => return Err(WorkFault { fault, done }),
+        }
+    }
+    Ok(done)
+}

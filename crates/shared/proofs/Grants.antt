@@ -1,0 +1,61 @@
+-- What a granted read makes of a pass.
+use Rattle.std.proofs.Common.{◌≡◌, ℕ, List, [], ◌∷◌, ◌++◌, Option, None, Some, Result, Ok, Err, IfOk, refl, ap, sym, subst, ◌∙◌}
+use Rattle.std.specs.FinMap as finite
+use Rattle.gate.specs.Places.{SeatState}
+use Rattle.sealed.specs.declared.value.Sealed.{Sealed}
+use Rattle.sealed.specs.declared.fault.Fault.{Fault}
+use Rattle.lent.specs.declared.grant.Grant.{Grant}
+use Rattle.history.specs.State.{Blob, State, empty_state}
+use Rattle.history.specs.Step.{read}
+use Rattle.history.specs.History.{Event, History, HasPut, state_of}
+use Rattle.history.proofs.Beginnings.{after_all-append}
+use Rattle.book.specs.declared.answer.Answer.{Answer}
+use Rattle.book.specs.declared.answer.Answer.TheVariants as answer
+use Rattle.book.specs.Asked.{IsReadAnswer}
+use Rattle.book.specs.Contents.{sealed_at}
+use Rattle.book.specs.Tells.{Represents, Correspond}
+use Rattle.book.proofs.Versions.{was_put, only_put}
+use Rattle.shared.specs.declared.kept.Kept.{Kept}
+use Rattle.shared.specs.declared.request.Request.{Request}
+use Rattle.shared.specs.declared.request.Request.TheVariants.{Put, Read, Lose, Install, Delete, Stat}
+use Rattle.shared.specs.Passes.{seen_of, width_of}
+use Rattle.shared.specs.Calls.{event, GrantedIn, IfGranted}
+use Rattle.shared.specs.Requests.{operation_of, IsAnswerTo, IsGrantedTo}
+use Rattle.shared.proofs.Steps.{Stepped, events_of}
+
+-- a grant of the book, by the state
+grant_in : (w : ℕ) (found : Option Sealed) (had : Option Blob) (start len : ℕ) (g : Grant) → IsReadAnswer found start len (answer.Granted g) → Correspond w found had
+    → (blob : Blob) × (had ≡ Some blob) × Represents w g.sealed.value blob × (g.start ≡ start) × (g.len ≡ len)
+grant_in w None had start len g right both = absurd right
+grant_in w (Some s) None start len g right both = absurd both
+grant_in w (Some s) (Some blob) start len g right both = (blob, refl, subst (λ (x : Sealed). Represents w x blob) (sym right.0) both, right.1, right.2)
+
+granted : (p q : SeatState Kept) (x : Kept) (who w : ℕ) (n : List ℕ) (start len : ℕ) (a : Answer) → Stepped p q x (event who (read n start len) a ∷ []) → width_of q.list ≡ w
+    → IsReadAnswer (sealed_at x.0 n) start len a → IfGranted a (GrantedIn (seen_of q.list) w n start len)
+granted p q x who w n start len (answer.Granted g) s width right =
+    let h : History = seen_of p.list ++ s.others in
+    let e : Event = event who (read n start len) (answer.Granted g) in
+    let state : state_of (seen_of q.list) ≡ state_of h = ap state_of s.seen ∙ after_all-append empty_state h (e ∷ []) in
+    let is = grant_in x.0.width (sealed_at x.0 n) (finite.get (state_of h).names n) start len g right (s.told.tells.catalogue n) in
+    let here : finite.get (state_of (seen_of q.list)).names n ≡ Some is.0 = ap (λ (t : State). finite.get t.names n) state ∙ is.1 in
+    let put_is : HasPut (seen_of q.list) is.0.version n is.0.code is.0.bytes = was_put (width_of q.list) (seen_of q.list) s.legal n is.0 here in record {
+      start_is = is.3;
+      len_is = is.4;
+      blob = is.0;
+      here = here;
+      represents = subst (λ (v : ℕ). Represents v g.sealed.value is.0) (s.told.width ∙ width) is.2;
+      put_is = put_is;
+      only = λ m code c other. only_put (width_of q.list) (seen_of q.list) s.legal is.0.version n m is.0.code code is.0.bytes c put_is other;
+    }
+granted p q x who w n start len a s width right = tt
+
+-- where the request is a read
+pub all_granted : (r : Result Answer Fault) (p q : SeatState Kept) (x : Kept) (who w : ℕ) (request : Request) → Stepped p q x (events_of r who (operation_of request)) → width_of q.list ≡ w
+    → IfOk r (IsAnswerTo x.0 request) → IfOk r (IsGrantedTo (seen_of q.list) w request)
+all_granted (Err e) p q x who w request s width right = tt
+all_granted (Ok a) p q x who w (Read n start len) s width right = granted p q x who w n start len a s width right
+all_granted (Ok a) p q x who w (Put alloc n sealed) s width right = tt
+all_granted (Ok a) p q x who w (Lose alloc n j f) s width right = tt
+all_granted (Ok a) p q x who w (Install alloc n version j f bytes) s width right = tt
+all_granted (Ok a) p q x who w (Delete n) s width right = tt
+all_granted (Ok a) p q x who w (Stat n) s width right = tt

@@ -1,0 +1,9 @@
+pub mod Bytes
+pub mod Between
+pub mod Passes
+pub mod Steps
+pub mod Requests
+pub mod Grants
+pub mod Mends
+pub mod Looks
+pub mod Runs

@@ -1,0 +1,104 @@
+-- Looks before a repair, and repairs with bytes that were rebuilt outside.
+use Rattle.std.proofs.Common.{◌≡◌, ℕ, ◌<◌, List, [], ◌∷◌, ◌++◌, length, Option, Some, None, Result, Ok, Err, refl, ap, sym, subst, ◌∙◌, ⊎_elim, append_assoc}
+use Rattle.std.proofs.lemmas.List.{append-nil}
+use Rattle.std.specs.FinMap as finite
+use Rattle.gate.specs.Places.{SeatState}
+use Rattle.gate.proofs.Lists.{prefix_trans}
+use Rattle.lrc_code.specs.Code.{fragment_count}
+use Rattle.sealed.specs.declared.value.Sealed.{Sealed}
+use Rattle.sealed.specs.declared.fault.Fault.{Fault}
+use Rattle.sealed.specs.declared.fault.Fault.TheVariants.{NoMemory, JournalFull}
+use Rattle.sealed.specs.Layout.{stripe_count}
+use Rattle.sealed.specs.Blob.{fragment}
+use Rattle.history.specs.State.{Blob}
+use Rattle.history.specs.Step.{Operation, repair}
+use Rattle.history.specs.History.{History, HasPut, state_of}
+use Rattle.book.specs.declared.answer.Answer.{Answer}
+use Rattle.book.specs.Contents.{Contents, sealed_at}
+use Rattle.book.specs.Known.{IsFragmentIn}
+use Rattle.book.specs.Losing.{IsFragmentOf}
+use Rattle.book.specs.Tells.{Represents, Correspond}
+use Rattle.book.proofs.Versions.{was_put}
+use Rattle.shared.specs.declared.kept.Kept.{Kept}
+use Rattle.shared.specs.declared.mending.Look.{Look}
+use Rattle.shared.specs.declared.mending.Look.TheVariants.{Done, Refused, Mendable}
+use Rattle.shared.specs.Passes.{Shows, Calls, seen_of, width_of, shows}
+use Rattle.shared.specs.Calls.{event, Called, Looked}
+use Rattle.shared.specs.Mends.{IsMendable, IsKnown, FoundIn, Found}
+use Rattle.shared.proofs.Between.{GoesOn}
+use Rattle.shared.proofs.Steps.{Stepped, looked, call_goes_on, same_goes_on, called}
+
+-- the event of a repair, where the look made it
+abbrev pub events_at_look : Look → ℕ → Operation → History
+events_at_look (Done a) who o = event who o a ∷ []
+events_at_look look who o = []
+
+pub look_goes_on : (l : Look) (old new : Contents) (who : ℕ) (n : List ℕ) (j f : ℕ) → (new.width ≡ old.width) × (new.limit ≡ old.limit) × (new.base ≡ old.base)
+    → FoundIn old new who n j f l → GoesOn old new (events_at_look l who (repair n j f))
+look_goes_on (Done a) old new who n j f kept is = call_goes_on (Ok a) old new who (repair n j f) kept is tt
+look_goes_on (Refused e) old new who n j f kept is = same_goes_on old new is.0
+look_goes_on (Mendable s) old new who n j f kept is = same_goes_on old new is.0
+
+known_by : (w : ℕ) (found : Option Sealed) (had : Option Blob) (s : Sealed) → found ≡ Some s → Correspond w found had → (blob : Blob) × (had ≡ Some blob) × Represents w s blob
+known_by w None had s is both = absurd (cc (is))
+known_by w (Some t) None s is both = absurd both
+known_by w (Some t) (Some blob) s is both = (blob, refl, (let same : t ≡ s = cc in subst (λ (x : Sealed). Represents w x blob) same both))
+
+known : (p q : SeatState Kept) (x : Kept) (n : List ℕ) (s : Sealed) → Stepped p q x [] → sealed_at x.0 n ≡ Some s → IsKnown (seen_of q.list) (width_of q.list) n s
+known p q x n s step found =
+    let h : History = seen_of p.list ++ step.others in
+    let same : seen_of q.list ≡ h = step.seen ∙ append-nil h in
+    let is = known_by x.0.width (sealed_at x.0 n) (finite.get (state_of h).names n) s found (step.told.tells.catalogue n) in
+    record {
+      blob = is.0;
+      represents = subst (λ (w : ℕ). Represents w s is.0) step.told.width is.2;
+      put_is = was_put (width_of q.list) (seen_of q.list) step.legal n is.0 (ap (λ (g : History). finite.get (state_of g).names n) same ∙ is.1);
+    }
+
+-- what a look in the book makes of a pass
+pub look_found : (p q : SeatState Kept) (x y : Kept) (who : ℕ) (n : List ℕ) (j f : ℕ) (l : Look) → Stepped p q x (events_at_look l who (repair n j f)) → FoundIn x.0 y.0 who n j f l
+    → Found (shows p who) n j f l (shows q who)
+look_found p q x y who n j f (Done a) step is = called p q x who (repair n j f) (Ok a) step (λ e. absurd (cc (e))) (λ e. cc (e))
+look_found p q x y who n j f (Refused e) step is =
+    called p q x who (repair n j f) (Err e) step
+    (λ full. ⊎_elim (λ (none : e ≡ NoMemory). absurd (cc (none, full))) (λ (there : (e ≡ JournalFull) × (length x.0.entries ≡ x.0.limit)). there.1) is.1)
+    (λ long. ⊎_elim (λ (none : e ≡ NoMemory). cc (none, long)) (λ (there : (e ≡ JournalFull) × (length x.0.entries ≡ x.0.limit)). cc (there.0, long)) is.1)
+look_found p q x y who n j f (Mendable s) step is = record {
+  looked = looked p q x who step;
+  known = known p q x n s.value step is.1;
+  mendable = is.2;
+}
+
+-- a rebuilt fragment is that of the put
+pub known_fragment : (h : History) (w : ℕ) (n : List ℕ) (s : Sealed) (j f : ℕ) (bytes : List ℕ) → IsKnown h w n s → IsMendable s j f → IsFragmentOf s j f bytes → IsFragmentIn h w n s.version j f bytes
+known_fragment h w n s j f bytes k m is = record {
+  code = k.blob.code;
+  bytes = k.blob.bytes;
+  put = subst (λ (v : ℕ). HasPut h v n k.blob.code k.blob.bytes) (sym k.represents.version) k.put_is;
+  stripe = subst (λ (c : ℕ). j < c) (λ i. stripe_count (k.represents.code i) (k.represents.width i) (k.represents.stands.length_is i)) m.stripe;
+  number = subst (λ c. f < fragment_count c) k.represents.code m.number;
+  is = is k.blob.bytes k.blob.lost k.represents.stands ∙ (λ i. fragment (k.represents.code i) (k.represents.width i) k.blob.bytes j f);
+}
+
+-- a look, and then a call
+pub looks_then_called : (u v w : Shows) (o : Operation) (r : Result Answer Fault) → Looked u v → Called v o r w → Called u o r w
+looks_then_called u v w o (Ok a) l c =
+    let k = c.ok in
+    let first = l.looks.0 in
+    let all : u.seen ++ (first.0 ++ k.0) ≡ v.seen ++ k.0 = sym (append_assoc u.seen first.0 k.0) ∙ ap (λ h. h ++ k.0) first.1 in
+    record {
+      stays = (c.stays.0 ∙ l.stays.0, c.stays.1 ∙ l.stays.1, c.stays.2 ∙ l.stays.2);
+      legal = c.legal;
+      ok = subst (λ (who : ℕ). Calls u (event who o a) w) l.stays.1 (first.0 ++ k.0, k.1 ∙ ap (λ h. h ++ event v.who o a ∷ []) (sym all), k.2 ∙ (λ i. l.looks.1 i ++ length (sym all i) ∷ []));
+      err = tt;
+      full = c.full;
+      too_long = c.too_long;
+    }
+looks_then_called u v w o (Err e) l c = record {
+  stays = (c.stays.0 ∙ l.stays.0, c.stays.1 ∙ l.stays.1, c.stays.2 ∙ l.stays.2);
+  legal = c.legal;
+  ok = tt;
+  err = (prefix_trans u.seen v.seen w.seen l.looks.0 c.err.0, c.err.1 ∙ l.looks.1);
+  full = c.full;
+  too_long = c.too_long;
+}

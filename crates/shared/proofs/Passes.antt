@@ -1,0 +1,84 @@
+-- What a pass knows.
+use Rattle.std.proofs.Common.{◌≡◌, ◌⊎◌, ℕ, ◌+◌, ◌≤◌, ◌<◌, false, List, [], ◌∷◌, ◌++◌, length, Some, refl, ap, sym, subst, ◌∙◌, ⊎_elim, arith}
+use mathlib.Core.List.{IsPrefix}
+use Rattle.gate.specs.Places.{SeatState, last_of, IsWithin, times, AreApart, HasAll}
+use Rattle.gate.proofs.Events.{history_prefix, events_at_prefix, events_at-append, once_each, all_made, all_below, once_below_length, within_prefix}
+use Rattle.gate.proofs.Lists.{times-append}
+use Rattle.book.specs.Tells.{Tells}
+use Rattle.shared.specs.declared.kept.Kept.{Kept}
+use Rattle.shared.specs.Passes.{between_kept, seen_of, made_of, width_of, limit_of, trimmed_of, TellsAs, IsTold, IsPass}
+use Rattle.shared.proofs.Between.{one_call, told_length}
+
+-- a longer list begins with the same book
+pub width_stays : (xs ys : List Kept) (x : Kept) → last_of xs ≡ Some x → IsPrefix xs ys → width_of ys ≡ width_of xs
+width_stays [] ys x e p = absurd (cc)
+width_stays (z ∷ zs) ys x e p = ap width_of (sym p.1)
+
+pub limit_stays : (xs ys : List Kept) (x : Kept) → last_of xs ≡ Some x → IsPrefix xs ys → limit_of ys ≡ limit_of xs
+limit_stays [] ys x e p = absurd (cc)
+limit_stays (z ∷ zs) ys x e p = ap limit_of (sym p.1)
+
+pub trimmed_is : (xs : List Kept) (x : Kept) → last_of xs ≡ Some x → trimmed_of xs ≡ x.0.base.trimmed
+trimmed_is [] x e = absurd (cc)
+trimmed_is (y ∷ []) x e = let same : y ≡ x = cc in ap (λ (k : Kept). k.0.base.trimmed) same
+trimmed_is (y ∷ z ∷ zs) x e = trimmed_is (z ∷ zs) x e
+
+pub opened : (p : SeatState Kept) (x : Kept) → p.list ≡ x ∷ [] → p.own ≡ [] → p.inside ≡ false → Tells x.0 [] → IsPass p
+opened p x list own outside tells = record {
+  outside = outside;
+  told = subst IsTold (sym list) (x, refl, record { width = refl; limit = refl; tells = tells });
+  within = λ q past. ap (times q) own;
+}
+
+-- the same list, with the same places
+pub pass_again : (p q : SeatState Kept) → IsPass p → q.list ≡ p.list → q.own ≡ p.own → q.inside ≡ false → IsPass q
+pass_again p q pass list own outside = record { outside = outside; told = subst IsTold (sym list) pass.told; within = subst (λ (u : List Kept × List ℕ). IsWithin u.0 u.1) (λ i. (sym list i, sym own i)) pass.within }
+
+-- two passes are joined
+module _ (a b q : SeatState Kept) (pass : IsPass a) (other : IsPass b) (first : IsPrefix a.list q.list) (second : IsPrefix b.list q.list) (own : q.own ≡ a.own ++ b.own) where
+  pub joined : (q.list ≡ a.list) ⊎ (q.list ≡ b.list) → q.inside ≡ false → IsPass q
+  joined one outside = record {
+    outside = outside;
+    told = ⊎_elim (λ (e : q.list ≡ a.list). subst IsTold (sym e) pass.told) (λ (e : q.list ≡ b.list). subst IsTold (sym e) other.told) one;
+    within = λ k past.
+        let mine = within_prefix a.list q.list a.own first pass.within k past in
+        let theirs = within_prefix b.list q.list b.own second other.within k past in
+        let sum : times k q.own ≡ times k a.own + times k b.own = ap (times k) own ∙ times-append k a.own b.own in
+        omega arith;
+  }
+
+  pub joined_made : made_of q.list q.own ≡ made_of a.list a.own ++ made_of b.list b.own
+  joined_made =
+      ap (made_of q.list) own
+      ∙ (events_at-append between_kept q.list a.own b.own
+      ∙ (λ i. events_at_prefix between_kept a.list q.list a.own first pass.within i ++ events_at_prefix between_kept b.list q.list b.own second other.within i))
+
+  pub joined_apart : AreApart a.own b.own → AreApart (made_of a.list a.own) (made_of b.list b.own)
+  joined_apart apart k =
+      let few = once_each between_kept q.list q.own (λ p. let sum : times p q.own ≡ times p a.own + times p b.own = ap (times p) own ∙ times-append p a.own b.own in let le = apart p in omega arith) k in
+      let all : times k (made_of q.list q.own) ≡ times k (made_of a.list a.own) + times k (made_of b.list b.own) =
+      ap (times k) joined_made ∙ times-append k (made_of a.list a.own) (made_of b.list b.own) in
+      omega arith
+
+pub joined_seen : (a q : SeatState Kept) → IsPass a → IsPrefix a.list q.list → IsPrefix (seen_of a.list) (seen_of q.list)
+joined_seen a q pass first = history_prefix between_kept a.list q.list pass.told.0 pass.told.1 first
+
+one_kept : (a b : Kept) → length (between_kept a b) ≤ 1
+one_kept a b = one_call a.0 b.0
+
+-- who left all values made all calls
+pub closed : (p : SeatState Kept) → HasAll p.list p.own → (k : ℕ) → k < length (seen_of p.list) → times k (made_of p.list p.own) ≡ 1
+closed p has k inside = all_made between_kept one_kept p.list p.own has.0 k inside
+
+pub closed_count : (p : SeatState Kept) → HasAll p.list p.own → length (made_of p.list p.own) ≡ length (seen_of p.list)
+closed_count p has = once_below_length (length (seen_of p.list)) (made_of p.list p.own) (closed p has) (all_below between_kept p.list p.own)
+
+-- the book that was left last tells what was seen
+pub closed_told : (p : SeatState Kept) (x : Kept) → IsPass p → last_of p.list ≡ Some x → TellsAs (width_of p.list) (limit_of p.list) x (seen_of p.list)
+closed_told p x pass e = let same : pass.told.0 ≡ x = by_some (sym pass.told.1 ∙ e) in subst (λ (k : Kept). TellsAs (width_of p.list) (limit_of p.list) k (seen_of p.list)) same pass.told.2
+  where
+    by_some : {a b : Kept} → Some a ≡ Some b → a ≡ b
+    by_some f = cc (f)
+
+pub closed_entries : (p : SeatState Kept) (x : Kept) → IsPass p → last_of p.list ≡ Some x → HasAll p.list p.own → x.0.base.trimmed + length x.0.entries ≡ length (made_of p.list p.own)
+closed_entries p x pass e has = told_length x.0 (seen_of p.list) (closed_told p x pass e).tells ∙ sym (closed_count p has)

@@ -1,0 +1,20 @@
+use Rattle.std.proofs.Common.{◌≡◌, ℕ, ◌+◌, ◌<◌, length, sym, subst}
+use Rattle.gate.specs.Places.{times}
+use Rattle.shared.proofs.Passes.{closed, closed_count, closed_entries, trimmed_is}
+use Rattle.shared.proofs.store.Store.close.Goals as goal
+
+pub returns-clause-made : goal.returns-clause-made
+returns-clause-made c = subst (λ v. (k : ℕ) → k < length v.seen → times k v.made ≡ 1) c.pass.view_is (closed c.pass.inside.seat c.close-book.ensures.own)
+
+pub returns-clause-count : goal.returns-clause-count
+returns-clause-count c = subst (λ v. length v.made ≡ length v.seen) c.pass.view_is (closed_count c.pass.inside.seat c.close-book.ensures.own)
+
+pub returns-clause-entries : goal.returns-clause-entries
+returns-clause-entries c =
+    let book = c.close-book.result.0 in
+    subst (λ v. book.base.trimmed + length book.entries ≡ length v.made) c.pass.view_is
+    (closed_entries c.pass.inside.seat c.close-book.result c.pass.invariant c.close-book.ensures.last c.close-book.ensures.own)
+
+pub returns-clause-trimmed : goal.returns-clause-trimmed
+returns-clause-trimmed c =
+    subst (λ v. c.close-book.result.0.base.trimmed ≡ v.trimmed) c.pass.view_is (sym (trimmed_is c.pass.inside.seat.list c.close-book.result c.close-book.ensures.last))

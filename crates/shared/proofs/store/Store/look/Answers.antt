@@ -1,0 +1,35 @@
+use Rattle.std.proofs.Common.{IfSome, sym, subst}
+use Rattle.history.specs.Step.{repair}
+use Rattle.shared.specs.Between.{MayFollow}
+use Rattle.shared.specs.Passes.{shows}
+use Rattle.shared.specs.Mends.{Found}
+use Rattle.shared.proofs.Between.{goes_follows}
+use Rattle.shared.proofs.Steps.{Stepped, stepped}
+use Rattle.shared.proofs.Mends.{events_at_look, look_goes_on, look_found}
+use Rattle.shared.proofs.store.Store.look.Given as given
+use Rattle.shared.proofs.store.Store.look.Goals as goal
+
+pub leave-requires-clause-follows : goal.leave-requires-clause-follows
+leave-requires-clause-follows g c =
+    let e = c.look_in-look.ensures in
+    subst (λ o. IfSome o (λ found. MayFollow found.0 c.look_in-look.new.book)) (sym c.enter-inside.ensures.found)
+    (goes_follows c.enter-inside.result.value.0 c.look_in-look.new.book _
+    (look_goes_on c.look_in-look.result c.enter-inside.result.value.0 c.look_in-look.new.book c.pass.inside.who c.args.name.now c.args.stripe c.args.fragment e.kept e.found))
+
+steps : (g : given.Over) (c : goal.After-leave g) → Stepped c.pass.inside.seat c.leave.new.seat c.enter-inside.result.value (events_at_look c.look_in-look.result c.pass.inside.who (repair c.args.name.now c.args.stripe c.args.fragment))
+steps g c =
+    let e = c.enter-inside.ensures in
+    let m = c.look_in-look.ensures in
+    let l = c.leave.ensures in
+    stepped c.pass.inside.seat c.enter-inside.new.seat c.leave.new.seat c.enter-inside.result.value _ _ c.pass.invariant
+    (record { same = (e.kept.0, e.kept.1, e.kept.2); seen = e.seen; found = e.found })
+    (record { same = l.kept; list = l.list; own = l.own })
+    (look_goes_on c.look_in-look.result c.enter-inside.result.value.0 c.look_in-look.new.book c.pass.inside.who c.args.name.now c.args.stripe c.args.fragment m.kept m.found)
+
+pub invariant_of-pass : goal.invariant_of-pass
+invariant_of-pass g c = (steps g c).pass
+
+pub returns-clause-found : goal.returns-clause-found
+returns-clause-found g c =
+    subst (λ v. Found v c.args.name.now c.args.stripe c.args.fragment c.look_in-look.result (shows c.leave.new.seat c.pass.inside.who)) c.pass.view_is
+    (look_found c.pass.inside.seat c.leave.new.seat c.enter-inside.result.value _ c.pass.inside.who c.args.name.now c.args.stripe c.args.fragment c.look_in-look.result (steps g c) c.look_in-look.ensures.found)

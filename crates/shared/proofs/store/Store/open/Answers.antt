@@ -1,0 +1,8 @@
+use Rattle.std.proofs.Common.{ap}
+use Rattle.shared.proofs.Passes.{opened}
+use Rattle.shared.proofs.store.Store.open.Goals as goal
+
+pub invariant_of-result : goal.invariant_of-result
+invariant_of-result c =
+    let e = c.in-Ok-new.ensures in
+    opened c.in-Ok-new.seat _ (ap (λ p. p.list) e) (ap (λ p. p.own) e) (ap (λ p. p.inside) e) c.in-Ok.ensures.told

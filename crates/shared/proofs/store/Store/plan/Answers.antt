@@ -1,0 +1,27 @@
+use Rattle.std.proofs.Common.{[], refl, subst}
+use Rattle.shared.specs.Passes.{shows}
+use Rattle.shared.specs.Calls.{Looked}
+use Rattle.shared.proofs.Steps.{Stepped, stepped, same_goes_on, looked}
+use Rattle.shared.proofs.Looks.{planned}
+use Rattle.shared.proofs.store.Store.plan.Given as given
+use Rattle.shared.proofs.store.Store.plan.Goals as goal
+
+steps : (g : given.Over) (c : goal.After-leave g) → Stepped c.pass.inside.seat c.leave.new.seat c.enter-inside.result.value []
+steps g c =
+    let e = c.enter-inside.ensures in
+    let l = c.leave.ensures in
+    stepped c.pass.inside.seat c.enter-inside.new.seat c.leave.new.seat c.enter-inside.result.value c.enter-inside.result.value [] c.pass.invariant
+    (record { same = (e.kept.0, e.kept.1, e.kept.2); seen = e.seen; found = e.found })
+    (record { same = l.kept; list = l.list; own = l.own })
+    (same_goes_on c.enter-inside.result.value.0 c.enter-inside.result.value.0 refl)
+
+pub invariant_of-pass : goal.invariant_of-pass
+invariant_of-pass g c = (steps g c).pass
+
+pub returns-clause-looked : goal.returns-clause-looked
+returns-clause-looked g c =
+    subst (λ v. Looked v (shows c.leave.new.seat c.pass.inside.who)) c.pass.view_is (looked c.pass.inside.seat c.leave.new.seat c.enter-inside.result.value c.pass.inside.who (steps g c))
+
+pub returns-clause-ok : goal.returns-clause-ok
+returns-clause-ok g c =
+    planned c.plan.result c.map_err-plan.result c.pass.inside.seat c.leave.new.seat c.enter-inside.result.value _ (steps g c) c.map_err-plan.ensures.variant c.map_err-plan.ensures.cases c.plan.ensures

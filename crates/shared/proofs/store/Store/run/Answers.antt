@@ -1,0 +1,58 @@
+use Rattle.std.proofs.Common.{◌≡◌, ℕ, List, [], ◌∷◌, ◌++◌, ◌+◌, length, Option, sym, ap, subst, ◌∙◌, arith, append_assoc, length-append}
+use Rattle.std.proofs.lemmas.List.{map-append, length-map}
+use Rattle.history.specs.Step.{Operation}
+use Rattle.shared.specs.declared.jobs.Job.{Job}
+use Rattle.shared.specs.declared.jobs.Reply.{Reply}
+use Rattle.shared.specs.Runs.{operation_asked, asked, Runs}
+use Rattle.shared.proofs.Runs.{runs_none, runs_longer, runs_more, served, stopped}
+use Rattle.shared.proofs.store.Store.run.Goals as goal
+
+abbrev of_job : Job → Option Operation
+of_job job = operation_asked job.ask
+
+all_asked : (done rest jobs : List Job) → done ++ rest ≡ jobs → asked done ++ asked rest ≡ asked jobs
+all_asked done rest jobs e = sym (map-append of_job done rest) ∙ ap asked e
+
+same_count : (replies : List Reply) (done : List Job) → length replies ≡ length done → length replies ≡ length (asked done)
+same_count replies done e = e ∙ sym (length-map done of_job)
+
+pub returns-in_default-clause-err : goal.returns-in_default-clause-err
+returns-in_default-clause-err g c =
+    subst (λ (replies : List Reply). Runs c.args.pass.now (asked c.args.jobs.items) replies c.args.pass.now) (sym c.new.ensures.items) (runs_none c.args.pass.now (asked c.args.jobs.items))
+
+pub returns-then-not-before-clause-err : goal.returns-then-not-before-clause-err
+returns-then-not-before-clause-err g c =
+    let i = c.loop-job.invariant in
+    let rest = c.loop-job.job-iterator.rest.items in
+    subst (λ jobs. Runs c.args.pass.now jobs c.loop-job.done.items c.loop-job.pass) (all_asked c.loop-job.yielded rest c.args.jobs.items i.2)
+    (runs_longer c.args.pass.now c.loop-job.pass c.loop-job.pass (asked c.loop-job.yielded) (asked rest) c.loop-job.done.items (same_count c.loop-job.done.items c.loop-job.yielded i.1) i.4
+    (runs_none c.loop-job.pass (asked rest)))
+
+pub returns-in_default-reply_to-clause-err : goal.returns-in_default-reply_to-clause-err
+returns-in_default-reply_to-clause-err g c =
+    let i = c.loop-job.invariant in
+    let rest = c.loop-job.job-iterator.rest.items in
+    subst (λ jobs. Runs c.args.pass.now jobs c.loop-job.done.items c.serve-outcome.new.pass) (all_asked c.loop-job.yielded rest c.args.jobs.items i.2)
+    (runs_longer c.args.pass.now c.loop-job.pass c.serve-outcome.new.pass (asked c.loop-job.yielded) (asked rest) c.loop-job.done.items (same_count c.loop-job.done.items c.loop-job.yielded i.1) i.4
+    (stopped c.loop-job.pass c.serve-outcome.new.pass (operation_asked c.in-Some.job.ask) c.serve-outcome.result (asked rest) c.serve-outcome.ensures (sym c.reply_to.ensures ∙ c.in_default-reply_to.is)))
+
+pub loop-job-preserved : goal.loop-job-preserved
+loop-job-preserved g c =
+    let i = c.loop-job.invariant in
+    let yielded = c.loop-job.yielded in
+    let job = c.in-Some.job in
+    let reply = c.in-Some-reply_to.reply in
+    let items = c.push_reserved.ensures.items in
+    let lengths : length c.push_reserved.new.self.items ≡ length (yielded ++ job ∷ []) =
+    ap length items ∙ length-append c.loop-job.done.items (reply ∷ []) ∙ ap (λ (n : ℕ). n + 1) i.1 ∙ sym (length-append yielded (job ∷ [])) in
+    let one : Runs c.loop-job.pass (operation_asked job.ask ∷ []) (reply ∷ []) c.serve-outcome.new.pass =
+    served c.loop-job.pass c.serve-outcome.new.pass (operation_asked job.ask) c.serve-outcome.result reply c.serve-outcome.ensures (sym c.reply_to.ensures ∙ c.in-Some-reply_to.is) in
+    let more : Runs c.args.pass.now (asked yielded ++ operation_asked job.ask ∷ []) (c.loop-job.done.items ++ reply ∷ []) c.serve-outcome.new.pass =
+    runs_more c.args.pass.now c.loop-job.pass c.serve-outcome.new.pass (asked yielded) c.loop-job.done.items (operation_asked job.ask) reply (same_count c.loop-job.done.items yielded i.1) i.4 one in (
+      one.stays.0 ∙ i.0,
+      lengths,
+      append_assoc yielded (job ∷ []) c.next.new.self.rest.items ∙ (ap (λ (l : List Job). yielded ++ l) (sym c.in-Some.ensures.steps.0) ∙ i.2),
+      omega (arith, i.3, c.push_reserved.ensures.capacity),
+      subst (λ (replies : List Reply). Runs c.args.pass.now (asked (yielded ++ job ∷ [])) replies c.serve-outcome.new.pass) (sym items)
+          (subst (λ jobs. Runs c.args.pass.now jobs (c.loop-job.done.items ++ reply ∷ []) c.serve-outcome.new.pass) (sym (map-append of_job yielded (job ∷ []))) more),
+    )

@@ -1,0 +1,39 @@
+use Rattle.std.proofs.Common.{[], IfSome, sym, subst}
+use Rattle.shared.specs.Between.{MayFollow}
+use Rattle.shared.specs.Passes.{shows}
+use Rattle.shared.specs.Calls.{Looked}
+use Rattle.shared.proofs.Between.{goes_follows}
+use Rattle.shared.proofs.Steps.{Stepped, stepped, still_goes_on, looked}
+use Rattle.shared.proofs.Looks.{trims}
+use Rattle.shared.proofs.store.Store.trim.Given as given
+use Rattle.shared.proofs.store.Store.trim.Goals as goal
+
+pub leave-requires-clause-follows : goal.leave-requires-clause-follows
+leave-requires-clause-follows g c =
+    let t = c.trim-result.ensures in
+    subst (λ o. IfSome o (λ found. MayFollow found.0 c.trim-result.new.self)) (sym c.enter-inside.ensures.found)
+    (goes_follows c.enter-inside.result.value.0 c.trim-result.new.self [] (still_goes_on c.enter-inside.result.value.0 c.trim-result.new.self t.kept.0 t.kept.1 t.told))
+
+steps : (g : given.Over) (c : goal.After-leave g) → Stepped c.pass.inside.seat c.leave.new.seat c.enter-inside.result.value []
+steps g c =
+    let e = c.enter-inside.ensures in
+    let t = c.trim-result.ensures in
+    let l = c.leave.ensures in
+    stepped c.pass.inside.seat c.enter-inside.new.seat c.leave.new.seat c.enter-inside.result.value _ [] c.pass.invariant
+    (record { same = (e.kept.0, e.kept.1, e.kept.2); seen = e.seen; found = e.found })
+    (record { same = l.kept; list = l.list; own = l.own })
+    (still_goes_on c.enter-inside.result.value.0 c.trim-result.new.self t.kept.0 t.kept.1 t.told)
+
+pub invariant_of-pass : goal.invariant_of-pass
+invariant_of-pass g c = (steps g c).pass
+
+pub returns-clause-looked : goal.returns-clause-looked
+returns-clause-looked g c =
+    subst (λ v. Looked v (shows c.leave.new.seat c.pass.inside.who)) c.pass.view_is (looked c.pass.inside.seat c.leave.new.seat c.enter-inside.result.value c.pass.inside.who (steps g c))
+
+pub returns-clause-ok : goal.returns-clause-ok
+returns-clause-ok g c =
+    let t = c.trim-result.ensures in
+    let l = c.leave.ensures in
+    trims c.trim-result.result c.pass.inside.seat c.enter-inside.new.seat c.leave.new.seat c.enter-inside.result.value _ c.pass.inside.who c.args.keep
+    (record { same = l.kept; list = l.list; own = l.own }) (steps g c) t.answer t.trimmed

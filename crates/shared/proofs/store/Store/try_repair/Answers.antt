@@ -1,0 +1,22 @@
+use Rattle.std.proofs.Common.{ℕ, ap, sym, subst, ◌∙◌}
+use Rattle.sealed.specs.declared.value.Sealed.{Sealed}
+use Rattle.history.specs.Step.{repair}
+use Rattle.book.specs.Known.{IsFragmentIn}
+use Rattle.shared.specs.Mends.{IsKnown, IsMendable}
+use Rattle.shared.proofs.Mends.{known_fragment, looks_then_called}
+use Rattle.shared.proofs.store.Store.try_repair.Goals as goal
+
+pub try_make-requires-clause-can : goal.try_make-requires-clause-can
+try_make-requires-clause-can c =
+    let is = c.in-Mendable.ensures.found in
+    let w = c.try_look.new.pass.store.width in
+    subst (λ (v : ℕ). IsFragmentIn c.try_look.new.pass.seen w c.args.name v c.args.stripe c.args.fragment c.in-Ok.bytes) (ap (λ (s : Sealed). s.version) (c.deref.ensures ∙ sym c.deref-2.ensures))
+    (known_fragment c.try_look.new.pass.seen w c.args.name c.deref.result.now c.args.stripe c.args.fragment c.in-Ok.bytes
+    (subst (IsKnown c.try_look.new.pass.seen w c.args.name) (sym c.deref.ensures) is.known)
+    (subst (λ (s : Sealed). IsMendable s c.args.stripe c.args.fragment) (sym c.deref.ensures) is.mendable)
+    c.in-Ok.ensures)
+
+pub returns-clause-called : goal.returns-clause-called
+returns-clause-called c =
+    let is = c.in-Mendable.ensures.found in
+    looks_then_called c.args.pass.now c.try_look.new.pass c.try_make.new.pass (repair c.args.name c.args.stripe c.args.fragment) c.try_make.result is.looked c.try_make.ensures.called

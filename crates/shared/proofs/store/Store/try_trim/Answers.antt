@@ -1,0 +1,38 @@
+use Rattle.std.proofs.Common.{[], IfSome, sym, subst}
+use Rattle.shared.specs.Between.{MayFollow}
+use Rattle.shared.specs.Passes.{shows}
+use Rattle.shared.specs.Calls.{Looked}
+use Rattle.shared.proofs.Between.{goes_follows}
+use Rattle.shared.proofs.Steps.{Stepped, stepped, still_goes_on, looked}
+use Rattle.shared.proofs.Looks.{trims}
+use Rattle.shared.proofs.store.Store.try_trim.Goals as goal
+
+pub leave-requires-clause-follows : goal.leave-requires-clause-follows
+leave-requires-clause-follows c =
+    let t = c.trim-result.ensures in
+    subst (λ o. IfSome o (λ found. MayFollow found.0 c.trim-result.new.self)) (sym c.in-Some.ensures.found.1)
+    (goes_follows c.in-Some.inside.value.0 c.trim-result.new.self [] (still_goes_on c.in-Some.inside.value.0 c.trim-result.new.self t.kept.0 t.kept.1 t.told))
+
+steps : (c : goal.After-leave) → Stepped c.pass.inside.seat c.leave.new.seat c.in-Some.inside.value []
+steps c =
+    let e = c.try_enter.ensures in
+    let t = c.trim-result.ensures in
+    let l = c.leave.ensures in
+    stepped c.pass.inside.seat c.try_enter.new.seat c.leave.new.seat c.in-Some.inside.value _ [] c.pass.invariant
+    (record { same = (e.kept.0, e.kept.1, e.kept.2); seen = e.seen; found = c.in-Some.ensures.found.1 })
+    (record { same = l.kept; list = l.list; own = l.own })
+    (still_goes_on c.in-Some.inside.value.0 c.trim-result.new.self t.kept.0 t.kept.1 t.told)
+
+pub invariant_of-pass-2 : goal.invariant_of-pass-2
+invariant_of-pass-2 c = (steps c).pass
+
+pub returns-clause-looked : goal.returns-clause-looked
+returns-clause-looked c =
+    subst (λ v. Looked v (shows c.leave.new.seat c.pass.inside.who)) c.pass.view_is (looked c.pass.inside.seat c.leave.new.seat c.in-Some.inside.value c.pass.inside.who (steps c))
+
+pub returns-clause-ok : goal.returns-clause-ok
+returns-clause-ok c =
+    let t = c.trim-result.ensures in
+    let l = c.leave.ensures in
+    trims c.trim-result.result c.pass.inside.seat c.try_enter.new.seat c.leave.new.seat c.in-Some.inside.value _ c.pass.inside.who c.args.keep
+    (record { same = l.kept; list = l.list; own = l.own }) (steps c) t.answer t.trimmed

@@ -1,0 +1,60 @@
+-- What a call leaves of a pass.
+use Rattle.std.specs.Prelude.{◌≡◌, ℕ, ◌+◌, ◌-◌, ◌≤◌, ◌<◌, List, length, Some, Result, Err, IfOk, OnErr}
+use Rattle.std.specs.FinMap as finite
+use Rattle.lrc_code.specs.declared.Code.{Code}
+use Rattle.sealed.specs.declared.fault.Fault.{Fault}
+use Rattle.sealed.specs.declared.fault.Fault.TheVariants.{JournalFull, TooLong}
+use Rattle.sealed.specs.Layout.{stripe_count}
+use Rattle.lent.specs.declared.grant.Grant.{Grant}
+use Rattle.history.specs.State.{Blob}
+use Rattle.history.specs.Step.{Operation, put}
+use Rattle.history.specs.History.{Event, History, IsLegal, HasPut, state_of}
+use Rattle.book.specs.declared.answer.Answer.{Answer}
+use Rattle.book.specs.declared.answer.Answer.TheVariants.{Granted}
+use Rattle.book.specs.Notes.{note_of}
+use Rattle.book.specs.Tells.{Represents}
+use Rattle.book.specs.Trimming.{given_up}
+use Rattle.shared.specs.Passes.{Shows, Stays, Calls, Looks}
+
+abbrev pub event : ℕ → Operation → Answer → Event
+event who operation answer = record { who = who; operation = operation; note = note_of answer }
+
+-- what the pass shows afterwards where no call was made
+pub record Looked (v w : Shows) : Type 0 where
+  pub stays : Stays v w
+  pub legal : IsLegal w.store.width w.seen
+  pub looks : Looks v w
+
+-- so many calls were given up at last, where `before` had been given up before
+abbrev pub Trims : ℕ → ℕ → Shows → Type 0
+Trims keep n w = (before : ℕ) × (w.trimmed ≡ before + n) × (n ≡ given_up before (length w.seen - before) keep)
+
+-- a put of more than 4,096 stripes
+abbrev pub IsTooLong : ℕ → Operation → Type 0
+IsTooLong w (put n code b) = 4096 < stripe_count code w (length b)
+IsTooLong w operation = ⊥
+
+-- What the pass shows afterwards: with an answer the call was made, and with a fault it was not. A journal was full where as many calls were seen as its limit
+pub record Called (v : Shows) (operation : Operation) (r : Result Answer Fault) (w : Shows) : Type 0 where
+  pub stays : Stays v w
+  pub legal : IsLegal w.store.width w.seen
+  pub ok : IfOk r (λ a. Calls v (event v.who operation a) w)
+  pub err : OnErr r (Looks v w)
+  pub full : r ≡ Err JournalFull → w.store.limit ≤ length w.seen
+  pub too_long : r ≡ Err TooLong → IsTooLong w.store.width operation
+
+-- The grant has the range that was asked for. After the history the name has a blob, which the grant's value represents. The blob was put in the history under its
+-- version, and no other put has this version.
+pub record GrantedIn (h : History) (w : ℕ) (n : List ℕ) (start len : ℕ) (g : Grant) : Type 0 where
+  pub start_is : g.start ≡ start
+  pub len_is : g.len ≡ len
+  pub blob : Blob
+  pub here : finite.get (state_of h).names n ≡ Some blob
+  pub represents : Represents w g.sealed.value blob
+  pub put_is : HasPut h blob.version n blob.code blob.bytes
+  pub only : (other : List ℕ) (code : Code) (bytes : List ℕ) → HasPut h blob.version other code bytes → put other code bytes ≡ put n blob.code blob.bytes
+
+-- where the answer is a grant
+abbrev pub IfGranted : Answer → (Grant → Type 0) → Type 0
+IfGranted (Granted g) P = P g
+IfGranted answer P = Unit {0}

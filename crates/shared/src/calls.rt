@@ -1,0 +1,142 @@
+//! The calls that wait until nobody is inside. After a fault the call is in no history, and the pass may have seen more.
+ghost use Rattle.std.specs.Prelude.{◌≡◌, ◌⊎◌, ◌↔◌, ◌<◌, length, IfOk, IfErr};
+ghost use Rattle.sealed.specs.Layout.{stripe_count};
+ghost use Rattle.history.specs.Step.{put as put_of, read as read_of, lose as lose_of, delete as delete_of, stat as stat_of};
+ghost use Rattle.shared.specs.Calls.{Called, GrantedIn, IfGranted};
+
+use crate::request::Request;
+use crate::{Pass, Store};
+use book::{Answer, Fault, Name};
+use bytes::Bytes;
+use lrc_code::Code;
+use sealed::seal_as;
+use std::alloc::Global;
+use std::sync::Wait;
+
+impl Store {
+    /// Stores a blob under a name in LRC(12,2,2), as `put_as` does.
+    pub fn put<R: Wait>(
+        &self,
+        rt: &R,
+        alloc: Global,
+        pass: &mut Pass,
+        name: Name,
+        bytes: Bytes,
+    ) -> Result<Answer, Fault>
+        requires { pass.old.store ≡ self.now }
+        ensures called { Called pass.old (put_of name Code.Wide bytes) result pass.new }
+        ensures too_long { (result ≡ Err Fault.TooLong) ↔ (4096 < stripe_count Code.Wide self.now.width (length bytes)) }
+        ensures faults { IfErr result (λ e. (e ≡ Fault.NoMemory) ⊎ (e ≡ Fault.JournalFull) ⊎ (e ≡ Fault.TooLong)) }
+    {
+        self.put_as(rt, alloc, pass, name, bytes, Code::Wide)
+    }
+
+    /// Stores a blob under a name in this code, in place of the one that the name had. The answer is `Stored`, with the number of this put. The blob is sealed before the
+    /// gate is entered.
+    ///
+    /// `TooLong` where it would have more than 4,096 stripes, and then nothing was asked of memory; `JournalFull` where the journal holds as many entries as its limit;
+    /// `NoMemory` where memory is refused.
+    pub fn put_as<R: Wait>(
+        &self,
+        rt: &R,
+        alloc: Global,
+        pass: &mut Pass,
+        name: Name,
+        bytes: Bytes,
+        code: Code,
+    ) -> Result<Answer, Fault>
+        requires { pass.old.store ≡ self.now }
+        ensures called { Called pass.old (put_of name code bytes) result pass.new }
+        ensures too_long { (result ≡ Err Fault.TooLong) ↔ (4096 < stripe_count code self.now.width (length bytes)) }
+        ensures faults { IfErr result (λ e. (e ≡ Fault.NoMemory) ⊎ (e ≡ Fault.JournalFull) ⊎ (e ≡ Fault.TooLong)) }
+    {
+        match seal_as(alloc, bytes, self.width, code) {
+            Ok(sealed) => self.make(
+                rt,
+                pass,
+                Request::Put {
+                    alloc,
+                    name,
+                    sealed,
+                },
+            ),
+            Err(fault) => pass.refuse(fault),
+        }
+    }
+
+    /// Grants `len` bytes of the blob of a name, from the byte `start` on. A grant holds the blob as it was, whatever later calls do.
+    ///
+    /// The answer is `NoName` where the name has no blob; else `OutOfRange` where the range does not lie inside the blob; else `Unrecoverable`, with the version, where some
+    /// byte of it stands in a fragment that can't be told from those left; else `Granted`.
+    ///
+    /// `JournalFull` where the journal holds as many entries as its limit; `NoMemory` only in place of `Granted`, where one more owner of the blob was refused.
+    pub fn read<R: Wait>(
+        &self,
+        rt: &R,
+        pass: &mut Pass,
+        name: Name,
+        start: u64,
+        len: u64,
+    ) -> Result<Answer, Fault>
+        requires { pass.old.store ≡ self.now }
+        ensures called { Called pass.old (read_of name start len) result pass.new }
+        ensures grant { IfOk result (λ a. IfGranted a (GrantedIn pass.new.seen self.now.width name start len)) }
+        ensures faults { IfErr result (λ e. (e ≡ Fault.NoMemory) ⊎ (e ≡ Fault.JournalFull)) }
+    {
+        self.make(rt, pass, Request::Read { name, start, len })
+    }
+
+    /// Loses a fragment of a name's blob: its bytes are given up, unless a grant still holds them.
+    ///
+    /// The answer is `NoName` where the name has no blob; else `NoFragment` where the blob has no such stripe, or its code no such fragment; else `AlreadyLost` where it was
+    /// lost before; else `Lost`, with the version.
+    ///
+    /// `JournalFull` where the journal holds as many entries as its limit; else `NoMemory` where memory is refused.
+    pub fn lose<R: Wait>(
+        &self,
+        rt: &R,
+        alloc: Global,
+        pass: &mut Pass,
+        name: Name,
+        stripe: u64,
+        fragment: u64,
+    ) -> Result<Answer, Fault>
+        requires { pass.old.store ≡ self.now }
+        ensures called { Called pass.old (lose_of name stripe fragment) result pass.new }
+        ensures faults { IfErr result (λ e. (e ≡ Fault.NoMemory) ⊎ (e ≡ Fault.JournalFull)) }
+    {
+        self.make(
+            rt,
+            pass,
+            Request::Lose {
+                alloc,
+                name,
+                stripe,
+                fragment,
+            },
+        )
+    }
+
+    /// Takes a name out. The answer is `NoName` where the name has no blob, else `Deleted`, with the version of the blob that it had. It asks for no memory.
+    ///
+    /// `JournalFull` where the journal holds as many entries as its limit.
+    pub fn delete<R: Wait>(&self, rt: &R, pass: &mut Pass, name: Name) -> Result<Answer, Fault>
+        requires { pass.old.store ≡ self.now }
+        ensures called { Called pass.old (delete_of name) result pass.new }
+        ensures faults { IfErr result (λ e. e ≡ Fault.JournalFull) }
+    {
+        self.make(rt, pass, Request::Delete { name })
+    }
+
+    /// Tells the shape of a name's blob. The answer is `NoName` where the name has no blob, else `Shape`, with how many bytes, stripes and lost fragments the blob has. It asks
+    /// for no memory.
+    ///
+    /// `JournalFull` where the journal holds as many entries as its limit.
+    pub fn stat<R: Wait>(&self, rt: &R, pass: &mut Pass, name: Name) -> Result<Answer, Fault>
+        requires { pass.old.store ≡ self.now }
+        ensures called { Called pass.old (stat_of name) result pass.new }
+        ensures faults { IfErr result (λ e. e ≡ Fault.JournalFull) }
+    {
+        self.make(rt, pass, Request::Stat { name })
+    }
+}

@@ -1,0 +1,47 @@
+//! One call inside the gate.
+ghost use Rattle.std.specs.Prelude.{◌≡◌, ◌≢◌, ◌⊎◌, IfOk, IfErr};
+ghost use Rattle.shared.specs.Calls.{Called};
+ghost use Rattle.shared.specs.Requests.{operation_of, CanAsk, IsGrantedTo, IsFaultOf};
+
+use crate::request::Request;
+use crate::{Pass, Store};
+use book::{Answer, Fault};
+use std::sync::Wait;
+
+impl Store {
+    /// Enters, makes a call and leaves.
+    pub(crate) fn make<R: Wait>(
+        &self,
+        rt: &R,
+        pass: &mut Pass,
+        request: Request,
+    ) -> Result<Answer, Fault>
+        requires store { pass.old.store ≡ self.now }
+        requires can { CanAsk pass.old request }
+        ensures called { Called pass.old (operation_of request) result pass.new }
+        ensures granted { IfOk result (IsGrantedTo pass.new.seen self.now.width request) }
+        ensures faults { IfErr result (IsFaultOf request) }
+    {
+        let mut inside = self.gate.enter(rt, &mut pass.seat);
+        let result = request.make_on(&mut inside.value.0, pass.who);
+        self.gate.leave(&mut pass.seat, inside);
+        result
+    }
+
+    /// The same, if nobody is inside. Else `Busy`, and the pass is as it was.
+    pub(crate) fn try_make(&self, pass: &mut Pass, request: Request) -> Result<Answer, Fault>
+        requires store { pass.old.store ≡ self.now }
+        requires can { CanAsk pass.old request }
+        ensures called { Called pass.old (operation_of request) result pass.new }
+        ensures granted { IfOk result (IsGrantedTo pass.new.seen self.now.width request) }
+        ensures faults { IfErr result (λ e. (e ≡ Fault.Busy) ⊎ IsFaultOf request e) }
+        ensures lone { pass.old.room ≡ 64 → result ≢ Err Fault.Busy }
+    {
+        let Some(mut inside) = self.gate.try_enter(&mut pass.seat) else {
+            return Err(Fault::Busy);
+        };
+        let result = request.make_on(&mut inside.value.0, pass.who);
+        self.gate.leave(&mut pass.seat, inside);
+        result
+    }
+}

@@ -1,0 +1,212 @@
+//! Repairs. What can be rebuilt is rebuilt outside the gate, while others may be inside.
+ghost use Rattle.std.specs.Prelude.{◌≡◌, ◌≢◌, ◌⊎◌, IsTrue, IfOk, IfErr};
+ghost use Rattle.history.specs.Step.{repair as repair_of};
+ghost use Rattle.book.specs.Losing.{IsFragmentOf};
+ghost use Rattle.shared.specs.Calls.{Called};
+ghost use Rattle.shared.specs.Mends.{IsMendable, Found, FoundIn, IfRefused};
+
+use crate::request::Request;
+use crate::{Pass, Store};
+use book::{Answer, Book, Fault, Name};
+use bytes::Bytes;
+use lrc_code::{NoMemory, Rebuild, is_open_in, rebuild};
+use sealed::Sealed;
+use std::alloc::{AllocError, Global};
+use std::sync::{Arc, Wait};
+
+/// What a look before a repair finds.
+#[derive(Drop)]
+pub enum Look {
+    /// The repair was made, and answered so.
+    Done(Answer),
+    /// It was refused.
+    Refused(Fault),
+    /// The fragment can be rebuilt from this value, and nothing was done.
+    Mendable(Arc<Sealed>),
+}
+
+impl Store {
+    /// Rebuilds a lost fragment of a name's blob. It enters twice where the fragment can be rebuilt, and rebuilds in between; the answer is then that of the second time.
+    ///
+    /// The answer is `NoName` where the name has no blob; else `NoFragment` where the blob has no such stripe, or its code no such fragment; else `NotLost` where it is
+    /// there; else `Unrecoverable`, with the version, where it can't be told from those left; else `Repaired`, with the version.
+    ///
+    /// `JournalFull` where the journal holds as many entries as its limit; `NoMemory` where memory is refused.
+    pub fn repair<R: Wait>(
+        &self,
+        rt: &R,
+        alloc: Global,
+        pass: &mut Pass,
+        name: Name,
+        stripe: u64,
+        fragment: u64,
+    ) -> Result<Answer, Fault>
+        requires { pass.old.store ≡ self.now }
+        ensures called { Called pass.old (repair_of name stripe fragment) result pass.new }
+        ensures faults { IfErr result (λ e. (e ≡ Fault.NoMemory) ⊎ (e ≡ Fault.JournalFull)) }
+    {
+        let sealed = match self.look(rt, alloc, pass, &name, stripe, fragment) {
+            Look::Done(answer) => return Ok(answer),
+            Look::Refused(fault) => return Err(fault),
+            Look::Mendable(sealed) => sealed,
+        };
+        let Ok(bytes) = rebuild_whole(alloc, &sealed, stripe, fragment) else {
+            return Err(Fault::NoMemory);
+        };
+        self.make(
+            rt,
+            pass,
+            Request::Install {
+                alloc,
+                name,
+                version: sealed.version,
+                stripe,
+                fragment,
+                bytes,
+            },
+        )
+    }
+
+    /// As `repair`, if nobody is inside at either time. Else `Busy`, which never comes with a room of 64.
+    pub fn try_repair(
+        &self,
+        alloc: Global,
+        pass: &mut Pass,
+        name: Name,
+        stripe: u64,
+        fragment: u64,
+    ) -> Result<Answer, Fault>
+        requires { pass.old.store ≡ self.now }
+        ensures called { Called pass.old (repair_of name stripe fragment) result pass.new }
+        ensures faults { IfErr result (λ e. (e ≡ Fault.Busy) ⊎ (e ≡ Fault.NoMemory) ⊎ (e ≡ Fault.JournalFull)) }
+        ensures lone { pass.old.room ≡ 64 → result ≢ Err Fault.Busy }
+    {
+        let sealed = match self.try_look(alloc, pass, &name, stripe, fragment) {
+            Look::Done(answer) => return Ok(answer),
+            Look::Refused(fault) => return Err(fault),
+            Look::Mendable(sealed) => sealed,
+        };
+        let Ok(bytes) = rebuild_whole(alloc, &sealed, stripe, fragment) else {
+            return Err(Fault::NoMemory);
+        };
+        self.try_make(
+            pass,
+            Request::Install {
+                alloc,
+                name,
+                version: sealed.version,
+                stripe,
+                fragment,
+                bytes,
+            },
+        )
+    }
+
+    /// Enters, looks and leaves.
+    fn look<R: Wait>(
+        &self,
+        rt: &R,
+        alloc: Global,
+        pass: &mut Pass,
+        name: &Name,
+        stripe: u64,
+        fragment: u64,
+    ) -> Look
+        requires { pass.old.store ≡ self.now }
+        ensures found { Found pass.old name.now stripe fragment result pass.new }
+        ensures faults { IfRefused result (λ e. (e ≡ Fault.NoMemory) ⊎ (e ≡ Fault.JournalFull)) }
+    {
+        let mut inside = self.gate.enter(rt, &mut pass.seat);
+        let look = look_in(&mut inside.value.0, alloc, pass.who, name, stripe, fragment);
+        self.gate.leave(&mut pass.seat, inside);
+        look
+    }
+
+    /// The same, if nobody is inside. Else `Busy`, and the pass is as it was.
+    fn try_look(
+        &self,
+        alloc: Global,
+        pass: &mut Pass,
+        name: &Name,
+        stripe: u64,
+        fragment: u64,
+    ) -> Look
+        requires { pass.old.store ≡ self.now }
+        ensures found { Found pass.old name.now stripe fragment result pass.new }
+        ensures faults { IfRefused result (λ e. (e ≡ Fault.Busy) ⊎ (e ≡ Fault.NoMemory) ⊎ (e ≡ Fault.JournalFull)) }
+        ensures lone { pass.old.room ≡ 64 → result ≢ Look.Refused Fault.Busy }
+    {
+        let Some(mut inside) = self.gate.try_enter(&mut pass.seat) else {
+            return Look::Refused(Fault::Busy);
+        };
+        let look = look_in(&mut inside.value.0, alloc, pass.who, name, stripe, fragment);
+        self.gate.leave(&mut pass.seat, inside);
+        look
+    }
+}
+
+/// Looks at a book, and makes the repair there if it answers anything but `Repaired`.
+fn look_in(
+    book: &mut Book,
+    alloc: Global,
+    who: u32,
+    name: &Name,
+    stripe: u64,
+    fragment: u64,
+) -> Look
+    ensures found { FoundIn book.old book.new who name.now stripe fragment result }
+    ensures kept { (book.new.width ≡ book.old.width) × (book.new.limit ≡ book.old.limit) × (book.new.base ≡ book.old.base) }
+{
+    if book.is_full() {
+        return Look::Refused(Fault::JournalFull);
+    }
+    if let Some(sealed) = book.find(name) {
+        if is_mendable(sealed, stripe, fragment) {
+            return match Arc::try_clone(sealed) {
+                Ok(sealed) => Look::Mendable(sealed),
+                Err(_) => Look::Refused(Fault::NoMemory),
+            };
+        }
+    }
+    match book.repair(alloc, who, name.duplicate(), stripe, fragment) {
+        Ok(answer) => Look::Done(answer),
+        Err(fault) => Look::Refused(fault),
+    }
+}
+
+/// Whether a value lacks a fragment that can be told from those left.
+fn is_mendable(sealed: &Sealed, stripe: u64, fragment: u64) -> bool
+    ensures { IsTrue result → IsMendable sealed.now stripe fragment }
+{
+    let has_stripe = stripe < sealed.stripes.len() as u64;
+    if !has_stripe || fragment >= u64::from(sealed.code.fragments()) {
+        return false;
+    }
+    let f = fragment as u8;
+    if sealed.fragment(stripe, f).is_some() {
+        return false;
+    }
+    !is_open_in(sealed.code, sealed.lost(stripe), f)
+}
+
+/// The whole of a fragment that can be rebuilt.
+fn rebuild_whole(
+    alloc: Global,
+    sealed: &Sealed,
+    stripe: u64,
+    fragment: u64,
+) -> Result<Bytes, NoMemory>
+    requires { IsMendable sealed.now stripe fragment }
+    ensures { IfOk result (IsFragmentOf sealed.now stripe fragment) }
+{
+    let left = sealed.left(stripe);
+    let width = sealed.width.get() as usize;
+    match rebuild(alloc, &left, fragment as usize, 0, width) {
+        Ok(bytes) => match Bytes::from_vec(bytes) {
+            Ok(bytes) => Ok(bytes),
+            Err(_) => Err(AllocError),
+        },
+        Err(Rebuild::NoMemory) => Err(AllocError),
+        Err(Rebuild::Open) => unreachable!(),
+    }
+}

@@ -1,0 +1,90 @@
+//! The passes of a store's callers.
+ghost use Rattle.std.specs.Prelude.{◌≡◌, ◌⊎◌, ◌↔◌, ◌+◌, ◌-◌, ◌≤◌, ◌++◌, [], IfOk, IfErr, OnOk, OnErr};
+ghost use mathlib.Core.List.{IsPrefix};
+ghost use Rattle.gate.specs.Places.{AreApart};
+ghost use Rattle.history.specs.History.{IsLegal};
+
+use crate::{Kept, Store};
+use book::{Answer, Fault};
+use gate::Seat;
+use std::marker::Model;
+
+/// A caller's pass to a store. A clause sees which store it is, the label of its calls, how many passes can be made of it, the legal history that it has
+/// seen, and the places in it of the calls that it made, with those of the passes that it joined. Who drops a pass drops its room, and then no other pass
+/// comes to a room of 64 again.
+#[derive(Drop)]
+pub struct Pass {
+    pub(crate) seat: Seat<Kept>,
+    pub(crate) who: u32,
+}
+
+impl Model for Pass {
+    ghost use Rattle.shared.specs.Passes.{Shows, shows, IsPass};
+
+    ghost Value = { Shows };
+
+    ghost view = { λ p. shows p.seat p.who };
+
+    ghost invariant = { λ p. IsPass p.seat };
+}
+
+impl Pass {
+    /// How many passes, with itself, can be made of it: from 1 to 64.
+    pub fn room(&self) -> u64
+        ensures value { result ≡ self.now.room }
+        ensures range { (1 ≤ result) × (result ≤ 64) }
+    {
+        self.seat.room()
+    }
+
+    /// The label of its calls.
+    pub fn who(&self) -> u32
+        ensures { result ≡ self.now.who }
+    {
+        self.who
+    }
+
+    /// A new pass with this label, which has seen as much, has made no call and has a room of 1. The old one keeps one less and shows what it showed.
+    ///
+    /// `NoPass` where the room is 1; else `NoMemory` where memory is refused. After either the old pass is as it was.
+    pub fn split(&mut self, store: &Store, who: u32) -> Result<Pass, Fault>
+        requires store { self.old.store ≡ store.now }
+        ensures kept { OnOk result (self.new ≡ record self.old { room = self.old.room - 1 }) }
+        ensures given { IfOk result (λ p. p ≡ record { store = self.old.store; who = who; room = 1; seen = self.old.seen; trimmed = self.old.trimmed; made = [] }) }
+        ensures no_pass { (result ≡ Err Fault.NoPass) ↔ (self.old.room ≡ 1) }
+        ensures faults { IfErr result (λ e. (e ≡ Fault.NoMemory) ⊎ (e ≡ Fault.NoPass)) }
+        ensures err { OnErr result (self.new ≡ self.old) }
+    {
+        if self.seat.room() <= 1 {
+            return Err(Fault::NoPass);
+        }
+        let Ok(seat) = self.seat.split(&store.gate) else {
+            return Err(Fault::NoMemory);
+        };
+        Ok(Pass { seat, who })
+    }
+
+    /// Takes in another pass with its room and the calls that it made, which had none in common with those of this one. Of the two histories the one that begins
+    /// with both is shown. It asks for no memory.
+    pub fn join(&mut self, store: &Store, other: Pass)
+        requires store { (self.old.store ≡ store.now) × (other.store ≡ store.now) }
+        ensures kept { (self.new.store ≡ self.old.store) × (self.new.who ≡ self.old.who) × (self.new.room ≡ self.old.room + other.room) }
+        ensures one { (self.new.seen ≡ self.old.seen) ⊎ (self.new.seen ≡ other.seen) }
+        ensures seen { IsPrefix self.old.seen self.new.seen × IsPrefix other.seen self.new.seen }
+        ensures made { self.new.made ≡ self.old.made ++ other.made }
+        ensures apart { AreApart self.old.made other.made }
+    {
+        let Pass { seat, who: _ } = other;
+        self.seat.join(&store.gate, seat);
+    }
+
+    /// The answer to a call that was refused before the gate was entered.
+    pub(crate) fn refuse(&self, fault: Fault) -> Result<Answer, Fault>
+        ensures refused { result ≡ Err fault }
+        ensures legal { IsLegal self.now.store.width self.now.seen }
+    {
+        // Once a field is read, it is known what every pass keeps.
+        let _seat = &self.seat;
+        Err(fault)
+    }
+}

@@ -1,0 +1,27 @@
+//! What is lost.
+ghost use Rattle.std.specs.Prelude.{◌≡◌, IfOk, IfErr};
+ghost use Rattle.history.specs.History.{state_of};
+ghost use Rattle.book.specs.Plan.{plan_of};
+ghost use Rattle.shared.specs.Calls.{Looked};
+
+use crate::{Pass, Store};
+use book::{Fault, Plan};
+use std::alloc::Global;
+use std::sync::Wait;
+
+impl Store {
+    /// The lost fragments of all blobs, with their versions, by name, then by stripe, then by fragment. It is no call of the history, of which the pass may have seen more.
+    ///
+    /// `NoMemory` where memory for the list is refused.
+    pub fn plan<R: Wait>(&self, rt: &R, alloc: Global, pass: &mut Pass) -> Result<Plan, Fault>
+        requires { pass.old.store ≡ self.now }
+        ensures looked { Looked pass.old pass.new }
+        ensures ok { IfOk result (λ p. p.items.items ≡ plan_of (state_of pass.new.seen)) }
+        ensures faults { IfErr result (λ e. e ≡ Fault.NoMemory) }
+    {
+        let inside = self.gate.enter(rt, &mut pass.seat);
+        let plan = inside.value.0.plan(alloc).map_err(|_| Fault::NoMemory);
+        self.gate.leave(&mut pass.seat, inside);
+        plan
+    }
+}

@@ -1,0 +1,70 @@
+//! The book behind a gate.
+ghost use Rattle.std.specs.Prelude.{◌≡◌, ◌⊎◌, ◌↔◌, ◌+◌, ◌≤◌, ◌<◌, ℕ, [], length, IfOk, IfErr};
+ghost use Rattle.gate.specs.Places.{times};
+ghost use Rattle.book.specs.Tells.{Tells};
+
+use crate::{Kept, Pass};
+use book::{Book, Fault, Limit};
+use gate::Gate;
+use sealed::Width;
+use std::alloc::Global;
+use std::marker::Model;
+
+/// A store. A clause sees which store it is, the width of its blobs, and the limit of its journal. Who drops it drops its blobs.
+#[derive(Drop)]
+pub struct Store {
+    pub(crate) gate: Gate<Kept>,
+    pub(crate) width: Width,
+    limit: Limit,
+}
+
+impl Model for Store {
+    ghost use Rattle.shared.specs.Passes.{Which};
+
+    ghost Value = { Which };
+
+    ghost view = { λ s. record { table = s.gate; width = s.width; limit = s.limit } };
+}
+
+impl Store {
+    /// A store with no blob, whose fragments have this many bytes and whose journal holds at most so many entries. The one pass to it has the label 0 and a room of 64,
+    /// and has seen and made no call.
+    ///
+    /// `BadWidth` where the width is not in 1..=65,536; else `NoMemory` where memory is refused.
+    pub fn open(alloc: Global, width: u32, limit: Limit) -> Result<(Store, Pass), Fault>
+        ensures store { IfOk result (λ r. (r.0.width ≡ width) × (r.0.limit ≡ limit)) }
+        ensures pass { IfOk result (λ r. r.1 ≡ record { store = r.0; who = 0; room = 64; seen = []; trimmed = 0; made = [] }) }
+        ensures bad_width { (result ≡ Err Fault.BadWidth) ↔ ((1 ≤ width) × (width ≤ 65536) → ⊥) }
+        ensures faults { IfErr result (λ e. (e ≡ Fault.NoMemory) ⊎ (e ≡ Fault.BadWidth)) }
+    {
+        let Some(width) = Width::new(width) else {
+            return Err(Fault::BadWidth);
+        };
+        let Ok(book) = Book::new(alloc, width, limit) else {
+            return Err(Fault::NoMemory);
+        };
+        let Ok((gate, seat)) = Gate::new(alloc, Kept(book)) else {
+            return Err(Fault::NoMemory);
+        };
+        let store = Store { gate, width, limit };
+        Ok((store, Pass { seat, who: 0 }))
+    }
+
+    /// Gives the book, once all passes are joined. It tells the history that the pass has seen, and each call of it was made by this pass or by one that it joined.
+    /// It asks for no memory.
+    pub fn close(self, pass: Pass) -> Book
+        requires store { pass.store ≡ self }
+        requires lone { pass.room ≡ 64 }
+        ensures told { Tells result pass.seen }
+        ensures made { (k : ℕ) → k < length pass.seen → times k pass.made ≡ 1 }
+        ensures count { length pass.made ≡ length pass.seen }
+        ensures trimmed { result.base.trimmed ≡ pass.trimmed }
+        ensures entries { result.base.trimmed + length result.entries ≡ length pass.made }
+        ensures kept { (result.width ≡ self.width) × (result.limit ≡ self.limit) }
+    {
+        let Store { gate, .. } = self;
+        let Pass { seat, who: _ } = pass;
+        let Kept(book) = gate.close(seat);
+        book
+    }
+}

@@ -1,0 +1,123 @@
+//! The calls that do not wait. They are refused by `Busy` where somebody is inside, which never comes with a room of 64. After a fault the call is in no history, and the pass
+//! may have seen more.
+ghost use Rattle.std.specs.Prelude.{◌≡◌, ◌≢◌, ◌⊎◌, ◌↔◌, ◌<◌, length, IfOk, IfErr};
+ghost use Rattle.sealed.specs.Layout.{stripe_count};
+ghost use Rattle.history.specs.Step.{put as put_of, read as read_of, lose as lose_of, delete as delete_of, stat as stat_of};
+ghost use Rattle.shared.specs.Calls.{Called, GrantedIn, IfGranted};
+
+use crate::request::Request;
+use crate::{Pass, Store};
+use book::{Answer, Fault, Name};
+use bytes::Bytes;
+use lrc_code::Code;
+use sealed::seal_as;
+use std::alloc::Global;
+
+impl Store {
+    /// As `put`, if nobody is inside. The blob is sealed first.
+    pub fn try_put(
+        &self,
+        alloc: Global,
+        pass: &mut Pass,
+        name: Name,
+        bytes: Bytes,
+    ) -> Result<Answer, Fault>
+        requires { pass.old.store ≡ self.now }
+        ensures called { Called pass.old (put_of name Code.Wide bytes) result pass.new }
+        ensures too_long { (result ≡ Err Fault.TooLong) ↔ (4096 < stripe_count Code.Wide self.now.width (length bytes)) }
+        ensures faults { IfErr result (λ e. (e ≡ Fault.Busy) ⊎ (e ≡ Fault.NoMemory) ⊎ (e ≡ Fault.JournalFull) ⊎ (e ≡ Fault.TooLong)) }
+        ensures lone { pass.old.room ≡ 64 → result ≢ Err Fault.Busy }
+    {
+        self.try_put_as(alloc, pass, name, bytes, Code::Wide)
+    }
+
+    /// As `put_as`, if nobody is inside. The blob is sealed first.
+    pub fn try_put_as(
+        &self,
+        alloc: Global,
+        pass: &mut Pass,
+        name: Name,
+        bytes: Bytes,
+        code: Code,
+    ) -> Result<Answer, Fault>
+        requires { pass.old.store ≡ self.now }
+        ensures called { Called pass.old (put_of name code bytes) result pass.new }
+        ensures too_long { (result ≡ Err Fault.TooLong) ↔ (4096 < stripe_count code self.now.width (length bytes)) }
+        ensures faults { IfErr result (λ e. (e ≡ Fault.Busy) ⊎ (e ≡ Fault.NoMemory) ⊎ (e ≡ Fault.JournalFull) ⊎ (e ≡ Fault.TooLong)) }
+        ensures lone { pass.old.room ≡ 64 → result ≢ Err Fault.Busy }
+    {
+        match seal_as(alloc, bytes, self.width, code) {
+            Ok(sealed) => self.try_make(
+                pass,
+                Request::Put {
+                    alloc,
+                    name,
+                    sealed,
+                },
+            ),
+            Err(fault) => pass.refuse(fault),
+        }
+    }
+
+    /// As `read`, if nobody is inside.
+    pub fn try_read(
+        &self,
+        pass: &mut Pass,
+        name: Name,
+        start: u64,
+        len: u64,
+    ) -> Result<Answer, Fault>
+        requires { pass.old.store ≡ self.now }
+        ensures called { Called pass.old (read_of name start len) result pass.new }
+        ensures grant { IfOk result (λ a. IfGranted a (GrantedIn pass.new.seen self.now.width name start len)) }
+        ensures faults { IfErr result (λ e. (e ≡ Fault.Busy) ⊎ (e ≡ Fault.NoMemory) ⊎ (e ≡ Fault.JournalFull)) }
+        ensures lone { pass.old.room ≡ 64 → result ≢ Err Fault.Busy }
+    {
+        self.try_make(pass, Request::Read { name, start, len })
+    }
+
+    /// As `lose`, if nobody is inside.
+    pub fn try_lose(
+        &self,
+        alloc: Global,
+        pass: &mut Pass,
+        name: Name,
+        stripe: u64,
+        fragment: u64,
+    ) -> Result<Answer, Fault>
+        requires { pass.old.store ≡ self.now }
+        ensures called { Called pass.old (lose_of name stripe fragment) result pass.new }
+        ensures faults { IfErr result (λ e. (e ≡ Fault.Busy) ⊎ (e ≡ Fault.NoMemory) ⊎ (e ≡ Fault.JournalFull)) }
+        ensures lone { pass.old.room ≡ 64 → result ≢ Err Fault.Busy }
+    {
+        self.try_make(
+            pass,
+            Request::Lose {
+                alloc,
+                name,
+                stripe,
+                fragment,
+            },
+        )
+    }
+
+    /// As `delete`, if nobody is inside.
+    pub fn try_delete(&self, pass: &mut Pass, name: Name) -> Result<Answer, Fault>
+        requires { pass.old.store ≡ self.now }
+        ensures called { Called pass.old (delete_of name) result pass.new }
+        ensures faults { IfErr result (λ e. (e ≡ Fault.Busy) ⊎ (e ≡ Fault.JournalFull)) }
+        ensures lone { pass.old.room ≡ 64 → result ≢ Err Fault.Busy }
+    {
+        self.try_make(pass, Request::Delete { name })
+    }
+
+    /// As `stat`, if nobody is inside.
+    pub fn try_stat(&self, pass: &mut Pass, name: Name) -> Result<Answer, Fault>
+        requires { pass.old.store ≡ self.now }
+        ensures called { Called pass.old (stat_of name) result pass.new }
+        ensures faults { IfErr result (λ e. (e ≡ Fault.Busy) ⊎ (e ≡ Fault.JournalFull)) }
+        ensures lone { pass.old.room ≡ 64 → result ≢ Err Fault.Busy }
+    {
+        self.try_make(pass, Request::Stat { name })
+    }
+}

@@ -1,0 +1,48 @@
+//! Giving up the beginning of the journal.
+ghost use Rattle.std.specs.Prelude.{◌≡◌, ◌≢◌, ◌⊎◌, IfOk, IfErr};
+ghost use Rattle.shared.specs.Calls.{Looked, Trims};
+
+use crate::{Pass, Store};
+use book::Fault;
+use std::alloc::Global;
+use std::sync::Wait;
+
+impl Store {
+    /// Gives up all entries of the journal but the last `keep`, and answers how many these were. Nothing is given up, and the answer is 0, where there are no more entries than
+    /// `keep`, or where more than 2^63 calls would have been given up. It is no call of the history, of which the pass may have seen more.
+    ///
+    /// `NoMemory` where memory for what is kept of the state is refused, and then nothing was given up.
+    pub fn trim<R: Wait>(
+        &self,
+        rt: &R,
+        alloc: Global,
+        pass: &mut Pass,
+        keep: u64,
+    ) -> Result<u64, Fault>
+        requires { pass.old.store ≡ self.now }
+        ensures looked { Looked pass.old pass.new }
+        ensures ok { IfOk result (λ n. Trims keep n pass.new) }
+        ensures faults { IfErr result (λ e. e ≡ Fault.NoMemory) }
+    {
+        let mut inside = self.gate.enter(rt, &mut pass.seat);
+        let result = inside.value.0.trim(alloc, keep);
+        self.gate.leave(&mut pass.seat, inside);
+        result
+    }
+
+    /// As `trim`, if nobody is inside. Else `Busy`, which never comes with a room of 64.
+    pub fn try_trim(&self, alloc: Global, pass: &mut Pass, keep: u64) -> Result<u64, Fault>
+        requires { pass.old.store ≡ self.now }
+        ensures looked { Looked pass.old pass.new }
+        ensures ok { IfOk result (λ n. Trims keep n pass.new) }
+        ensures faults { IfErr result (λ e. (e ≡ Fault.Busy) ⊎ (e ≡ Fault.NoMemory)) }
+        ensures lone { pass.old.room ≡ 64 → result ≢ Err Fault.Busy }
+    {
+        let Some(mut inside) = self.gate.try_enter(&mut pass.seat) else {
+            return Err(Fault::Busy);
+        };
+        let result = inside.value.0.trim(alloc, keep);
+        self.gate.leave(&mut pass.seat, inside);
+        result
+    }
+}
