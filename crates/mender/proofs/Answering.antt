@@ -4,9 +4,9 @@ use Rattle.std.specs.FinMap as finite
 use Rattle.sealed.specs.Blob.{lost_in}
 use Rattle.history.specs.declared.note.Note.{Note}
 use Rattle.history.specs.declared.note.Note.TheVariants as note
-use Rattle.history.specs.State.{Blob, State, empty_state}
+use Rattle.history.specs.State.{Blob, empty_state}
 use Rattle.history.specs.Step.{IfHolds, is_no_fragment, IsRepairReply, repair}
-use Rattle.history.specs.History.{Event, History, IsLegal, IsLegalFrom, after_all, state_of}
+use Rattle.history.specs.History.{Event, History, IsLegal, IsLegalFrom, state_of}
 use Rattle.history.proofs.Beginnings.{legal_rest}
 use Rattle.book.specs.declared.answer.Answer.{Answer}
 use Rattle.book.specs.declared.answer.Answer.TheVariants.{Stored, NoName, OutOfRange, Unrecoverable, Granted, Lost, NoFragment, AlreadyLost, Repaired, NotLost, Deleted, Shape}

@@ -1,7 +1,6 @@
 use Rattle.std.proofs.Common.{◌∙◌, refl}
 use Rattle.mender.proofs.Answering.{answer_of_repair}
-use Rattle.mender.proofs.Working.{InHand, in_hand, stopped, made_more, made_no_more, did_more}
-use Rattle.mender.proofs.workers.work.Given as given
+use Rattle.mender.proofs.Working.{in_hand, stopped, made_more, made_no_more, did_more}
 use Rattle.mender.proofs.workers.work.Goals as goal
 
 pub returns-then-is_err-clause-err : goal.returns-then-is_err-clause-err

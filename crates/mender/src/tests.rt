@@ -1,3 +1,0 @@
-mod drawing;
-mod gathering;
-mod mending;
