@@ -79,7 +79,7 @@ fn puts_bytes(rows: &[Row], wanted: &[u8]) -> bool {
     match rows {
         [row] => match &row.task {
             Task::Make(Ask::Put { bytes, .. }) => bytes.as_slice() == wanted,
-            Task::Make(_) => false,
+            Task::Make(_) | Task::Mend => false,
         },
         _ => false,
     }
