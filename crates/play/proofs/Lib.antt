@@ -1,2 +1,2 @@
-mod Carried
+mod Crewing
 mod Walked

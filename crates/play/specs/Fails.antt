@@ -3,13 +3,15 @@ use Rattle.std.specs.Prelude.{ℕ, List, length}
 use Rattle.script.specs.declared.rows.BadScript.TheVariants as bad
 use Rattle.script.specs.Script.{AcceptedBefore, Explains, script_records}
 use Rattle.play.specs.declared.fail.Fail.{Fail}
-use Rattle.play.specs.declared.fail.Fail.TheVariants.{Script, Read, Write, Memory}
+use Rattle.play.specs.declared.fail.Fail.TheVariants.{Script, Read, Write, Memory, Start, Paused}
 
--- a request for memory was refused
-abbrev pub IsWantOfMemory : Fail → Type 0
-IsWantOfMemory Memory = Unit {0}
-IsWantOfMemory (Script bad.NoMemory) = Unit {0}
-IsWantOfMemory fail = ⊥
+-- memory, a thread, or leave to go on was wanting
+abbrev pub IsWant : Fail → Type 0
+IsWant Memory = Unit {0}
+IsWant (Script bad.NoMemory) = Unit {0}
+IsWant Start = Unit {0}
+IsWant Paused = Unit {0}
+IsWant fail = ⊥
 
 -- no row of the script is refused
 abbrev pub IsAccepted : ℕ → List ℕ → Type 0
@@ -21,3 +23,5 @@ Tells workers text (Script error) = Explains workers (script_records text) error
 Tells workers text Read = Unit {0}
 Tells workers text Write = Unit {0}
 Tells workers text Memory = Unit {0}
+Tells workers text Start = Unit {0}
+Tells workers text Paused = Unit {0}

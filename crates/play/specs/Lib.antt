@@ -1,3 +1,3 @@
-pub mod Runs
+pub mod Crews
 pub mod Fails
 pub mod Output

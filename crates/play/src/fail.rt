@@ -1,6 +1,8 @@
 //! Why a run has no output.
 
+use rounds::NotRun;
 use script::BadScript;
+use std::alloc::AllocError;
 use thiserror::Error;
 
 /// Why a run has no output.
@@ -18,19 +20,48 @@ pub enum Fail {
     /// A request for memory was refused.
     #[error("out of memory")]
     Memory,
+    /// A worker's thread can't be started.
+    #[error("cannot start a worker")]
+    Start,
+    /// A row was not let through by `before`.
+    #[error("stopped")]
+    Paused,
 }
 
 impl Fail {
     ghost use Rattle.std.specs.Prelude.{◌≡◌, ◌↔◌};
-    ghost use Rattle.play.specs.Fails.{IsWantOfMemory};
+    ghost use Rattle.play.specs.Fails.{IsWant};
 
-    /// The exit status that the program ends with: 3 for want of memory, else 1.
+    /// The exit status that the program ends with: 3 for want of memory, of a thread, or of leave to go on, else 1.
     pub fn status(&self) -> u8
-        ensures { (result ≡ 3) ↔ IsWantOfMemory self.now }
+        ensures { (result ≡ 3) ↔ IsWant self.now }
     {
         match self {
-            Fail::Script(BadScript::NoMemory) | Fail::Memory => 3,
+            Fail::Script(BadScript::NoMemory) | Fail::Memory | Fail::Start | Fail::Paused => 3,
             Fail::Script(BadScript::Refused { .. }) | Fail::Read | Fail::Write => 1,
+        }
+    }
+
+    /// Of this reason and one that may have been told before, the one to be told: want of memory before a pause.
+    pub(crate) fn over(self, told: Result<(), Fail>) -> Fail {
+        match told {
+            Err(Fail::Memory) => Fail::Memory,
+            _ => self,
+        }
+    }
+}
+
+impl From<AllocError> for Fail {
+    fn from(_error: AllocError) -> Fail {
+        Fail::Memory
+    }
+}
+
+impl From<NotRun> for Fail {
+    fn from(error: NotRun) -> Fail {
+        match error {
+            NotRun::Start => Fail::Start,
+            NotRun::Memory => Fail::Memory,
         }
     }
 }

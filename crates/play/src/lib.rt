@@ -1,10 +1,13 @@
 //! Runs of scripts: from the bytes of a script to the bytes that are printed.
 #![tactic(auto)]
 
+mod calls;
+mod crew;
 mod fail;
+mod mend;
+mod outcome;
 mod output;
 mod reply;
-mod report;
 mod rows;
 mod run;
 

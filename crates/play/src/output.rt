@@ -4,7 +4,7 @@ ghost use Rattle.history.specs.Lawful.{IsLawfulFrom};
 ghost use Rattle.play.specs.Output.{IsOutput};
 
 use crate::reply::reply_to;
-use crate::rows::Outcome;
+use crate::outcome::Done;
 use book::{Book, Entry, is_lawful_from};
 use lrc_code::Plans;
 use std::alloc::{AllocError, Global};
@@ -14,15 +14,14 @@ use std::alloc::{AllocError, Global};
 /// given up before, its caller's label, its call and its note.
 fn lines_of(
     alloc: Global,
-    outcomes: Vec<Outcome>,
+    done: Vec<Done>,
     trimmed: u64,
     entries: &[Entry],
 ) -> Result<String, AllocError> {
     let mut text = String::new(alloc);
     let mut plans = Plans::new(alloc);
-    let mut number: u64 = 0;
-    for outcome in outcomes {
-        number = number.saturating_add(1);
+    for one in done {
+        let Done { number, outcome } = one;
         let reply = reply_to(alloc, outcome, &mut plans)?;
         writeln!(text, "{number} {reply}")?;
     }
@@ -49,7 +48,7 @@ fn lawful_text(alloc: Global, book: &Book) -> Result<&'static str, AllocError>
 /// The printed text: a line for each row, where `history` is asked for one for each entry, then the number of calls that were made, and whether the journal is lawful.
 pub(crate) fn print(
     alloc: Global,
-    outcomes: Vec<Outcome>,
+    done: Vec<Done>,
     book: &Book,
     history: bool,
 ) -> Result<String, AllocError>
@@ -59,7 +58,7 @@ pub(crate) fn print(
     let entries = book.entries();
     let shown = if history { entries } else { &[] };
     let trimmed = book.base().trimmed;
-    let lines = lines_of(alloc, outcomes, trimmed, shown)?;
+    let lines = lines_of(alloc, done, trimmed, shown)?;
     let calls = trimmed.saturating_add(entries.len() as u64);
     let lawful = lawful_text(alloc, book)?;
     match format!(in alloc; "{lines}calls {calls}\nlawful {lawful}\n") {

@@ -3,11 +3,12 @@ ghost use Rattle.std.specs.Prelude.{◌≡◌, ◌+◌, ℕ, List, IfOk, slice_r
 ghost use Rattle.sealed.specs.Blob.{Lost};
 ghost use Rattle.sealed.specs.Sealed.{StandsFor};
 
-use crate::report::Report;
-use crate::rows::Outcome;
-use book::{Answer, Note};
+use crate::outcome::RowOutcome;
+use book::{Answer, Fault, Note};
 use lent::{Grant, Piece};
 use lrc_code::Plans;
+use mender::Report;
+use shared::Reply as Made;
 use std::alloc::{AllocError, Global};
 use std::fmt;
 
@@ -18,6 +19,7 @@ pub(crate) enum Reply {
     Granted(Reading),
     Trimmed(u64),
     Mended(Report),
+    Incomplete,
     Full,
     TooLong,
 }
@@ -62,6 +64,7 @@ impl fmt::Display for Reply {
             Reply::Granted(reading) => reading.fmt(f),
             Reply::Trimmed(count) => write!(f, "trimmed {count}"),
             Reply::Mended(report) => report.fmt(f),
+            Reply::Incomplete => f.write_str("incomplete"),
             Reply::Full => f.write_str("full"),
             Reply::TooLong => f.write_str("too-long"),
         }
@@ -96,17 +99,18 @@ fn walked(alloc: Global, grant: &Grant, plans: &mut Plans) -> Result<Reading, Al
 /// The reply to a row. A grant is walked here, by the recipes that are kept in `plans`.
 pub(crate) fn reply_to(
     alloc: Global,
-    outcome: Outcome,
+    outcome: RowOutcome,
     plans: &mut Plans,
 ) -> Result<Reply, AllocError> {
     match outcome {
-        Outcome::Answered(Answer::Granted(grant)) => {
+        RowOutcome::Replied(Made::Made(Answer::Granted(grant))) => {
             Ok(Reply::Granted(walked(alloc, &grant, plans)?))
         }
-        Outcome::Answered(answer) => Ok(Reply::Noted(answer.note())),
-        Outcome::Trimmed(count) => Ok(Reply::Trimmed(count)),
-        Outcome::Mended(report) => Ok(Reply::Mended(report)),
-        Outcome::Full => Ok(Reply::Full),
-        Outcome::TooLong => Ok(Reply::TooLong),
+        RowOutcome::Replied(Made::Made(answer)) => Ok(Reply::Noted(answer.note())),
+        RowOutcome::Replied(Made::Trimmed(count)) => Ok(Reply::Trimmed(count)),
+        RowOutcome::Replied(Made::Refused(Fault::TooLong)) => Ok(Reply::TooLong),
+        RowOutcome::Replied(Made::Refused(_)) | RowOutcome::Full => Ok(Reply::Full),
+        RowOutcome::Mended(report) => Ok(Reply::Mended(report)),
+        RowOutcome::Incomplete => Ok(Reply::Incomplete),
     }
 }

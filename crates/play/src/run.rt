@@ -5,16 +5,19 @@ ghost use Rattle.command_line.specs.Ranges.{InRange};
 ghost use Rattle.play.specs.Fails.{IsAccepted, Tells};
 ghost use Rattle.play.specs.Output.{IsOutput};
 
+use crate::crew::{dismiss, hire};
 use crate::fail::Fail;
 use crate::output::print;
 use crate::rows::run_rows;
-use book::{Book, Limit};
+use book::Limit;
 use command_line::Options;
 use script::{Row, script};
-use sealed::{Fault, Width};
+use shared::{Pace, Store};
 use std::alloc::Global;
 use std::io;
 use std::io::{Read, Write};
+use std::sync::Wait;
+use std::thread::Threads;
 
 /// All bytes that a reader has.
 fn read_all<R: Read + Drop>(alloc: Global, mut input: R) -> Result<Vec<u8>, Fail>
@@ -29,39 +32,59 @@ fn read_all<R: Read + Drop>(alloc: Global, mut input: R) -> Result<Vec<u8>, Fail
     }
 }
 
-/// Runs the rows over a book of their own, and gives the text to be printed.
-fn run(alloc: Global, options: &Options, rows: Vec<Row>) -> Result<String, Fail>
-    requires width { InRange options.now.width 65536 }
+/// Runs the rows over a store of their own, and gives the text to be printed.
+fn run<R: Threads + Wait + Sync, P: Pace + Sync>(
+    rt: &R,
+    alloc: Global,
+    options: &Options,
+    rows: Vec<Row>,
+    pace: &P,
+) -> Result<String, Fail>
+    requires workers { InRange options.now.workers 16 }
     requires limit { InRange options.now.limit 1048576 }
     ensures text { IfOk result (λ printed. IsOutput (string_bytes printed)) }
-    ensures fails { IfErr result (λ fail. fail ≡ Fail.Memory) }
+    ensures fails { IfErr result (λ e. (workers : ℕ) (text : List ℕ) → Tells workers text e) }
 {
-    let (Some(width), Some(limit)) = (Width::new(options.width), Limit::new(options.limit)) else {
+    let Some(limit) = Limit::new(options.limit) else {
         unreachable!()
     };
-    let mut book = match Book::new(alloc, width, limit) {
-        Ok(book) => book,
+    let Ok((store, first)) = Store::open(alloc, options.width, limit) else {
+        return Err(Fail::Memory);
+    };
+    let crew = match hire(alloc, &store, first, options.workers) {
+        Ok(crew) => crew,
         Err(_) => return Err(Fail::Memory),
     };
-    let outcomes = run_rows(alloc, &mut book, rows)?;
-    match print(alloc, outcomes, &book, options.history) {
+    let (crew, mut done) = match run_rows(rt, alloc, &store, crew, rows, pace) {
+        Ok(ran) => ran,
+        Err(fail) => return Err(fail),
+    };
+    done.sort_unstable_by_key(|one| one.number);
+    let pass = dismiss(crew, &store);
+    let book = store.close(pass);
+    match print(alloc, done, &book, options.history) {
         Ok(text) => Ok(text),
         Err(_) => Err(Fail::Memory),
     }
 }
 
-/// Reads a script to its end, checks all of it, makes its rows one after the other on the calling thread, and writes the output at the end.
+/// Reads a script to its end, checks all of it, runs its rows round by round, and writes the output at the end. In a round each worker that has rows in it makes them in order, on a
+/// thread of its own, each between `before` and `after` of the pace.
 ///
 /// The output is a line for each row, with its number and its reply, then the number of the journal's entries, and whether they are lawful: they
 /// are. `Fail::Script` where a row is refused, and then nothing ran; `Fail::Read` or `Fail::Write` where the reader or the writer failed;
-/// `Fail::Memory` where a request for memory was refused. Nothing is written but on `Ok` and `Fail::Write`.
-pub fn play<R: Read + Drop, W: Write>(
+/// `Fail::Memory` where a request for memory was refused; `Fail::Start` where a
+/// thread can't be started; `Fail::Paused` where `before` answered false. Nothing is written but on `Ok` and `Fail::Write`.
+pub fn play<Rt: Threads + Wait + Sync, R: Read + Drop, W: Write, P: Pace + Sync>(
+    rt: &Rt,
     alloc: Global,
     options: &Options,
     input: R,
     output: &mut W,
+    pace: &P,
 ) -> Result<(), Fail>
     requires width { InRange options.now.width 65536 }
+    requires workers { InRange options.now.workers 16 }
     requires limit { InRange options.now.limit 1048576 }
     ensures done { OnOk result ((text : List ℕ) × IsOutput text × Appends (W.contents output.old) (W.contents output.new) text) }
     ensures accepted { OnOk result (IfSome (R.remaining input) (IsAccepted options.now.workers)) }
@@ -76,7 +99,7 @@ pub fn play<R: Read + Drop, W: Write>(
         Ok(rows) => rows,
         Err(error) => return Err(Fail::Script(error)),
     };
-    let printed = match run(alloc, options, rows) {
+    let printed = match run(rt, alloc, options, rows, pace) {
         Ok(printed) => printed,
         Err(fail) => return Err(fail),
     };

@@ -7,10 +7,11 @@ ghost use Rattle.script.specs.Fields.{are_bytes, are_empty, are_hex_bytes, are_n
 ghost use Rattle.script.specs.Script.{first_word, task_refusal, Tells};
 
 use crate::numbers::number;
-use crate::rows::{Ask, Operation, Refusal, Task, Word};
+use crate::rows::{Operation, Refusal, Task, Word};
 use book::Name;
 use bytes::Bytes;
 use lrc_code::Code;
+use shared::Ask;
 use std::alloc::{AllocError, Global};
 use std::str;
 

@@ -8,7 +8,7 @@ mod records;
 mod rows;
 
 pub use reading::script;
-pub use rows::{Ask, BadScript, Row, Task, Word};
+pub use rows::{BadScript, Row, Task, Word};
 
 #[cfg(test)]
 mod tests;

@@ -1,51 +1,8 @@
 //! The rows of a script, and why one is refused.
 
-use book::Name;
-use bytes::Bytes;
-use lrc_code::Code;
+use shared::Ask;
 use std::fmt;
 use thiserror::Error;
-
-/// A call of the store, with its arguments.
-#[derive(Drop)]
-pub enum Ask {
-    /// Puts these bytes under the name, in this code.
-    Put {
-        name: Name,
-        code: Code,
-        bytes: Bytes,
-    },
-    /// Reads `len` bytes from `start` on.
-    Read {
-        name: Name,
-        start: u64,
-        len: u64,
-    },
-    /// Loses a fragment of a stripe.
-    Lose {
-        name: Name,
-        stripe: u64,
-        fragment: u64,
-    },
-    /// Mends a lost fragment of a stripe.
-    Repair {
-        name: Name,
-        stripe: u64,
-        fragment: u64,
-    },
-    /// Deletes the blob.
-    Delete {
-        name: Name,
-    },
-    /// Asks for the blob's shape.
-    Stat {
-        name: Name,
-    },
-    /// Gives up all entries of the journal but the last `keep`.
-    Trim {
-        keep: u64,
-    },
-}
 
 /// What a row asks for.
 #[derive(Drop)]

@@ -1,4 +1,5 @@
-use crate::{Ask, BadScript, Row, Task, Word, script};
+use crate::{BadScript, Row, Task, Word, script};
+use shared::Ask;
 use std::alloc::Global;
 use std::test::Fail;
 

@@ -1,0 +1,102 @@
+//! What a worker gets for a round, and what it gives back.
+
+use book::Plan;
+use mender::{Done, Drawer, Tickets, WorkFault};
+use shared::{Job, Pass, Reply, Stopped};
+use std::snapshot::Snapshot;
+use std::sync::Arc;
+use std::thread::{Promise, PromisedHandle};
+
+/// What a worker is to do in a round, with its pass.
+#[derive(Drop)]
+pub struct Work {
+    /// Its pass.
+    pub pass: Pass,
+    /// What it is to do.
+    pub errand: Errand,
+}
+
+impl Work {
+    /// Whether it is to make calls, and there are none.
+    pub(crate) fn is_idle(&self) -> bool {
+        match &self.errand {
+            Errand::Calls(jobs) => jobs.is_empty(),
+            Errand::Mend(_) => false,
+        }
+    }
+}
+
+/// What a worker is to do.
+#[derive(Drop)]
+pub enum Errand {
+    /// To make these calls, in order.
+    Calls(Vec<Job>),
+    /// To mend items of a plan.
+    Mend(Mending),
+}
+
+/// A worker's part in mending a plan.
+#[derive(Drop)]
+pub struct Mending {
+    /// The row that asks for it.
+    pub row: u32,
+    /// What is lost.
+    pub plan: Arc<Plan>,
+    /// The plan's tickets.
+    pub tickets: Arc<Tickets>,
+    /// The worker's drawer of these tickets.
+    pub drawer: Drawer,
+}
+
+/// What a worker gives back.
+#[derive(Drop)]
+pub struct Ran {
+    /// Its pass.
+    pub pass: Pass,
+    /// What came of its errand.
+    pub outcome: Outcome,
+}
+
+/// What came of an errand.
+#[derive(Drop)]
+pub enum Outcome {
+    /// Of calls.
+    Called(Result<Vec<Reply>, Stopped>),
+    /// Of mending, with the drawer.
+    Mended(Drawer, Mended),
+}
+
+/// What came of mending.
+#[derive(Drop)]
+pub enum Mended {
+    /// The pace did not let the row through: nothing was drawn.
+    Paused,
+    /// The results, or why the worker stopped, with those so far.
+    Worked(Result<Vec<Done>, WorkFault>),
+}
+
+/// Why a round has no results.
+#[derive(Clone, Copy, PartialEq, Eq, Debug)]
+pub enum NotRun {
+    /// A thread can't be started.
+    Start,
+    /// A request for memory was refused.
+    Memory,
+}
+
+/// A promise that a worker did its errand.
+#[derive(Drop)]
+pub(crate) struct DoesErrand(pub(crate) Snapshot<Work>);
+
+impl Promise<Ran> for DoesErrand {
+    ghost use Rattle.rounds.specs.Rounds.{Did};
+
+    ghost kept_by = { λ p r. Did p.0.value r };
+}
+
+/// A worker in its round: on a thread, or with nothing to do.
+#[derive(Drop)]
+pub(crate) enum Started {
+    Busy(PromisedHandle<Ran, DoesErrand>),
+    Idle(Work),
+}
