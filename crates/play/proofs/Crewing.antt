@@ -1,12 +1,12 @@
 -- The passes and drawers of a run's workers.
-use Rattle.std.proofs.Common.{◌≡◌, ◌⊎◌, inl, inr, ℕ, ◌+◌, List, [], ◌∷◌, ◌++◌, map, length, Ok, Err, subst, sym, ap, suc, refl, ◌∙◌}
+use Rattle.std.proofs.Common.{◌≡◌, inl, inr, ℕ, ◌+◌, List, [], ◌∷◌, ◌++◌, length, Ok, Err, subst, sym, ap, suc, refl, ◌∙◌}
 use Rattle.gate.specs.Places.{TableId}
 use Rattle.shared.specs.Passes.{Shows, Which, Stays}
 use Rattle.mender.specs.declared.done.Done.{Done}
 use Rattle.mender.specs.Drawn.{Hand}
 use Rattle.mender.specs.Worked.{Finished}
 use Rattle.book.specs.declared.plan.Item.{Item}
-use Rattle.rounds.specs.Rounds.{AreOf, IsOf, FitsTickets, Did, DidAll, DidErrand, DidMend}
+use Rattle.rounds.specs.Rounds.{AreOf, FitsTickets, DidAll, DidErrand, DidMend}
 use Rattle.rounds.specs.declared.work.Errand.{Errand}
 use Rattle.rounds.specs.declared.work.Errand.TheVariants.{Calls, Mend}
 use Rattle.rounds.specs.declared.work.Mended.TheVariants.{Paused, Worked}
@@ -75,17 +75,25 @@ back store (w ∷ works) [] all did = absurd did
 back store (w ∷ works) (r ∷ rans) all did =
     let same : Stays w.pass r.pass = stays w.pass w.errand r.outcome r.pass did.0 in
     let rest : AreWorkers store (passes_back rans) × (length (passes_back rans) ≡ length (passes_of works)) = back store works rans all.1 did.1 in
-    (((same.0 ∙ all.0.0, same.1.1 ∙ all.0.1), rest.0), ap suc rest.1)
+    (((same.0 ∙ all.0.0, same.2 ∙ all.0.1), rest.0), ap suc rest.1)
+
+-- and with what is left of the first pass their rooms are what they were
+pub crew-back : (store : Which) (room : ℕ) (passes left : List Shows) (works : List Work) (rans : List Ran) → passes_of works ≡ passes → left ≡ passes_back rans
+    → AreWorkers store passes → room + length passes ≡ 64 → DidAll works rans → AreWorkers store left × (room + length left ≡ 64)
+crew-back store room passes left works rans given taken all rooms did =
+    let on : AreWorkers store (passes_back rans) × (length (passes_back rans) ≡ length (passes_of works)) = back store works rans (subst (AreWorkers store) (sym given) all) did in
+    let len : length left ≡ length passes = ap length taken ∙ (on.1 ∙ ap length given) in
+    (subst (AreWorkers store) (sym taken) on.0, subst (λ (n : ℕ). room + n ≡ 64) (sym len) rooms)
 
 drawer-finished : (plan : List Item) (old new : Hand) (done : List Done) → Finished plan old new done → new.tickets ≡ old.tickets
 drawer-finished plan old new done (inl is) = is.0.draws.tickets
-drawer-finished plan old new done (inr is) = is.1.1.draws.tickets
+drawer-finished plan old new done (inr is) = is.2.draws.tickets
 
 drawer-back : (tickets : TableId) (v : Shows) (m : Mending) (o : Outcome) (w : Shows) → DidMend v m o w → m.drawer.tickets ≡ tickets → HasDrawer tickets o
 drawer-back tickets v m (Called r) w did is = absurd did
 drawer-back tickets v m (Mended drawer Paused) w did is = subst (λ (d : Hand). d.tickets ≡ tickets) (sym did.0) is
 drawer-back tickets v m (Mended drawer (Worked (Ok done))) w did is = drawer-finished m.plan.value.items.items m.drawer drawer done.items did.0 ∙ is
-drawer-back tickets v m (Mended drawer (Worked (Err stop))) w did is = did.0.1.1.1.draws.tickets ∙ is
+drawer-back tickets v m (Mended drawer (Worked (Err stop))) w did is = did.0.3.draws.tickets ∙ is
 
 mender-back : (tickets : TableId) (v : Shows) (e : Errand) (o : Outcome) (w : Shows) → DidErrand v e o w → IsMender tickets e → HasDrawer tickets o
 mender-back tickets v (Calls jobs) o w did is = absurd is

@@ -1,5 +1,5 @@
 -- The passes of a run's workers.
-use Rattle.std.specs.Prelude.{◌≡◌, ℕ, ◌+◌, List, [], ◌∷◌, map, length}
+use Rattle.std.specs.Prelude.{◌≡◌, ◌+◌, List, [], ◌∷◌, map, length}
 use Rattle.gate.specs.Places.{TableId}
 use Rattle.shared.specs.Passes.{Shows, Which}
 use Rattle.rounds.specs.declared.work.Errand.{Errand}

@@ -4,7 +4,7 @@ ghost use Rattle.std.specs.List.{All};
 ghost use Rattle.play.specs.Crews.{IsCrew, AreCalls, passes_of};
 
 use crate::crew::{Crew, parted};
-use crate::fail::Fail;
+use crate::fail::Halt;
 use crate::outcome::{Done, RowOutcome};
 use rounds::{Errand, Outcome, Work, run_round};
 use shared::{Ask, Cause, Job, Pace, Pass, Reply, Stopped, Store};
@@ -73,14 +73,18 @@ fn works_of(alloc: Global, passes: Vec<Pass>, calls: Vec<Call>) -> Result<Vec<Wo
 }
 
 /// The replies of one worker's calls, or why it stopped.
-fn replies_of(alloc: Global, outcome: Outcome) -> Result<Vec<Reply>, Fail> {
+fn replies_of(alloc: Global, outcome: Outcome) -> Result<Vec<Reply>, Halt> {
     match outcome {
         Outcome::Called(Ok(replies)) => Ok(replies),
-        Outcome::Called(Err(Stopped {
-            cause: Cause::NoMemory,
-            ..
-        })) => Err(Fail::Memory),
-        Outcome::Called(Err(_)) => Err(Fail::Paused),
+        Outcome::Called(
+            Err(
+                Stopped {
+                    cause: Cause::NoMemory,
+                    ..
+                },
+            ),
+        ) => Err(Halt::Memory),
+        Outcome::Called(Err(_)) => Err(Halt::Paused),
         Outcome::Mended(..) => Ok(Vec::new(alloc)),
     }
 }
@@ -91,7 +95,7 @@ fn note(
     numbers: Vec<Vec<u32>>,
     outcomes: Vec<Outcome>,
     done: &mut Vec<Done>,
-) -> Result<(), Fail> {
+) -> Result<(), Halt> {
     let mut told = Ok(());
     for (numbers, outcome) in numbers.into_iter().zip(outcomes) {
         match replies_of(alloc, outcome) {
@@ -101,7 +105,7 @@ fn note(
                     done.push(Done { number, outcome })?;
                 }
             }
-            Err(fail) => told = Err(fail.over(told)),
+            Err(halt) => told = Err(halt.over(told)),
         }
     }
     told
@@ -116,7 +120,7 @@ pub(crate) fn run_calls<R: Threads + Wait + Sync, P: Pace + Sync>(
     calls: Vec<Call>,
     pace: &P,
     done: &mut Vec<Done>,
-) -> Result<Crew, Fail>
+) -> Result<Crew, Halt>
     requires { IsCrew store.now crew }
     ensures { IfOk result (IsCrew store.now) }
 {

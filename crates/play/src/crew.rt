@@ -1,8 +1,8 @@
 //! The workers of a run, each with a pass of its own.
-ghost use Rattle.std.specs.Prelude.{◌≡◌, ◌≤◌, IfOk, IfErr};
+ghost use Rattle.std.specs.Prelude.{◌≡◌, ◌≤◌, IfOk};
 ghost use Rattle.play.specs.Crews.{IsCrew, passes_back, outcomes_of};
 
-use crate::fail::Fail;
+use crate::fail::Halt;
 use rounds::{Outcome, Ran};
 use shared::{Pass, Store};
 use std::alloc::{AllocError, Global};
@@ -20,20 +20,17 @@ pub(crate) fn hire(
     store: &Store,
     mut first: Pass,
     workers: u32,
-) -> Result<Crew, Fail>
+) -> Result<Crew, Halt>
     requires store { first.store ≡ store.now }
     requires room { first.room ≡ 64 }
     requires few { workers ≤ 16 }
-    ensures crew { IfOk result (IsCrew store.now) }
-    ensures fails { IfErr result (λ fail. fail ≡ Fail.Memory) }
+    ensures { IfOk result (IsCrew store.now) }
 {
-    let Ok(mut passes) = Vec::with_capacity(alloc, workers as usize) else {
-        return Err(Fail::Memory);
-    };
+    let mut passes = Vec::with_capacity(alloc, workers as usize)?;
     for worker in 0..workers {
         match first.split(store, worker + 1) {
             Ok(pass) => passes.push_reserved(pass),
-            Err(_) => return Err(Fail::Memory),
+            Err(_) => return Err(Halt::Memory),
         }
     }
     Ok(Crew { first, passes })
@@ -53,10 +50,7 @@ pub(crate) fn dismiss(crew: Crew, store: &Store) -> Pass
 }
 
 /// The passes that came back from a round, and what came of the workers' errands.
-pub(crate) fn parted(
-    alloc: Global,
-    rans: Vec<Ran>,
-) -> Result<(Vec<Pass>, Vec<Outcome>), AllocError>
+pub(crate) fn parted(alloc: Global, rans: Vec<Ran>) -> Result<(Vec<Pass>, Vec<Outcome>), AllocError>
     ensures passes { IfOk result (λ r. r.0.items ≡ passes_back rans.items) }
     ensures outcomes { IfOk result (λ r. r.1.items ≡ outcomes_of rans.items) }
 {

@@ -2,7 +2,7 @@
 
 use rounds::NotRun;
 use script::BadScript;
-use std::alloc::AllocError;
+use std::alloc::{AllocError, AllocFailed};
 use thiserror::Error;
 
 /// Why a run has no output.
@@ -41,27 +41,61 @@ impl Fail {
             Fail::Script(BadScript::Refused { .. }) | Fail::Read | Fail::Write => 1,
         }
     }
+}
 
+/// Why a run stopped before its end.
+#[derive(Clone, Copy, PartialEq, Eq, Debug)]
+pub(crate) enum Halt {
+    /// A request for memory was refused.
+    Memory,
+    /// A worker's thread can't be started.
+    Start,
+    /// A row was not let through by `before`.
+    Paused,
+}
+
+impl Halt {
     /// Of this reason and one that may have been told before, the one to be told: want of memory before a pause.
-    pub(crate) fn over(self, told: Result<(), Fail>) -> Fail {
+    pub(crate) fn over(self, told: Result<(), Halt>) -> Halt {
         match told {
-            Err(Fail::Memory) => Fail::Memory,
+            Err(Halt::Memory) => Halt::Memory,
             _ => self,
         }
     }
 }
 
-impl From<AllocError> for Fail {
-    fn from(_error: AllocError) -> Fail {
-        Fail::Memory
+impl From<AllocError> for Halt {
+    fn from(_error: AllocError) -> Halt {
+        Halt::Memory
     }
 }
 
-impl From<NotRun> for Fail {
-    fn from(error: NotRun) -> Fail {
+impl<T: Drop> From<AllocFailed<T>> for Halt {
+    fn from(_error: AllocFailed<T>) -> Halt {
+        Halt::Memory
+    }
+}
+
+impl From<NotRun> for Halt {
+    fn from(error: NotRun) -> Halt {
         match error {
-            NotRun::Start => Fail::Start,
-            NotRun::Memory => Fail::Memory,
+            NotRun::Memory => Halt::Memory,
+            NotRun::Start => Halt::Start,
+        }
+    }
+}
+
+impl From<Halt> for Fail {
+    ghost use Rattle.std.specs.Prelude.{ℕ, List};
+    ghost use Rattle.play.specs.Fails.{Tells};
+
+    fn from(halt: Halt) -> Fail
+        ensures { (workers : ℕ) (text : List ℕ) → Tells workers text result }
+    {
+        match halt {
+            Halt::Memory => Fail::Memory,
+            Halt::Start => Fail::Start,
+            Halt::Paused => Fail::Paused,
         }
     }
 }

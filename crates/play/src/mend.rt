@@ -3,10 +3,10 @@ ghost use Rattle.std.specs.Prelude.{◌≡◌, IfOk};
 ghost use Rattle.play.specs.Crews.{IsCrew, AreMenders, HaveDrawers, passes_of};
 
 use crate::crew::{Crew, parted};
-use crate::fail::Fail;
+use crate::fail::Halt;
 use crate::outcome::{Done, RowOutcome};
 use book::{Fault, Plan};
-use mender::{Drawer, Gather, Tickets, WorkFault, gather, scrub};
+use mender::{Done as Mend, Drawer, Gather, Tickets, gather, scrub};
 use rounds::{Errand, Mended, Mending, Outcome, Work, run_round};
 use shared::{Pace, Pass, Store};
 use std::alloc::{AllocError, Global};
@@ -40,6 +40,24 @@ fn works_of(
     Ok(works)
 }
 
+/// Why a worker has no results.
+enum Stop {
+    /// The journal was full.
+    Full,
+    /// The run ends.
+    Halted(Halt),
+}
+
+/// The results of one worker.
+fn results_of(mended: Mended) -> Result<Vec<Mend>, Stop> {
+    match mended {
+        Mended::Worked(Ok(done)) => Ok(done),
+        Mended::Worked(Err(stopped)) if stopped.fault == Fault::JournalFull => Err(Stop::Full),
+        Mended::Worked(Err(_stopped)) => Err(Stop::Halted(Halt::Memory)),
+        Mended::Paused => Err(Stop::Halted(Halt::Paused)),
+    }
+}
+
 /// What came of the workers' parts, put together: the drawers are joined, and the results gathered. Want of memory is told before a pause.
 fn gathered(
     alloc: Global,
@@ -47,7 +65,7 @@ fn gathered(
     tickets: &Tickets,
     mut drawer: Drawer,
     outcomes: Vec<Outcome>,
-) -> Result<RowOutcome, Fail>
+) -> Result<RowOutcome, Halt>
     requires first { drawer.tickets ≡ tickets.now }
     requires others { HaveDrawers tickets.now outcomes.items }
 {
@@ -55,18 +73,16 @@ fn gathered(
     let mut told = Ok(());
     let mut is_full = false;
     for outcome in outcomes {
-        let Outcome::Mended(other, mended) = outcome else {
-            continue;
-        };
-        drawer.join(tickets, other);
-        match mended {
-            Mended::Worked(Ok(mut done)) => all.append(&mut done)?,
-            Mended::Worked(Err(WorkFault {
-                fault: Fault::JournalFull,
-                ..
-            })) => is_full = true,
-            Mended::Worked(Err(_)) => told = Err(Fail::Memory.over(told)),
-            Mended::Paused => told = Err(Fail::Paused.over(told)),
+        match outcome {
+            Outcome::Called(_called) => {}
+            Outcome::Mended(other, mended) => {
+                drawer.join(tickets, other);
+                match results_of(mended) {
+                    Ok(mut done) => all.append(&mut done)?,
+                    Err(Stop::Full) => is_full = true,
+                    Err(Stop::Halted(halt)) => told = Err(halt.over(told)),
+                }
+            }
         }
     }
     told?;
@@ -75,7 +91,7 @@ fn gathered(
     }
     match gather(alloc, plan, all) {
         Ok(report) => Ok(RowOutcome::Mended(report)),
-        Err(Gather::NoMemory) => Err(Fail::Memory),
+        Err(Gather::NoMemory) => Err(Halt::Memory),
         Err(_) => Ok(RowOutcome::Incomplete),
     }
 }
@@ -89,13 +105,13 @@ pub(crate) fn mend<R: Threads + Wait + Sync, P: Pace + Sync>(
     number: u32,
     pace: &P,
     done: &mut Vec<Done>,
-) -> Result<Crew, Fail>
+) -> Result<Crew, Halt>
     requires { IsCrew store.now crew }
     ensures { IfOk result (IsCrew store.now) }
 {
     let Crew { mut first, passes } = crew;
     let Ok((plan, tickets, mut drawer)) = scrub(rt, alloc, store, &mut first) else {
-        return Err(Fail::Memory);
+        return Err(Halt::Memory);
     };
     let (plan, tickets) = (Arc::new(alloc, plan)?, Arc::new(alloc, tickets)?);
     let works = works_of(alloc, passes, number, &plan, &tickets, &mut drawer)?;

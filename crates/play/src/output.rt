@@ -3,8 +3,8 @@ ghost use Rattle.std.specs.Prelude.{◌≡◌, IfOk, codes, string_bytes};
 ghost use Rattle.history.specs.Lawful.{IsLawfulFrom};
 ghost use Rattle.play.specs.Output.{IsOutput};
 
-use crate::reply::reply_to;
 use crate::outcome::Done;
+use crate::reply::reply_to;
 use book::{Book, Entry, is_lawful_from};
 use lrc_code::Plans;
 use std::alloc::{AllocError, Global};

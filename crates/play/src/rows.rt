@@ -4,7 +4,7 @@ ghost use Rattle.play.specs.Crews.{IsCrew};
 
 use crate::calls::{Call, run_calls};
 use crate::crew::Crew;
-use crate::fail::Fail;
+use crate::fail::Halt;
 use crate::mend::mend;
 use crate::outcome::Done;
 use script::{Row, Task};
@@ -22,7 +22,7 @@ pub(crate) fn run_rows<R: Threads + Wait + Sync, P: Pace + Sync>(
     crew: Crew,
     rows: Vec<Row>,
     pace: &P,
-) -> Result<(Crew, Vec<Done>), Fail>
+) -> Result<(Crew, Vec<Done>), Halt>
     requires { IsCrew store.now crew }
     ensures { IfOk result (λ r. IsCrew store.now r.0) }
 {

@@ -53,11 +53,11 @@ fn run<R: Threads + Wait + Sync, P: Pace + Sync>(
     };
     let crew = match hire(alloc, &store, first, options.workers) {
         Ok(crew) => crew,
-        Err(_) => return Err(Fail::Memory),
+        Err(halt) => return Err(Fail::from(halt)),
     };
     let (crew, mut done) = match run_rows(rt, alloc, &store, crew, rows, pace) {
         Ok(ran) => ran,
-        Err(fail) => return Err(fail),
+        Err(halt) => return Err(Fail::from(halt)),
     };
     done.sort_unstable_by_key(|one| one.number);
     let pass = dismiss(crew, &store);

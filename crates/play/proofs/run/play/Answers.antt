@@ -11,3 +11,7 @@ of_every P (Some x) h = h x
 pub returns-in-Err-clause-refused : goal.returns-in-Err-clause-refused
 returns-in-Err-clause-refused g c =
     of_every (λ text. Tells c.args.options.now.workers text c.in-Err.fail) (g.R.Read.remaining c.args.input) (c.in-Err.ensures.fails c.args.options.now.workers)
+
+pub returns-in-Err-run-clause-refused : goal.returns-in-Err-run-clause-refused
+returns-in-Err-run-clause-refused g c =
+    of_every (λ text. Tells c.args.options.now.workers text c.in-Err-run.fail) (g.R.Read.remaining c.args.input) (c.in-Err-run.ensures.fails c.args.options.now.workers)
