@@ -2,54 +2,88 @@
 //! It prints the words of each run, and ends with status 1 at the first that prints something else.
 #![tactic(auto)]
 
-use anyhow::{Context, Result, bail, ensure};
+ghost use Rattle.std.specs.Prelude.{IfOk};
+ghost use Rattle.command_line.specs.Ranges.{InRange};
+
+use anyhow::{Result, bail, ensure};
 use command_line::{BadLine, Options, options};
-use play::play;
+use play::{Always, play};
 use std::fs;
 use std::fs::File;
 
-/// The words of each run, without the program's name.
-const RUNS: [&[&str]; 5] = [
-    &["first_path.csv", "--workers", "2"],
-    &["degraded_read.csv", "--history"],
-    &["repair.csv", "--history"],
-    &["unrecoverable.csv"],
-    &["trimmed_journal.csv", "--limit", "3", "--history"],
-];
-
-/// The text that a run has to print: it stands beside the script, with the ending `.txt`.
-fn wanted(rt: &HostRuntime, options: &Options) -> Result<String> {
-    let Some(name) = options.script.as_str().strip_suffix(".csv") else {
-        bail!("no script");
-    };
-    let path = format!(in rt.alloc(); "{name}.txt")?;
-    Ok(fs::read_to_string(rt, path.as_str())?)
+/// A run: its words, without the program's name, and the texts of which it prints one. It has several where the order in which workers enter the store shows.
+struct Run {
+    words: &'static [&'static str],
+    texts: &'static [&'static str],
 }
 
-/// Runs a script and compares what it prints.
-fn compare(rt: &HostRuntime, words: &[&str]) -> Result<()> {
-    let options = match options(rt.alloc(), words) {
-        Ok(options) => options,
+const RUNS: [Run; 7] = [
+    Run {
+        words: &["first_path.csv", "--workers", "2"],
+        texts: &["first_path.txt"],
+    },
+    Run {
+        words: &["degraded_read.csv", "--history"],
+        texts: &["degraded_read.txt"],
+    },
+    Run {
+        words: &["repair.csv", "--history"],
+        texts: &["repair.txt"],
+    },
+    Run {
+        words: &["unrecoverable.csv"],
+        texts: &["unrecoverable.txt"],
+    },
+    Run {
+        words: &["trimmed_journal.csv", "--limit", "3", "--history"],
+        texts: &["trimmed_journal.txt"],
+    },
+    Run {
+        words: &["two_workers.csv", "--workers", "2"],
+        texts: &["two_workers_first.txt", "two_workers_second.txt"],
+    },
+    Run {
+        words: &["mend.csv", "--workers", "4"],
+        texts: &["mend.txt"],
+    },
+];
+
+/// Whether one of the files has just this text.
+fn is_one_of(rt: &HostRuntime, printed: &[u8], texts: &[&str]) -> Result<bool> {
+    for path in texts {
+        if fs::read_to_string(rt, *path)?.as_bytes() == printed {
+            return Ok(true);
+        }
+    }
+    Ok(false)
+}
+
+/// The options that words give.
+fn options_of(rt: &HostRuntime, words: &[&str]) -> Result<Options>
+    ensures width { IfOk result (λ options. InRange options.width 65536) }
+    ensures workers { IfOk result (λ options. InRange options.workers 16) }
+    ensures limit { IfOk result (λ options. InRange options.limit 1048576) }
+{
+    match options(rt.alloc(), words) {
+        Ok(options) => Ok(options),
         Err(BadLine::Clap(_)) => bail!("the words are refused"),
         Err(BadLine::NoMemory) => bail!("out of memory"),
-    };
-    let script = File::open(rt, options.script.as_str())?;
-    let mut printed: Vec<u8> = Vec::new(rt.alloc());
-    play(rt.alloc(), &options, script, &mut printed)?;
-    let wanted = wanted(rt, &options)?;
-    ensure!(
-        printed.as_slice() == wanted.as_bytes(),
-        "another text is printed"
-    );
-    Ok(())
+    }
 }
 
 fn main(rt: HostRuntime) -> Result<()> {
-    for words in RUNS {
-        for word in words {
+    for run in &RUNS {
+        for word in run.words {
             print!(rt; "{word} ")?;
         }
-        compare(&rt, words).context("failed")?;
+        let options = options_of(&rt, run.words)?;
+        let script = File::open(&rt, options.script.as_str())?;
+        let mut printed: Vec<u8> = Vec::new(rt.alloc());
+        play(&rt, rt.alloc(), &options, script, &mut printed, &Always)?;
+        ensure!(
+            is_one_of(&rt, printed.as_slice(), run.texts)?,
+            "another text is printed"
+        );
         println!(rt; "prints its text")?;
     }
     Ok(())

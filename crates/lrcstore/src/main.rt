@@ -1,8 +1,11 @@
 //! The program: its words, its script and its output.
 #![tactic(auto)]
 
-use command_line::{BadLine, options};
-use play::{Fail, play};
+ghost use Rattle.std.specs.Prelude.{IfOk};
+ghost use Rattle.command_line.specs.Ranges.{InRange};
+
+use command_line::{BadLine, Options, options};
+use play::{Always, Fail, play};
 use std::fs::File;
 use std::process::ExitCode;
 use std::{env, io};
@@ -14,8 +17,12 @@ fn ended<R: Eprint>(rt: &R, fail: Fail) -> ExitCode {
     ExitCode::from(fail.status())
 }
 
-/// Runs the program on its words, and says how it ends where it has no output.
-fn run(rt: &HostRuntime) -> Result<(), ExitCode> {
+/// The options that the program's words give, and the script's file; else how the program ends.
+fn opened(rt: &HostRuntime) -> Result<(Options, File), ExitCode>
+    ensures width { IfOk result (λ r. InRange r.0.width 65536) }
+    ensures workers { IfOk result (λ r. InRange r.0.workers 16) }
+    ensures limit { IfOk result (λ r. InRange r.0.limit 1048576) }
+{
     let alloc = rt.alloc();
     let words: Vec<String> = match env::args(rt) {
         Ok(words) => words.collect(alloc).map_err(|_| ended(rt, Fail::Memory))?,
@@ -41,18 +48,26 @@ fn run(rt: &HostRuntime) -> Result<(), ExitCode> {
         }
         Err(BadLine::NoMemory) => return Err(ended(rt, Fail::Memory)),
     };
-    let Ok(file) = File::open(rt, options.script.as_str()) else {
-        return Err(ended(rt, Fail::Read));
-    };
-    match play(alloc, &options, file, &mut io::writer(rt)) {
-        Ok(()) => Ok(()),
-        Err(fail) => Err(ended(rt, fail)),
+    match File::open(rt, options.script.as_str()) {
+        Ok(file) => Ok((options, file)),
+        Err(_) => Err(ended(rt, Fail::Read)),
     }
 }
 
 fn main(rt: HostRuntime) -> ExitCode {
-    match run(&rt) {
+    let (options, file) = match opened(&rt) {
+        Ok(opened) => opened,
+        Err(status) => return status,
+    };
+    match play(
+        &rt,
+        rt.alloc(),
+        &options,
+        file,
+        &mut io::writer(&rt),
+        &Always,
+    ) {
         Ok(()) => ExitCode::SUCCESS,
-        Err(status) => status,
+        Err(fail) => ended(&rt, fail),
     }
 }

@@ -7,11 +7,13 @@ mod fail;
 mod mend;
 mod outcome;
 mod output;
+mod pace;
 mod reply;
 mod rows;
 mod run;
 
 pub use fail::Fail;
+pub use pace::Always;
 pub use run::play;
 
 #[cfg(test)]

@@ -1,6 +1,6 @@
 ghost use Rattle.std.specs.Prelude.{◌≡◌, IfOk};
 
-use crate::{Fail as PlayFail, play};
+use crate::{Always, Fail as PlayFail, play};
 use command_line::Options;
 use script::{BadScript, Word};
 use std::alloc::{AllocError, Global};
@@ -92,7 +92,7 @@ fn scripts(rt: HostRuntime) -> Result<(), Fail> {
     for (text, wanted) in &rows {
         let mut out: Vec<u8> = Vec::new(alloc);
         let text: &[u8] = *text;
-        assert_eq!(rt; play(alloc, &options, text, &mut out), Ok(()));
+        assert_eq!(rt; play(&rt, alloc, &options, text, &mut out, &Always), Ok(()));
         assert!(rt; out.as_slice() == *wanted);
     }
     Ok(())
@@ -110,7 +110,7 @@ fn a_row_is_cut(rt: HostRuntime) -> Result<(), Fail> {
         word: Word::Fields,
     };
     assert_eq!(rt;
-        play(alloc, &options, text, &mut out),
+        play(&rt, alloc, &options, text, &mut out, &Always),
         Err(PlayFail::Script(refused))
     );
     assert!(rt; out.is_empty());
@@ -127,13 +127,16 @@ fn broken_ends(rt: HostRuntime) -> Result<(), Fail> {
         let input = Breaking {
             left: &FIRST_PATH[..given],
         };
-        assert_eq!(rt; play(alloc, &options, input, &mut out), Err(PlayFail::Read));
+        assert_eq!(rt;
+            play(&rt, alloc, &options, input, &mut out, &Always),
+            Err(PlayFail::Read)
+        );
         assert!(rt; out.is_empty());
     }
     for room in 0..FIRST_OUTPUT.len() {
         let mut narrow = Narrow { room };
         assert_eq!(rt;
-            play(alloc, &options, FIRST_PATH, &mut narrow),
+            play(&rt, alloc, &options, FIRST_PATH, &mut narrow, &Always),
             Err(PlayFail::Write)
         );
     }
@@ -142,3 +145,4 @@ fn broken_ends(rt: HostRuntime) -> Result<(), Fail> {
 
 mod bent;
 mod degraded;
+mod workers;

@@ -1,10 +1,12 @@
 //! Scripts that are cut, bent or too large.
 
 use super::{options, two_workers};
-use crate::{Fail as PlayFail, play};
+use crate::{Always, Fail as PlayFail, play};
 use script::{BadScript, Word};
-use std::alloc::AllocError;
+use std::alloc::{AllocError, Global};
+use std::sync::Wait;
 use std::test::Fail;
+use std::thread::Threads;
 
 /// What a script comes to: its output, or the row and the word that refuse it.
 #[derive(Clone, Copy, PartialEq, Eq, Debug)]
@@ -14,11 +16,16 @@ enum End {
 }
 
 /// Whether a script with one worker ends so.
-fn ends(rt: &HostRuntime, text: &[u8], end: End) -> Result<bool, AllocError> {
-    let mut options = options(rt.alloc(), 1, 4096, false)?;
+fn ends<R: Threads + Wait + Sync>(
+    rt: &R,
+    alloc: Global,
+    text: &[u8],
+    end: End,
+) -> Result<bool, AllocError> {
+    let mut options = options(alloc, 1, 4096, false)?;
     options.workers = 1;
-    let mut out: Vec<u8> = Vec::new(rt.alloc());
-    let result = play(rt.alloc(), &options, text, &mut out);
+    let mut out: Vec<u8> = Vec::new(alloc);
+    let result = play(rt, alloc, &options, text, &mut out, &Always);
     Ok(match end {
         End::Prints(wanted) => result == Ok(()) && out.as_slice() == wanted,
         End::Refuses(row, word) => {
@@ -31,6 +38,7 @@ fn ends(rt: &HostRuntime, text: &[u8], end: End) -> Result<bool, AllocError> {
 /// Two rows, cut after each number of bytes.
 #[test]
 fn cut_anywhere(rt: HostRuntime) -> Result<(), Fail> {
+    let alloc = rt.alloc();
     let text: &[u8] = b"1,1,put,a,text,AB\n1,1,read,a,0,2\n";
     for n in 0..text.len() + 1 {
         let end = match n {
@@ -41,7 +49,7 @@ fn cut_anywhere(rt: HostRuntime) -> Result<(), Fail> {
             31 => End::Refuses(2, Word::Argument),
             _ => End::Prints(b"1 stored 1\n2 granted 1 2 0 4142\ncalls 2\nlawful yes\n"),
         };
-        assert!(rt; ends(&rt, &text[..n], end)?, "{n}");
+        assert!(rt; ends(&rt, alloc, &text[..n], end)?, "{n}");
     }
     Ok(())
 }
@@ -69,10 +77,13 @@ fn bent_rows(rt: HostRuntime) -> Result<(), Fail> {
     ];
     for (row, word) in rows {
         let text = format!(in alloc; "1,1,put,a,text,ABCDEFGHIJKL\n{row}\n")?;
-        assert!(rt; ends(&rt, text.as_bytes(), End::Refuses(2, word))?, "{row}");
+        assert!(rt;
+            ends(&rt, alloc, text.as_bytes(), End::Refuses(2, word))?,
+            "{row}"
+        );
     }
     let no_utf8: &[u8] = b"1,1,put,a,text,AB\n1,1,stat,\xff,,\n";
-    assert!(rt; ends(&rt, no_utf8, End::Refuses(2, Word::Name))?);
+    assert!(rt; ends(&rt, alloc, no_utf8, End::Refuses(2, Word::Name))?);
     Ok(())
 }
 
@@ -83,7 +94,10 @@ fn too_many_rows(rt: HostRuntime) -> Result<(), Fail> {
     let options = two_workers(alloc)?;
     let mut text = "1,1,stat,a,,\n".repeat(alloc, 65536)?;
     let mut out: Vec<u8> = Vec::new(alloc);
-    assert_eq!(rt; play(alloc, &options, text.as_bytes(), &mut out), Ok(()));
+    assert_eq!(rt;
+        play(&rt, alloc, &options, text.as_bytes(), &mut out, &Always),
+        Ok(())
+    );
     assert!(rt;
         out.as_slice()
             .ends_with(b"\n65536 full\ncalls 4096\nlawful yes\n")
@@ -95,7 +109,7 @@ fn too_many_rows(rt: HostRuntime) -> Result<(), Fail> {
         word: Word::Rows,
     };
     assert_eq!(rt;
-        play(alloc, &options, text.as_bytes(), &mut out),
+        play(&rt, alloc, &options, text.as_bytes(), &mut out, &Always),
         Err(PlayFail::Script(refused))
     );
     assert!(rt; out.is_empty());

@@ -1,0 +1,15 @@
+//! How a run goes on.
+
+use shared::Pace;
+
+/// The pace that lets every row through at once.
+#[derive(Clone, Copy, Drop)]
+pub struct Always;
+
+impl Pace for Always {
+    fn before(&self, _row: u32) -> bool {
+        true
+    }
+
+    fn after(&self, _row: u32) {}
+}
