@@ -47,7 +47,7 @@ impl Write for Narrow {
 
 /// The options of a run with two workers.
 fn options(alloc: Global, width: u32, limit: u32, history: bool) -> Result<Options, AllocError>
-    ensures { IfOk result (λ options. (options.width ≡ width) × (options.limit ≡ limit)) }
+    ensures { IfOk result (λ options. (options.workers ≡ 2) × (options.width ≡ width) × (options.limit ≡ limit)) }
 {
     Ok(Options {
         script: String::from_str(alloc, "script.csv")?,
@@ -59,7 +59,7 @@ fn options(alloc: Global, width: u32, limit: u32, history: bool) -> Result<Optio
 }
 
 fn two_workers(alloc: Global) -> Result<Options, AllocError>
-    ensures { IfOk result (λ options. (options.width ≡ 1) × (options.limit ≡ 4096)) }
+    ensures { IfOk result (λ options. (options.workers ≡ 2) × (options.width ≡ 1) × (options.limit ≡ 4096)) }
 {
     options(alloc, 1, 4096, false)
 }

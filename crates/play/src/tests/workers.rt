@@ -1,14 +1,18 @@
 //! Workers on threads of their own, and mends by all of them.
 ghost use Rattle.std.specs.Prelude.{◌≡◌, IfOk};
+ghost use Rattle.command_line.specs.Ranges.{InRange};
 
 use super::options;
 use crate::{Always, Fail as PlayFail, play};
 use command_line::Options;
 use shared::Pace;
 use std::alloc::{AllocError, Global};
+use std::process::Abort;
+use std::sync::Wait;
 use std::sync::atomic::{AtomicBool, AtomicU32, Ordering};
 use std::test::Fail;
 use std::thread;
+use std::thread::Threads;
 
 /// The options of a run with so many workers.
 fn with_workers(alloc: Global, workers: u32, limit: u32) -> Result<Options, AllocError>
@@ -140,27 +144,39 @@ fn two_menders_meet(rt: HostRuntime) -> Result<(), Fail> {
     Ok(())
 }
 
-/// Any number of workers mends all, and a full journal is told.
+/// So many workers mend all, and tell a full journal.
+fn mends_by<R: Threads + Wait + Sync + Abort>(
+    rt: &R,
+    alloc: Global,
+    workers: u32,
+) -> Result<(), AllocError>
+    requires { InRange workers 16 }
+{
+    let mut out: Vec<u8> = Vec::new(alloc);
+    let options = with_workers(alloc, workers, 4096)?;
+    assert_eq!(rt;
+        play(rt, alloc, &options, TWO_LOST, &mut out, &Always),
+        Ok(())
+    );
+    assert!(rt; out.as_slice() == TWO_MENDED);
+    let mut out: Vec<u8> = Vec::new(alloc);
+    let options = with_workers(alloc, workers, 4)?;
+    assert_eq!(rt;
+        play(rt, alloc, &options, TWO_LOST, &mut out, &Always),
+        Ok(())
+    );
+    let full: &[u8] = b"1 stored 1\n2 lost 1\n3 lost 1\n4 full\n5 full\ncalls 4\nlawful yes\n";
+    assert!(rt; out.as_slice() == full);
+    Ok(())
+}
+
+/// Any number of workers mends all.
 #[test]
 fn mends(rt: HostRuntime) -> Result<(), Fail> {
     let alloc = rt.alloc();
-    for workers in [1, 2, 16] {
-        let options = with_workers(alloc, workers, 4096)?;
-        let mut out: Vec<u8> = Vec::new(alloc);
-        assert_eq!(rt;
-            play(&rt, alloc, &options, TWO_LOST, &mut out, &Always),
-            Ok(())
-        );
-        assert!(rt; out.as_slice() == TWO_MENDED);
-        let short = with_workers(alloc, workers, 4)?;
-        let mut out: Vec<u8> = Vec::new(alloc);
-        assert_eq!(rt;
-            play(&rt, alloc, &short, TWO_LOST, &mut out, &Always),
-            Ok(())
-        );
-        let full: &[u8] = b"1 stored 1\n2 lost 1\n3 lost 1\n4 full\n5 full\ncalls 4\nlawful yes\n";
-        assert!(rt; out.as_slice() == full);
-    }
+    mends_by(&rt, alloc, 1)?;
+    mends_by(&rt, alloc, 2)?;
+    mends_by(&rt, alloc, 16)?;
     Ok(())
 }
 

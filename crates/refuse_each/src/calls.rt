@@ -1,0 +1,117 @@
+//! Calls that are made once more where memory is refused.
+ghost use Rattle.std.specs.Prelude.{◌≡◌};
+ghost use Rattle.shared.specs.Passes.{Stays};
+
+use book::{Answer, Fault, Name};
+use bytes::Bytes;
+use lrc_code::Code;
+use shared::{Pass, Store};
+use std::alloc::Global;
+use std::process::Abort;
+use std::sync::Wait;
+
+/// A blob of one stripe of width 1: its code, its bytes, and the fragments that are lost, by number.
+#[derive(Drop)]
+pub(crate) struct Case {
+    pub code: Code,
+    pub bytes: &'static [u8],
+    pub lost: [u8; 4],
+}
+
+/// A call, with what it answers where it needs saying.
+#[derive(Clone, Copy)]
+pub(crate) enum Step {
+    Put,
+    Lose(u8),
+    Repair(u8),
+    /// Keeps two entries, and gives up so many.
+    Trim(u64),
+    Stat,
+}
+
+/// Makes a call, and tells whether it answers as with ample memory.
+fn once<R: Wait>(
+    rt: &R,
+    alloc: Global,
+    store: &Store,
+    pass: &mut Pass,
+    case: &Case,
+    step: Step,
+) -> Result<bool, Fault>
+    requires { pass.old.store ≡ store.now }
+    ensures { Stays pass.old pass.new }
+{
+    let name = Name::new("a")?;
+    Ok(match step {
+        Step::Put => {
+            let bytes = Bytes::from_static(case.bytes);
+            matches!(
+                store.put_as(rt, alloc, pass, name, bytes, case.code)?,
+                Answer::Stored(1)
+            )
+        }
+        Step::Lose(f) => {
+            matches!(
+                store.lose(rt, alloc, pass, name, 0, u64::from(f))?,
+                Answer::Lost(1)
+            )
+        }
+        Step::Repair(f) => {
+            matches!(
+                store.repair(rt, alloc, pass, name, 0, u64::from(f))?,
+                Answer::Repaired(1)
+            )
+        }
+        Step::Trim(count) => store.trim(rt, alloc, pass, 2)? == count,
+        Step::Stat => matches!(
+            store.stat(rt, pass, name)?,
+            Answer::Shape {
+                version: 1,
+                stripes: 1,
+                lost: 0,
+                ..
+            }
+        ),
+    })
+}
+
+/// Whether just these fragments are lost.
+pub(crate) fn are_lost<R: Wait>(
+    rt: &R,
+    alloc: Global,
+    store: &Store,
+    pass: &mut Pass,
+    lost: &[u8],
+) -> bool
+    requires { pass.old.store ≡ store.now }
+    ensures { Stays pass.old pass.new }
+{
+    match store.plan(rt, alloc, pass) {
+        Ok(plan) => {
+            plan.items.len() == lost.len()
+                && plan.items.iter().zip(lost).all(|(item, f)| item.f == *f)
+        }
+        Err(_) => false,
+    }
+}
+
+/// Makes a call, and once more where memory is refused: what is lost is as it was before.
+pub(crate) fn make<R: Wait + Abort>(
+    rt: &R,
+    alloc: Global,
+    store: &Store,
+    pass: &mut Pass,
+    case: &Case,
+    step: Step,
+    lost: &[u8],
+)
+    requires { pass.old.store ≡ store.now }
+    ensures { Stays pass.old pass.new }
+{
+    let mut answer = once(rt, alloc, store, pass, case, step);
+    if answer == Err(Fault::NoMemory) {
+        assert!(rt; are_lost(rt, alloc, store, pass, lost));
+        answer = once(rt, alloc, store, pass, case, step);
+    }
+    assert_eq!(rt; answer, Ok(true));
+}
