@@ -4,3 +4,4 @@ pub mod Rule
 pub mod Gathered
 pub mod Worked
 pub mod Mended
+pub mod Line
