@@ -3,7 +3,8 @@ use Rattle.std.proofs.Common.{◌≡◌, ◌⊎◌, ℕ, ◌+◌, ◌<◌, ◌�
 use mathlib.Core.Logic.{dite}
 use native.Mathlib.Decide.{dec_lt}
 use Rattle.std.proofs.lemmas.List.Elements.{All-append, All-nil, All-head, All-tail}
-use Rattle.std.proofs.lemmas.List.Sums.{sum_by-cons}
+use Rattle.std.proofs.lemmas.List.Sums.{sum_by-cons, fold_push}
+use Rattle.std.proofs.lemmas.List.{flat_map_more}
 use Rattle.book.specs.declared.plan.Item.{Item}
 use Rattle.gate.specs.Places.{times}
 use Rattle.gate.proofs.Lists.{times-append, times-one}
@@ -76,12 +77,19 @@ many_past plan hand n whole full past drawn = dite (dec_lt n (length hand.drawn)
     (λ not_below. let is = whole full n in let none = once_below-out n (length hand.drawn) (omega arith) in absurd (omega arith))
 
 -- ---- the drawers of all workers
+-- one worker more was joined
+pub joined-snoc : (first : Hand) (crew : List Left) (left : Left) → joined first (crew ++ left ∷ []) ≡ with_hand (joined first crew) left.drawer
+joined-snoc first crew left = fold_push (λ (hand : Hand) (l : Left). with_hand hand l.drawer) first crew left
+
+pub results_of-snoc : (crew : List Left) (left : Left) → results_of (crew ++ left ∷ []) ≡ results_of crew ++ left.done
+results_of-snoc crew left = sym (flat_map_more (λ (l : Left). l.done) [] crew left)
+
 joined_results : (plan : List Item) (hand : Hand) (before : List Done) (crew : List Left) → HasResults plan hand before → All (HasFinished plan) crew
     → HasResults plan (joined hand crew) (before ++ results_of crew)
 joined_results plan hand before [] has all = subst (HasResults plan hand) (sym (append-nil before)) has
 joined_results plan hand before (left ∷ crew) has all =
-    let old : Hand = record left.drawer { allowance = left.given; drawn = [] } in
-    let theirs : HasResults plan left.drawer left.done = finished_on plan old left.drawer [] left.done (no_results plan old refl) (All-head (HasFinished plan) left crew all) in
+    let one = All-head (HasFinished plan) left crew all in
+    let theirs : HasResults plan left.drawer left.done = finished_on plan one.old left.drawer [] left.done (no_results plan one.old one.none) one.finished in
     let both : HasResults plan (with_hand hand left.drawer) (before ++ left.done) = results_joined plan hand left.drawer (with_hand hand left.drawer) before left.done has theirs refl in
     subst (HasResults plan (joined (with_hand hand left.drawer) crew)) (append_assoc before left.done (results_of crew))
     (joined_results plan (with_hand hand left.drawer) (before ++ left.done) crew both (All-tail (HasFinished plan) left crew all))
@@ -115,7 +123,10 @@ joined_share plan hand (left ∷ crew) all =
     let more = joined_share plan (with_hand hand left.drawer) crew (All-tail (HasFinished plan) left crew all) in
     let sum = sum_by-cons (λ (l : Left). l.given) left crew in
     let both = length-append hand.drawn left.drawer.drawn in
-    let own = finished_share plan (record left.drawer { allowance = left.given; drawn = [] }) left.drawer left.done (All-head (HasFinished plan) left crew all) in
+    let one = All-head (HasFinished plan) left crew all in
+    let own = finished_share plan one.old left.drawer left.done one.finished in
+    let given = one.given in
+    let nothing : length one.old.drawn ≡ 0 = ap length one.none in
     omega arith
 
 -- a number past the plan's end was drawn, or all allowances but the first were used up
@@ -134,18 +145,18 @@ past_drawn plan old new done n w =
 crew_ends : (plan : List Item) (hand : Hand) (crew : List Left) → All (HasFinished plan) crew → Ends plan hand (joined hand crew)
 crew_ends plan hand [] all = inr refl
 crew_ends plan hand (left ∷ crew) all =
-    let old : Hand = record left.drawer { allowance = left.given; drawn = [] } in
+    let one = All-head (HasFinished plan) left crew all in
     let next : Hand = with_hand hand left.drawer in ⊎_elim
     (λ t. ⊎_elim
     (λ u. inl u)
     (λ same. let none = t.1 in inr (omega arith))
     (crew_ends plan next crew (All-tail (HasFinished plan) left crew all)))
     (λ t.
-    let own = past_drawn plan old left.drawer left.done t.0 t.2 in
+    let own = past_drawn plan one.old left.drawer left.done t.0 t.2 in
     let both = times-append t.0 hand.drawn left.drawer.drawn in
     let kept = joined_keeps next crew t.0 in
     inl (t.0, t.1, omega arith))
-    (All-head (HasFinished plan) left crew all)
+    one.finished
 
 -- Workers finished with drawers that were split from a first one before anything was drawn, all of which are joined again, and what the first one kept leaves more
 -- numbers than the plan is long. Then their results are complete

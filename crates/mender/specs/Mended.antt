@@ -27,8 +27,11 @@ abbrev pub results_of : List Left → List Done
 results_of crew = flat_map (λ left. left.done) crew
 
 -- its drawer had drawn nothing at first, and it finished
-abbrev pub HasFinished : List Item → Left → Type 0
-HasFinished plan left = Finished plan (record left.drawer { allowance = left.given; drawn = [] }) left.drawer left.done
+pub record HasFinished (plan : List Item) (left : Left) : Type 0 where
+  pub old : Hand
+  pub given : old.allowance ≡ left.given
+  pub none : old.drawn ≡ []
+  pub finished : Finished plan old left.drawer left.done
 
 -- each result is of the plan, and each number below the plan's length has as many results as draws
 pub record HasResults (plan : List Item) (hand : Hand) (done : List Done) : Type 0 where
