@@ -158,8 +158,8 @@ crew_ends plan hand (left ∷ crew) all =
     inl (t.0, t.1, omega arith))
     one.finished
 
--- Workers finished with drawers that were split from a first one before anything was drawn, all of which are joined again, and what the first one kept leaves more
--- numbers than the plan is long. Then their results are complete
+-- Workers finished with drawers that were split from a first one before anything was drawn, and all are joined again. What the first one kept leaves at least as many
+-- numbers as the plan is long. Then their results are complete
 pub complete_joined : (plan : List Item) (first : Hand) (crew : List Left) → first.drawn ≡ [] → first.allowance + sum_by (λ (left : Left). left.given) crew ≡ 2 ^ 40
     → first.allowance + length plan ≤ 2 ^ 40 → All (HasFinished plan) crew → IsWhole (joined first crew) → IsComplete plan (results_of crew)
 complete_joined plan first crew none shares room all whole =
