@@ -58,16 +58,16 @@ stranger_past plan d le of_plan = let lt = slice_get_within plan d.ticket d.item
 pub stranger_other : (plan : List Item) (d : Done) (it : Item) → it ≡ get_or plan d.ticket it → ¬ (it ≡ d.item) → ¬ IsOfPlan plan d
 stranger_other plan d it there other of_plan = other (there ∙ get_or_from_slice_get plan d.ticket d.item it of_plan)
 
-tickets-append : (xs ys : List Done) (n : ℕ) → times n (tickets_of (xs ++ ys)) ≡ times n (tickets_of xs) + times n (tickets_of ys)
+pub tickets-append : (xs ys : List Done) (n : ℕ) → times n (tickets_of (xs ++ ys)) ≡ times n (tickets_of xs) + times n (tickets_of ys)
 tickets-append xs ys n = ap (times n) (map-append (λ d. d.ticket) xs ys) ∙ times-append n (tickets_of xs) (tickets_of ys)
 
 tickets-cons : (d : Done) (ys : List Done) (n : ℕ) → times n (tickets_of (d ∷ ys)) ≡ cond (d.ticket == n) 1 0 + times n (tickets_of ys)
 tickets-cons d ys n = sum_by-cons (λ m. cond (m == n) 1 0) d.ticket (tickets_of ys)
 
-here_one : (n : ℕ) → cond {A = ℕ} (n == n) 1 0 ≡ 1
+pub here_one : (n : ℕ) → cond {A = ℕ} (n == n) 1 0 ≡ 1
 here_one n = ap {B = ℕ} (λ (b : Bool). cond b 1 0) (eq-eqb n n refl)
 
-else_none : (m n : ℕ) → m ≢ n → cond {A = ℕ} (m == n) 1 0 ≡ 0
+pub else_none : (m n : ℕ) → m ≢ n → cond {A = ℕ} (m == n) 1 0 ≡ 0
 else_none m n other = ap {B = ℕ} (λ (b : Bool). cond b 1 0) (ne_eqb m n other)
 
 report-snoc : (xs : List Done) (d : Done) → report_of (xs ++ d ∷ []) ≡ with_answer (report_of xs) d.answer
@@ -128,7 +128,7 @@ judged_more plan before seen report d j lt of_plan unseen =
     }
 
 -- all results are of the plan, so none has a ticket past its end
-none_past : (plan : List Item) (done : List Done) (n : ℕ) → All (IsOfPlan plan) done → length plan ≤ n → times n (tickets_of done) ≡ 0
+pub none_past : (plan : List Item) (done : List Done) (n : ℕ) → All (IsOfPlan plan) done → length plan ≤ n → times n (tickets_of done) ≡ 0
 none_past plan [] n all le = refl
 none_past plan (d ∷ ds) n all le =
     let lt = slice_get_within plan d.ticket d.item (all 0 d (omega arith)) in

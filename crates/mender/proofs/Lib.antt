@@ -3,3 +3,4 @@ pub mod Moves
 pub mod Judged
 pub mod Answering
 pub mod Working
+pub mod Mended

@@ -3,3 +3,5 @@ pub mod Drawn
 pub mod Rule
 pub mod Gathered
 pub mod Worked
+pub mod Mended
+pub mod Line

@@ -15,3 +15,6 @@ pub use report::{Gather, Report};
 pub use results::gather;
 pub use tickets::{Drawer, Tickets};
 pub use workers::{scrub, work};
+
+#[cfg(test)]
+mod tests;

@@ -29,6 +29,11 @@ pub enum Gather {
 
 /// `mended`, and the four numbers: repaired, not lost, gone, unrecoverable.
 impl fmt::Display for Report {
+    ghost use Rattle.std.specs.Prelude.{Some};
+    ghost use Rattle.mender.specs.Line.{report_line};
+
+    ghost output = { λ report. Some (report_line report) };
+
     fn fmt<W: fmt::Write>(&self, f: &mut fmt::Formatter<W>) -> fmt::Result {
         let Report {
             repaired,

@@ -1,0 +1,3 @@
+mod drawing;
+mod gathering;
+mod mending;
