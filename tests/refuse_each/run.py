@@ -1,0 +1,67 @@
+#!/usr/bin/env python3
+"""Refuses each request for memory in turn, over the programs that the gate has built.
+
+The program refuse_each must print the same whichever request is refused. The program lrcstore must end with status 3 and nothing on standard output, or print
+what it prints with ample memory, and never that it was stopped. Run it after `rt ci`, which builds both programs.
+"""
+
+import os
+import subprocess
+import sys
+import tempfile
+
+HERE = os.path.dirname(os.path.abspath(__file__))
+TOP = os.path.dirname(os.path.dirname(HERE))
+DATA = os.path.join(TOP, "crates", "examples", "data")
+RUNS = [
+    ["first_path.csv", "--workers", "2"],
+    ["degraded_read.csv", "--history"],
+    ["trimmed_journal.csv", "--limit", "3", "--history"],
+    ["mend.csv"],
+    ["mend.csv", "--workers", "4"],
+]
+# So many numbers in a row at which nothing was refused end a range: with several threads the count of requests differs between runs.
+BEHIND = 8
+
+
+def refusals(command, library, folder):
+    """The runs of a command in which a request was refused, each with its number."""
+    number, behind = 0, 0
+    while behind < BEHIND:
+        number += 1
+        mark = os.path.join(folder, "refused")
+        variables = {"LD_PRELOAD": library, "REFUSE": str(number), "REFUSED": mark}
+        run = subprocess.run(command, cwd=DATA, env=variables, capture_output=True, timeout=60)
+        if os.path.exists(mark):
+            os.remove(mark)
+            behind = 0
+            yield number, run
+        else:
+            behind += 1
+
+
+def program(name):
+    return os.path.join(TOP, "crates", name, "out", name)
+
+
+def main():
+    wrong, seen = 0, 0
+    with tempfile.TemporaryDirectory() as folder:
+        library = os.path.join(folder, "refuse.so")
+        subprocess.run(["cc", "-O1", "-shared", "-fPIC", "-o", library, os.path.join(HERE, "refuse.c")], check=True)
+        commands = [[program("refuse_each")]] + [[program("lrcstore")] + words for words in RUNS]
+        for command in commands:
+            ample = subprocess.run(command, cwd=DATA, capture_output=True, check=True).stdout
+            for number, run in refusals(command, library, folder):
+                seen += 1
+                same = run.returncode == 0 and run.stdout == ample
+                ended = run.returncode == 3 and not run.stdout and b"stopped" not in run.stderr
+                if not (same or ended and command != commands[0]):
+                    wrong += 1
+                    print(*command[1:] or ["refuse_each"], "request", number, "refused: status", run.returncode, run.stdout, run.stderr)
+    print(seen, "requests refused,", wrong, "runs wrong")
+    return 1 if wrong or not seen else 0
+
+
+if __name__ == "__main__":
+    sys.exit(main())
