@@ -3,6 +3,7 @@
 #![tactic(auto)]
 
 ghost use Rattle.std.specs.Prelude.{◌≡◌};
+ghost use Rattle.shared.specs.Passes.{Stays};
 
 mod calls;
 mod mending;
@@ -29,73 +30,61 @@ fn opened(rt: &impl Abort, alloc: Global) -> (Store, Pass)
     }
 }
 
-/// All calls on one blob.
-fn run<R: Wait + Abort>(rt: &R, alloc: Global, case: &Case) {
-    let (store, mut pass) = opened(rt, alloc);
+/// A put, the four losses and a read.
+fn put_and_lose<R: Wait + Abort>(rt: &R, alloc: Global, store: &Store, pass: &mut Pass, case: &Case)
+    requires { pass.old.store ≡ store.now }
+    ensures { Stays pass.old pass.new }
+{
     let [first, second, third, fourth] = case.lost;
-    make(rt, alloc, &store, &mut pass, case, Step::Put, &[]);
-    make(rt, alloc, &store, &mut pass, case, Step::Lose(first), &[]);
+    make(rt, alloc, store, pass, case, Step::Put, &[]);
+    make(rt, alloc, store, pass, case, Step::Lose(first), &[]);
+    make(rt, alloc, store, pass, case, Step::Lose(second), &[first]);
+    let two = [first, second];
+    make(rt, alloc, store, pass, case, Step::Lose(third), &two);
+    let three = [first, second, third];
+    make(rt, alloc, store, pass, case, Step::Lose(fourth), &three);
+    read(rt, alloc, store, pass, case);
+}
+
+/// Two repairs, a trim, and a mend of the two others.
+fn repair_and_mend<R: Wait + Abort>(
+    rt: &R,
+    alloc: Global,
+    store: &Store,
+    pass: &mut Pass,
+    case: &Case,
+)
+    requires { pass.old.store ≡ store.now }
+    ensures { Stays pass.old pass.new }
+{
+    let [first, second, third, fourth] = case.lost;
     make(
         rt,
         alloc,
-        &store,
-        &mut pass,
-        case,
-        Step::Lose(second),
-        &[first],
-    );
-    make(
-        rt,
-        alloc,
-        &store,
-        &mut pass,
-        case,
-        Step::Lose(third),
-        &[first, second],
-    );
-    make(
-        rt,
-        alloc,
-        &store,
-        &mut pass,
-        case,
-        Step::Lose(fourth),
-        &[first, second, third],
-    );
-    read(rt, alloc, &store, &mut pass, case);
-    make(
-        rt,
-        alloc,
-        &store,
-        &mut pass,
+        store,
+        pass,
         case,
         Step::Repair(first),
         &case.lost,
     );
-    make(
-        rt,
-        alloc,
-        &store,
-        &mut pass,
-        case,
-        Step::Repair(third),
-        &[second, third, fourth],
-    );
-    make(
-        rt,
-        alloc,
-        &store,
-        &mut pass,
-        case,
-        Step::Trim(6),
-        &[second, fourth],
-    );
-    mend(rt, alloc, &store, &mut pass, &[second, fourth]);
-    make(rt, alloc, &store, &mut pass, case, Step::Stat, &[]);
+    let three = [second, third, fourth];
+    make(rt, alloc, store, pass, case, Step::Repair(third), &three);
+    let two = [second, fourth];
+    make(rt, alloc, store, pass, case, Step::Trim(6), &two);
+    mend(rt, alloc, store, pass, &two);
+    make(rt, alloc, store, pass, case, Step::Stat, &[]);
+}
+
+/// All calls on one blob. The closed book has what they entered, and nothing else.
+fn run<R: Wait + Abort>(rt: &R, alloc: Global, case: &Case) {
+    let (store, mut pass) = opened(rt, alloc);
+    put_and_lose(rt, alloc, &store, &mut pass, case);
+    repair_and_mend(rt, alloc, &store, &mut pass, case);
     let book = store.close(pass);
-    assert_eq!(rt; (book.base().trimmed, book.entries().len()), (6, 5));
-    let lawful = match is_lawful_from(alloc, book.base(), book.entries(), book.width()) {
-        Err(_) => is_lawful_from(alloc, book.base(), book.entries(), book.width()),
+    let (base, entries) = (book.base(), book.entries());
+    assert_eq!(rt; (base.trimmed, entries.len()), (6, 5));
+    let lawful = match is_lawful_from(alloc, base, entries, book.width()) {
+        Err(_) => is_lawful_from(alloc, base, entries, book.width()),
         lawful => lawful,
     };
     assert_eq!(rt; lawful, Ok(true));
