@@ -2,12 +2,12 @@
 ghost use Rattle.std.specs.Prelude.{◌≡◌};
 ghost use Rattle.shared.specs.Passes.{Stays};
 
+use anyhow::{Result, ensure};
 use book::{Answer, Fault, Name};
 use bytes::Bytes;
 use lrc_code::Code;
 use shared::{Pass, Store};
 use std::alloc::Global;
-use std::process::Abort;
 use std::sync::Wait;
 
 /// A blob of one stripe of width 1: its code, its bytes, and the fragments that are lost, by number.
@@ -37,7 +37,7 @@ fn once<R: Wait>(
     pass: &mut Pass,
     case: &Case,
     step: Step,
-) -> Result<bool, Fault>
+) -> std::result::Result<bool, Fault>
     requires { pass.old.store ≡ store.now }
     ensures { Stays pass.old pass.new }
 {
@@ -96,7 +96,7 @@ pub(crate) fn are_lost<R: Wait>(
 }
 
 /// Makes a call, and once more where memory is refused: what is lost is as it was before.
-pub(crate) fn make<R: Wait + Abort>(
+pub(crate) fn make<R: Wait>(
     rt: &R,
     alloc: Global,
     store: &Store,
@@ -104,14 +104,18 @@ pub(crate) fn make<R: Wait + Abort>(
     case: &Case,
     step: Step,
     lost: &[u8],
-)
+) -> Result<()>
     requires { pass.old.store ≡ store.now }
     ensures { Stays pass.old pass.new }
 {
     let mut answer = once(rt, alloc, store, pass, case, step);
     if answer == Err(Fault::NoMemory) {
-        assert!(rt; are_lost(rt, alloc, store, pass, lost));
+        ensure!(
+            are_lost(rt, alloc, store, pass, lost),
+            "a refused call changed what is lost"
+        );
         answer = once(rt, alloc, store, pass, case, step);
     }
-    assert_eq!(rt; answer, Ok(true));
+    ensure!(answer == Ok(true), "another answer");
+    Ok(())
 }

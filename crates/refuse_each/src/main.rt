@@ -1,14 +1,15 @@
 //! Calls of the store whose requests for memory are refused in turn. Whichever is refused, the call that made it leaves what is lost as it was, and made again it
-//! answers as with ample memory. Under `rt try --fail-alloc N` the Nth request of a run is refused: the run stops with a fault at the first answer that is another one.
+//! answers as with ample memory. It ends with status 1 at the first answer that is another one.
 #![tactic(auto)]
 
-ghost use Rattle.std.specs.Prelude.{◌≡◌};
+ghost use Rattle.std.specs.Prelude.{◌≡◌, IfOk};
 ghost use Rattle.shared.specs.Passes.{Stays};
 
 mod calls;
 mod mending;
 mod reading;
 
+use anyhow::{Context, Result, ensure};
 use book::{Limit, is_lawful_from};
 use calls::{Case, Step, make};
 use lrc_code::Code;
@@ -16,81 +17,80 @@ use mending::mend;
 use reading::read;
 use shared::{Pass, Store};
 use std::alloc::Global;
-use std::process::Abort;
 use std::sync::Wait;
 
 /// A store of width 1, opened once more where memory is refused.
-fn opened(rt: &impl Abort, alloc: Global) -> (Store, Pass)
-    ensures { (result.1.store ≡ result.0) × (result.1.room ≡ 64) }
+fn opened(alloc: Global) -> Result<(Store, Pass)>
+    ensures { IfOk result (λ r. (r.1.store ≡ r.0) × (r.1.room ≡ 64)) }
 {
-    let limit = Limit::new(16).expect(rt, "a limit");
+    let limit = Limit::new(16).context("a limit")?;
     match Store::open(alloc, 1, limit) {
-        Ok(opened) => opened,
-        Err(_) => Store::open(alloc, 1, limit).expect(rt, "a store"),
+        Ok(opened) => Ok(opened),
+        Err(_) => Ok(Store::open(alloc, 1, limit)?),
     }
 }
 
 /// A put, the four losses and a read.
-fn put_and_lose<R: Wait + Abort>(rt: &R, alloc: Global, store: &Store, pass: &mut Pass, case: &Case)
-    requires { pass.old.store ≡ store.now }
-    ensures { Stays pass.old pass.new }
-{
-    let [first, second, third, fourth] = case.lost;
-    make(rt, alloc, store, pass, case, Step::Put, &[]);
-    make(rt, alloc, store, pass, case, Step::Lose(first), &[]);
-    make(rt, alloc, store, pass, case, Step::Lose(second), &[first]);
-    let two = [first, second];
-    make(rt, alloc, store, pass, case, Step::Lose(third), &two);
-    let three = [first, second, third];
-    make(rt, alloc, store, pass, case, Step::Lose(fourth), &three);
-    read(rt, alloc, store, pass, case);
-}
-
-/// Two repairs, a trim, and a mend of the two others.
-fn repair_and_mend<R: Wait + Abort>(
+fn put_and_lose<R: Wait>(
     rt: &R,
     alloc: Global,
     store: &Store,
     pass: &mut Pass,
     case: &Case,
-)
+) -> Result<()>
     requires { pass.old.store ≡ store.now }
     ensures { Stays pass.old pass.new }
 {
     let [first, second, third, fourth] = case.lost;
-    make(
-        rt,
-        alloc,
-        store,
-        pass,
-        case,
-        Step::Repair(first),
-        &case.lost,
-    );
+    make(rt, alloc, store, pass, case, Step::Put, &[])?;
+    make(rt, alloc, store, pass, case, Step::Lose(first), &[])?;
+    make(rt, alloc, store, pass, case, Step::Lose(second), &[first])?;
+    let two = [first, second];
+    make(rt, alloc, store, pass, case, Step::Lose(third), &two)?;
+    let three = [first, second, third];
+    make(rt, alloc, store, pass, case, Step::Lose(fourth), &three)?;
+    read(rt, alloc, store, pass, case)
+}
+
+/// Two repairs, a trim, and a mend of the two others.
+fn repair_and_mend<R: Wait>(
+    rt: &R,
+    alloc: Global,
+    store: &Store,
+    pass: &mut Pass,
+    case: &Case,
+) -> Result<()>
+    requires { pass.old.store ≡ store.now }
+    ensures { Stays pass.old pass.new }
+{
+    let four = case.lost;
+    let [first, second, third, fourth] = case.lost;
+    make(rt, alloc, store, pass, case, Step::Repair(first), &four)?;
     let three = [second, third, fourth];
-    make(rt, alloc, store, pass, case, Step::Repair(third), &three);
+    make(rt, alloc, store, pass, case, Step::Repair(third), &three)?;
     let two = [second, fourth];
-    make(rt, alloc, store, pass, case, Step::Trim(6), &two);
-    mend(rt, alloc, store, pass, &two);
-    make(rt, alloc, store, pass, case, Step::Stat, &[]);
+    make(rt, alloc, store, pass, case, Step::Trim(6), &two)?;
+    mend(rt, alloc, store, pass, &two)?;
+    make(rt, alloc, store, pass, case, Step::Stat, &[])
 }
 
 /// All calls on one blob. The closed book has what they entered, and nothing else.
-fn run<R: Wait + Abort>(rt: &R, alloc: Global, case: &Case) {
-    let (store, mut pass) = opened(rt, alloc);
-    put_and_lose(rt, alloc, &store, &mut pass, case);
-    repair_and_mend(rt, alloc, &store, &mut pass, case);
+fn run<R: Wait>(rt: &R, alloc: Global, case: &Case) -> Result<()> {
+    let (store, mut pass) = opened(alloc)?;
+    put_and_lose(rt, alloc, &store, &mut pass, case)?;
+    repair_and_mend(rt, alloc, &store, &mut pass, case)?;
     let book = store.close(pass);
     let (base, entries) = (book.base(), book.entries());
-    assert_eq!(rt; (base.trimmed, entries.len()), (6, 5));
+    ensure!(base.trimmed == 6 && entries.len() == 5, "another journal");
     let lawful = match is_lawful_from(alloc, base, entries, book.width()) {
-        Err(_) => is_lawful_from(alloc, base, entries, book.width()),
-        lawful => lawful,
+        Err(_) => is_lawful_from(alloc, base, entries, book.width())?,
+        Ok(lawful) => lawful,
     };
-    assert_eq!(rt; lawful, Ok(true));
+    ensure!(lawful, "no lawful journal");
+    Ok(())
 }
 
-fn main(rt: HostRuntime) {
+fn main(rt: HostRuntime) -> Result<()> {
     let wide = Case {
         code: Code::Wide,
         bytes: b"ABCDEFGHIJKL",
@@ -101,7 +101,8 @@ fn main(rt: HostRuntime) {
         bytes: b"ABCDEF",
         lost: [0, 1, 3, 4],
     };
-    run(&rt, rt.alloc(), &wide);
-    run(&rt, rt.alloc(), &small);
-    let _ = println!(rt; "each call gives its answer");
+    run(&rt, rt.alloc(), &wide)?;
+    run(&rt, rt.alloc(), &small)?;
+    println!(rt; "each call gives its answer")?;
+    Ok(())
 }

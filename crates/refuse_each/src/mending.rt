@@ -1,36 +1,33 @@
 //! A mend of what is lost, each step once more where memory is refused.
-ghost use Rattle.std.specs.Prelude.{◌≡◌};
+ghost use Rattle.std.specs.Prelude.{◌≡◌, IfOk};
 ghost use Rattle.shared.specs.Passes.{Stays};
 
+use anyhow::{Result, bail, ensure};
 use book::{Answer, Fault, Item, Plan};
 use mender::{Done, Drawer, Gather, Report, Tickets, WorkFault, gather, scrub, work};
 use shared::{Pass, Store};
 use std::alloc::{AllocError, Global};
-use std::process::Abort;
 use std::sync::Wait;
 
 /// A plan with its tickets and the one drawer of them.
-fn planned<R: Wait + Abort>(
+fn planned<R: Wait>(
     rt: &R,
     alloc: Global,
     store: &Store,
     pass: &mut Pass,
-) -> (Plan, Tickets, Drawer)
+) -> Result<(Plan, Tickets, Drawer)>
     requires { pass.old.store ≡ store.now }
     ensures pass { Stays pass.old pass.new }
-    ensures drawer { result.2.tickets ≡ result.1 }
+    ensures drawer { IfOk result (λ r. r.2.tickets ≡ r.1) }
 {
     match scrub(rt, alloc, store, pass) {
-        Ok(planned) => planned,
-        Err(_) => match scrub(rt, alloc, store, pass) {
-            Ok(planned) => planned,
-            Err(_) => panic!(rt; "no plan"),
-        },
+        Ok(planned) => Ok(planned),
+        Err(_) => Ok(scrub(rt, alloc, store, pass)?),
     }
 }
 
 /// A copy of results.
-fn copied(alloc: Global, done: &[Done]) -> Result<Vec<Done>, AllocError> {
+fn copied(alloc: Global, done: &[Done]) -> std::result::Result<Vec<Done>, AllocError> {
     let mut copy = Vec::new(alloc);
     for one in done {
         let item = Item {
@@ -49,70 +46,72 @@ fn copied(alloc: Global, done: &[Done]) -> Result<Vec<Done>, AllocError> {
     Ok(copy)
 }
 
-/// What comes of results that all mended a fragment.
-fn gathered(
-    rt: &impl Abort,
-    alloc: Global,
-    plan: &Plan,
-    done: Vec<Done>,
-) -> Result<Report, Gather> {
+/// That results, which all mended a fragment, make up the plan.
+fn ensure_gathered(alloc: Global, plan: &Plan, done: Vec<Done>) -> Result<()> {
     let copy = match copied(alloc, &done) {
-        Err(_) => copied(alloc, &done),
-        copy => copy,
+        Err(_) => copied(alloc, &done)?,
+        Ok(copy) => copy,
     };
-    match gather(alloc, plan, done) {
-        Err(Gather::NoMemory) => match copy {
-            Ok(copy) => gather(alloc, plan, copy),
-            Err(_) => panic!(rt; "no copy"),
-        },
-        answer => answer,
+    let report = match gather(alloc, plan, done) {
+        Err(Gather::NoMemory) => gather(alloc, plan, copy),
+        report => report,
+    };
+    let all_repaired = Report {
+        repaired: plan.items.len() as u64,
+        not_lost: 0,
+        gone: 0,
+        unrecoverable: 0,
+    };
+    ensure!(report == Ok(all_repaired), "other results");
+    Ok(())
+}
+
+/// Goes on where a worker was refused memory: its results and a new plan name each of these fragments once, and are not all of the first plan.
+fn mend_rest<R: Wait>(
+    rt: &R,
+    alloc: Global,
+    store: &Store,
+    pass: &mut Pass,
+    plan: &Plan,
+    stopped: WorkFault,
+) -> Result<()>
+    requires { pass.old.store ≡ store.now }
+    ensures { Stays pass.old pass.new }
+{
+    let WorkFault { fault, done } = stopped;
+    let (rest, tickets, mut drawer) = planned(rt, alloc, store, pass)?;
+    let mended = done.iter().map(|one| one.item.f);
+    let named = mended.chain(rest.items.iter().map(|item| item.f));
+    ensure!(
+        fault == Fault::NoMemory && named.eq(plan.items.iter().map(|item| item.f)),
+        "other fragments are left"
+    );
+    ensure!(
+        gather(alloc, plan, done) == Err(Gather::Missing),
+        "nothing is missing"
+    );
+    match work(rt, alloc, store, pass, &rest, &tickets, &mut drawer) {
+        Ok(done) => ensure_gathered(alloc, &rest, done),
+        Err(_) => bail!("the rest is not mended"),
     }
 }
 
-/// Mends what is lost, which is just these fragments. A worker that was refused memory leaves results that name, with a new plan, each fragment of the first plan once.
-pub(crate) fn mend<R: Wait + Abort>(
+/// Mends what is lost, which is just these fragments.
+pub(crate) fn mend<R: Wait>(
     rt: &R,
     alloc: Global,
     store: &Store,
     pass: &mut Pass,
     lost: &[u8],
-)
+) -> Result<()>
     requires { pass.old.store ≡ store.now }
     ensures { Stays pass.old pass.new }
 {
-    let (plan, tickets, mut drawer) = planned(rt, alloc, store, pass);
-    assert_eq!(rt; plan.items.len(), lost.len());
+    let (plan, tickets, mut drawer) = planned(rt, alloc, store, pass)?;
+    let planned = plan.items.iter().map(|item| item.f);
+    ensure!(planned.eq(lost.iter().copied()), "another plan");
     match work(rt, alloc, store, pass, &plan, &tickets, &mut drawer) {
-        Ok(done) => assert_eq!(rt;
-            gathered(rt, alloc, &plan, done),
-            Ok(repaired(lost.len() as u64))
-        ),
-        Err(WorkFault { fault, done }) => {
-            assert_eq!(rt; fault, Fault::NoMemory);
-            let (rest, tickets, mut drawer) = planned(rt, alloc, store, pass);
-            let named = done
-                .iter()
-                .map(|one| one.item.f)
-                .chain(rest.items.iter().map(|item| item.f));
-            assert!(rt; named.eq(lost.iter().copied()));
-            assert_eq!(rt; gather(alloc, &plan, done), Err(Gather::Missing));
-            match work(rt, alloc, store, pass, &rest, &tickets, &mut drawer) {
-                Ok(done) => assert_eq!(rt;
-                    gather(alloc, &rest, done),
-                    Ok(repaired(rest.items.len() as u64))
-                ),
-                Err(_) => panic!(rt; "refused twice"),
-            }
-        }
-    }
-}
-
-/// The report of so many fragments, all mended.
-fn repaired(count: u64) -> Report {
-    Report {
-        repaired: count,
-        not_lost: 0,
-        gone: 0,
-        unrecoverable: 0,
+        Ok(done) => ensure_gathered(alloc, &plan, done),
+        Err(stopped) => mend_rest(rt, alloc, store, pass, &plan, stopped),
     }
 }
