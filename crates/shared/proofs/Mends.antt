@@ -22,7 +22,7 @@ use Rattle.book.proofs.Versions.{was_put}
 use Rattle.shared.specs.declared.kept.Kept.{Kept}
 use Rattle.shared.specs.declared.mending.Look.{Look}
 use Rattle.shared.specs.declared.mending.Look.TheVariants.{Done, Refused, Mendable}
-use Rattle.shared.specs.Passes.{Shows, Calls, seen_of, width_of, shows}
+use Rattle.shared.specs.Passes.{Shows, Calls, seen_of, width_of, trimmed_of, shows}
 use Rattle.shared.specs.Calls.{event, Called, Looked}
 use Rattle.shared.specs.Mends.{IsMendable, IsKnown, FoundIn, Found}
 use Rattle.shared.proofs.Between.{GoesOn}
@@ -56,14 +56,14 @@ known p q x n s step found =
     }
 
 -- what a look in the book makes of a pass
-pub look_found : (p q : SeatState Kept) (x y : Kept) (who : ℕ) (n : List ℕ) (j f : ℕ) (l : Look) → Stepped p q x (events_at_look l who (repair n j f)) → FoundIn x.0 y.0 who n j f l
+pub look_found : (p q : SeatState Kept) (x y : Kept) (who : ℕ) (n : List ℕ) (j f : ℕ) (l : Look) → Stepped p q x (events_at_look l who (repair n j f)) → trimmed_of q.list ≡ x.0.base.trimmed → FoundIn x.0 y.0 who n j f l
     → Found (shows p who) n j f l (shows q who)
-look_found p q x y who n j f (Done a) step is = called p q x who (repair n j f) (Ok a) step (λ e. absurd (cc (e))) (λ e. cc (e))
-look_found p q x y who n j f (Refused e) step is =
-    called p q x who (repair n j f) (Err e) step
+look_found p q x y who n j f (Done a) step left is = called p q x who (repair n j f) (Ok a) step left (λ e. absurd (cc (e))) (λ e. cc (e))
+look_found p q x y who n j f (Refused e) step left is =
+    called p q x who (repair n j f) (Err e) step left
     (λ full. ⊎_elim (λ (none : e ≡ NoMemory). absurd (cc (none, full))) (λ (there : (e ≡ JournalFull) × (length x.0.entries ≡ x.0.limit)). there.1) is.1)
     (λ long. ⊎_elim (λ (none : e ≡ NoMemory). cc (none, long)) (λ (there : (e ≡ JournalFull) × (length x.0.entries ≡ x.0.limit)). cc (there.0, long)) is.1)
-look_found p q x y who n j f (Mendable s) step is = record {
+look_found p q x y who n j f (Mendable s) step left is = record {
   looked = looked p q x who step;
   known = known p q x n s.value step is.1;
   mendable = is.2;

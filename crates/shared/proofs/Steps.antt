@@ -8,6 +8,7 @@ use Rattle.gate.proofs.Events.{history-append, history_prefix, events_at_prefix,
 use Rattle.gate.proofs.Lists.{last_of-snoc}
 use Rattle.sealed.specs.declared.fault.Fault.{Fault}
 use Rattle.sealed.specs.declared.fault.Fault.TheVariants.{JournalFull, TooLong}
+use Rattle.history.specs.Base.{Checkpoint}
 use Rattle.history.specs.Step.{Operation}
 use Rattle.history.specs.History.{History, IsLegal}
 use Rattle.book.specs.declared.answer.Answer.{Answer}
@@ -15,10 +16,10 @@ use Rattle.book.specs.Contents.{Contents}
 use Rattle.book.specs.Tells.{Tells, CarriesOn}
 use Rattle.shared.specs.declared.kept.Kept.{Kept}
 use Rattle.shared.specs.Between.{MayFollow}
-use Rattle.shared.specs.Passes.{between_kept, seen_of, made_of, width_of, limit_of, shows, TellsAs, IsPass, Stays}
+use Rattle.shared.specs.Passes.{between_kept, seen_of, made_of, width_of, limit_of, trimmed_of, shows, TellsAs, IsPass, Stays}
 use Rattle.shared.specs.Calls.{event, Called, Looked}
 use Rattle.shared.proofs.Between.{GoesOn, between_is, goes_follows, told_length}
-use Rattle.shared.proofs.Passes.{width_stays, limit_stays}
+use Rattle.shared.proofs.Passes.{width_stays, limit_stays, trimmed_is}
 
 abbrev pub kept_follows : Kept → Kept → Type 0
 kept_follows a b = MayFollow a.0 b.0
@@ -141,9 +142,14 @@ call_goes_on (Ok a) old new who o kept carries err = record {
 }
 call_goes_on (Err e) old new who o kept carries err = same_goes_on old new err
 
--- a full journal holds as many entries as its limit, so as many calls were seen
-full_seen : (p q : SeatState Kept) (x : Kept) → Stepped p q x [] → length x.0.entries ≡ x.0.limit → limit_of q.list ≤ length (seen_of q.list)
-full_seen p q x s full =
+-- a call leaves what was given up before
+pub left_base : (m q : SeatState Kept) (x y : Kept) → Leaves m q y → y.0.base ≡ x.0.base → trimmed_of q.list ≡ x.0.base.trimmed
+left_base m q x y leaves same = trimmed_is q.list y (ap last_of leaves.list ∙ last_of-snoc m.list y) ∙ ap (λ (base : Checkpoint). base.trimmed) same
+
+-- a full journal holds as many entries as its limit, so as many calls were seen and not given up
+full_seen : (p q : SeatState Kept) (x : Kept) → Stepped p q x [] → trimmed_of q.list ≡ x.0.base.trimmed → length x.0.entries ≡ x.0.limit
+    → length (seen_of q.list) ≡ trimmed_of q.list + limit_of q.list
+full_seen p q x s left full =
     let h : History = seen_of p.list ++ s.others in
     let same : length (seen_of q.list) ≡ length h = ap length (s.seen ∙ append-nil h) in
     let told : x.0.base.trimmed + length x.0.entries ≡ length h = told_length x.0 h s.told.tells in
@@ -154,9 +160,9 @@ no_fault : {a : Answer} {f : Fault} → ◌≡◌ {A = Result Answer Fault} (Ok 
 no_fault is = cc (is)
 
 -- what a call on the book makes of a pass
-pub called : (p q : SeatState Kept) (x : Kept) (who : ℕ) (o : Operation) (r : Result Answer Fault) → Stepped p q x (events_of r who o) → (r ≡ Err JournalFull → length x.0.entries ≡ x.0.limit)
+pub called : (p q : SeatState Kept) (x : Kept) (who : ℕ) (o : Operation) (r : Result Answer Fault) → Stepped p q x (events_of r who o) → trimmed_of q.list ≡ x.0.base.trimmed → (r ≡ Err JournalFull → length x.0.entries ≡ x.0.limit)
     → (r ≡ Err TooLong → ⊥) → Called (shows p who) o r (shows q who)
-called p q x who o (Ok a) s full short = record {
+called p q x who o (Ok a) s left full short = record {
   stays = stays p q x (event who o a ∷ []) who s;
   legal = s.legal;
   ok = (s.others, s.seen, s.made);
@@ -164,11 +170,11 @@ called p q x who o (Ok a) s full short = record {
   full = λ is. absurd (no_fault is);
   too_long = λ is. absurd (no_fault is);
 }
-called p q x who o (Err e) s full short = record {
+called p q x who o (Err e) s left full short = record {
   stays = stays p q x [] who s;
   legal = s.legal;
   ok = tt;
   err = (looked p q x who s).looks;
-  full = λ is. full_seen p q x s (full is);
+  full = λ is. full_seen p q x s left (full is);
   too_long = λ is. absurd (short is);
 }

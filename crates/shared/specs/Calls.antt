@@ -1,5 +1,5 @@
 -- What a call leaves of a pass.
-use Rattle.std.specs.Prelude.{◌≡◌, ℕ, ◌+◌, ◌-◌, ◌≤◌, ◌<◌, List, length, Some, Result, Err, IfOk, OnErr}
+use Rattle.std.specs.Prelude.{◌≡◌, ℕ, ◌+◌, ◌-◌, ◌<◌, List, length, Some, Result, Err, IfOk, OnErr}
 use Rattle.std.specs.FinMap as finite
 use Rattle.lrc_code.specs.declared.Code.{Code}
 use Rattle.sealed.specs.declared.fault.Fault.{Fault}
@@ -7,7 +7,8 @@ use Rattle.sealed.specs.declared.fault.Fault.TheVariants.{JournalFull, TooLong}
 use Rattle.sealed.specs.Layout.{stripe_count}
 use Rattle.lent.specs.declared.grant.Grant.{Grant}
 use Rattle.history.specs.State.{Blob}
-use Rattle.history.specs.Step.{Operation, put}
+use Rattle.history.specs.declared.note.Note.TheVariants as noted
+use Rattle.history.specs.Step.{Operation, put, read, IsReply}
 use Rattle.history.specs.History.{Event, History, IsLegal, HasPut, state_of}
 use Rattle.book.specs.declared.answer.Answer.{Answer}
 use Rattle.book.specs.declared.answer.Answer.TheVariants.{Granted}
@@ -34,13 +35,14 @@ abbrev pub IsTooLong : ℕ → Operation → Type 0
 IsTooLong w (put n code b) = 4096 < stripe_count code w (length b)
 IsTooLong w operation = ⊥
 
--- What the pass shows afterwards: with an answer the call was made, and with a fault it was not. A journal was full where as many calls were seen as its limit
+-- What the pass shows afterwards: with an answer the call was made, and with a fault it was not. A journal was full where it had as many entries as its limit: these are
+-- the calls that were seen and not given up
 pub record Called (v : Shows) (operation : Operation) (r : Result Answer Fault) (w : Shows) : Type 0 where
   pub stays : Stays v w
   pub legal : IsLegal w.store.width w.seen
   pub ok : IfOk r (λ a. Calls v (event v.who operation a) w)
   pub err : OnErr r (Looks v w)
-  pub full : r ≡ Err JournalFull → w.store.limit ≤ length w.seen
+  pub full : r ≡ Err JournalFull → length w.seen ≡ w.trimmed + w.store.limit
   pub too_long : r ≡ Err TooLong → IsTooLong w.store.width operation
 
 -- The grant has the range that was asked for. After the history the name has a blob, which the grant's value represents. The blob was put in the history under its
@@ -53,6 +55,10 @@ pub record GrantedIn (h : History) (w : ℕ) (n : List ℕ) (start len : ℕ) (g
   pub represents : Represents w g.sealed.value blob
   pub put_is : HasPut h blob.version n blob.code blob.bytes
   pub only : (other : List ℕ) (code : Code) (bytes : List ℕ) → HasPut h blob.version other code bytes → put other code bytes ≡ put n blob.code blob.bytes
+
+-- the read is one that the object grants in the state after this history
+abbrev pub CanGrant : History → ℕ → List ℕ → ℕ → ℕ → Type 0
+CanGrant h w n start len = (version : ℕ) × IsReply w (state_of h) (read n start len) (noted.Granted version)
 
 -- where the answer is a grant
 abbrev pub IfGranted : Answer → (Grant → Type 0) → Type 0

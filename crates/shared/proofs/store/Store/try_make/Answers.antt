@@ -4,9 +4,9 @@ use Rattle.shared.specs.Passes.{Which, Shows, shows}
 use Rattle.shared.specs.Calls.{Called}
 use Rattle.shared.specs.Requests.{operation_of, CanAsk}
 use Rattle.shared.proofs.Between.{goes_follows}
-use Rattle.shared.proofs.Steps.{Stepped, found, stepped, events_of, call_goes_on, called}
+use Rattle.shared.proofs.Steps.{Stepped, found, left_base, stepped, events_of, call_goes_on, called}
 use Rattle.shared.proofs.Requests.{can_make, never_too_long}
-use Rattle.shared.proofs.Grants.{all_granted}
+use Rattle.shared.proofs.Grants.{all_granted, wanted_for}
 use Rattle.shared.proofs.store.Store.try_make.Goals as goal
 
 pub make_on-result-requires : goal.make_on-result-requires
@@ -40,7 +40,8 @@ pub returns-clause-called : goal.returns-clause-called
 returns-clause-called c =
     let m = c.make_on-result.ensures in
     subst (λ v. Called v (operation_of c.args.request) c.make_on-result.result (shows c.leave.new.seat c.pass.inside.who)) c.pass.view_is
-    (called c.pass.inside.seat c.leave.new.seat c.in-Some.inside.value c.pass.inside.who (operation_of c.args.request) c.make_on-result.result (steps c) m.full.0
+    (called c.pass.inside.seat c.leave.new.seat c.in-Some.inside.value c.pass.inside.who (operation_of c.args.request) c.make_on-result.result (steps c)
+    (left_base c.try_enter.new.seat c.leave.new.seat c.in-Some.inside.value _ (record { same = c.leave.ensures.kept; list = c.leave.ensures.list; own = c.leave.ensures.own }) m.kept.2) m.full.0
     (never_too_long c.make_on-result.result c.args.request m.faults))
 
 pub returns-clause-granted : goal.returns-clause-granted
@@ -48,3 +49,9 @@ returns-clause-granted c =
     all_granted c.make_on-result.result c.pass.inside.seat c.leave.new.seat c.in-Some.inside.value c.pass.inside.who c.args.self.now.width c.args.request (steps c)
     (ap (λ (s : Which). s.width) ((steps c).store ∙ ap (λ (v : Shows). v.store) c.pass.view_is ∙ c.requires.store))
     c.make_on-result.ensures.answer
+
+pub returns-clause-no_memory : goal.returns-clause-no_memory
+returns-clause-no_memory c =
+    wanted_for c.make_on-result.result c.pass.inside.seat c.leave.new.seat c.in-Some.inside.value c.pass.inside.who c.args.self.now.width c.args.request (steps c)
+    (ap (λ (s : Which). s.width) ((steps c).store ∙ ap (λ (v : Shows). v.store) c.pass.view_is ∙ c.requires.store))
+    c.make_on-result.ensures.no_memory
