@@ -25,9 +25,9 @@ use Rattle.shared.specs.declared.kept.Kept.{Kept}
 use Rattle.shared.specs.declared.request.Request.{Request}
 use Rattle.shared.specs.declared.request.Request.TheVariants.{Put, Read, Lose, Install, Delete, Stat}
 use Rattle.shared.specs.Passes.{seen_of, width_of}
-use Rattle.shared.specs.Calls.{event, GrantedIn, IfGranted}
+use Rattle.shared.specs.Calls.{event, made_by, GrantedIn, IfGranted}
 use Rattle.shared.specs.Requests.{operation_of, IsAnswerTo, IsGrantedTo, MayWant, WantedFor}
-use Rattle.shared.proofs.Steps.{Stepped, events_of}
+use Rattle.shared.proofs.Steps.{Stepped}
 
 -- a grant of the book, by the state
 grant_in : (w : ℕ) (found : Option Sealed) (had : Option Blob) (start len : ℕ) (g : Grant) → IsReadAnswer found start len (answer.Granted g) → Correspond w found had
@@ -56,7 +56,7 @@ granted p q x who w n start len (answer.Granted g) s width right =
 granted p q x who w n start len a s width right = tt
 
 -- where the request is a read
-pub all_granted : (r : Result Answer Fault) (p q : SeatState Kept) (x : Kept) (who w : ℕ) (request : Request) → Stepped p q x (events_of r who (operation_of request)) → width_of q.list ≡ w
+pub all_granted : (r : Result Answer Fault) (p q : SeatState Kept) (x : Kept) (who w : ℕ) (request : Request) → Stepped p q x (made_by who (operation_of request) r) → width_of q.list ≡ w
     → IfOk r (IsAnswerTo x.0 request) → IfOk r (IsGrantedTo (seen_of q.list) w request)
 all_granted (Err e) p q x who w request s width right = tt
 all_granted (Ok a) p q x who w (Read n start len) s width right = granted p q x who w n start len a s width right
@@ -81,7 +81,7 @@ can_grant w (Some s) (Some blob) start len can both =
     (blob.version, second_case _ _ _ (subst (λ (l : ℕ). is_outside l start len ≡ false) len_is can.0) (inr (λ u. can.1 ((unreadable_alike w wide s blob both start len fits).1 u), refl)))
 
 -- where the request is a read, memory was wanted for a grant
-pub wanted_for : (r : Result Answer Fault) (p q : SeatState Kept) (x : Kept) (who w : ℕ) (request : Request) → Stepped p q x (events_of r who (operation_of request)) → width_of q.list ≡ w
+pub wanted_for : (r : Result Answer Fault) (p q : SeatState Kept) (x : Kept) (who w : ℕ) (request : Request) → Stepped p q x (made_by who (operation_of request) r) → width_of q.list ≡ w
     → (r ≡ Err NoMemory → MayWant x.0 request) → r ≡ Err NoMemory → WantedFor (seen_of q.list) w request
 wanted_for (Ok a) p q x who w request s width may is = absurd (cc (is))
 wanted_for (Err e) p q x who w (Read n start len) s width may is =

@@ -65,6 +65,7 @@ look_found p q x y who n j f (Refused e) step left is =
     (λ long. ⊎_elim (λ (none : e ≡ NoMemory). cc (none, long)) (λ (there : (e ≡ JournalFull) × (length x.0.entries ≡ x.0.limit)). cc (there.0, long)) is.1)
 look_found p q x y who n j f (Mendable s) step left is = record {
   looked = looked p q x who step;
+  base = λ all. left ∙ (step.lone all).1;
   known = known p q x n s.value step is.1;
   mendable = is.2;
 }
@@ -81,8 +82,8 @@ known_fragment h w n s j f bytes k m is = record {
 }
 
 -- a look, and then a call
-pub looks_then_called : (u v w : Shows) (o : Operation) (r : Result Answer Fault) → Looked u v → Called v o r w → Called u o r w
-looks_then_called u v w o (Ok a) l c =
+pub looks_then_called : (u v w : Shows) (o : Operation) (r : Result Answer Fault) → Looked u v → (u.room ≡ 64 → v.trimmed ≡ u.trimmed) → Called v o r w → Called u o r w
+looks_then_called u v w o (Ok a) l base c =
     let k = c.ok in
     let first = l.looks.0 in
     let all : u.seen ++ (first.0 ++ k.0) ≡ v.seen ++ k.0 = sym (append_assoc u.seen first.0 k.0) ∙ ap (λ h. h ++ k.0) first.1 in
@@ -93,12 +94,16 @@ looks_then_called u v w o (Ok a) l c =
       err = tt;
       full = c.full;
       too_long = c.too_long;
+      lone = λ all.
+          let k = c.lone (l.stays.2 ∙ all) in
+          (subst (λ (who : ℕ). w.seen ≡ u.seen ++ event who o a ∷ []) l.stays.1 (k.0 ∙ ap (λ h. h ++ event v.who o a ∷ []) (l.lone all)), k.1 ∙ base all);
     }
-looks_then_called u v w o (Err e) l c = record {
+looks_then_called u v w o (Err e) l base c = record {
   stays = (c.stays.0 ∙ l.stays.0, c.stays.1 ∙ l.stays.1, c.stays.2 ∙ l.stays.2);
   legal = c.legal;
   ok = tt;
   err = (prefix_trans u.seen v.seen w.seen l.looks.0 c.err.0, c.err.1 ∙ l.looks.1);
   full = c.full;
   too_long = c.too_long;
+  lone = λ all. let k = c.lone (l.stays.2 ∙ all) in (k.0 ∙ ap (λ h. h ++ []) (l.lone all), k.1 ∙ base all);
 }

@@ -22,7 +22,7 @@ steps g c =
     let m = c.look_in-look.ensures in
     let l = c.leave.ensures in
     stepped c.pass.inside.seat c.enter-inside.new.seat c.leave.new.seat c.enter-inside.result.value _ _ c.pass.invariant
-    (record { same = (e.kept.0, e.kept.1, e.kept.2); seen = e.seen; found = e.found })
+    (record { same = (e.kept.0, e.kept.1, e.kept.2); seen = e.seen; found = e.found; lone = e.lone })
     (record { same = l.kept; list = l.list; own = l.own })
     (look_goes_on c.look_in-look.result c.enter-inside.result.value.0 c.look_in-look.new.book c.pass.inside.who c.args.name.now c.args.stripe c.args.fragment m.kept m.found)
 

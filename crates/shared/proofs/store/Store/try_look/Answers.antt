@@ -21,7 +21,7 @@ steps c =
     let m = c.look_in-look.ensures in
     let l = c.leave.ensures in
     stepped c.pass.inside.seat c.try_enter.new.seat c.leave.new.seat c.in-Some.inside.value _ _ c.pass.invariant
-    (record { same = (e.kept.0, e.kept.1, e.kept.2); seen = e.seen; found = c.in-Some.ensures.found.1 })
+    (record { same = (e.kept.0, e.kept.1, e.kept.2); seen = e.seen; found = c.in-Some.ensures.found.1; lone = λ all. (e.lone all).1 })
     (record { same = l.kept; list = l.list; own = l.own })
     (look_goes_on c.look_in-look.result c.in-Some.inside.value.0 c.look_in-look.new.book c.pass.inside.who c.args.name.now c.args.stripe c.args.fragment m.kept m.found)
 
