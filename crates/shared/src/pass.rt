@@ -37,9 +37,10 @@ impl Pass {
         self.seat.room()
     }
 
-    /// The label of its calls.
+    /// The label of its calls. Whatever the pass has seen is a legal history.
     pub fn who(&self) -> u32
-        ensures { result ≡ self.now.who }
+        ensures value { result ≡ self.now.who }
+        ensures legal { IsLegal self.now.store.width self.now.seen }
     {
         self.who
     }
