@@ -7,3 +7,4 @@ pub mod Grants
 pub mod Mends
 pub mod Looks
 pub mod Runs
+pub mod Trims

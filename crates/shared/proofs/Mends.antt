@@ -22,7 +22,7 @@ use Rattle.book.proofs.Versions.{was_put}
 use Rattle.shared.specs.declared.kept.Kept.{Kept}
 use Rattle.shared.specs.declared.mending.Look.{Look}
 use Rattle.shared.specs.declared.mending.Look.TheVariants.{Done, Refused, Mendable}
-use Rattle.shared.specs.Passes.{Shows, Calls, seen_of, width_of, shows}
+use Rattle.shared.specs.Passes.{Shows, Calls, seen_of, width_of, trimmed_of, shows}
 use Rattle.shared.specs.Calls.{event, Called, Looked}
 use Rattle.shared.specs.Mends.{IsMendable, IsKnown, FoundIn, Found}
 use Rattle.shared.proofs.Between.{GoesOn}
@@ -56,15 +56,16 @@ known p q x n s step found =
     }
 
 -- what a look in the book makes of a pass
-pub look_found : (p q : SeatState Kept) (x y : Kept) (who : ℕ) (n : List ℕ) (j f : ℕ) (l : Look) → Stepped p q x (events_at_look l who (repair n j f)) → FoundIn x.0 y.0 who n j f l
+pub look_found : (p q : SeatState Kept) (x y : Kept) (who : ℕ) (n : List ℕ) (j f : ℕ) (l : Look) → Stepped p q x (events_at_look l who (repair n j f)) → trimmed_of q.list ≡ x.0.base.trimmed → FoundIn x.0 y.0 who n j f l
     → Found (shows p who) n j f l (shows q who)
-look_found p q x y who n j f (Done a) step is = called p q x who (repair n j f) (Ok a) step (λ e. absurd (cc (e))) (λ e. cc (e))
-look_found p q x y who n j f (Refused e) step is =
-    called p q x who (repair n j f) (Err e) step
+look_found p q x y who n j f (Done a) step left is = called p q x who (repair n j f) (Ok a) step left (λ e. absurd (cc (e))) (λ e. cc (e))
+look_found p q x y who n j f (Refused e) step left is =
+    called p q x who (repair n j f) (Err e) step left
     (λ full. ⊎_elim (λ (none : e ≡ NoMemory). absurd (cc (none, full))) (λ (there : (e ≡ JournalFull) × (length x.0.entries ≡ x.0.limit)). there.1) is.1)
     (λ long. ⊎_elim (λ (none : e ≡ NoMemory). cc (none, long)) (λ (there : (e ≡ JournalFull) × (length x.0.entries ≡ x.0.limit)). cc (there.0, long)) is.1)
-look_found p q x y who n j f (Mendable s) step is = record {
+look_found p q x y who n j f (Mendable s) step left is = record {
   looked = looked p q x who step;
+  base = λ all. left ∙ (step.lone all).1;
   known = known p q x n s.value step is.1;
   mendable = is.2;
 }
@@ -81,8 +82,8 @@ known_fragment h w n s j f bytes k m is = record {
 }
 
 -- a look, and then a call
-pub looks_then_called : (u v w : Shows) (o : Operation) (r : Result Answer Fault) → Looked u v → Called v o r w → Called u o r w
-looks_then_called u v w o (Ok a) l c =
+pub looks_then_called : (u v w : Shows) (o : Operation) (r : Result Answer Fault) → Looked u v → (u.room ≡ 64 → v.trimmed ≡ u.trimmed) → Called v o r w → Called u o r w
+looks_then_called u v w o (Ok a) l base c =
     let k = c.ok in
     let first = l.looks.0 in
     let all : u.seen ++ (first.0 ++ k.0) ≡ v.seen ++ k.0 = sym (append_assoc u.seen first.0 k.0) ∙ ap (λ h. h ++ k.0) first.1 in
@@ -93,12 +94,16 @@ looks_then_called u v w o (Ok a) l c =
       err = tt;
       full = c.full;
       too_long = c.too_long;
+      lone = λ all.
+          let k = c.lone (l.stays.2 ∙ all) in
+          (subst (λ (who : ℕ). w.seen ≡ u.seen ++ event who o a ∷ []) l.stays.1 (k.0 ∙ ap (λ h. h ++ event v.who o a ∷ []) (l.lone all)), k.1 ∙ base all);
     }
-looks_then_called u v w o (Err e) l c = record {
+looks_then_called u v w o (Err e) l base c = record {
   stays = (c.stays.0 ∙ l.stays.0, c.stays.1 ∙ l.stays.1, c.stays.2 ∙ l.stays.2);
   legal = c.legal;
   ok = tt;
   err = (prefix_trans u.seen v.seen w.seen l.looks.0 c.err.0, c.err.1 ∙ l.looks.1);
   full = c.full;
   too_long = c.too_long;
+  lone = λ all. let k = c.lone (l.stays.2 ∙ all) in (k.0 ∙ ap (λ h. h ++ []) (l.lone all), k.1 ∙ base all);
 }

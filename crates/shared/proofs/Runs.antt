@@ -161,7 +161,7 @@ with_reply v w jobs a b e runs = subst (λ x. Runs v jobs (x ∷ []) w) (by_repl
 -- an outcome with its reply
 pub served : (v w : Shows) (asked : Option Operation) (x : Outcome) (reply : Reply) → ComesOf v asked x w → reply_of x ≡ Some reply → Runs v (asked ∷ []) (reply ∷ []) w
 served v w (Some o) (outcome.Made (Ok a)) reply comes is = with_reply v w _ (Made a) reply is (made_one v w o a comes.0 comes.1)
-served v w (Some o) (outcome.Made (Err JournalFull)) reply comes is = with_reply v w _ (Refused JournalFull) reply is (refused_one v w o JournalFull comes.0 (comes.0.full refl))
+served v w (Some o) (outcome.Made (Err JournalFull)) reply comes is = with_reply v w _ (Refused JournalFull) reply is (refused_one v w o JournalFull comes.0 (let full = comes.0.full refl in omega arith))
 served v w (Some o) (outcome.Made (Err TooLong)) reply comes is = with_reply v w _ (Refused TooLong) reply is (refused_one v w o TooLong comes.0 (comes.0.too_long refl))
 served v w (Some o) (outcome.Made (Err NoMemory)) reply comes is = absurd (no_reply is)
 served v w (Some o) (outcome.Made (Err BadName)) reply comes is = absurd (no_reply is)

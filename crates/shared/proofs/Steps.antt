@@ -1,13 +1,14 @@
 -- What a call adds to what a pass shows.
-use Rattle.std.proofs.Common.{◌≡◌, ℕ, ◌+◌, ◌≤◌, false, List, [], ◌∷◌, ◌++◌, length, Some, Result, Ok, Err, IfOk, OnErr, refl, ap, sym, subst, ◌∙◌, arith, append_assoc}
+use Rattle.std.proofs.Common.{◌≡◌, ℕ, ◌+◌, ◌≤◌, false, List, [], ◌∷◌, ◌++◌, length, Some, Result, Ok, Err, IfOk, OnErr, refl, ap, sym, subst, ◌∙◌, arith, append_assoc, length-append}
 use Rattle.std.proofs.lemmas.List.{append-nil}
 use mathlib.Core.List.{IsPrefix}
-use Rattle.gate.specs.Places.{SeatState, last_of, IsChain, IsWithin}
+use Rattle.gate.specs.Places.{SeatState, last_of, IsChain, IsWithin, HasAll, times}
 use Rattle.gate.specs.Events.{number_if}
 use Rattle.gate.proofs.Events.{history-append, history_prefix, events_at_prefix, events_at_left, told_longer, within_left, within_prefix}
-use Rattle.gate.proofs.Lists.{last_of-snoc}
+use Rattle.gate.proofs.Lists.{last_of-snoc, once_later-here}
 use Rattle.sealed.specs.declared.fault.Fault.{Fault}
 use Rattle.sealed.specs.declared.fault.Fault.TheVariants.{JournalFull, TooLong}
+use Rattle.history.specs.Base.{Checkpoint}
 use Rattle.history.specs.Step.{Operation}
 use Rattle.history.specs.History.{History, IsLegal}
 use Rattle.book.specs.declared.answer.Answer.{Answer}
@@ -15,10 +16,10 @@ use Rattle.book.specs.Contents.{Contents}
 use Rattle.book.specs.Tells.{Tells, CarriesOn}
 use Rattle.shared.specs.declared.kept.Kept.{Kept}
 use Rattle.shared.specs.Between.{MayFollow}
-use Rattle.shared.specs.Passes.{between_kept, seen_of, made_of, width_of, limit_of, shows, TellsAs, IsPass, Stays}
-use Rattle.shared.specs.Calls.{event, Called, Looked}
+use Rattle.shared.specs.Passes.{between_kept, seen_of, made_of, width_of, limit_of, trimmed_of, shows, TellsAs, IsPass, Stays}
+use Rattle.shared.specs.Calls.{event, made_by, Called, Looked}
 use Rattle.shared.proofs.Between.{GoesOn, between_is, goes_follows, told_length}
-use Rattle.shared.proofs.Passes.{width_stays, limit_stays}
+use Rattle.shared.proofs.Passes.{width_stays, limit_stays, trimmed_is}
 
 abbrev pub kept_follows : Kept → Kept → Type 0
 kept_follows a b = MayFollow a.0 b.0
@@ -31,6 +32,7 @@ pub record Enters (p m : SeatState Kept) (x : Kept) : Type 0 where
   pub same : (m.gate ≡ p.gate) × (m.room ≡ p.room) × (m.own ≡ p.own)
   pub seen : IsPrefix p.list m.list × IsChain kept_follows m.list
   pub found : last_of m.list ≡ Some x
+  pub lone : p.room ≡ 64 → HasAll m.list m.own
 
 -- and left y
 pub record Leaves (m q : SeatState Kept) (y : Kept) : Type 0 where
@@ -43,6 +45,18 @@ pub record Found (p m : SeatState Kept) (x : Kept) : Type 0 where
   pub told : TellsAs (width_of p.list) (limit_of p.list) x (seen_of m.list)
   pub before : IsPrefix (seen_of p.list) (seen_of m.list)
   pub within : IsWithin m.list p.own
+  pub lone : p.room ≡ 64 → m.list ≡ p.list
+
+-- a list whose places but the opening one are all own is the one that the pass showed, since no own place is past that one's end
+no_longer : (xs more ys : List Kept) (x : Kept) (own : List ℕ) → last_of xs ≡ Some x → xs ++ more ≡ ys → IsWithin xs own → HasAll ys own → ys ≡ xs
+no_longer [] more ys x own e whole within has = absurd (cc)
+no_longer (z ∷ zs) [] ys x own e whole within has = sym whole ∙ append-nil (z ∷ zs)
+no_longer (z ∷ zs) (y ∷ more) ys x own e whole within has =
+    let k : ℕ = length (z ∷ zs) in
+    let long : length ys ≡ k + length (y ∷ more) = ap length (sym whole) ∙ length-append (z ∷ zs) (y ∷ more) in
+    let one : times k own ≡ 1 = has.0 k ∙ once_later-here (length ys) k (omega arith) (omega arith) in
+    let none : times k own ≡ 0 = within k (omega arith) in
+    absurd (omega arith)
 
 pub found : (p m : SeatState Kept) (x : Kept) → IsPass p → Enters p m x → Found p m x
 found p m x pass enters =
@@ -50,6 +64,7 @@ found p m x pass enters =
       told = told_longer between_kept kept_follows (TellsAs (width_of p.list) (limit_of p.list)) (carries (width_of p.list) (limit_of p.list)) p.list m.list last.0 x last.1 last.2 enters.seen.0 enters.seen.1 enters.found;
       before = history_prefix between_kept p.list m.list last.0 last.1 enters.seen.0;
       within = within_prefix p.list m.list p.own enters.seen.0 pass.within;
+      lone = λ all. no_longer p.list enters.seen.0.0 m.list last.0 p.own last.1 enters.seen.0.1 pass.within (subst (HasAll m.list) enters.same.2 (enters.lone all));
     }
 
 -- a pass found x, and left y, which goes on with the events g. What others did before stands in between
@@ -62,6 +77,11 @@ pub record Stepped (p q : SeatState Kept) (x : Kept) (g : History) : Type 0 wher
   pub made : made_of q.list q.own ≡ made_of p.list p.own ++ number_if (length (seen_of p.list ++ others)) g
   pub legal : IsLegal (width_of q.list) (seen_of q.list)
   pub pass : IsPass q
+  pub lone : p.room ≡ 64 → (others ≡ []) × (x.0.base.trimmed ≡ trimmed_of p.list)
+
+no_others : (h g : History) → h ++ g ≡ h → g ≡ []
+no_others h [] e = refl
+no_others h (a ∷ g) e = let long = sym (length-append h (a ∷ g)) ∙ ap length e in absurd (omega arith)
 
 pub stepped : (p m q : SeatState Kept) (x y : Kept) (g : History) → IsPass p → Enters p m x → Leaves m q y → GoesOn x.0 y.0 g → Stepped p q x g
 stepped p m q x y g pass enters leaves on =
@@ -96,10 +116,17 @@ stepped p m q x y g pass enters leaves on =
         told = (y, ap last_of leaves.list ∙ last_of-snoc m.list y, now);
         within = subst (λ (u : List Kept × List ℕ). IsWithin u.0 u.1) (λ i. (sym leaves.list i, sym places i)) (within_left m.list y p.own f.within);
       };
+      lone = λ all.
+          let same : m.list ≡ p.list = f.lone all in
+          (no_others (seen_of p.list) f.before.0 (f.before.1 ∙ ap seen_of same), sym (trimmed_is p.list x (ap last_of (sym same) ∙ enters.found)));
     }
 
 stays : (p q : SeatState Kept) (x : Kept) (g : History) (who : ℕ) → Stepped p q x g → Stays (shows p who) (shows q who)
 stays p q x g who s = (s.store, refl, s.room)
+
+-- no other did anything
+alone : (p q : SeatState Kept) (x : Kept) (g : History) (s : Stepped p q x g) → s.others ≡ [] → seen_of q.list ≡ seen_of p.list ++ g
+alone p q x g s none = s.seen ∙ (λ i. (seen_of p.list ++ none i) ++ g) ∙ ap (λ h. h ++ g) (append-nil (seen_of p.list))
 
 -- nothing was done
 pub looked : (p q : SeatState Kept) (x : Kept) (who : ℕ) → Stepped p q x [] → Looked (shows p who) (shows q who)
@@ -107,6 +134,7 @@ looked p q x who s = record {
   stays = stays p q x [] who s;
   legal = s.legal;
   looks = ((s.others, sym (s.seen ∙ append-nil (seen_of p.list ++ s.others))), s.made ∙ append-nil (made_of p.list p.own));
+  lone = λ all. alone p q x [] s (s.lone all).0 ∙ append-nil (seen_of p.list);
 }
 
 -- a book that tells what the other told
@@ -124,14 +152,9 @@ same_goes_on old new same =
     still_goes_on old new (ap (λ (c : Contents). c.width) same) (ap (λ (c : Contents). c.limit) same) (λ h told. subst (λ (c : Contents). Tells c h) (sym same) told)
 
 -- ---- calls
--- the event of a call, where it was made
-abbrev pub events_of : Result Answer Fault → ℕ → Operation → History
-events_of (Ok a) who o = event who o a ∷ []
-events_of (Err e) who o = []
-
 -- a book after a call, answered or refused, goes on from the book before
 pub call_goes_on : (r : Result Answer Fault) (old new : Contents) (who : ℕ) (o : Operation) → (new.width ≡ old.width) × (new.limit ≡ old.limit) × (new.base ≡ old.base)
-    → IfOk r (CarriesOn old new who o) → OnErr r (new ≡ old) → GoesOn old new (events_of r who o)
+    → IfOk r (CarriesOn old new who o) → OnErr r (new ≡ old) → GoesOn old new (made_by who o r)
 call_goes_on (Ok a) old new who o kept carries err = record {
   width = kept.0;
   limit = kept.1;
@@ -141,9 +164,14 @@ call_goes_on (Ok a) old new who o kept carries err = record {
 }
 call_goes_on (Err e) old new who o kept carries err = same_goes_on old new err
 
--- a full journal holds as many entries as its limit, so as many calls were seen
-full_seen : (p q : SeatState Kept) (x : Kept) → Stepped p q x [] → length x.0.entries ≡ x.0.limit → limit_of q.list ≤ length (seen_of q.list)
-full_seen p q x s full =
+-- a call leaves what was given up before
+pub left_base : (m q : SeatState Kept) (x y : Kept) → Leaves m q y → y.0.base ≡ x.0.base → trimmed_of q.list ≡ x.0.base.trimmed
+left_base m q x y leaves same = trimmed_is q.list y (ap last_of leaves.list ∙ last_of-snoc m.list y) ∙ ap (λ (base : Checkpoint). base.trimmed) same
+
+-- a full journal holds as many entries as its limit, so as many calls were seen and not given up
+full_seen : (p q : SeatState Kept) (x : Kept) → Stepped p q x [] → trimmed_of q.list ≡ x.0.base.trimmed → length x.0.entries ≡ x.0.limit
+    → length (seen_of q.list) ≡ trimmed_of q.list + limit_of q.list
+full_seen p q x s left full =
     let h : History = seen_of p.list ++ s.others in
     let same : length (seen_of q.list) ≡ length h = ap length (s.seen ∙ append-nil h) in
     let told : x.0.base.trimmed + length x.0.entries ≡ length h = told_length x.0 h s.told.tells in
@@ -154,21 +182,23 @@ no_fault : {a : Answer} {f : Fault} → ◌≡◌ {A = Result Answer Fault} (Ok 
 no_fault is = cc (is)
 
 -- what a call on the book makes of a pass
-pub called : (p q : SeatState Kept) (x : Kept) (who : ℕ) (o : Operation) (r : Result Answer Fault) → Stepped p q x (events_of r who o) → (r ≡ Err JournalFull → length x.0.entries ≡ x.0.limit)
+pub called : (p q : SeatState Kept) (x : Kept) (who : ℕ) (o : Operation) (r : Result Answer Fault) → Stepped p q x (made_by who o r) → trimmed_of q.list ≡ x.0.base.trimmed → (r ≡ Err JournalFull → length x.0.entries ≡ x.0.limit)
     → (r ≡ Err TooLong → ⊥) → Called (shows p who) o r (shows q who)
-called p q x who o (Ok a) s full short = record {
+called p q x who o (Ok a) s left full short = record {
   stays = stays p q x (event who o a ∷ []) who s;
   legal = s.legal;
   ok = (s.others, s.seen, s.made);
   err = tt;
   full = λ is. absurd (no_fault is);
   too_long = λ is. absurd (no_fault is);
+  lone = λ all. (alone p q x (event who o a ∷ []) s (s.lone all).0, left ∙ (s.lone all).1);
 }
-called p q x who o (Err e) s full short = record {
+called p q x who o (Err e) s left full short = record {
   stays = stays p q x [] who s;
   legal = s.legal;
   ok = tt;
   err = (looked p q x who s).looks;
-  full = λ is. full_seen p q x s (full is);
+  full = λ is. full_seen p q x s left (full is);
   too_long = λ is. absurd (short is);
+  lone = λ all. (alone p q x [] s (s.lone all).0, left ∙ (s.lone all).1);
 }

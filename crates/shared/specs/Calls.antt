@@ -1,5 +1,5 @@
 -- What a call leaves of a pass.
-use Rattle.std.specs.Prelude.{◌≡◌, ℕ, ◌+◌, ◌-◌, ◌≤◌, ◌<◌, List, length, Some, Result, Err, IfOk, OnErr}
+use Rattle.std.specs.Prelude.{◌≡◌, ℕ, ◌+◌, ◌-◌, ◌<◌, List, [], ◌∷◌, ◌++◌, length, Some, Result, Ok, Err, IfOk, OnErr}
 use Rattle.std.specs.FinMap as finite
 use Rattle.lrc_code.specs.declared.Code.{Code}
 use Rattle.sealed.specs.declared.fault.Fault.{Fault}
@@ -7,7 +7,8 @@ use Rattle.sealed.specs.declared.fault.Fault.TheVariants.{JournalFull, TooLong}
 use Rattle.sealed.specs.Layout.{stripe_count}
 use Rattle.lent.specs.declared.grant.Grant.{Grant}
 use Rattle.history.specs.State.{Blob}
-use Rattle.history.specs.Step.{Operation, put}
+use Rattle.history.specs.declared.note.Note.TheVariants as noted
+use Rattle.history.specs.Step.{Operation, put, read, IsReply}
 use Rattle.history.specs.History.{Event, History, IsLegal, HasPut, state_of}
 use Rattle.book.specs.declared.answer.Answer.{Answer}
 use Rattle.book.specs.declared.answer.Answer.TheVariants.{Granted}
@@ -19,29 +20,42 @@ use Rattle.shared.specs.Passes.{Shows, Stays, Calls, Looks}
 abbrev pub event : ℕ → Operation → Answer → Event
 event who operation answer = record { who = who; operation = operation; note = note_of answer }
 
--- what the pass shows afterwards where no call was made
+-- What the pass shows afterwards where no call was made. While no other pass is out, no more was seen
 pub record Looked (v w : Shows) : Type 0 where
   pub stays : Stays v w
   pub legal : IsLegal w.store.width w.seen
   pub looks : Looks v w
+  pub lone : v.room ≡ 64 → w.seen ≡ v.seen
 
 -- so many calls were given up at last, where `before` had been given up before
 abbrev pub Trims : ℕ → ℕ → Shows → Type 0
 Trims keep n w = (before : ℕ) × (w.trimmed ≡ before + n) × (n ≡ given_up before (length w.seen - before) keep)
+
+-- the event of a call, where it was made
+abbrev pub made_by : ℕ → Operation → Result Answer Fault → History
+made_by who operation (Ok answer) = event who operation answer ∷ []
+made_by who operation (Err fault) = []
 
 -- a put of more than 4,096 stripes
 abbrev pub IsTooLong : ℕ → Operation → Type 0
 IsTooLong w (put n code b) = 4096 < stripe_count code w (length b)
 IsTooLong w operation = ⊥
 
--- What the pass shows afterwards: with an answer the call was made, and with a fault it was not. A journal was full where as many calls were seen as its limit
+-- how many calls were given up by then, where no other pass is out
+abbrev pub GivesUpAlone : Shows → Result ℕ Fault → Shows → Type 0
+GivesUpAlone v (Ok n) w = w.trimmed ≡ v.trimmed + n
+GivesUpAlone v (Err fault) w = w.trimmed ≡ v.trimmed
+
+-- What the pass shows afterwards: with an answer the call was made, and with a fault it was not. A journal was full where it had as many entries as its limit: these are
+-- the calls that were seen and not given up. While no other pass is out, nothing else was done
 pub record Called (v : Shows) (operation : Operation) (r : Result Answer Fault) (w : Shows) : Type 0 where
   pub stays : Stays v w
   pub legal : IsLegal w.store.width w.seen
   pub ok : IfOk r (λ a. Calls v (event v.who operation a) w)
   pub err : OnErr r (Looks v w)
-  pub full : r ≡ Err JournalFull → w.store.limit ≤ length w.seen
+  pub full : r ≡ Err JournalFull → length w.seen ≡ w.trimmed + w.store.limit
   pub too_long : r ≡ Err TooLong → IsTooLong w.store.width operation
+  pub lone : v.room ≡ 64 → (w.seen ≡ v.seen ++ made_by v.who operation r) × (w.trimmed ≡ v.trimmed)
 
 -- The grant has the range that was asked for. After the history the name has a blob, which the grant's value represents. The blob was put in the history under its
 -- version, and no other put has this version.
@@ -53,6 +67,10 @@ pub record GrantedIn (h : History) (w : ℕ) (n : List ℕ) (start len : ℕ) (g
   pub represents : Represents w g.sealed.value blob
   pub put_is : HasPut h blob.version n blob.code blob.bytes
   pub only : (other : List ℕ) (code : Code) (bytes : List ℕ) → HasPut h blob.version other code bytes → put other code bytes ≡ put n blob.code blob.bytes
+
+-- the read is one that the object grants in the state after this history
+abbrev pub CanGrant : History → ℕ → List ℕ → ℕ → ℕ → Type 0
+CanGrant h w n start len = (version : ℕ) × IsReply w (state_of h) (read n start len) (noted.Granted version)
 
 -- where the answer is a grant
 abbrev pub IfGranted : Answer → (Grant → Type 0) → Type 0

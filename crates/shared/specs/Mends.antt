@@ -38,6 +38,7 @@ FoundIn old new who n j f (Mendable s) = (new ≡ old) × (sealed_at old n ≡ S
 -- a pass found that the fragment can be rebuilt from this value
 pub record CanMend (v : Shows) (n : List ℕ) (j f : ℕ) (s : Sealed) (w : Shows) : Type 0 where
   pub looked : Looked v w
+  pub base : v.room ≡ 64 → w.trimmed ≡ v.trimmed
   pub known : IsKnown w.seen w.store.width n s
   pub mendable : IsMendable s j f
 

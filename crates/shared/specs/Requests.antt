@@ -7,14 +7,14 @@ use Rattle.sealed.specs.Sealed.{StandsFor}
 use Rattle.history.specs.Step.{Operation, put, read, lose, repair, delete, stat}
 use Rattle.history.specs.History.{History}
 use Rattle.book.specs.declared.answer.Answer.{Answer}
-use Rattle.book.specs.Asked.{IsReadAnswer}
+use Rattle.book.specs.Asked.{IsReadAnswer, IsGrantable}
 use Rattle.book.specs.Contents.{Contents, sealed_at}
 use Rattle.book.specs.Known.{IsFragmentIn}
 use Rattle.book.specs.Tells.{Tells}
 use Rattle.shared.specs.declared.request.Request.{Request}
 use Rattle.shared.specs.declared.request.Request.TheVariants.{Put, Read, Lose, Install, Delete, Stat}
 use Rattle.shared.specs.Bytes.{bytes_of}
-use Rattle.shared.specs.Calls.{IfGranted, GrantedIn}
+use Rattle.shared.specs.Calls.{IfGranted, GrantedIn, CanGrant}
 use Rattle.shared.specs.Passes.{Shows}
 
 abbrev pub operation_of : Request → Operation
@@ -46,6 +46,16 @@ IsAnswerTo book request answer = Unit {0}
 abbrev pub IsGrantedTo : History → ℕ → Request → Answer → Type 0
 IsGrantedTo h w (Read n start len) answer = IfGranted answer (GrantedIn h w n start len)
 IsGrantedTo h w request answer = Unit {0}
+
+-- a read wants memory only where the book can grant it
+abbrev pub MayWant : Contents → Request → Type 0
+MayWant book (Read n start len) = IsGrantable (sealed_at book n) start len
+MayWant book request = Unit {0}
+
+-- and as a pass sees it
+abbrev pub WantedFor : History → ℕ → Request → Type 0
+WantedFor h w (Read n start len) = CanGrant h w n start len
+WantedFor h w request = Unit {0}
 
 -- deletions and questions ask for no memory
 abbrev pub IsFaultOf : Request → Fault → Type 0

@@ -1,11 +1,12 @@
 -- What a run of jobs adds to what a pass shows.
-use Rattle.std.specs.Prelude.{◌≡◌, ℕ, ◌+◌, ◌≤◌, List, [], ◌∷◌, ◌++◌, map, length, Option, Some, None, Ok, Err, IfOk}
+use Rattle.std.specs.Prelude.{◌≡◌, ℕ, ◌+◌, ◌-◌, ◌≤◌, List, [], ◌∷◌, ◌++◌, map, length, Option, Some, None, Ok, Err, IfOk}
 use mathlib.Core.List.{IsPrefix}
 use Rattle.sealed.specs.declared.fault.Fault.{Fault}
 use Rattle.sealed.specs.declared.fault.Fault.TheVariants.{JournalFull, TooLong}
 use Rattle.history.specs.Step.{Operation, put, read, lose, repair, delete, stat}
 use Rattle.history.specs.History.{Event, History}
 use Rattle.book.specs.declared.answer.Answer.{Answer}
+use Rattle.book.specs.Trimming.{given_up}
 use Rattle.shared.specs.declared.jobs.Ask.{Ask}
 use Rattle.shared.specs.declared.jobs.Ask.TheVariants.{Put, Read, Lose, Repair, Delete, Stat, Trim}
 use Rattle.shared.specs.declared.jobs.Job.{Job}
@@ -14,7 +15,7 @@ use Rattle.shared.specs.declared.jobs.Reply.TheVariants.{Made, Refused, Trimmed}
 use Rattle.shared.specs.declared.run.Outcome.{Outcome}
 use Rattle.shared.specs.declared.run.Outcome.TheVariants as outcome
 use Rattle.shared.specs.Passes.{Shows, Stays}
-use Rattle.shared.specs.Calls.{IsTooLong, event, Called, Looked, GrantedIn, IfGranted}
+use Rattle.shared.specs.Calls.{IsTooLong, event, Called, Looked, Trims, GrantedIn, IfGranted}
 
 -- the operation that is asked for. A trim is none
 abbrev pub operation_asked : Ask → Option Operation
@@ -50,6 +51,11 @@ reply_of (outcome.Made (Err fault)) = None
 reply_of (outcome.Trimmed (Ok n)) = Some (Trimmed n)
 reply_of (outcome.Trimmed (Err fault)) = None
 
+-- what a trim gave up, when it was made
+abbrev pub GivesUp : Ask → Outcome → Shows → Type 0
+GivesUp (Trim keep) (outcome.Trimmed r) w = IfOk r (λ n. Trims keep n w)
+GivesUp ask outcome w = Unit {0}
+
 -- ---- all jobs
 -- a call was refused for a full journal, or as a put that is too long
 abbrev pub IsRefusal : Shows → Operation → Fault → Type 0
@@ -69,6 +75,16 @@ abbrev pub AreReplies : Shows → List (Option Operation) → List Reply → Typ
 AreReplies w jobs [] = Unit {0}
 AreReplies w [] (reply ∷ replies) = ⊥
 AreReplies w (o ∷ jobs) (reply ∷ replies) = IsReplyTo w o reply × AreReplies w jobs replies
+
+-- the reply to a trim is how many calls were given up: all that had been seen by then and were not given up before, but the last ones
+abbrev pub IsTrimOf : History → Ask → Reply → Type 0
+IsTrimOf h ask reply =
+    (keep n : ℕ) → ask ≡ Trim keep → reply ≡ Trimmed n → (by_then : History) × (before : ℕ) × IsPrefix by_then h × (n ≡ given_up before (length by_then - before) keep)
+
+abbrev pub AreTrims : History → List Job → List Reply → Type 0
+AreTrims h jobs [] = Unit {0}
+AreTrims h [] (reply ∷ replies) = ⊥
+AreTrims h (job ∷ jobs) (reply ∷ replies) = IsTrimOf h job.ask reply × AreTrims h jobs replies
 
 -- the call of a reply, where one was made
 abbrev pub call_of : ℕ → Option Operation → Reply → History

@@ -2,7 +2,7 @@
 ghost use Rattle.std.specs.Prelude.{◌≡◌, ◌⊎◌, ◌↔◌, ◌<◌, length, IfOk, IfErr};
 ghost use Rattle.sealed.specs.Layout.{stripe_count};
 ghost use Rattle.history.specs.Step.{put as put_of, read as read_of, lose as lose_of, delete as delete_of, stat as stat_of};
-ghost use Rattle.shared.specs.Calls.{Called, GrantedIn, IfGranted};
+ghost use Rattle.shared.specs.Calls.{Called, CanGrant, GrantedIn, IfGranted};
 
 use crate::request::Request;
 use crate::{Pass, Store};
@@ -81,6 +81,7 @@ impl Store {
         requires { pass.old.store ≡ self.now }
         ensures called { Called pass.old (read_of name start len) result pass.new }
         ensures grant { IfOk result (λ a. IfGranted a (GrantedIn pass.new.seen self.now.width name start len)) }
+        ensures no_memory { result ≡ Err Fault.NoMemory → CanGrant pass.new.seen self.now.width name start len }
         ensures faults { IfErr result (λ e. (e ≡ Fault.NoMemory) ⊎ (e ≡ Fault.JournalFull)) }
     {
         self.make(rt, pass, Request::Read { name, start, len })

@@ -1,7 +1,7 @@
 //! One call inside the gate.
 ghost use Rattle.std.specs.Prelude.{◌≡◌, ◌≢◌, ◌⊎◌, IfOk, IfErr};
 ghost use Rattle.shared.specs.Calls.{Called};
-ghost use Rattle.shared.specs.Requests.{operation_of, CanAsk, IsGrantedTo, IsFaultOf};
+ghost use Rattle.shared.specs.Requests.{operation_of, CanAsk, IsGrantedTo, WantedFor, IsFaultOf};
 
 use crate::request::Request;
 use crate::{Pass, Store};
@@ -20,6 +20,7 @@ impl Store {
         requires can { CanAsk pass.old request }
         ensures called { Called pass.old (operation_of request) result pass.new }
         ensures granted { IfOk result (IsGrantedTo pass.new.seen self.now.width request) }
+        ensures no_memory { result ≡ Err Fault.NoMemory → WantedFor pass.new.seen self.now.width request }
         ensures faults { IfErr result (IsFaultOf request) }
     {
         let mut inside = self.gate.enter(rt, &mut pass.seat);
@@ -34,6 +35,7 @@ impl Store {
         requires can { CanAsk pass.old request }
         ensures called { Called pass.old (operation_of request) result pass.new }
         ensures granted { IfOk result (IsGrantedTo pass.new.seen self.now.width request) }
+        ensures no_memory { result ≡ Err Fault.NoMemory → WantedFor pass.new.seen self.now.width request }
         ensures faults { IfErr result (λ e. (e ≡ Fault.Busy) ⊎ IsFaultOf request e) }
         ensures lone { pass.old.room ≡ 64 → result ≢ Err Fault.Busy }
     {

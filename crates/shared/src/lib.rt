@@ -19,3 +19,6 @@ pub use jobs::{Ask, Cause, Job, Pace, Reply, Stopped};
 pub use kept::Kept;
 pub use pass::Pass;
 pub use store::Store;
+
+#[cfg(test)]
+mod tests;

@@ -37,9 +37,10 @@ impl Pass {
         self.seat.room()
     }
 
-    /// The label of its calls.
+    /// The label of its calls. Whatever the pass has seen is a legal history.
     pub fn who(&self) -> u32
-        ensures { result ≡ self.now.who }
+        ensures value { result ≡ self.now.who }
+        ensures legal { IsLegal self.now.store.width self.now.seen }
     {
         self.who
     }
@@ -69,7 +70,7 @@ impl Pass {
     pub fn join(&mut self, store: &Store, other: Pass)
         requires store { (self.old.store ≡ store.now) × (other.store ≡ store.now) }
         ensures kept { (self.new.store ≡ self.old.store) × (self.new.who ≡ self.old.who) × (self.new.room ≡ self.old.room + other.room) }
-        ensures one { (self.new.seen ≡ self.old.seen) ⊎ (self.new.seen ≡ other.seen) }
+        ensures one { ((self.new.seen ≡ self.old.seen) × (self.new.trimmed ≡ self.old.trimmed)) ⊎ ((self.new.seen ≡ other.seen) × (self.new.trimmed ≡ other.trimmed)) }
         ensures seen { IsPrefix self.old.seen self.new.seen × IsPrefix other.seen self.new.seen }
         ensures made { self.new.made ≡ self.old.made ++ other.made }
         ensures apart { AreApart self.old.made other.made }

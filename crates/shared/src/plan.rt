@@ -16,6 +16,7 @@ impl Store {
     pub fn plan<R: Wait>(&self, rt: &R, alloc: Global, pass: &mut Pass) -> Result<Plan, Fault>
         requires { pass.old.store ≡ self.now }
         ensures looked { Looked pass.old pass.new }
+        ensures alone { pass.old.room ≡ 64 → pass.new.trimmed ≡ pass.old.trimmed }
         ensures ok { IfOk result (λ p. p.items.items ≡ plan_of (state_of pass.new.seen)) }
         ensures faults { IfErr result (λ e. e ≡ Fault.NoMemory) }
     {

@@ -1,7 +1,7 @@
 //! Calls as they are made on the book in the gate.
 ghost use Rattle.std.specs.Prelude.{◌≡◌, ◌↔◌, length, IfOk, IfErr, OnErr};
 ghost use Rattle.book.specs.Tells.{CarriesOn};
-ghost use Rattle.shared.specs.Requests.{operation_of, CanMake, IsAnswerTo, IsFaultOf};
+ghost use Rattle.shared.specs.Requests.{operation_of, CanMake, IsAnswerTo, MayWant, IsFaultOf};
 
 use book::{Answer, Book, Fault, Name};
 use bytes::Bytes;
@@ -49,6 +49,7 @@ impl Request {
         requires { CanMake book.old self }
         ensures ok { IfOk result (CarriesOn book.old book.new who (operation_of self)) }
         ensures answer { IfOk result (IsAnswerTo book.old self) }
+        ensures no_memory { result ≡ Err Fault.NoMemory → MayWant book.old self }
         ensures full { (result ≡ Err Fault.JournalFull) ↔ (length book.old.entries ≡ book.old.limit) }
         ensures kept { (book.new.width ≡ book.old.width) × (book.new.limit ≡ book.old.limit) × (book.new.base ≡ book.old.base) }
         ensures faults { IfErr result (IsFaultOf self) }

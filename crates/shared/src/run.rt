@@ -1,6 +1,6 @@
 //! Running jobs in order.
 ghost use Rattle.std.specs.Prelude.{◌≡◌, length, IfOk, IfErr};
-ghost use Rattle.shared.specs.Runs.{operation_asked, asked, ComesOf, reply_of, Runs};
+ghost use Rattle.shared.specs.Runs.{operation_asked, asked, ComesOf, GivesUp, reply_of, Runs, AreTrims};
 
 use crate::{Ask, Cause, Job, Pace, Pass, Reply, Stopped, Store};
 use book::{Answer, Fault};
@@ -31,6 +31,8 @@ impl Store {
         ensures all { IfOk result (λ replies. length replies.items ≡ length jobs.items) }
         ensures ok { IfOk result (λ replies. Runs pass.old (asked jobs.items) replies.items pass.new) }
         ensures err { IfErr result (λ stopped. Runs pass.old (asked jobs.items) stopped.done.items pass.new) }
+        ensures trims { IfOk result (λ replies. AreTrims pass.new.seen jobs.items replies.items) }
+        ensures trims_by_then { IfErr result (λ stopped. AreTrims pass.new.seen jobs.items stopped.done.items) }
     {
         let Ok(mut done) = Vec::with_capacity(alloc, jobs.len()) else {
             return Err(Stopped {
@@ -62,7 +64,8 @@ impl Store {
     /// Does what is asked for.
     fn serve<R: Wait>(&self, rt: &R, alloc: Global, pass: &mut Pass, ask: Ask) -> Outcome
         requires { pass.old.store ≡ self.now }
-        ensures { ComesOf pass.old (operation_asked ask) result pass.new }
+        ensures comes { ComesOf pass.old (operation_asked ask) result pass.new }
+        ensures trims { GivesUp ask result pass.new }
     {
         match ask {
             Ask::Put { name, code, bytes } => {

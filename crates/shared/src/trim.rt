@@ -1,6 +1,6 @@
 //! Giving up the beginning of the journal.
 ghost use Rattle.std.specs.Prelude.{◌≡◌, ◌≢◌, ◌⊎◌, IfOk, IfErr};
-ghost use Rattle.shared.specs.Calls.{Looked, Trims};
+ghost use Rattle.shared.specs.Calls.{Looked, Trims, GivesUpAlone};
 
 use crate::{Pass, Store};
 use book::Fault;
@@ -22,6 +22,7 @@ impl Store {
         requires { pass.old.store ≡ self.now }
         ensures looked { Looked pass.old pass.new }
         ensures ok { IfOk result (λ n. Trims keep n pass.new) }
+        ensures alone { pass.old.room ≡ 64 → GivesUpAlone pass.old result pass.new }
         ensures faults { IfErr result (λ e. e ≡ Fault.NoMemory) }
     {
         let mut inside = self.gate.enter(rt, &mut pass.seat);
@@ -35,6 +36,7 @@ impl Store {
         requires { pass.old.store ≡ self.now }
         ensures looked { Looked pass.old pass.new }
         ensures ok { IfOk result (λ n. Trims keep n pass.new) }
+        ensures alone { pass.old.room ≡ 64 → GivesUpAlone pass.old result pass.new }
         ensures faults { IfErr result (λ e. (e ≡ Fault.Busy) ⊎ (e ≡ Fault.NoMemory)) }
         ensures lone { pass.old.room ≡ 64 → result ≢ Err Fault.Busy }
     {

@@ -4,7 +4,7 @@ use Rattle.shared.specs.Between.{MayFollow}
 use Rattle.shared.specs.Passes.{shows}
 use Rattle.shared.specs.Mends.{Found}
 use Rattle.shared.proofs.Between.{goes_follows}
-use Rattle.shared.proofs.Steps.{Stepped, stepped}
+use Rattle.shared.proofs.Steps.{Stepped, left_base, stepped}
 use Rattle.shared.proofs.Mends.{events_at_look, look_goes_on, look_found}
 use Rattle.shared.proofs.store.Store.look.Given as given
 use Rattle.shared.proofs.store.Store.look.Goals as goal
@@ -22,7 +22,7 @@ steps g c =
     let m = c.look_in-look.ensures in
     let l = c.leave.ensures in
     stepped c.pass.inside.seat c.enter-inside.new.seat c.leave.new.seat c.enter-inside.result.value _ _ c.pass.invariant
-    (record { same = (e.kept.0, e.kept.1, e.kept.2); seen = e.seen; found = e.found })
+    (record { same = (e.kept.0, e.kept.1, e.kept.2); seen = e.seen; found = e.found; lone = e.lone })
     (record { same = l.kept; list = l.list; own = l.own })
     (look_goes_on c.look_in-look.result c.enter-inside.result.value.0 c.look_in-look.new.book c.pass.inside.who c.args.name.now c.args.stripe c.args.fragment m.kept m.found)
 
@@ -32,4 +32,5 @@ invariant_of-pass g c = (steps g c).pass
 pub returns-clause-found : goal.returns-clause-found
 returns-clause-found g c =
     subst (λ v. Found v c.args.name.now c.args.stripe c.args.fragment c.look_in-look.result (shows c.leave.new.seat c.pass.inside.who)) c.pass.view_is
-    (look_found c.pass.inside.seat c.leave.new.seat c.enter-inside.result.value _ c.pass.inside.who c.args.name.now c.args.stripe c.args.fragment c.look_in-look.result (steps g c) c.look_in-look.ensures.found)
+    (look_found c.pass.inside.seat c.leave.new.seat c.enter-inside.result.value _ c.pass.inside.who c.args.name.now c.args.stripe c.args.fragment c.look_in-look.result (steps g c)
+    (left_base c.enter-inside.new.seat c.leave.new.seat c.enter-inside.result.value _ (record { same = c.leave.ensures.kept; list = c.leave.ensures.list; own = c.leave.ensures.own }) c.look_in-look.ensures.kept.2) c.look_in-look.ensures.found)

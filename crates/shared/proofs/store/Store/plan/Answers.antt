@@ -1,7 +1,7 @@
-use Rattle.std.proofs.Common.{[], refl, subst}
-use Rattle.shared.specs.Passes.{shows}
+use Rattle.std.proofs.Common.{◌≡◌, [], refl, subst, ◌∙◌}
+use Rattle.shared.specs.Passes.{Shows, shows}
 use Rattle.shared.specs.Calls.{Looked}
-use Rattle.shared.proofs.Steps.{Stepped, stepped, same_goes_on, looked}
+use Rattle.shared.proofs.Steps.{Stepped, left_base, stepped, same_goes_on, looked}
 use Rattle.shared.proofs.Looks.{planned}
 use Rattle.shared.proofs.store.Store.plan.Given as given
 use Rattle.shared.proofs.store.Store.plan.Goals as goal
@@ -11,7 +11,7 @@ steps g c =
     let e = c.enter-inside.ensures in
     let l = c.leave.ensures in
     stepped c.pass.inside.seat c.enter-inside.new.seat c.leave.new.seat c.enter-inside.result.value c.enter-inside.result.value [] c.pass.invariant
-    (record { same = (e.kept.0, e.kept.1, e.kept.2); seen = e.seen; found = e.found })
+    (record { same = (e.kept.0, e.kept.1, e.kept.2); seen = e.seen; found = e.found; lone = e.lone })
     (record { same = l.kept; list = l.list; own = l.own })
     (same_goes_on c.enter-inside.result.value.0 c.enter-inside.result.value.0 refl)
 
@@ -25,3 +25,12 @@ returns-clause-looked g c =
 pub returns-clause-ok : goal.returns-clause-ok
 returns-clause-ok g c =
     planned c.plan.result c.map_err-plan.result c.pass.inside.seat c.leave.new.seat c.enter-inside.result.value _ (steps g c) c.map_err-plan.ensures.variant c.map_err-plan.ensures.cases c.plan.ensures
+
+pub returns-clause-alone : goal.returns-clause-alone
+returns-clause-alone g c =
+    let l = c.leave.ensures in
+    let P : Shows → Type 0 = λ v. v.room ≡ 64 → (shows c.leave.new.seat c.pass.inside.who).trimmed ≡ v.trimmed in
+    subst P c.pass.view_is
+    (λ all.
+    left_base c.enter-inside.new.seat c.leave.new.seat c.enter-inside.result.value c.enter-inside.result.value (record { same = l.kept; list = l.list; own = l.own }) refl
+    ∙ ((steps g c).lone all).1)

@@ -3,8 +3,10 @@ use Rattle.std.proofs.lemmas.List.{map-append, length-map}
 use Rattle.history.specs.Step.{Operation}
 use Rattle.shared.specs.declared.jobs.Job.{Job}
 use Rattle.shared.specs.declared.jobs.Reply.{Reply}
-use Rattle.shared.specs.Runs.{operation_asked, asked, Runs}
+use Rattle.shared.specs.Runs.{operation_asked, asked, Runs, AreTrims}
 use Rattle.shared.proofs.Runs.{runs_none, runs_longer, runs_more, served, stopped}
+use Rattle.shared.proofs.Trims.{trims_stop, trims_more}
+use Rattle.gate.proofs.Lists.{prefix_self}
 use Rattle.shared.proofs.store.Store.run.Goals as goal
 
 abbrev of_job : Job → Option Operation
@@ -34,7 +36,22 @@ returns-in_default-reply_to-clause-err g c =
     let rest = c.loop-job.job-iterator.rest.items in
     subst (λ jobs. Runs c.args.pass.now jobs c.loop-job.done.items c.serve-outcome.new.pass) (all_asked c.loop-job.yielded rest c.args.jobs.items i.2)
     (runs_longer c.args.pass.now c.loop-job.pass c.serve-outcome.new.pass (asked c.loop-job.yielded) (asked rest) c.loop-job.done.items (same_count c.loop-job.done.items c.loop-job.yielded i.1) i.4
-    (stopped c.loop-job.pass c.serve-outcome.new.pass (operation_asked c.in-Some.job.ask) c.serve-outcome.result (asked rest) c.serve-outcome.ensures (sym c.reply_to.ensures ∙ c.in_default-reply_to.is)))
+    (stopped c.loop-job.pass c.serve-outcome.new.pass (operation_asked c.in-Some.job.ask) c.serve-outcome.result (asked rest) c.serve-outcome.ensures.comes (sym c.reply_to.ensures ∙ c.in_default-reply_to.is)))
+
+pub returns-in_default-clause-trims_by_then : goal.returns-in_default-clause-trims_by_then
+returns-in_default-clause-trims_by_then g c = subst (λ (replies : List Reply). AreTrims c.args.pass.now.seen c.args.jobs.items replies) (sym c.new.ensures.items) tt
+
+pub returns-then-not-before-clause-trims_by_then : goal.returns-then-not-before-clause-trims_by_then
+returns-then-not-before-clause-trims_by_then g c =
+    let i = c.loop-job.invariant in
+    let h = c.loop-job.pass.seen in
+    trims_stop h h c.loop-job.yielded c.loop-job.job-iterator.rest.items c.args.jobs.items c.loop-job.done.items i.1 i.2 (prefix_self h) i.5
+
+pub returns-in_default-reply_to-clause-trims_by_then : goal.returns-in_default-reply_to-clause-trims_by_then
+returns-in_default-reply_to-clause-trims_by_then g c =
+    let i = c.loop-job.invariant in
+    let last = stopped c.loop-job.pass c.serve-outcome.new.pass (operation_asked c.in-Some.job.ask) c.serve-outcome.result [] c.serve-outcome.ensures.comes (sym c.reply_to.ensures ∙ c.in_default-reply_to.is) in
+    trims_stop c.loop-job.pass.seen c.serve-outcome.new.pass.seen c.loop-job.yielded c.loop-job.job-iterator.rest.items c.args.jobs.items c.loop-job.done.items i.1 i.2 last.seen i.5
 
 pub loop-job-preserved : goal.loop-job-preserved
 loop-job-preserved g c =
@@ -46,7 +63,7 @@ loop-job-preserved g c =
     let lengths : length c.push_reserved.new.self.items ≡ length (yielded ++ job ∷ []) =
     ap length items ∙ length-append c.loop-job.done.items (reply ∷ []) ∙ ap (λ (n : ℕ). n + 1) i.1 ∙ sym (length-append yielded (job ∷ [])) in
     let one : Runs c.loop-job.pass (operation_asked job.ask ∷ []) (reply ∷ []) c.serve-outcome.new.pass =
-    served c.loop-job.pass c.serve-outcome.new.pass (operation_asked job.ask) c.serve-outcome.result reply c.serve-outcome.ensures (sym c.reply_to.ensures ∙ c.in-Some-reply_to.is) in
+    served c.loop-job.pass c.serve-outcome.new.pass (operation_asked job.ask) c.serve-outcome.result reply c.serve-outcome.ensures.comes (sym c.reply_to.ensures ∙ c.in-Some-reply_to.is) in
     let more : Runs c.args.pass.now (asked yielded ++ operation_asked job.ask ∷ []) (c.loop-job.done.items ++ reply ∷ []) c.serve-outcome.new.pass =
     runs_more c.args.pass.now c.loop-job.pass c.serve-outcome.new.pass (asked yielded) c.loop-job.done.items (operation_asked job.ask) reply (same_count c.loop-job.done.items yielded i.1) i.4 one in (
       one.stays.0 ∙ i.0,
@@ -55,4 +72,7 @@ loop-job-preserved g c =
       omega (arith, i.3, c.push_reserved.ensures.capacity),
       subst (λ (replies : List Reply). Runs c.args.pass.now (asked (yielded ++ job ∷ [])) replies c.serve-outcome.new.pass) (sym items)
           (subst (λ jobs. Runs c.args.pass.now jobs (c.loop-job.done.items ++ reply ∷ []) c.serve-outcome.new.pass) (sym (map-append of_job yielded (job ∷ []))) more),
+      subst (λ (replies : List Reply). AreTrims c.serve-outcome.new.pass.seen (yielded ++ job ∷ []) replies) (sym items)
+          (trims_more c.loop-job.pass c.serve-outcome.new.pass yielded job c.loop-job.done.items reply c.serve-outcome.result i.1 one.seen i.5 c.serve-outcome.ensures.comes c.serve-outcome.ensures.trims
+          (sym c.reply_to.ensures ∙ c.in-Some-reply_to.is)),
     )

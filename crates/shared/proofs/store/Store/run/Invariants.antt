@@ -1,6 +1,6 @@
 use Rattle.std.proofs.Common.{◌≡◌, length, ◌≤◌, ◌++◌}
 use Rattle.std.specs.Vec.{vec_capacity}
-use Rattle.shared.specs.Runs.{asked, Runs}
+use Rattle.shared.specs.Runs.{asked, Runs, AreTrims}
 use Rattle.shared.proofs.store.Store.run.Given as goal
 
 abbrev pub invariant-loop-job : goal.invariant-loop-job
@@ -10,3 +10,4 @@ invariant-loop-job g l =
     × (l.yielded ++ l.job-iterator.rest.items ≡ l.fn.jobs.items)
     × (length l.fn.jobs.items ≤ vec_capacity l.done)
     × Runs l.fn.pass (asked l.yielded) l.done.items l.pass
+    × AreTrims l.pass.seen l.yielded l.done.items

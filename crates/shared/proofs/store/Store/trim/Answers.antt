@@ -1,10 +1,10 @@
-use Rattle.std.proofs.Common.{[], IfSome, sym, subst}
+use Rattle.std.proofs.Common.{◌≡◌, [], IfSome, sym, subst}
 use Rattle.shared.specs.Between.{MayFollow}
-use Rattle.shared.specs.Passes.{shows}
-use Rattle.shared.specs.Calls.{Looked}
+use Rattle.shared.specs.Passes.{Shows, shows}
+use Rattle.shared.specs.Calls.{Looked, GivesUpAlone}
 use Rattle.shared.proofs.Between.{goes_follows}
 use Rattle.shared.proofs.Steps.{Stepped, stepped, still_goes_on, looked}
-use Rattle.shared.proofs.Looks.{trims}
+use Rattle.shared.proofs.Looks.{trims, trims_alone}
 use Rattle.shared.proofs.store.Store.trim.Given as given
 use Rattle.shared.proofs.store.Store.trim.Goals as goal
 
@@ -20,7 +20,7 @@ steps g c =
     let t = c.trim-result.ensures in
     let l = c.leave.ensures in
     stepped c.pass.inside.seat c.enter-inside.new.seat c.leave.new.seat c.enter-inside.result.value _ [] c.pass.invariant
-    (record { same = (e.kept.0, e.kept.1, e.kept.2); seen = e.seen; found = e.found })
+    (record { same = (e.kept.0, e.kept.1, e.kept.2); seen = e.seen; found = e.found; lone = e.lone })
     (record { same = l.kept; list = l.list; own = l.own })
     (still_goes_on c.enter-inside.result.value.0 c.trim-result.new.self t.kept.0 t.kept.1 t.told)
 
@@ -37,3 +37,12 @@ returns-clause-ok g c =
     let l = c.leave.ensures in
     trims c.trim-result.result c.pass.inside.seat c.enter-inside.new.seat c.leave.new.seat c.enter-inside.result.value _ c.pass.inside.who c.args.keep
     (record { same = l.kept; list = l.list; own = l.own }) (steps g c) t.answer t.trimmed
+
+pub returns-clause-alone : goal.returns-clause-alone
+returns-clause-alone g c =
+    let t = c.trim-result.ensures in
+    let l = c.leave.ensures in
+    let P : Shows → Type 0 = λ v. v.room ≡ 64 → GivesUpAlone v c.trim-result.result (shows c.leave.new.seat c.pass.inside.who) in
+    subst P c.pass.view_is
+    (trims_alone c.trim-result.result c.pass.inside.seat c.enter-inside.new.seat c.leave.new.seat c.enter-inside.result.value _ c.pass.inside.who
+    (record { same = l.kept; list = l.list; own = l.own }) (steps g c) t.trimmed t.err)
