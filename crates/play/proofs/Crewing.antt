@@ -1,11 +1,6 @@
--- The passes and drawers of a run's workers.
-use Rattle.std.proofs.Common.{◌≡◌, inl, inr, ℕ, ◌+◌, List, [], ◌∷◌, ◌++◌, length, Ok, Err, subst, sym, ap, suc, refl, ◌∙◌}
-use Rattle.gate.specs.Places.{TableId}
+-- The passes of a run's workers.
+use Rattle.std.proofs.Common.{◌≡◌, ℕ, ◌+◌, List, [], ◌∷◌, ◌++◌, length, Ok, Err, subst, sym, ap, suc, refl, ◌∙◌}
 use Rattle.shared.specs.Passes.{Shows, Which, Stays}
-use Rattle.mender.specs.declared.done.Done.{Done}
-use Rattle.mender.specs.Drawn.{Hand}
-use Rattle.mender.specs.Worked.{Finished}
-use Rattle.book.specs.declared.plan.Item.{Item}
 use Rattle.rounds.specs.Rounds.{AreOf, FitsTickets, DidAll, DidErrand, DidMend}
 use Rattle.rounds.specs.declared.work.Errand.{Errand}
 use Rattle.rounds.specs.declared.work.Errand.TheVariants.{Calls, Mend}
@@ -15,7 +10,7 @@ use Rattle.rounds.specs.declared.work.Outcome.{Outcome}
 use Rattle.rounds.specs.declared.work.Outcome.TheVariants.{Called, Mended}
 use Rattle.rounds.specs.declared.work.Ran.{Ran}
 use Rattle.rounds.specs.declared.work.Work.{Work}
-use Rattle.play.specs.Crews.{AreWorkers, AreCalls, IsCalls, AreMenders, IsMender, HaveDrawers, HasDrawer, passes_of, passes_back, outcomes_of}
+use Rattle.play.specs.Crews.{AreWorkers, AreCalls, IsCalls, passes_of, passes_back}
 
 -- one worker more
 pub workers-more : (store : Which) (ps : List Shows) (p : Shows) → AreWorkers store ps → p.store ≡ store → p.room ≡ 1 → AreWorkers store (ps ++ p ∷ [])
@@ -32,26 +27,14 @@ pub calls-more : (works : List Work) (w : Work) → AreCalls works → IsCalls w
 calls-more [] w all last = (last, tt)
 calls-more (x ∷ works) w all last = (all.0, calls-more works w all.1 last)
 
-pub menders-more : (tickets : TableId) (works : List Work) (w : Work) → AreMenders tickets works → IsMender tickets w.errand → AreMenders tickets (works ++ w ∷ [])
-menders-more tickets [] w all last = (last, tt)
-menders-more tickets (x ∷ works) w all last = (all.0, menders-more tickets works w all.1 last)
-
 fits-calls : (e : Errand) → IsCalls e → FitsTickets e
 fits-calls (Calls jobs) is = tt
 fits-calls (Mend m) is = absurd is
-
-fits-mender : (tickets : TableId) (e : Errand) → IsMender tickets e → FitsTickets e
-fits-mender tickets (Calls jobs) is = absurd is
-fits-mender tickets (Mend m) is = is.0 ∙ sym is.1
 
 -- what they are to do is done by passes of the store
 pub calls-of : (store : Which) (works : List Work) → AreWorkers store (passes_of works) → AreCalls works → AreOf store works
 calls-of store [] all are = tt
 calls-of store (w ∷ works) all are = ((all.0.0, fits-calls w.errand are.0), calls-of store works all.1 are.1)
-
-pub menders-of : (store : Which) (tickets : TableId) (works : List Work) → AreWorkers store (passes_of works) → AreMenders tickets works → AreOf store works
-menders-of store tickets [] all are = tt
-menders-of store tickets (w ∷ works) all are = ((all.0.0, fits-mender tickets w.errand are.0), menders-of store tickets works all.1 are.1)
 
 -- whatever a worker did, its pass is the same one
 stays-mend : (v : Shows) (m : Mending) (o : Outcome) (w : Shows) → DidMend v m o w → Stays v w
@@ -77,37 +60,10 @@ back store (w ∷ works) (r ∷ rans) all did =
     let rest : AreWorkers store (passes_back rans) × (length (passes_back rans) ≡ length (passes_of works)) = back store works rans all.1 did.1 in
     (((same.0 ∙ all.0.0, same.2 ∙ all.0.1), rest.0), ap suc rest.1)
 
--- and with what is left of the first pass their rooms are what they were
+-- there are as many, and with what is left of the first pass their rooms are what they were
 pub crew-back : (store : Which) (room : ℕ) (passes left : List Shows) (works : List Work) (rans : List Ran) → passes_of works ≡ passes → left ≡ passes_back rans
-    → AreWorkers store passes → room + length passes ≡ 64 → DidAll works rans → AreWorkers store left × (room + length left ≡ 64)
+    → AreWorkers store passes → room + length passes ≡ 64 → DidAll works rans → AreWorkers store left × (room + length left ≡ 64) × (length left ≡ length passes)
 crew-back store room passes left works rans given taken all rooms did =
     let on : AreWorkers store (passes_back rans) × (length (passes_back rans) ≡ length (passes_of works)) = back store works rans (subst (AreWorkers store) (sym given) all) did in
     let len : length left ≡ length passes = ap length taken ∙ (on.1 ∙ ap length given) in
-    (subst (AreWorkers store) (sym taken) on.0, subst (λ (n : ℕ). room + n ≡ 64) (sym len) rooms)
-
-drawer-finished : (plan : List Item) (old new : Hand) (done : List Done) → Finished plan old new done → new.tickets ≡ old.tickets
-drawer-finished plan old new done (inl is) = is.0.draws.tickets
-drawer-finished plan old new done (inr is) = is.2.draws.tickets
-
-drawer-back : (tickets : TableId) (v : Shows) (m : Mending) (o : Outcome) (w : Shows) → DidMend v m o w → m.drawer.tickets ≡ tickets → HasDrawer tickets o
-drawer-back tickets v m (Called r) w did is = absurd did
-drawer-back tickets v m (Mended drawer Paused) w did is = subst (λ (d : Hand). d.tickets ≡ tickets) (sym did.0) is
-drawer-back tickets v m (Mended drawer (Worked (Ok done))) w did is = drawer-finished m.plan.value.items.items m.drawer drawer done.items did.0 ∙ is
-drawer-back tickets v m (Mended drawer (Worked (Err stop))) w did is = did.0.3.draws.tickets ∙ is
-
-mender-back : (tickets : TableId) (v : Shows) (e : Errand) (o : Outcome) (w : Shows) → DidErrand v e o w → IsMender tickets e → HasDrawer tickets o
-mender-back tickets v (Calls jobs) o w did is = absurd is
-mender-back tickets v (Mend m) o w did is = drawer-back tickets v m o w did is.0
-
--- and their drawers are of these tickets still
-pub drawers-back : (tickets : TableId) (works : List Work) (rans : List Ran) → AreMenders tickets works → DidAll works rans → HaveDrawers tickets (outcomes_of rans)
-drawers-back tickets [] [] all did = tt
-drawers-back tickets [] (r ∷ rans) all did = absurd did
-drawers-back tickets (w ∷ works) [] all did = absurd did
-drawers-back tickets (w ∷ works) (r ∷ rans) all did =
-    (mender-back tickets w.pass w.errand r.outcome r.pass did.0 all.0, drawers-back tickets works rans all.1 did.1)
-
--- the drawer that stands between others is of these tickets too
-pub one-drawer : (tickets : TableId) (before after : List Outcome) (o : Outcome) → HaveDrawers tickets (before ++ o ∷ after) → HasDrawer tickets o
-one-drawer tickets [] after o all = all.0
-one-drawer tickets (x ∷ before) after o all = one-drawer tickets before after o all.1
+    (subst (AreWorkers store) (sym taken) on.0, subst (λ (n : ℕ). room + n ≡ 64) (sym len) rooms, len)

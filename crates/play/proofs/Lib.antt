@@ -1,2 +1,3 @@
 mod Crewing
+mod Mending
 mod Walked

@@ -1,11 +1,9 @@
 -- The passes of a run's workers.
-use Rattle.std.specs.Prelude.{◌≡◌, ◌+◌, List, [], ◌∷◌, map, length}
-use Rattle.gate.specs.Places.{TableId}
+use Rattle.std.specs.Prelude.{◌≡◌, ◌+◌, ◌<◌, List, [], ◌∷◌, map, length}
 use Rattle.shared.specs.Passes.{Shows, Which}
 use Rattle.rounds.specs.declared.work.Errand.{Errand}
 use Rattle.rounds.specs.declared.work.Errand.TheVariants.{Calls, Mend}
 use Rattle.rounds.specs.declared.work.Outcome.{Outcome}
-use Rattle.rounds.specs.declared.work.Outcome.TheVariants.{Called, Mended}
 use Rattle.rounds.specs.declared.work.Ran.{Ran}
 use Rattle.rounds.specs.declared.work.Work.{Work}
 use Rattle.play.specs.declared.crew.Crew.{Crew}
@@ -15,10 +13,11 @@ abbrev pub AreWorkers : Which → List Shows → Type 0
 AreWorkers store [] = Unit {0}
 AreWorkers store (p ∷ ps) = ((p.store ≡ store) × (p.room ≡ 1)) × AreWorkers store ps
 
--- all passes to the store, whose rooms make up the 64 of its first one
+-- all passes to the store, one worker's at least, whose rooms make up the 64 of its first one
 pub record IsCrew (store : Which) (crew : Crew) : Type 0 where
   pub first : crew.first.store ≡ store
   pub workers : AreWorkers store crew.passes.items
+  pub some : 0 < length crew.passes.items
   pub rooms : crew.first.room + length crew.passes.items ≡ 64
 
 -- the passes that go into a round
@@ -40,21 +39,3 @@ IsCalls (Mend m) = ⊥
 abbrev pub AreCalls : List Work → Type 0
 AreCalls [] = Unit {0}
 AreCalls (w ∷ ws) = IsCalls w.errand × AreCalls ws
-
--- each worker is to mend, with a drawer of these tickets
-abbrev pub IsMender : TableId → Errand → Type 0
-IsMender tickets (Calls jobs) = ⊥
-IsMender tickets (Mend m) = (m.drawer.tickets ≡ tickets) × (m.tickets.value ≡ tickets)
-
-abbrev pub AreMenders : TableId → List Work → Type 0
-AreMenders tickets [] = Unit {0}
-AreMenders tickets (w ∷ ws) = IsMender tickets w.errand × AreMenders tickets ws
-
--- each drawer that came back is of these tickets
-abbrev pub HasDrawer : TableId → Outcome → Type 0
-HasDrawer tickets (Called r) = Unit {0}
-HasDrawer tickets (Mended drawer m) = drawer.tickets ≡ tickets
-
-abbrev pub HaveDrawers : TableId → List Outcome → Type 0
-HaveDrawers tickets [] = Unit {0}
-HaveDrawers tickets (o ∷ os) = HasDrawer tickets o × HaveDrawers tickets os

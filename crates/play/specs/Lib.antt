@@ -1,3 +1,4 @@
 pub mod Crews
 pub mod Fails
+pub mod Mends
 pub mod Output

@@ -23,6 +23,7 @@ pub(crate) fn hire(
 ) -> Result<Crew, Halt>
     requires store { first.store ≡ store.now }
     requires room { first.room ≡ 64 }
+    requires some { 1 ≤ workers }
     requires few { workers ≤ 16 }
     ensures { IfOk result (IsCrew store.now) }
 {

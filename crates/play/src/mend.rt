@@ -1,6 +1,7 @@
 //! Mending what is lost, by all workers.
-ghost use Rattle.std.specs.Prelude.{◌≡◌, IfOk};
-ghost use Rattle.play.specs.Crews.{IsCrew, AreMenders, HaveDrawers, passes_of};
+ghost use Rattle.std.specs.Prelude.{◌≡◌, ◌+◌, ◌<◌, ◌≤◌, ◌^◌, [], length, IfOk, Ok};
+ghost use Rattle.play.specs.Crews.{IsCrew, passes_of};
+ghost use Rattle.play.specs.Mends.{AreMenders, AreBack, given_to_all, given_before};
 
 use crate::crew::{Crew, parted};
 use crate::fail::Halt;
@@ -13,6 +14,9 @@ use std::alloc::{AllocError, Global};
 use std::sync::{Arc, Wait};
 use std::thread::Threads;
 
+/// How long a plan may be: the workers have at least this many of the 2^40 numbers to draw.
+const LONGEST: usize = 1 << 39;
+
 /// The part of each worker: a drawer of its own, split from the first one.
 fn works_of(
     alloc: Global,
@@ -22,10 +26,13 @@ fn works_of(
     tickets: &Arc<Tickets>,
     drawer: &mut Drawer,
 ) -> Result<Vec<Work>, AllocError>
-    requires { drawer.old.tickets ≡ tickets.now.value }
+    requires { drawer.old ≡ record { tickets = tickets.now.value; allowance = 2 ^ 40; drawn = [] } }
     ensures tickets { drawer.new.tickets ≡ tickets.now.value }
+    ensures none { drawer.new.drawn ≡ [] }
     ensures passes { IfOk result (λ works. passes_of works.items ≡ passes.items) }
-    ensures menders { IfOk result (λ works. AreMenders tickets.now.value works.items) }
+    ensures menders { IfOk result (λ works. AreMenders plan.now.value.items.items tickets.now.value works.items) }
+    ensures shares { IfOk result (λ works. drawer.new.allowance + given_to_all works.items ≡ 2 ^ 40) }
+    ensures half { IfOk result (λ _. 0 < length passes.items → drawer.new.allowance ≤ 2 ^ 39) }
 {
     let mut works = Vec::with_capacity(alloc, passes.len())?;
     for pass in passes {
@@ -49,7 +56,9 @@ enum Stop {
 }
 
 /// The results of one worker.
-fn results_of(mended: Mended) -> Result<Vec<Mend>, Stop> {
+fn results_of(mended: Mended) -> Result<Vec<Mend>, Stop>
+    ensures { IfOk result (λ done. mended ≡ Mended.Worked (Ok done)) }
+{
     match mended {
         Mended::Worked(Ok(done)) => Ok(done),
         Mended::Worked(Err(stopped)) if stopped.fault == Fault::JournalFull => Err(Stop::Full),
@@ -58,7 +67,8 @@ fn results_of(mended: Mended) -> Result<Vec<Mend>, Stop> {
     }
 }
 
-/// What came of the workers' parts, put together: the drawers are joined, and the results gathered. Want of memory is told before a pause.
+/// What came of the workers' parts, put together: the drawers are joined, and the results gathered. Want of memory is told before a pause. Where no worker stopped, there
+/// is one result for each item of the plan.
 fn gathered(
     alloc: Global,
     plan: &Plan,
@@ -67,7 +77,10 @@ fn gathered(
     outcomes: Vec<Outcome>,
 ) -> Result<RowOutcome, Halt>
     requires first { drawer.tickets ≡ tickets.now }
-    requires others { HaveDrawers tickets.now outcomes.items }
+    requires none { drawer.drawn ≡ [] }
+    requires others { AreBack plan.now.items.items tickets.now outcomes.items }
+    requires shares { drawer.allowance + given_before outcomes.items ≡ 2 ^ 40 }
+    requires room { drawer.allowance + length plan.now.items.items ≤ 2 ^ 40 }
 {
     let mut all = Vec::new(alloc);
     let mut told = Ok(());
@@ -92,11 +105,12 @@ fn gathered(
     match gather(alloc, plan, all) {
         Ok(report) => Ok(RowOutcome::Mended(report)),
         Err(Gather::NoMemory) => Err(Halt::Memory),
-        Err(_) => Ok(RowOutcome::Incomplete),
+        Err(_) => unreachable!(),
     }
 }
 
-/// Mends what is lost of all blobs: the workers, on threads of their own, draw the tickets of one plan.
+/// Mends what is lost of all blobs: the workers, on threads of their own, draw the tickets of one plan. A plan of more than 2^39 fragments is too long to be mended: it is
+/// answered as want of memory, and nothing is done.
 pub(crate) fn mend<R: Threads + Wait + Sync, P: Pace + Sync>(
     rt: &R,
     alloc: Global,
@@ -113,6 +127,9 @@ pub(crate) fn mend<R: Threads + Wait + Sync, P: Pace + Sync>(
     let Ok((plan, tickets, mut drawer)) = scrub(rt, alloc, store, &mut first) else {
         return Err(Halt::Memory);
     };
+    if plan.items.len() > LONGEST {
+        return Err(Halt::Memory);
+    }
     let (plan, tickets) = (Arc::new(alloc, plan)?, Arc::new(alloc, tickets)?);
     let works = works_of(alloc, passes, number, &plan, &tickets, &mut drawer)?;
     let rans = run_round(rt, alloc, store, works, pace)?;

@@ -17,8 +17,6 @@ pub(crate) enum RowOutcome {
     Replied(Reply),
     /// What was planned is mended.
     Mended(Report),
-    /// The results of its workers are not one for each fragment of the plan.
-    Incomplete,
     /// The journal was full while it mended.
     Full,
 }

@@ -19,7 +19,6 @@ pub(crate) enum Reply {
     Granted(Reading),
     Trimmed(u64),
     Mended(Report),
-    Incomplete,
     Full,
     TooLong,
 }
@@ -64,7 +63,6 @@ impl fmt::Display for Reply {
             Reply::Granted(reading) => reading.fmt(f),
             Reply::Trimmed(count) => write!(f, "trimmed {count}"),
             Reply::Mended(report) => report.fmt(f),
-            Reply::Incomplete => f.write_str("incomplete"),
             Reply::Full => f.write_str("full"),
             Reply::TooLong => f.write_str("too-long"),
         }
@@ -111,6 +109,5 @@ pub(crate) fn reply_to(
         RowOutcome::Replied(Made::Refused(Fault::TooLong)) => Ok(Reply::TooLong),
         RowOutcome::Replied(Made::Refused(_)) | RowOutcome::Full => Ok(Reply::Full),
         RowOutcome::Mended(report) => Ok(Reply::Mended(report)),
-        RowOutcome::Incomplete => Ok(Reply::Incomplete),
     }
 }

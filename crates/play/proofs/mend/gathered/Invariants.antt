@@ -1,7 +1,14 @@
-use Rattle.std.proofs.Common.{◌≡◌}
+use Rattle.std.proofs.Common.{◌≡◌, ◌++◌, Ok, false}
 use Rattle.std.specs.Vec.Iter.{into_iter_items}
-use Rattle.play.specs.Crews.{HaveDrawers}
+use Rattle.play.specs.Mends.{AreBack}
+use Rattle.play.proofs.Mending.{HasJoined, AreAll}
 use Rattle.play.proofs.mend.gathered.Given as goal
 
 abbrev pub invariant-loop-outcome : goal.invariant-loop-outcome
-invariant-loop-outcome l = (l.drawer.tickets ≡ l.tickets) × HaveDrawers l.tickets (into_iter_items l.outcome-iterator)
+invariant-loop-outcome l = record {
+  tickets : l.drawer.tickets ≡ l.tickets;
+  back : AreBack l.plan.items.items l.tickets (into_iter_items l.outcome-iterator);
+  hand : HasJoined l.fn.drawer l.yielded l.drawer;
+  all : l.told ≡ Ok tt → l.is_full ≡ false → AreAll l.plan.items.items l.yielded l.all.items;
+  outcomes : l.fn.outcomes.items ≡ l.yielded ++ into_iter_items l.outcome-iterator;
+}

@@ -1,0 +1,170 @@
+-- The drawers of a mend's workers, given out and joined again.
+use Rattle.std.proofs.Common.{◌≡◌, ⊎_elim, ℕ, ◌+◌, ◌-◌, ◌/◌, ◌^◌, ◌≤◌, List, [], ◌∷◌, ◌++◌, length, All, Ok, Err, sum_by, subst, sym, ap, refl, ◌∙◌, arith, length-append}
+use Rattle.std.proofs.lemmas.List.Elements.{All-append, All-cons, All-nil}
+use Rattle.std.proofs.lemmas.List.Sums.{sum_by-append, sum_by-cons, sum_by_push}
+use Rattle.std.proofs.lemmas.List.{flat_map_more}
+use Rattle.gate.specs.Places.{TableId, times}
+use Rattle.shared.specs.Passes.{Shows, Which}
+use Rattle.book.specs.declared.plan.Item.{Item}
+use Rattle.mender.specs.declared.done.Done.{Done}
+use Rattle.mender.specs.Drawn.{Hand, IsWhole}
+use Rattle.mender.specs.Gathered.{IsComplete}
+use Rattle.mender.specs.Worked.{Draws, Finished}
+use Rattle.mender.specs.Mended.{Left, HasFinished, joined, results_of, with_hand}
+use Rattle.mender.proofs.Counts.{once_below-out}
+use Rattle.mender.proofs.Mended.{complete_joined, joined-snoc, results_of-snoc}
+use Rattle.rounds.specs.Rounds.{AreOf, FitsTickets, DidAll, DidErrand, DidMend}
+use Rattle.rounds.specs.declared.work.Errand.{Errand}
+use Rattle.rounds.specs.declared.work.Errand.TheVariants.{Calls, Mend}
+use Rattle.rounds.specs.declared.work.Mended.{Mended}
+use Rattle.rounds.specs.declared.work.Mended.TheVariants.{Paused, Worked}
+use Rattle.rounds.specs.declared.work.Mending.{Mending}
+use Rattle.rounds.specs.declared.work.Outcome.{Outcome}
+use Rattle.rounds.specs.declared.work.Outcome.TheVariants as outcome
+use Rattle.rounds.specs.declared.work.Ran.{Ran}
+use Rattle.rounds.specs.declared.work.Work.{Work}
+use Rattle.play.specs.Crews.{AreWorkers, passes_of, outcomes_of}
+use Rattle.play.specs.Mends.{IsPart, IsMender, AreMenders, IsBack, AreBack, given_to, given_to_all, given_before, results_in, left_with, left_of, crew_of}
+
+-- ---- the parts are given out
+-- one worker more
+pub menders-more : (plan : List Item) (tickets : TableId) (works : List Work) (w : Work) → AreMenders plan tickets works → IsMender plan tickets w.errand
+    → AreMenders plan tickets (works ++ w ∷ [])
+menders-more plan tickets [] w all last = (last, tt)
+menders-more plan tickets (x ∷ works) w all last = (all.0, menders-more plan tickets works w all.1 last)
+
+pub given-more : (works : List Work) (w : Work) → given_to_all (works ++ w ∷ []) ≡ given_to_all works + given_to w.errand
+given-more works w = sum_by_push (λ (x : Work). given_to x.errand) works w
+
+fits-mender : (plan : List Item) (tickets : TableId) (e : Errand) → IsMender plan tickets e → FitsTickets e
+fits-mender plan tickets (Calls jobs) is = absurd is
+fits-mender plan tickets (Mend m) is = is.drawer_of ∙ sym is.tickets_are
+
+-- they are done by passes of the store
+pub menders-of : (store : Which) (plan : List Item) (tickets : TableId) (works : List Work) → AreWorkers store (passes_of works) → AreMenders plan tickets works → AreOf store works
+menders-of store plan tickets [] all are = tt
+menders-of store plan tickets (w ∷ works) all are = ((all.0.0, fits-mender plan tickets w.errand are.0), menders-of store plan tickets works all.1 are.1)
+
+-- half of a drawer's allowance goes to one worker more
+pub shares-more : (works : List Work) (w : Work) (old new : ℕ) → old + given_to_all works ≡ 2 ^ 40 → new ≡ old - old / 2 → given_to w.errand ≡ old / 2
+    → new + given_to_all (works ++ w ∷ []) ≡ 2 ^ 40
+shares-more works w old new shares kept given =
+    let more = given-more works w in
+    omega arith
+
+pub half-left : (works : List Work) (old new : ℕ) → old + given_to_all works ≡ 2 ^ 40 → new ≡ old - old / 2 → new ≤ 2 ^ 39
+half-left works old new shares kept = omega arith
+
+-- ---- the workers are back
+-- a worker's drawer is of these tickets still, with its allowance and its draws making up what it was given
+record Holds (tickets : TableId) (given : ℕ) (drawer : Hand) : Type 0 where
+  pub drawer_of : drawer.tickets ≡ tickets
+  pub shares : drawer.allowance + length drawer.drawn ≡ given
+
+holds-draws : (tickets : TableId) (old new : Hand) (numbers : List ℕ) → Draws old numbers new → old.tickets ≡ tickets → old.drawn ≡ [] → Holds tickets old.allowance new
+holds-draws tickets old new numbers draws of none =
+    let fewer = draws.allowance in
+    let drawn : length new.drawn ≡ length (old.drawn ++ numbers) = ap length draws.drawn in
+    let more = length-append old.drawn numbers in
+    let nothing : length old.drawn ≡ 0 = ap length none in
+    record { drawer_of = draws.tickets ∙ of; shares = omega arith }
+
+holds-same : (tickets : TableId) (old new : Hand) → new ≡ old → old.tickets ≡ tickets → old.drawn ≡ [] → Holds tickets old.allowance new
+holds-same tickets old new same of none =
+    let nothing : length old.drawn ≡ 0 = ap length none in
+    subst (Holds tickets old.allowance) (sym same) (record { drawer_of = of; shares = omega arith })
+
+holds-finished : (plan : List Item) (tickets : TableId) (old new : Hand) (done : List Done) → Finished plan old new done → old.tickets ≡ tickets → old.drawn ≡ []
+    → Holds tickets old.allowance new
+holds-finished plan tickets old new done finished of none = ⊎_elim
+    (λ t. holds-draws tickets old new _ t.0.draws of none)
+    (λ t. holds-draws tickets old new _ t.2.draws of none)
+    finished
+
+-- a worker is back, with what it was given
+record Returns (plan : List Item) (tickets : TableId) (given : ℕ) (o : Outcome) : Type 0 where
+  pub back : IsBack plan tickets o
+  pub shares : sum_by (λ (left : Left). left.given) (left_of o) ≡ given
+
+part-back : (plan : List Item) (tickets : TableId) (v : Shows) (m : Mending) (o : Outcome) (w : Shows) → DidMend v m o w → IsPart plan tickets m
+    → Returns plan tickets m.drawer.allowance o
+part-back plan tickets v m (outcome.Called r) w did is = absurd did
+part-back plan tickets v m (outcome.Mended drawer Paused) w did is =
+    let holds = holds-same tickets m.drawer drawer did.0 is.drawer_of is.none in
+    record { back = (holds.drawer_of, tt); shares = omega (arith, holds.shares) }
+part-back plan tickets v m (outcome.Mended drawer (Worked (Err stop))) w did is =
+    let holds = holds-draws tickets m.drawer drawer _ did.0.3.draws is.drawer_of is.none in
+    record { back = (holds.drawer_of, tt); shares = omega (arith, holds.shares) }
+part-back plan tickets v m (outcome.Mended drawer (Worked (Ok done))) w did is =
+    let finished = subst (λ (p : List Item). Finished p m.drawer drawer done.items) is.plan_is did.0 in
+    let holds = holds-finished plan tickets m.drawer drawer done.items finished is.drawer_of is.none in
+    let left : HasFinished plan (left_with drawer done.items) = record { old = m.drawer; given = sym holds.shares; none = is.none; finished = finished } in
+    record { back = (holds.drawer_of, left); shares = omega (arith, holds.shares) }
+
+errand-back : (plan : List Item) (tickets : TableId) (v : Shows) (e : Errand) (o : Outcome) (w : Shows) → DidErrand v e o w → IsMender plan tickets e
+    → Returns plan tickets (given_to e) o
+errand-back plan tickets v (Calls jobs) o w did is = absurd is
+errand-back plan tickets v (Mend m) o w did is = part-back plan tickets v m o w did is
+
+-- all are, with what they were given
+pub menders-back : (plan : List Item) (tickets : TableId) (works : List Work) (rans : List Ran) → AreMenders plan tickets works → DidAll works rans
+    → AreBack plan tickets (outcomes_of rans) × (given_before (outcomes_of rans) ≡ given_to_all works)
+menders-back plan tickets [] [] all did = (tt, refl)
+menders-back plan tickets [] (r ∷ rans) all did = absurd did
+menders-back plan tickets (w ∷ works) [] all did = absurd did
+menders-back plan tickets (w ∷ works) (r ∷ rans) all did =
+    let one = errand-back plan tickets w.pass w.errand r.outcome r.pass did.0 all.0 in
+    let rest = menders-back plan tickets works rans all.1 did.1 in
+    let before = sum_by-append (λ (left : Left). left.given) (left_of r.outcome) (crew_of (outcomes_of rans)) in
+    let own = one.shares in
+    let others = rest.1 in
+    let given = sum_by-cons (λ (x : Work). given_to x.errand) w works in
+    ((one.back, rest.0), omega arith)
+
+-- ---- the drawers are joined
+crew-more : (outcomes : List Outcome) (o : Outcome) → crew_of (outcomes ++ o ∷ []) ≡ crew_of outcomes ++ left_of o
+crew-more outcomes o = sym (flat_map_more left_of [] outcomes o)
+
+-- a drawer that took in the drawers of these outcomes, and knows of its draws
+pub record HasJoined (first : Hand) (outcomes : List Outcome) (drawer : Hand) : Type 0 where
+  pub joins : drawer ≡ joined first (crew_of outcomes)
+  pub whole : IsWhole drawer
+
+pub joined-none : (first : Hand) → first.drawn ≡ [] → HasJoined first [] first
+joined-none first none =
+    let nothing : length first.drawn ≡ 0 = ap length none in
+    record { joins = refl; whole = λ full n. ap (times n) none ∙ sym (once_below-out n (length first.drawn) (omega arith)) }
+
+pub joined-more : (first : Hand) (outcomes : List Outcome) (old new other : Hand) (m : Mended) → HasJoined first outcomes old → new ≡ with_hand old other → IsWhole new
+    → HasJoined first (outcomes ++ outcome.Mended other m ∷ []) new
+joined-more first outcomes old new other m has is whole =
+    let left : Left = left_with other (results_in m) in
+    record {
+      joins = is ∙ ap (λ (hand : Hand). with_hand hand other) has.joins ∙ sym (joined-snoc first (crew_of outcomes) left) ∙ sym (ap (joined first) (crew-more outcomes (outcome.Mended other m)));
+      whole = whole;
+    }
+
+-- these are the results of all, and none stopped
+pub record AreAll (plan : List Item) (outcomes : List Outcome) (all : List Done) : Type 0 where
+  pub finished : All (HasFinished plan) (crew_of outcomes)
+  pub results : all ≡ results_of (crew_of outcomes)
+
+pub all-none : (plan : List Item) → AreAll plan [] []
+all-none plan = record { finished = All-nil (HasFinished plan); results = refl }
+
+-- one more that did not stop
+pub all-more : (plan : List Item) (outcomes : List Outcome) (all more : List Done) (other : Hand) (m : Mended) → AreAll plan outcomes all
+    → HasFinished plan (left_with other (results_in m)) → more ≡ all ++ results_in m → AreAll plan (outcomes ++ outcome.Mended other m ∷ []) more
+all-more plan outcomes all more other m are one is =
+    let left : Left = left_with other (results_in m) in
+    let crew = crew-more outcomes (outcome.Mended other m) in
+    record {
+      finished = subst (All (HasFinished plan)) (sym crew) (All-append (HasFinished plan) (crew_of outcomes) (left ∷ []) are.finished (All-cons (HasFinished plan) left [] one (All-nil (HasFinished plan))));
+      results = is ∙ ap (λ (xs : List Done). xs ++ left.done) are.results ∙ sym (results_of-snoc (crew_of outcomes) left) ∙ sym (ap results_of crew);
+    }
+
+-- Their results are complete
+pub mend-complete : (plan : List Item) (first drawer : Hand) (outcomes : List Outcome) (all : List Done) → first.drawn ≡ [] → first.allowance + given_before outcomes ≡ 2 ^ 40
+    → first.allowance + length plan ≤ 2 ^ 40 → HasJoined first outcomes drawer → AreAll plan outcomes all → IsComplete plan all
+mend-complete plan first drawer outcomes all none shares room has are = subst (IsComplete plan) (sym are.results)
+    (complete_joined plan first (crew_of outcomes) none shares room are.finished (subst IsWhole has.joins has.whole))

@@ -1,0 +1,37 @@
+use Rattle.std.proofs.Common.{◌≡◌, ◌∷◌, ◌∙◌, Ok, ap, arith, subst}
+use Rattle.std.proofs.lemmas.Grind.{common_steps}
+use Rattle.std.specs.Vec.Iter.{into_iter_items}
+use Rattle.rounds.specs.declared.work.Mended.TheVariants.{Worked}
+use Rattle.rounds.specs.declared.work.Outcome.{Outcome}
+use Rattle.rounds.specs.declared.work.Outcome.TheVariants.{Mended}
+use Rattle.play.specs.Mends.{AreBack}
+use Rattle.play.proofs.Mending.{joined-more, all-more, mend-complete}
+use Rattle.play.proofs.mend.gathered.Goals as goal
+
+pub loop-outcome-preserved-in-Ok : goal.loop-outcome-preserved-in-Ok
+loop-outcome-preserved-in-Ok c =
+    let plan = c.args.plan.now.items.items in
+    let other = c.in-Mended.other in
+    let done = c.in-Ok.done in
+    let is : c.in-Some.outcome ≡ Mended other (Worked (Ok done)) = c.in-Mended.is ∙ ap (Mended other) c.in-Ok.ensures in
+    let rest = into_iter_items c.next.new.self in
+    let next : into_iter_items c.loop-outcome.outcome-iterator ≡ c.in-Some.outcome ∷ rest = grind (arith, common_steps) in
+    let back = subst (AreBack plan c.args.tickets.now) (next ∙ ap (λ (o : Outcome). o ∷ rest) is) c.loop-outcome.invariant.back in
+    record {
+      tickets = grind (arith, common_steps);
+      back = back.1;
+      hand = rw is (joined-more c.args.drawer c.loop-outcome.yielded c.loop-outcome.drawer c.join.new.self other (Worked (Ok done)) c.loop-outcome.invariant.hand
+          c.join.ensures.both c.join.ensures.whole);
+      all = λ fine not_full. rw is (all-more plan c.loop-outcome.yielded c.loop-outcome.all.items c.append.new.self.items other (Worked (Ok done))
+          (c.loop-outcome.invariant.all fine not_full) back.0.1 c.in_ok-append-in-Ok.ensures.items);
+      outcomes = grind (arith, common_steps);
+    }
+
+pub unreachable-requires : goal.unreachable-requires
+unreachable-requires c =
+    let plan = c.args.plan.now.items.items in
+    let are = c.loop-outcome.invariant.all c.in_ok-told.was c.if-is_full.false in
+    let all : c.args.outcomes.items ≡ c.loop-outcome.yielded = grind (arith, common_steps) in
+    let complete = mend-complete plan c.args.drawer c.loop-outcome.drawer c.loop-outcome.yielded c.loop-outcome.all.items c.requires.none (rw all at c.requires.shares) c.requires.room c.loop-outcome.invariant.hand are in
+    let is = c.in-Err.ensures.complete complete in
+    grind (arith, common_steps, is)

@@ -1,0 +1,76 @@
+-- The parts of a mend's workers.
+use Rattle.std.specs.Prelude.{◌≡◌, ℕ, ◌+◌, List, [], ◌∷◌, length, Ok}
+use Rattle.std.specs.List.{flat_map, sum_by}
+use Rattle.gate.specs.Places.{TableId}
+use Rattle.book.specs.declared.plan.Item.{Item}
+use Rattle.mender.specs.declared.done.Done.{Done}
+use Rattle.mender.specs.Drawn.{Hand}
+use Rattle.mender.specs.Mended.{Left, HasFinished}
+use Rattle.rounds.specs.declared.work.Errand.{Errand}
+use Rattle.rounds.specs.declared.work.Errand.TheVariants.{Calls, Mend}
+use Rattle.rounds.specs.declared.work.Mended.{Mended}
+use Rattle.rounds.specs.declared.work.Mended.TheVariants.{Worked}
+use Rattle.rounds.specs.declared.work.Mending.{Mending}
+use Rattle.rounds.specs.declared.work.Outcome.{Outcome}
+use Rattle.rounds.specs.declared.work.Outcome.TheVariants as outcome
+use Rattle.rounds.specs.declared.work.Work.{Work}
+
+-- ---- before the round
+-- a part in mending this plan, with a drawer of these tickets that has drawn nothing
+pub record IsPart (plan : List Item) (tickets : TableId) (m : Mending) : Type 0 where
+  pub drawer_of : m.drawer.tickets ≡ tickets
+  pub tickets_are : m.tickets.value ≡ tickets
+  pub none : m.drawer.drawn ≡ []
+  pub plan_is : m.plan.value.items.items ≡ plan
+
+-- each worker has such a part
+abbrev pub IsMender : List Item → TableId → Errand → Type 0
+IsMender plan tickets (Calls jobs) = ⊥
+IsMender plan tickets (Mend m) = IsPart plan tickets m
+
+abbrev pub AreMenders : List Item → TableId → List Work → Type 0
+AreMenders plan tickets [] = Unit {0}
+AreMenders plan tickets (w ∷ ws) = IsMender plan tickets w.errand × AreMenders plan tickets ws
+
+-- the allowances that the workers were given
+abbrev pub given_to : Errand → ℕ
+given_to (Calls jobs) = 0
+given_to (Mend m) = m.drawer.allowance
+
+abbrev pub given_to_all : List Work → ℕ
+given_to_all works = sum_by (λ w. given_to w.errand) works
+
+-- ---- after the round
+-- the results of a worker that did not stop
+abbrev pub results_in : Mended → List Done
+results_in (Worked (Ok done)) = done.items
+results_in m = []
+
+-- a worker at its end. Draws leave the sum of a drawer's allowance and its draws, so that this is the allowance that it was given
+abbrev pub left_with : Hand → List Done → Left
+left_with drawer done = record { given = drawer.allowance + length drawer.drawn; drawer = drawer; done = done }
+
+abbrev pub left_of : Outcome → List Left
+left_of (outcome.Called r) = []
+left_of (outcome.Mended drawer m) = left_with drawer (results_in m) ∷ []
+
+abbrev pub crew_of : List Outcome → List Left
+crew_of outcomes = flat_map left_of outcomes
+
+-- a worker that did not stop has finished its part
+abbrev pub FinishedIfDone : List Item → Hand → Mended → Type 0
+FinishedIfDone plan drawer (Worked (Ok done)) = HasFinished plan (left_with drawer done.items)
+FinishedIfDone plan drawer m = Unit {0}
+
+-- each worker is back from its part
+abbrev pub IsBack : List Item → TableId → Outcome → Type 0
+IsBack plan tickets (outcome.Called r) = ⊥
+IsBack plan tickets (outcome.Mended drawer m) = (drawer.tickets ≡ tickets) × FinishedIfDone plan drawer m
+
+abbrev pub AreBack : List Item → TableId → List Outcome → Type 0
+AreBack plan tickets [] = Unit {0}
+AreBack plan tickets (o ∷ os) = IsBack plan tickets o × AreBack plan tickets os
+
+-- the allowances that they were given
+abbrev pub given_before : List Outcome → ℕ
+given_before outcomes = sum_by (λ (left : Left). left.given) (crew_of outcomes)
