@@ -1,7 +1,8 @@
 #!/usr/bin/env bash
-# Builds the two programs, where no run of the gate has built them, and refuses each of their requests for memory in turn.
+# Tests over the programs that the gate has built: the statuses of lrcstore, and each request for memory refused in turn.
 set -eu
-cd "$(dirname "$0")/../.."
+cd "$(dirname "$0")/.."
 [ -x crates/refuse_each/out/refuse_each ] || (cd crates/refuse_each && rt run > /dev/null)
 [ -x crates/lrcstore/out/lrcstore ] || (cd crates/lrcstore && rt run -- ../examples/data/first_path.csv --workers 2 > /dev/null)
-exec python3 tests/refuse_each/run.py
+python3 tests/statuses.py
+python3 tests/refused_memory.py

@@ -2,7 +2,7 @@
 """Refuses each request for memory in turn, over the programs that the gate has built.
 
 The program refuse_each must print the same whichever request is refused. The program lrcstore must end with status 3 and nothing on standard output, or print
-what it prints with ample memory, and never that it was stopped. Run it after `rt ci`, which builds both programs.
+what it prints with ample memory, and never that it was stopped. `tests/programs.sh` runs it.
 """
 
 import os
@@ -11,7 +11,7 @@ import sys
 import tempfile
 
 HERE = os.path.dirname(os.path.abspath(__file__))
-TOP = os.path.dirname(os.path.dirname(HERE))
+TOP = os.path.dirname(HERE)
 DATA = os.path.join(TOP, "crates", "examples", "data")
 RUNS = [
     ["first_path.csv", "--workers", "2"],

@@ -1,0 +1,62 @@
+#!/usr/bin/env python3
+"""Runs lrcstore to each of its statuses, and compares the status, what it prints, and its line on standard error."""
+
+import os
+import subprocess
+import sys
+import tempfile
+
+TOP = os.path.dirname(os.path.dirname(os.path.abspath(__file__)))
+PROGRAM = os.path.join(TOP, "crates", "lrcstore", "out", "lrcstore")
+FIRST_PATH = b"1,1,put,a,text,HELLO\n2,1,read,a,1,3\n"
+PRINTED = b"1 stored 1\n2 granted 1 3 0 454c4c\ncalls 2\nlawful yes\n"
+# Command lines that are refused: the parser's own text stands on standard error.
+REFUSED = [
+    [],
+    ["script.csv", "more"],
+    ["script.csv", "--unknown"],
+    ["script.csv", "--workers", "0"],
+    ["script.csv", "--workers", "17"],
+    ["script.csv", "--width", "0"],
+    ["script.csv", "--width", "65537"],
+    ["script.csv", "--limit", "0"],
+    ["script.csv", "--limit", "1048577"],
+    ["script.csv", "--limit", "x"],
+]
+
+
+def run(folder, words, out=subprocess.PIPE):
+    return subprocess.run([PROGRAM, *words], cwd=folder, stdout=out, stderr=subprocess.PIPE, env={}, timeout=60)
+
+
+def ended(what, ran, status, out, err):
+    """Whether a run ended so; `err` may be None, for some text of another's."""
+    is_right = ran.returncode == status and (out is None or ran.stdout == out) and (bool(ran.stderr) if err is None else ran.stderr == err)
+    if not is_right:
+        print(what, "ended with", ran.returncode, ran.stdout, ran.stderr)
+    return is_right
+
+
+def main():
+    with tempfile.TemporaryDirectory() as folder:
+        with open(os.path.join(folder, "script.csv"), "wb") as script:
+            script.write(FIRST_PATH)
+        with open(os.path.join(folder, "cut.csv"), "wb") as script:
+            script.write(FIRST_PATH[:-3])
+        results = [
+            ended("a script", run(folder, ["script.csv"]), 0, PRINTED, b""),
+            ended("help", run(folder, ["--help"]), 0, None, b""),
+            ended("a cut script", run(folder, ["cut.csv"]), 1, b"", b"lrcstore: row 2: fields\n"),
+            ended("no script", run(folder, ["none.csv"]), 1, b"", b"lrcstore: cannot read the script\n"),
+            ended("a folder", run(folder, ["."]), 1, b"", b"lrcstore: cannot read the script\n"),
+        ]
+        with open("/dev/full", "wb") as full:
+            results.append(ended("a full device", run(folder, ["script.csv"], full), 1, None, b"lrcstore: cannot write\n"))
+        for words in REFUSED:
+            results.append(ended(" ".join(words) or "no words", run(folder, words), 2, b"", None))
+        print(len(results), "runs to a status,", results.count(False), "wrong")
+        return 0 if all(results) else 1
+
+
+if __name__ == "__main__":
+    sys.exit(main())
