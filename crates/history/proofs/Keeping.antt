@@ -3,10 +3,14 @@ use Rattle.std.proofs.Common.{◌≡◌, ℕ, ◌+◌, ◌-◌, ◌*◌, ◌/◌
 use Rattle.std.specs.Prelude.{nat_le, nat_lt, IsTrue, ◌↔◌}
 use Rattle.std.specs.List.{list_any}
 use Rattle.std.specs.BTreeMap.{is_at}
+use Rattle.std.specs.BTreeMap.Range.{IsLeBy, range_contains}
+use Rattle.std.specs.BTreeSet.{keys_between}
+use Rattle.std.specs.declared.ops.Bound.TheVariants.{Included}
 use Rattle.std.proofs.Math.Nat.{div-mul-le_self}
 use Rattle.std.proofs.lemmas.Nat.{le-div, div-mul-add}
 use Rattle.std.proofs.lemmas.Bool.{or_cases, or_left, or_right, and_parts, cases_Bool, false≢true}
 use Rattle.std.proofs.lemmas.Grind.{common_steps}
+use Rattle.std.proofs.lemmas.Map.Views.{any-filter_same, range_contains-from_IsInRange}
 use Rattle.lrc_code.specs.declared.Code.{Code}
 use Rattle.lrc_code.specs.declared.Code.TheVariants.{Wide, Small}
 use Rattle.lrc_code.specs.Code.{fragment_count, data_count, Open}
@@ -20,7 +24,7 @@ use Rattle.lent.proofs.Readable.{Meets, has_open}
 use Rattle.history.specs.Views.{open_test, open_in_range}
 use Rattle.history.specs.Kept.{lost_of, is_open_between}
 use Rattle.history.specs.declared.kept.Kept.{Kept}
-use Rattle.history.proofs.Replies.{open_found}
+use Rattle.history.proofs.Replies.{open_found, pairs_total}
 
 pub same_truth : (a b : Bool) → (a ≡ true → b ≡ true) → (b ≡ true → a ≡ true) → a ≡ b
 same_truth true b forth back = sym (forth refl)
@@ -135,3 +139,35 @@ module _ (k : Kept) (w start len : ℕ) (some : 1 ≤ w) (bytes : 0 < len) where
   open_between =
       let range = open_found k.code w (lost_of k) start len in
       same_truth _ _ (λ t. range.1 (has_one t)) (λ t. is_one (range.0 t))
+
+-- ---- the pairs of the stripes that the fragments from first to last are in
+le_pair : (a b f g : ℕ) → a ≤ b → f ≤ g → IsLeBy pair_cmp (a, f) (b, g)
+le_pair a b f g l m = grind (arith, common_steps)
+
+module _ (k : Kept) (first last : ℕ) where
+  abbrev pub low_pair : ℕ × ℕ
+  low_pair = (first / data_count k.code, 0)
+
+  abbrev pub high_pair : ℕ × ℕ
+  high_pair = (last / data_count k.code, 255)
+
+  in_stripes : (p : ℕ × ℕ) → is_open_between k first last p ≡ true → range_contains pair_cmp (Included low_pair) (Included high_pair) p ≡ true
+  in_stripes (j, f) h =
+      let c = data_count k.code in
+      let some = some_data k.code in
+      let n = c * j + f in
+      let parts = and_parts (nat_lt f c && (nat_le first n && nat_le n last)) _ h in
+      let inner = and_parts (nat_lt f c) _ parts.0 in
+      let ends = and_parts (nat_le first n) _ inner.1 in
+      let l : f < c = lt_of f c inner.0 in
+      let from : first ≤ n = le_of first n ends.0 in
+      let to : n ≤ last = le_of n last ends.1 in
+      let few = few_fragments k.code in
+      let more = data_is_counted k.code in
+      let back : n / c ≡ j = ap (λ m. m / c) (let e : c * j + f ≡ j * c + f = omega arith in e) ∙ div-mul-add j c f l in
+      let low : first / c ≤ j = subst (λ m. first / c ≤ m) back (div_mono c first n some from) in
+      let high : j ≤ last / c = le-div j last c some (let e : c * j ≡ j * c = omega arith in omega arith) in
+      range_contains-from_IsInRange pairs_total (Included low_pair) (Included high_pair) (j, f) (le_pair (first / c) j 0 f low (omega arith), le_pair j (last / c) f 255 high (omega arith))
+
+  pub any_in_stripes : list_any (is_open_between k first last) (keys_between pair_cmp (Included low_pair) (Included high_pair) k.lost) ≡ list_any (is_open_between k first last) k.lost.keys
+  any_in_stripes = any-filter_same (is_open_between k first last) (range_contains pair_cmp (Included low_pair) (Included high_pair)) true in_stripes k.lost.keys

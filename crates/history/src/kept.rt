@@ -86,9 +86,13 @@ impl Kept {
 
     /// Whether some data fragment from the one numbered `first` to the one numbered `last` is open.
     fn has_open_between(&self, first: u64, last: u64) -> bool
+        requires { first ≤ last }
         ensures { result ≡ list_any (is_open_between self.now first last) self.now.lost.keys }
     {
-        self.lost.iter().any(|&(stripe, f)| self.is_open_between(first, last, stripe, f))
+        let count = u64::from(self.code.data_fragments());
+        let low = (first / count, 0u8);
+        let high = (last / count, u8::MAX);
+        self.lost.range(low..=high).any(|&(stripe, f)| self.is_open_between(first, last, stripe, f))
     }
 
     /// Whether some byte of the range stands in an open fragment.
