@@ -64,6 +64,13 @@ impl Sealed {
         requires { stripe < stripe_count self.now.code self.now.width self.now.len }
         ensures { (f : ℕ) → f < fragment_count self.now.code → is_lost result f ≡ absent_in self.now stripe f }
     {
-        self.left(stripe).lost()
+        let kept = self.stripes.at(stripe as usize);
+        let mut lost = LostSet::empty();
+        for f in 0..16u8 {
+            if kept.fragments[usize::from(f)].is_none() {
+                lost = lost.with(f);
+            }
+        }
+        lost
     }
 }

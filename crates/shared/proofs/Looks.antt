@@ -20,30 +20,30 @@ use Rattle.shared.proofs.Passes.{trimmed_is}
 use Rattle.shared.proofs.Steps.{Leaves, Stepped}
 
 pub trims : (r : Result ℕ Fault) (p m q : SeatState Kept) (x y : Kept) (who keep : ℕ) → Leaves m q y → Stepped p q x []
-    → IfOk r (λ n. n ≡ given_up x.0.base.trimmed (length x.0.entries) keep) → IfOk r (λ n. y.0.base.trimmed ≡ x.0.base.trimmed + n) → IfOk r (λ n. Trims keep n (shows q who))
+    → IfOk r (λ n. n ≡ given_up x.0.value.base.trimmed (length x.0.value.entries) keep) → IfOk r (λ n. y.0.value.base.trimmed ≡ x.0.value.base.trimmed + n) → IfOk r (λ n. Trims keep n (shows q who))
 trims (Err e) p m q x y who keep leaves step answer trimmed = tt
 trims (Ok n) p m q x y who keep leaves step answer trimmed =
-    let t : ℕ = x.0.base.trimmed in
+    let t : ℕ = x.0.value.base.trimmed in
     let h : History = seen_of p.list ++ step.others in
     let seen : length (seen_of q.list) ≡ length h = ap length (step.seen ∙ append-nil h) in
-    let told : t + length x.0.entries ≡ length h = told_length x.0 h step.told.tells in
-    let count : length x.0.entries ≡ length (seen_of q.list) - t = omega arith in
-    let last : trimmed_of q.list ≡ y.0.base.trimmed = trimmed_is q.list y (ap last_of leaves.list ∙ last_of-snoc m.list y) in
+    let told : t + length x.0.value.entries ≡ length h = told_length x.0.value h step.told.tells in
+    let count : length x.0.value.entries ≡ length (seen_of q.list) - t = omega arith in
+    let last : trimmed_of q.list ≡ y.0.value.base.trimmed = trimmed_is q.list y (ap last_of leaves.list ∙ last_of-snoc m.list y) in
     (t, last ∙ trimmed, answer ∙ ap (λ c. given_up t c keep) count)
 
 -- where no other pass is out, what was given up before is what the pass had seen of it
-pub trims_alone : (r : Result ℕ Fault) (p m q : SeatState Kept) (x y : Kept) (who : ℕ) → Leaves m q y → Stepped p q x [] → IfOk r (λ n. y.0.base.trimmed ≡ x.0.base.trimmed + n) → OnErr r (y.0 ≡ x.0)
+pub trims_alone : (r : Result ℕ Fault) (p m q : SeatState Kept) (x y : Kept) (who : ℕ) → Leaves m q y → Stepped p q x [] → IfOk r (λ n. y.0.value.base.trimmed ≡ x.0.value.base.trimmed + n) → OnErr r (y.0.value ≡ x.0.value)
     → p.room ≡ 64 → GivesUpAlone (shows p who) r (shows q who)
 trims_alone (Ok n) p m q x y who leaves step trimmed same all =
-    let last : trimmed_of q.list ≡ y.0.base.trimmed = trimmed_is q.list y (ap last_of leaves.list ∙ last_of-snoc m.list y) in
+    let last : trimmed_of q.list ≡ y.0.value.base.trimmed = trimmed_is q.list y (ap last_of leaves.list ∙ last_of-snoc m.list y) in
     last ∙ trimmed ∙ ap (λ (t : ℕ). t + n) (step.lone all).1
 trims_alone (Err e) p m q x y who leaves step trimmed same all =
-    let last : trimmed_of q.list ≡ y.0.base.trimmed = trimmed_is q.list y (ap last_of leaves.list ∙ last_of-snoc m.list y) in
+    let last : trimmed_of q.list ≡ y.0.value.base.trimmed = trimmed_is q.list y (ap last_of leaves.list ∙ last_of-snoc m.list y) in
     last ∙ ap (λ (book : Contents). book.base.trimmed) same ∙ (step.lone all).1
 
 -- the plan of the book is that of the state that was seen
 pub planned : (found : Result Plan AllocError) (r : Result Plan Fault) (p q : SeatState Kept) (x : Kept) (Q : AllocError → Type 0) → Stepped p q x [] → is_ok r ≡ is_ok found
-    → MatchResult found (λ plan. r ≡ Ok plan) Q → IfOk found (λ plan. (h : History) → Tells x.0 h → plan.items.items ≡ plan_of (state_of h))
+    → MatchResult found (λ plan. r ≡ Ok plan) Q → IfOk found (λ plan. (h : History) → Tells x.0.value h → plan.items.items ≡ plan_of (state_of h))
     → IfOk r (λ plan. plan.items.items ≡ plan_of (state_of (seen_of q.list)))
 planned (Ok plan) r p q x Q step both same is =
     let h : History = seen_of p.list ++ step.others in

@@ -44,11 +44,11 @@ known_by w None had s is both = absurd (cc (is))
 known_by w (Some t) None s is both = absurd both
 known_by w (Some t) (Some blob) s is both = (blob, refl, (let same : t ≡ s = cc in subst (λ (x : Sealed). Represents w x blob) same both))
 
-known : (p q : SeatState Kept) (x : Kept) (n : List ℕ) (s : Sealed) → Stepped p q x [] → sealed_at x.0 n ≡ Some s → IsKnown (seen_of q.list) (width_of q.list) n s
+known : (p q : SeatState Kept) (x : Kept) (n : List ℕ) (s : Sealed) → Stepped p q x [] → sealed_at x.0.value n ≡ Some s → IsKnown (seen_of q.list) (width_of q.list) n s
 known p q x n s step found =
     let h : History = seen_of p.list ++ step.others in
     let same : seen_of q.list ≡ h = step.seen ∙ append-nil h in
-    let is = known_by x.0.width (sealed_at x.0 n) (finite.get (state_of h).names n) s found (step.told.tells.catalogue n) in
+    let is = known_by x.0.value.width (sealed_at x.0.value n) (finite.get (state_of h).names n) s found (step.told.tells.catalogue n) in
     record {
       blob = is.0;
       represents = subst (λ (w : ℕ). Represents w s is.0) step.told.width is.2;
@@ -56,13 +56,13 @@ known p q x n s step found =
     }
 
 -- what a look in the book makes of a pass
-pub look_found : (p q : SeatState Kept) (x y : Kept) (who : ℕ) (n : List ℕ) (j f : ℕ) (l : Look) → Stepped p q x (events_at_look l who (repair n j f)) → trimmed_of q.list ≡ x.0.base.trimmed → FoundIn x.0 y.0 who n j f l
+pub look_found : (p q : SeatState Kept) (x y : Kept) (who : ℕ) (n : List ℕ) (j f : ℕ) (l : Look) → Stepped p q x (events_at_look l who (repair n j f)) → trimmed_of q.list ≡ x.0.value.base.trimmed → FoundIn x.0.value y.0.value who n j f l
     → Found (shows p who) n j f l (shows q who)
 look_found p q x y who n j f (Done a) step left is = called p q x who (repair n j f) (Ok a) step left (λ e. absurd (cc (e))) (λ e. cc (e))
 look_found p q x y who n j f (Refused e) step left is =
     called p q x who (repair n j f) (Err e) step left
-    (λ full. ⊎_elim (λ (none : e ≡ NoMemory). absurd (cc (none, full))) (λ (there : (e ≡ JournalFull) × (length x.0.entries ≡ x.0.limit)). there.1) is.1)
-    (λ long. ⊎_elim (λ (none : e ≡ NoMemory). cc (none, long)) (λ (there : (e ≡ JournalFull) × (length x.0.entries ≡ x.0.limit)). cc (there.0, long)) is.1)
+    (λ full. ⊎_elim (λ (none : e ≡ NoMemory). absurd (cc (none, full))) (λ (there : (e ≡ JournalFull) × (length x.0.value.entries ≡ x.0.value.limit)). there.1) is.1)
+    (λ long. ⊎_elim (λ (none : e ≡ NoMemory). cc (none, long)) (λ (there : (e ≡ JournalFull) × (length x.0.value.entries ≡ x.0.value.limit)). cc (there.0, long)) is.1)
 look_found p q x y who n j f (Mendable s) step left is = record {
   looked = looked p q x who step;
   base = λ all. left ∙ (step.lone all).1;

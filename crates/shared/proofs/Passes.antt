@@ -18,12 +18,12 @@ pub limit_stays : (xs ys : List Kept) (x : Kept) → last_of xs ≡ Some x → I
 limit_stays [] ys x e p = absurd (cc)
 limit_stays (z ∷ zs) ys x e p = ap limit_of (sym p.1)
 
-pub trimmed_is : (xs : List Kept) (x : Kept) → last_of xs ≡ Some x → trimmed_of xs ≡ x.0.base.trimmed
+pub trimmed_is : (xs : List Kept) (x : Kept) → last_of xs ≡ Some x → trimmed_of xs ≡ x.0.value.base.trimmed
 trimmed_is [] x e = absurd (cc)
-trimmed_is (y ∷ []) x e = let same : y ≡ x = cc in ap (λ (k : Kept). k.0.base.trimmed) same
+trimmed_is (y ∷ []) x e = let same : y ≡ x = cc in ap (λ (k : Kept). k.0.value.base.trimmed) same
 trimmed_is (y ∷ z ∷ zs) x e = trimmed_is (z ∷ zs) x e
 
-pub opened : (p : SeatState Kept) (x : Kept) → p.list ≡ x ∷ [] → p.own ≡ [] → p.inside ≡ false → Tells x.0 [] → IsPass p
+pub opened : (p : SeatState Kept) (x : Kept) → p.list ≡ x ∷ [] → p.own ≡ [] → p.inside ≡ false → Tells x.0.value [] → IsPass p
 opened p x list own outside tells = record {
   outside = outside;
   told = subst IsTold (sym list) (x, refl, record { width = refl; limit = refl; tells = tells });
@@ -64,7 +64,7 @@ pub joined_seen : (a q : SeatState Kept) → IsPass a → IsPrefix a.list q.list
 joined_seen a q pass first = history_prefix between_kept a.list q.list pass.told.0 pass.told.1 first
 
 one_kept : (a b : Kept) → length (between_kept a b) ≤ 1
-one_kept a b = one_call a.0 b.0
+one_kept a b = one_call a.0.value b.0.value
 
 -- who left all values made all calls
 pub closed : (p : SeatState Kept) → HasAll p.list p.own → (k : ℕ) → k < length (seen_of p.list) → times k (made_of p.list p.own) ≡ 1
@@ -80,5 +80,5 @@ closed_told p x pass e = let same : pass.told.0 ≡ x = by_some (sym pass.told.1
     by_some : {a b : Kept} → Some a ≡ Some b → a ≡ b
     by_some f = cc (f)
 
-pub closed_entries : (p : SeatState Kept) (x : Kept) → IsPass p → last_of p.list ≡ Some x → HasAll p.list p.own → x.0.base.trimmed + length x.0.entries ≡ length (made_of p.list p.own)
-closed_entries p x pass e has = told_length x.0 (seen_of p.list) (closed_told p x pass e).tells ∙ sym (closed_count p has)
+pub closed_entries : (p : SeatState Kept) (x : Kept) → IsPass p → last_of p.list ≡ Some x → HasAll p.list p.own → x.0.value.base.trimmed + length x.0.value.entries ≡ length (made_of p.list p.own)
+closed_entries p x pass e has = told_length x.0.value (seen_of p.list) (closed_told p x pass e).tells ∙ sym (closed_count p has)

@@ -58,7 +58,7 @@ put_later h h' w n v j f x more is = record {
 }
 
 -- what a pass may ask can be made on the book that it finds
-pub can_make : (p m : SeatState Kept) (x : Kept) (who : ℕ) (request : Request) → Found p m x → CanAsk (shows p who) request → CanMake x.0 request
+pub can_make : (p m : SeatState Kept) (x : Kept) (who : ℕ) (request : Request) → Found p m x → CanAsk (shows p who) request → CanMake x.0.value request
 can_make p m x who (Put alloc n s) f can = (can.0 ∙ sym f.told.width, can.1)
 can_make p m x who (Install alloc n version j g bytes) f can = (
   seen_of m.list,

@@ -22,7 +22,7 @@ use Rattle.shared.proofs.Between.{GoesOn, between_is, goes_follows, told_length}
 use Rattle.shared.proofs.Passes.{width_stays, limit_stays, trimmed_is}
 
 abbrev pub kept_follows : Kept → Kept → Type 0
-kept_follows a b = MayFollow a.0 b.0
+kept_follows a b = MayFollow a.0.value b.0.value
 
 carries : (w l : ℕ) (x y : Kept) → kept_follows x y → (h : History) → TellsAs w l x h → TellsAs w l y (h ++ between_kept x y)
 carries w l x y follows h told = record { width = follows.width ∙ told.width; limit = follows.limit ∙ told.limit; tells = follows.told h told.tells }
@@ -77,18 +77,18 @@ pub record Stepped (p q : SeatState Kept) (x : Kept) (g : History) : Type 0 wher
   pub made : made_of q.list q.own ≡ made_of p.list p.own ++ number_if (length (seen_of p.list ++ others)) g
   pub legal : IsLegal (width_of q.list) (seen_of q.list)
   pub pass : IsPass q
-  pub lone : p.room ≡ 64 → (others ≡ []) × (x.0.base.trimmed ≡ trimmed_of p.list)
+  pub lone : p.room ≡ 64 → (others ≡ []) × (x.0.value.base.trimmed ≡ trimmed_of p.list)
 
 no_others : (h g : History) → h ++ g ≡ h → g ≡ []
 no_others h [] e = refl
 no_others h (a ∷ g) e = let long = sym (length-append h (a ∷ g)) ∙ ap length e in absurd (omega arith)
 
-pub stepped : (p m q : SeatState Kept) (x y : Kept) (g : History) → IsPass p → Enters p m x → Leaves m q y → GoesOn x.0 y.0 g → Stepped p q x g
+pub stepped : (p m q : SeatState Kept) (x y : Kept) (g : History) → IsPass p → Enters p m x → Leaves m q y → GoesOn x.0.value y.0.value g → Stepped p q x g
 stepped p m q x y g pass enters leaves on =
     let last = pass.told in
     let f : Found p m x = found p m x pass enters in
     let more : IsPrefix p.list m.list = enters.seen.0 in
-    let lies : between_kept x y ≡ g = between_is x.0 y.0 g (seen_of m.list) on f.told.tells in
+    let lies : between_kept x y ≡ g = between_is x.0.value y.0.value g (seen_of m.list) on f.told.tells in
     let whole : IsPrefix p.list q.list = (more.0 ++ y ∷ [], sym (append_assoc p.list more.0 (y ∷ [])) ∙ ap (λ l. l ++ y ∷ []) more.1 ∙ sym leaves.list) in
     let width : width_of q.list ≡ width_of p.list = width_stays p.list q.list last.0 last.1 whole in
     let limit : limit_of q.list ≡ limit_of p.list = limit_stays p.list q.list last.0 last.1 whole in
@@ -96,13 +96,13 @@ stepped p m q x y g pass enters leaves on =
     ap seen_of leaves.list ∙ history-append between_kept m.list (y ∷ []) x enters.found ∙ ap (λ l. seen_of m.list ++ l) (append-nil (between_kept x y)) in
     let places : q.own ≡ p.own ++ length m.list ∷ [] = leaves.own ∙ ap (λ l. l ++ length m.list ∷ []) enters.same.2 in
     let after_it : TellsAs (width_of p.list) (limit_of p.list) y (seen_of q.list) =
-    subst (TellsAs (width_of p.list) (limit_of p.list) y) (sym seen) (carries (width_of p.list) (limit_of p.list) x y (goes_follows x.0 y.0 g on) (seen_of m.list) f.told) in
+    subst (TellsAs (width_of p.list) (limit_of p.list) y) (sym seen) (carries (width_of p.list) (limit_of p.list) x y (goes_follows x.0.value y.0.value g on) (seen_of m.list) f.told) in
     let now : TellsAs (width_of q.list) (limit_of q.list) y (seen_of q.list) =
     record { width = after_it.width ∙ sym width; limit = after_it.limit ∙ sym limit; tells = after_it.tells } in
     let P : ℕ → Type 0 = λ w. IsLegal w (seen_of q.list) in
     record {
       others = f.before.0;
-      told = record { width = f.told.width ∙ sym width; limit = f.told.limit ∙ sym limit; tells = subst (Tells x.0) (sym f.before.1) f.told.tells };
+      told = record { width = f.told.width ∙ sym width; limit = f.told.limit ∙ sym limit; tells = subst (Tells x.0.value) (sym f.before.1) f.told.tells };
       store = λ i. record { table = (leaves.same.0 ∙ enters.same.0) i; width = width i; limit = limit i };
       room = leaves.same.1 ∙ enters.same.1;
       seen = seen ∙ (λ i. sym f.before.1 i ++ lies i);
@@ -165,24 +165,24 @@ call_goes_on (Ok a) old new who o kept carries err = record {
 call_goes_on (Err e) old new who o kept carries err = same_goes_on old new err
 
 -- a call leaves what was given up before
-pub left_base : (m q : SeatState Kept) (x y : Kept) → Leaves m q y → y.0.base ≡ x.0.base → trimmed_of q.list ≡ x.0.base.trimmed
+pub left_base : (m q : SeatState Kept) (x y : Kept) → Leaves m q y → y.0.value.base ≡ x.0.value.base → trimmed_of q.list ≡ x.0.value.base.trimmed
 left_base m q x y leaves same = trimmed_is q.list y (ap last_of leaves.list ∙ last_of-snoc m.list y) ∙ ap (λ (base : Checkpoint). base.trimmed) same
 
 -- a full journal holds as many entries as its limit, so as many calls were seen and not given up
-full_seen : (p q : SeatState Kept) (x : Kept) → Stepped p q x [] → trimmed_of q.list ≡ x.0.base.trimmed → length x.0.entries ≡ x.0.limit
+full_seen : (p q : SeatState Kept) (x : Kept) → Stepped p q x [] → trimmed_of q.list ≡ x.0.value.base.trimmed → length x.0.value.entries ≡ x.0.value.limit
     → length (seen_of q.list) ≡ trimmed_of q.list + limit_of q.list
 full_seen p q x s left full =
     let h : History = seen_of p.list ++ s.others in
     let same : length (seen_of q.list) ≡ length h = ap length (s.seen ∙ append-nil h) in
-    let told : x.0.base.trimmed + length x.0.entries ≡ length h = told_length x.0 h s.told.tells in
-    let limit : x.0.limit ≡ limit_of q.list = s.told.limit in
+    let told : x.0.value.base.trimmed + length x.0.value.entries ≡ length h = told_length x.0.value h s.told.tells in
+    let limit : x.0.value.limit ≡ limit_of q.list = s.told.limit in
     omega arith
 
 no_fault : {a : Answer} {f : Fault} → ◌≡◌ {A = Result Answer Fault} (Ok a) (Err f) → ⊥
 no_fault is = cc (is)
 
 -- what a call on the book makes of a pass
-pub called : (p q : SeatState Kept) (x : Kept) (who : ℕ) (o : Operation) (r : Result Answer Fault) → Stepped p q x (made_by who o r) → trimmed_of q.list ≡ x.0.base.trimmed → (r ≡ Err JournalFull → length x.0.entries ≡ x.0.limit)
+pub called : (p q : SeatState Kept) (x : Kept) (who : ℕ) (o : Operation) (r : Result Answer Fault) → Stepped p q x (made_by who o r) → trimmed_of q.list ≡ x.0.value.base.trimmed → (r ≡ Err JournalFull → length x.0.value.entries ≡ x.0.value.limit)
     → (r ≡ Err TooLong → ⊥) → Called (shows p who) o r (shows q who)
 called p q x who o (Ok a) s left full short = record {
   stays = stays p q x (event who o a ∷ []) who s;

@@ -24,7 +24,7 @@ pub record Shows : Type 0 where
   pub made : List ℕ
 
 abbrev pub between_kept : Kept → Kept → History
-between_kept a b = between a.0 b.0
+between_kept a b = between a.0.value b.0.value
 
 abbrev pub seen_of : List Kept → History
 seen_of list = history_of between_kept list
@@ -35,16 +35,16 @@ made_of list own = events_at between_kept list own
 -- of the first book
 abbrev pub width_of : List Kept → ℕ
 width_of [] = 0
-width_of (x ∷ xs) = x.0.width
+width_of (x ∷ xs) = x.0.value.width
 
 abbrev pub limit_of : List Kept → ℕ
 limit_of [] = 0
-limit_of (x ∷ xs) = x.0.limit
+limit_of (x ∷ xs) = x.0.value.limit
 
 -- of the last book
 abbrev pub trimmed_of : List Kept → ℕ
 trimmed_of [] = 0
-trimmed_of (x ∷ []) = x.0.base.trimmed
+trimmed_of (x ∷ []) = x.0.value.base.trimmed
 trimmed_of (x ∷ y ∷ ys) = trimmed_of (y ∷ ys)
 
 abbrev pub shows : SeatState Kept → ℕ → Shows
@@ -59,9 +59,9 @@ shows p who = record {
 
 -- the book has this width and limit, and tells the history
 pub record TellsAs (w l : ℕ) (x : Kept) (h : History) : Type 0 where
-  pub width : x.0.width ≡ w
-  pub limit : x.0.limit ≡ l
-  pub tells : Tells x.0 h
+  pub width : x.0.value.width ≡ w
+  pub limit : x.0.value.limit ≡ l
+  pub tells : Tells x.0.value h
 
 -- the last book tells what was done
 abbrev pub IsTold : List Kept → Type 0

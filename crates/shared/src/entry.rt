@@ -24,7 +24,7 @@ impl Store {
         ensures faults { IfErr result (IsFaultOf request) }
     {
         let mut inside = self.gate.enter(rt, &mut pass.seat);
-        let result = request.make_on(&mut inside.value.0, pass.who);
+        let result = request.make_on(&mut inside.value, pass.who);
         self.gate.leave(&mut pass.seat, inside);
         result
     }
@@ -42,7 +42,7 @@ impl Store {
         let Some(mut inside) = self.gate.try_enter(&mut pass.seat) else {
             return Err(Fault::Busy);
         };
-        let result = request.make_on(&mut inside.value.0, pass.who);
+        let result = request.make_on(&mut inside.value, pass.who);
         self.gate.leave(&mut pass.seat, inside);
         result
     }

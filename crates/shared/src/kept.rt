@@ -1,13 +1,54 @@
 //! A book as it lies in the gate.
-use book::Book;
-use gate::Follows;
+ghost use Rattle.std.specs.Prelude.{◌≡◌, ◌+◌, length, IfOk, IfErr, OnErr};
+ghost use Rattle.history.specs.History.{History, state_of};
+ghost use Rattle.book.specs.Tells.{Tells};
+ghost use Rattle.book.specs.Trimming.{given_up};
+ghost use Rattle.book.specs.Plan.{plan_of};
 
-/// A book. Another may follow it where each history that this one tells is told by the other, as it is or with one call more, the same for all of them.
+use book::{Book, Fault, Plan};
+use gate::Follows;
+use std::alloc::{AllocError, Global};
+
+/// A book, behind one pointer, so that little goes through the gate. Another may follow it where each history that this one tells is told by the other, as it is or with one call more, the same for all of them.
 #[derive(Drop)]
-pub struct Kept(pub Book);
+pub struct Kept(pub Box<Book, Global>);
 
 impl Follows for Kept {
     ghost use Rattle.shared.specs.Between.{MayFollow};
 
-    ghost follows = { λ a b. MayFollow a.0 b.0 };
+    ghost follows = { λ a b. MayFollow a.0.value b.0.value };
+}
+
+impl Kept {
+    /// A book behind a pointer. The only fault is `NoMemory`.
+    pub fn boxed(alloc: Global, book: Book) -> Result<Kept, Fault>
+        ensures ok { IfOk result (λ k. k.0.value ≡ book) }
+        ensures err { IfErr result (λ e. e ≡ Fault.NoMemory) }
+    {
+        match Box::new(alloc, book) {
+            Ok(book) => Ok(Kept(book)),
+            Err(_) => Err(Fault::NoMemory),
+        }
+    }
+
+    /// As `Book::plan`.
+    pub(crate) fn plan(&self, alloc: Global) -> Result<Plan, AllocError>
+        ensures { IfOk result (λ p. (h : History) → Tells self.now.0.value h → p.items.items ≡ plan_of (state_of h)) }
+    {
+        let book: &Book = &self.0;
+        book.plan(alloc)
+    }
+
+    /// As `Book::trim`.
+    pub(crate) fn trim(&mut self, alloc: Global, keep: u64) -> Result<u64, Fault>
+        ensures told { (h : History) → Tells self.old.0.value h → Tells self.new.0.value h }
+        ensures answer { IfOk result (λ n. n ≡ given_up self.old.0.value.base.trimmed (length self.old.0.value.entries) keep) }
+        ensures trimmed { IfOk result (λ n. self.new.0.value.base.trimmed ≡ self.old.0.value.base.trimmed + n) }
+        ensures kept { (self.new.0.value.width ≡ self.old.0.value.width) × (self.new.0.value.limit ≡ self.old.0.value.limit) }
+        ensures faults { IfErr result (λ e. e ≡ Fault.NoMemory) }
+        ensures err { OnErr result (self.new.0.value ≡ self.old.0.value) }
+    {
+        let book: &mut Book = &mut self.0;
+        book.trim(alloc, keep)
+    }
 }

@@ -6,7 +6,7 @@ ghost use Rattle.shared.specs.Calls.{Called};
 ghost use Rattle.shared.specs.Mends.{IsMendable, Found, FoundIn, IfRefused};
 
 use crate::request::Request;
-use crate::{Pass, Store};
+use crate::{Kept, Pass, Store};
 use book::{Answer, Book, Fault, Name};
 use bytes::Bytes;
 use lrc_code::{NoMemory, Rebuild, is_open_in, rebuild};
@@ -117,7 +117,7 @@ impl Store {
         ensures faults { IfRefused result (λ e. (e ≡ Fault.NoMemory) ⊎ (e ≡ Fault.JournalFull)) }
     {
         let mut inside = self.gate.enter(rt, &mut pass.seat);
-        let look = look_in(&mut inside.value.0, alloc, pass.who, name, stripe, fragment);
+        let look = look_in(&mut inside.value, alloc, pass.who, name, stripe, fragment);
         self.gate.leave(&mut pass.seat, inside);
         look
     }
@@ -139,14 +139,30 @@ impl Store {
         let Some(mut inside) = self.gate.try_enter(&mut pass.seat) else {
             return Look::Refused(Fault::Busy);
         };
-        let look = look_in(&mut inside.value.0, alloc, pass.who, name, stripe, fragment);
+        let look = look_in(&mut inside.value, alloc, pass.who, name, stripe, fragment);
         self.gate.leave(&mut pass.seat, inside);
         look
     }
 }
 
-/// Looks at a book, and makes the repair there if it answers anything but `Repaired`.
+/// Looks at the book in the gate, and makes the repair there if it answers anything but `Repaired`.
 fn look_in(
+    kept: &mut Kept,
+    alloc: Global,
+    who: u32,
+    name: &Name,
+    stripe: u64,
+    fragment: u64,
+) -> Look
+    ensures found { FoundIn kept.old.0.value kept.new.0.value who name.now stripe fragment result }
+    ensures kept { (kept.new.0.value.width ≡ kept.old.0.value.width) × (kept.new.0.value.limit ≡ kept.old.0.value.limit) × (kept.new.0.value.base ≡ kept.old.0.value.base) }
+{
+    let book: &mut Book = &mut kept.0;
+    look_in_book(book, alloc, who, name, stripe, fragment)
+}
+
+/// Looks at a book, and makes the repair there if it answers anything but `Repaired`.
+fn look_in_book(
     book: &mut Book,
     alloc: Global,
     who: u32,

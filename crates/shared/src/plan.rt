@@ -21,7 +21,7 @@ impl Store {
         ensures faults { IfErr result (λ e. e ≡ Fault.NoMemory) }
     {
         let inside = self.gate.enter(rt, &mut pass.seat);
-        let plan = inside.value.0.plan(alloc).map_err(|_| Fault::NoMemory);
+        let plan = inside.value.plan(alloc).map_err(|_| Fault::NoMemory);
         self.gate.leave(&mut pass.seat, inside);
         plan
     }

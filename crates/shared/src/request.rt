@@ -3,6 +3,7 @@ ghost use Rattle.std.specs.Prelude.{◌≡◌, ◌↔◌, length, IfOk, IfErr, O
 ghost use Rattle.book.specs.Tells.{CarriesOn};
 ghost use Rattle.shared.specs.Requests.{operation_of, CanMake, IsAnswerTo, MayWant, IsFaultOf};
 
+use crate::Kept;
 use book::{Answer, Book, Fault, Name};
 use bytes::Bytes;
 use sealed::Sealed;
@@ -44,8 +45,23 @@ pub enum Request {
 }
 
 impl Request {
+    /// Makes the call on the book in the gate.
+    pub(crate) fn make_on(self, kept: &mut Kept, who: u32) -> Result<Answer, Fault>
+        requires { CanMake kept.old.0.value self }
+        ensures ok { IfOk result (CarriesOn kept.old.0.value kept.new.0.value who (operation_of self)) }
+        ensures answer { IfOk result (IsAnswerTo kept.old.0.value self) }
+        ensures no_memory { result ≡ Err Fault.NoMemory → MayWant kept.old.0.value self }
+        ensures full { (result ≡ Err Fault.JournalFull) ↔ (length kept.old.0.value.entries ≡ kept.old.0.value.limit) }
+        ensures kept { (kept.new.0.value.width ≡ kept.old.0.value.width) × (kept.new.0.value.limit ≡ kept.old.0.value.limit) × (kept.new.0.value.base ≡ kept.old.0.value.base) }
+        ensures faults { IfErr result (IsFaultOf self) }
+        ensures err { OnErr result (kept.new.0.value ≡ kept.old.0.value) }
+    {
+        let book: &mut Book = &mut kept.0;
+        self.make_on_book(book, who)
+    }
+
     /// Makes the call on a book.
-    pub fn make_on(self, book: &mut Book, who: u32) -> Result<Answer, Fault>
+    fn make_on_book(self, book: &mut Book, who: u32) -> Result<Answer, Fault>
         requires { CanMake book.old self }
         ensures ok { IfOk result (CarriesOn book.old book.new who (operation_of self)) }
         ensures answer { IfOk result (IsAnswerTo book.old self) }

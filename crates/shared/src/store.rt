@@ -43,7 +43,10 @@ impl Store {
         let Ok(book) = Book::new(alloc, width, limit) else {
             return Err(Fault::NoMemory);
         };
-        let Ok((gate, seat)) = Gate::new(alloc, Kept(book)) else {
+        let Ok(kept) = Kept::boxed(alloc, book) else {
+            return Err(Fault::NoMemory);
+        };
+        let Ok((gate, seat)) = Gate::new(alloc, kept) else {
             return Err(Fault::NoMemory);
         };
         let store = Store { gate, width, limit };
@@ -65,6 +68,6 @@ impl Store {
         let Store { gate, .. } = self;
         let Pass { seat, who: _ } = pass;
         let Kept(book) = gate.close(seat);
-        book
+        Box::into_inner(book)
     }
 }

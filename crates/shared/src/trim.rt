@@ -26,7 +26,7 @@ impl Store {
         ensures faults { IfErr result (λ e. e ≡ Fault.NoMemory) }
     {
         let mut inside = self.gate.enter(rt, &mut pass.seat);
-        let result = inside.value.0.trim(alloc, keep);
+        let result = inside.value.trim(alloc, keep);
         self.gate.leave(&mut pass.seat, inside);
         result
     }
@@ -43,7 +43,7 @@ impl Store {
         let Some(mut inside) = self.gate.try_enter(&mut pass.seat) else {
             return Err(Fault::Busy);
         };
-        let result = inside.value.0.trim(alloc, keep);
+        let result = inside.value.trim(alloc, keep);
         self.gate.leave(&mut pass.seat, inside);
         result
     }

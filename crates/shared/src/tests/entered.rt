@@ -47,7 +47,7 @@ fn begun(rt: &impl Abort, alloc: Global) -> Result<(Book, Grant), Fail> {
 fn walk_while_entered(rt: HostRuntime) -> Result<(), Fail> {
     let alloc = rt.alloc();
     let (book, grant) = begun(&rt, alloc)?;
-    let (gate, mut first) = Gate::new(alloc, Kept(book))?;
+    let (gate, mut first) = Gate::new(alloc, Kept::boxed(alloc, book)?)?;
     let second = first.split(&gate)?;
     let Some(inside) = gate.try_enter(&mut first) else {
         panic!(rt; "the gate was free");

@@ -1,5 +1,6 @@
 use Rattle.std.proofs.Common.{◌≡◌, ℕ, ◌+◌, ◌<◌, length, sym, subst}
 use Rattle.gate.specs.Places.{times}
+use Rattle.book.specs.Contents.{Contents}
 use Rattle.shared.proofs.Passes.{closed, closed_count, closed_entries, trimmed_is}
 use Rattle.shared.proofs.store.Store.close.Goals as goal
 
@@ -11,10 +12,11 @@ returns-clause-count c = subst (λ v. length v.made ≡ length v.seen) c.pass.vi
 
 pub returns-clause-entries : goal.returns-clause-entries
 returns-clause-entries c =
-    let book = c.close-book.result.0 in
-    subst (λ v. book.base.trimmed + length book.entries ≡ length v.made) c.pass.view_is
-    (closed_entries c.pass.inside.seat c.close-book.result c.pass.invariant c.close-book.ensures.last c.close-book.ensures.own)
+    let Q : Contents → Type 0 = λ book. book.base.trimmed + length book.entries ≡ length c.args.pass.made in
+    subst Q (sym c.into_inner.ensures) (subst (λ v. c.close-book.result.0.value.base.trimmed + length c.close-book.result.0.value.entries ≡ length v.made) c.pass.view_is
+    (closed_entries c.pass.inside.seat c.close-book.result c.pass.invariant c.close-book.ensures.last c.close-book.ensures.own))
 
 pub returns-clause-trimmed : goal.returns-clause-trimmed
 returns-clause-trimmed c =
-    subst (λ v. c.close-book.result.0.base.trimmed ≡ v.trimmed) c.pass.view_is (sym (trimmed_is c.pass.inside.seat.list c.close-book.result c.close-book.ensures.last))
+    let Q : Contents → Type 0 = λ book. book.base.trimmed ≡ c.args.pass.trimmed in
+    subst Q (sym c.into_inner.ensures) (subst (λ v. c.close-book.result.0.value.base.trimmed ≡ v.trimmed) c.pass.view_is (sym (trimmed_is c.pass.inside.seat.list c.close-book.result c.close-book.ensures.last)))

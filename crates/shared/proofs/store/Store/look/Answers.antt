@@ -12,9 +12,9 @@ use Rattle.shared.proofs.store.Store.look.Goals as goal
 pub leave-requires-clause-follows : goal.leave-requires-clause-follows
 leave-requires-clause-follows g c =
     let e = c.look_in-look.ensures in
-    subst (λ o. IfSome o (λ found. MayFollow found.0 c.look_in-look.new.book)) (sym c.enter-inside.ensures.found)
-    (goes_follows c.enter-inside.result.value.0 c.look_in-look.new.book _
-    (look_goes_on c.look_in-look.result c.enter-inside.result.value.0 c.look_in-look.new.book c.pass.inside.who c.args.name.now c.args.stripe c.args.fragment e.kept e.found))
+    subst (λ o. IfSome o (λ found. MayFollow found.0.value c.look_in-look.new.kept.0.value)) (sym c.enter-inside.ensures.found)
+    (goes_follows c.enter-inside.result.value.0.value c.look_in-look.new.kept.0.value _
+    (look_goes_on c.look_in-look.result c.enter-inside.result.value.0.value c.look_in-look.new.kept.0.value c.pass.inside.who c.args.name.now c.args.stripe c.args.fragment e.kept e.found))
 
 steps : (g : given.Over) (c : goal.After-leave g) → Stepped c.pass.inside.seat c.leave.new.seat c.enter-inside.result.value (events_at_look c.look_in-look.result c.pass.inside.who (repair c.args.name.now c.args.stripe c.args.fragment))
 steps g c =
@@ -24,7 +24,7 @@ steps g c =
     stepped c.pass.inside.seat c.enter-inside.new.seat c.leave.new.seat c.enter-inside.result.value _ _ c.pass.invariant
     (record { same = (e.kept.0, e.kept.1, e.kept.2); seen = e.seen; found = e.found; lone = e.lone })
     (record { same = l.kept; list = l.list; own = l.own })
-    (look_goes_on c.look_in-look.result c.enter-inside.result.value.0 c.look_in-look.new.book c.pass.inside.who c.args.name.now c.args.stripe c.args.fragment m.kept m.found)
+    (look_goes_on c.look_in-look.result c.enter-inside.result.value.0.value c.look_in-look.new.kept.0.value c.pass.inside.who c.args.name.now c.args.stripe c.args.fragment m.kept m.found)
 
 pub invariant_of-pass : goal.invariant_of-pass
 invariant_of-pass g c = (steps g c).pass
@@ -32,5 +32,5 @@ invariant_of-pass g c = (steps g c).pass
 pub returns-clause-found : goal.returns-clause-found
 returns-clause-found g c =
     subst (λ v. Found v c.args.name.now c.args.stripe c.args.fragment c.look_in-look.result (shows c.leave.new.seat c.pass.inside.who)) c.pass.view_is
-    (look_found c.pass.inside.seat c.leave.new.seat c.enter-inside.result.value _ c.pass.inside.who c.args.name.now c.args.stripe c.args.fragment c.look_in-look.result (steps g c)
-    (left_base c.enter-inside.new.seat c.leave.new.seat c.enter-inside.result.value _ (record { same = c.leave.ensures.kept; list = c.leave.ensures.list; own = c.leave.ensures.own }) c.look_in-look.ensures.kept.2) c.look_in-look.ensures.found)
+    (look_found c.pass.inside.seat c.leave.new.seat c.enter-inside.result.value c.look_in-look.new.kept c.pass.inside.who c.args.name.now c.args.stripe c.args.fragment c.look_in-look.result (steps g c)
+    (left_base c.enter-inside.new.seat c.leave.new.seat c.enter-inside.result.value c.look_in-look.new.kept (record { same = c.leave.ensures.kept; list = c.leave.ensures.list; own = c.leave.ensures.own }) c.look_in-look.ensures.kept.2) c.look_in-look.ensures.found)

@@ -20,9 +20,9 @@ make_on-result-requires g c =
 pub leave-requires-clause-follows : goal.leave-requires-clause-follows
 leave-requires-clause-follows g c =
     let e = c.make_on-result.ensures in
-    subst (λ o. IfSome o (λ found. MayFollow found.0 c.make_on-result.new.book)) (sym c.enter-inside.ensures.found)
-    (goes_follows c.enter-inside.result.value.0 c.make_on-result.new.book _
-    (call_goes_on c.make_on-result.result c.enter-inside.result.value.0 c.make_on-result.new.book c.pass.inside.who (operation_of c.args.request) e.kept e.ok e.err))
+    subst (λ o. IfSome o (λ found. MayFollow found.0.value c.make_on-result.new.kept.0.value)) (sym c.enter-inside.ensures.found)
+    (goes_follows c.enter-inside.result.value.0.value c.make_on-result.new.kept.0.value _
+    (call_goes_on c.make_on-result.result c.enter-inside.result.value.0.value c.make_on-result.new.kept.0.value c.pass.inside.who (operation_of c.args.request) e.kept e.ok e.err))
 
 steps : (g : given.Over) (c : goal.After-leave g) → Stepped c.pass.inside.seat c.leave.new.seat c.enter-inside.result.value (made_by c.pass.inside.who (operation_of c.args.request) c.make_on-result.result)
 steps g c =
@@ -32,7 +32,7 @@ steps g c =
     stepped c.pass.inside.seat c.enter-inside.new.seat c.leave.new.seat c.enter-inside.result.value _ _ c.pass.invariant
     (record { same = (e.kept.0, e.kept.1, e.kept.2); seen = e.seen; found = e.found; lone = e.lone })
     (record { same = l.kept; list = l.list; own = l.own })
-    (call_goes_on c.make_on-result.result c.enter-inside.result.value.0 c.make_on-result.new.book c.pass.inside.who (operation_of c.args.request) m.kept m.ok m.err)
+    (call_goes_on c.make_on-result.result c.enter-inside.result.value.0.value c.make_on-result.new.kept.0.value c.pass.inside.who (operation_of c.args.request) m.kept m.ok m.err)
 
 pub invariant_of-pass : goal.invariant_of-pass
 invariant_of-pass g c = (steps g c).pass

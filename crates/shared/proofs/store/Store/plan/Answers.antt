@@ -13,7 +13,7 @@ steps g c =
     stepped c.pass.inside.seat c.enter-inside.new.seat c.leave.new.seat c.enter-inside.result.value c.enter-inside.result.value [] c.pass.invariant
     (record { same = (e.kept.0, e.kept.1, e.kept.2); seen = e.seen; found = e.found; lone = e.lone })
     (record { same = l.kept; list = l.list; own = l.own })
-    (same_goes_on c.enter-inside.result.value.0 c.enter-inside.result.value.0 refl)
+    (same_goes_on c.enter-inside.result.value.0.value c.enter-inside.result.value.0.value refl)
 
 pub invariant_of-pass : goal.invariant_of-pass
 invariant_of-pass g c = (steps g c).pass

@@ -11,8 +11,8 @@ use Rattle.shared.proofs.store.Store.trim.Goals as goal
 pub leave-requires-clause-follows : goal.leave-requires-clause-follows
 leave-requires-clause-follows g c =
     let t = c.trim-result.ensures in
-    subst (λ o. IfSome o (λ found. MayFollow found.0 c.trim-result.new.self)) (sym c.enter-inside.ensures.found)
-    (goes_follows c.enter-inside.result.value.0 c.trim-result.new.self [] (still_goes_on c.enter-inside.result.value.0 c.trim-result.new.self t.kept.0 t.kept.1 t.told))
+    subst (λ o. IfSome o (λ found. MayFollow found.0.value c.trim-result.new.self.0.value)) (sym c.enter-inside.ensures.found)
+    (goes_follows c.enter-inside.result.value.0.value c.trim-result.new.self.0.value [] (still_goes_on c.enter-inside.result.value.0.value c.trim-result.new.self.0.value t.kept.0 t.kept.1 t.told))
 
 steps : (g : given.Over) (c : goal.After-leave g) → Stepped c.pass.inside.seat c.leave.new.seat c.enter-inside.result.value []
 steps g c =
@@ -22,7 +22,7 @@ steps g c =
     stepped c.pass.inside.seat c.enter-inside.new.seat c.leave.new.seat c.enter-inside.result.value _ [] c.pass.invariant
     (record { same = (e.kept.0, e.kept.1, e.kept.2); seen = e.seen; found = e.found; lone = e.lone })
     (record { same = l.kept; list = l.list; own = l.own })
-    (still_goes_on c.enter-inside.result.value.0 c.trim-result.new.self t.kept.0 t.kept.1 t.told)
+    (still_goes_on c.enter-inside.result.value.0.value c.trim-result.new.self.0.value t.kept.0 t.kept.1 t.told)
 
 pub invariant_of-pass : goal.invariant_of-pass
 invariant_of-pass g c = (steps g c).pass

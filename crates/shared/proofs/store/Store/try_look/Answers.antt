@@ -11,9 +11,9 @@ use Rattle.shared.proofs.store.Store.try_look.Goals as goal
 pub leave-requires-clause-follows : goal.leave-requires-clause-follows
 leave-requires-clause-follows c =
     let e = c.look_in-look.ensures in
-    subst (λ o. IfSome o (λ found. MayFollow found.0 c.look_in-look.new.book)) (sym c.in-Some.ensures.found.1)
-    (goes_follows c.in-Some.inside.value.0 c.look_in-look.new.book _
-    (look_goes_on c.look_in-look.result c.in-Some.inside.value.0 c.look_in-look.new.book c.pass.inside.who c.args.name.now c.args.stripe c.args.fragment e.kept e.found))
+    subst (λ o. IfSome o (λ found. MayFollow found.0.value c.look_in-look.new.kept.0.value)) (sym c.in-Some.ensures.found.1)
+    (goes_follows c.in-Some.inside.value.0.value c.look_in-look.new.kept.0.value _
+    (look_goes_on c.look_in-look.result c.in-Some.inside.value.0.value c.look_in-look.new.kept.0.value c.pass.inside.who c.args.name.now c.args.stripe c.args.fragment e.kept e.found))
 
 steps : (c : goal.After-leave) → Stepped c.pass.inside.seat c.leave.new.seat c.in-Some.inside.value (events_at_look c.look_in-look.result c.pass.inside.who (repair c.args.name.now c.args.stripe c.args.fragment))
 steps c =
@@ -23,7 +23,7 @@ steps c =
     stepped c.pass.inside.seat c.try_enter.new.seat c.leave.new.seat c.in-Some.inside.value _ _ c.pass.invariant
     (record { same = (e.kept.0, e.kept.1, e.kept.2); seen = e.seen; found = c.in-Some.ensures.found.1; lone = λ all. (e.lone all).1 })
     (record { same = l.kept; list = l.list; own = l.own })
-    (look_goes_on c.look_in-look.result c.in-Some.inside.value.0 c.look_in-look.new.book c.pass.inside.who c.args.name.now c.args.stripe c.args.fragment m.kept m.found)
+    (look_goes_on c.look_in-look.result c.in-Some.inside.value.0.value c.look_in-look.new.kept.0.value c.pass.inside.who c.args.name.now c.args.stripe c.args.fragment m.kept m.found)
 
 pub invariant_of-pass-2 : goal.invariant_of-pass-2
 invariant_of-pass-2 c = (steps c).pass
@@ -31,5 +31,5 @@ invariant_of-pass-2 c = (steps c).pass
 pub returns-clause-found : goal.returns-clause-found
 returns-clause-found c =
     subst (λ v. Found v c.args.name.now c.args.stripe c.args.fragment c.look_in-look.result (shows c.leave.new.seat c.pass.inside.who)) c.pass.view_is
-    (look_found c.pass.inside.seat c.leave.new.seat c.in-Some.inside.value _ c.pass.inside.who c.args.name.now c.args.stripe c.args.fragment c.look_in-look.result (steps c)
-    (left_base c.try_enter.new.seat c.leave.new.seat c.in-Some.inside.value _ (record { same = c.leave.ensures.kept; list = c.leave.ensures.list; own = c.leave.ensures.own }) c.look_in-look.ensures.kept.2) c.look_in-look.ensures.found)
+    (look_found c.pass.inside.seat c.leave.new.seat c.in-Some.inside.value c.look_in-look.new.kept c.pass.inside.who c.args.name.now c.args.stripe c.args.fragment c.look_in-look.result (steps c)
+    (left_base c.try_enter.new.seat c.leave.new.seat c.in-Some.inside.value c.look_in-look.new.kept (record { same = c.leave.ensures.kept; list = c.leave.ensures.list; own = c.leave.ensures.own }) c.look_in-look.ensures.kept.2) c.look_in-look.ensures.found)

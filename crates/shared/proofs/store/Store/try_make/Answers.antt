@@ -19,9 +19,9 @@ make_on-result-requires c =
 pub leave-requires-clause-follows : goal.leave-requires-clause-follows
 leave-requires-clause-follows c =
     let e = c.make_on-result.ensures in
-    subst (λ o. IfSome o (λ found. MayFollow found.0 c.make_on-result.new.book)) (sym c.in-Some.ensures.found.1)
-    (goes_follows c.in-Some.inside.value.0 c.make_on-result.new.book _
-    (call_goes_on c.make_on-result.result c.in-Some.inside.value.0 c.make_on-result.new.book c.pass.inside.who (operation_of c.args.request) e.kept e.ok e.err))
+    subst (λ o. IfSome o (λ found. MayFollow found.0.value c.make_on-result.new.kept.0.value)) (sym c.in-Some.ensures.found.1)
+    (goes_follows c.in-Some.inside.value.0.value c.make_on-result.new.kept.0.value _
+    (call_goes_on c.make_on-result.result c.in-Some.inside.value.0.value c.make_on-result.new.kept.0.value c.pass.inside.who (operation_of c.args.request) e.kept e.ok e.err))
 
 steps : (c : goal.After-leave) → Stepped c.pass.inside.seat c.leave.new.seat c.in-Some.inside.value (made_by c.pass.inside.who (operation_of c.args.request) c.make_on-result.result)
 steps c =
@@ -31,7 +31,7 @@ steps c =
     stepped c.pass.inside.seat c.try_enter.new.seat c.leave.new.seat c.in-Some.inside.value _ _ c.pass.invariant
     (record { same = (e.kept.0, e.kept.1, e.kept.2); seen = e.seen; found = c.in-Some.ensures.found.1; lone = λ all. (e.lone all).1 })
     (record { same = l.kept; list = l.list; own = l.own })
-    (call_goes_on c.make_on-result.result c.in-Some.inside.value.0 c.make_on-result.new.book c.pass.inside.who (operation_of c.args.request) m.kept m.ok m.err)
+    (call_goes_on c.make_on-result.result c.in-Some.inside.value.0.value c.make_on-result.new.kept.0.value c.pass.inside.who (operation_of c.args.request) m.kept m.ok m.err)
 
 pub invariant_of-pass-2 : goal.invariant_of-pass-2
 invariant_of-pass-2 c = (steps c).pass

@@ -10,8 +10,8 @@ use Rattle.shared.proofs.store.Store.try_trim.Goals as goal
 pub leave-requires-clause-follows : goal.leave-requires-clause-follows
 leave-requires-clause-follows c =
     let t = c.trim-result.ensures in
-    subst (λ o. IfSome o (λ found. MayFollow found.0 c.trim-result.new.self)) (sym c.in-Some.ensures.found.1)
-    (goes_follows c.in-Some.inside.value.0 c.trim-result.new.self [] (still_goes_on c.in-Some.inside.value.0 c.trim-result.new.self t.kept.0 t.kept.1 t.told))
+    subst (λ o. IfSome o (λ found. MayFollow found.0.value c.trim-result.new.self.0.value)) (sym c.in-Some.ensures.found.1)
+    (goes_follows c.in-Some.inside.value.0.value c.trim-result.new.self.0.value [] (still_goes_on c.in-Some.inside.value.0.value c.trim-result.new.self.0.value t.kept.0 t.kept.1 t.told))
 
 steps : (c : goal.After-leave) → Stepped c.pass.inside.seat c.leave.new.seat c.in-Some.inside.value []
 steps c =
@@ -21,7 +21,7 @@ steps c =
     stepped c.pass.inside.seat c.try_enter.new.seat c.leave.new.seat c.in-Some.inside.value _ [] c.pass.invariant
     (record { same = (e.kept.0, e.kept.1, e.kept.2); seen = e.seen; found = c.in-Some.ensures.found.1; lone = λ all. (e.lone all).1 })
     (record { same = l.kept; list = l.list; own = l.own })
-    (still_goes_on c.in-Some.inside.value.0 c.trim-result.new.self t.kept.0 t.kept.1 t.told)
+    (still_goes_on c.in-Some.inside.value.0.value c.trim-result.new.self.0.value t.kept.0 t.kept.1 t.told)
 
 pub invariant_of-pass-2 : goal.invariant_of-pass-2
 invariant_of-pass-2 c = (steps c).pass
