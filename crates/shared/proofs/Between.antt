@@ -1,5 +1,7 @@
 -- What lies between two books.
-use Rattle.std.proofs.Common.{◌≡◌, ℕ, ◌+◌, ◌-◌, ◌≤◌, List, [], ◌∷◌, ◌++◌, length, map, drop, cond, Option, None, Some, refl, ap, sym, subst, ◌∙◌, arith}
+use Rattle.std.proofs.Common.{◌≡◌, ◌≢◌, ℕ, zero, suc, ◌+◌, ◌-◌, ◌<◌, ◌≤◌, List, [], ◌∷◌, ◌++◌, length, map, drop, cond, Option, None, Some, refl, ap, sym, subst, ◌∙◌, arith, length-append}
+use mathlib.Core.Logic.{dite}
+use native.Mathlib.Decide.{dec_le}
 use Rattle.std.proofs.Math.Seq.{drop-append_seam}
 use Rattle.std.proofs.lemmas.List.{map-append, drop-append-le, length-map, length-drop}
 use Rattle.std.specs.FinMap as finite
@@ -16,7 +18,8 @@ use Rattle.history.specs.History.{Event, History, state_of, call_of, entry_of}
 use Rattle.history.proofs.Beginnings.{after_all-append}
 use Rattle.book.specs.Contents.{Contents, sealed_at}
 use Rattle.book.specs.Tells.{Tells, Correspond}
-use Rattle.shared.specs.Between.{bytes_found, operation_in, first_in, between, MayFollow}
+use Rattle.book.specs.Serial.{Act, call, trim, events_in, given_in}
+use Rattle.shared.specs.Between.{bytes_found, operation_in, first_in, between, acts_for, acts_between, TellsActs, MayFollow}
 use Rattle.shared.proofs.Bytes.{bytes_are}
 
 kept_bytes : (w : ℕ) (found : Option Sealed) (v : ℕ) (code : Code) (b : List ℕ) → Correspond w found (Some (record { version = v; bytes = b; code = code; lost = nothing })) → bytes_found found ≡ b
@@ -59,17 +62,20 @@ told_length book h told =
     let entries : length book.entries ≡ length h - t = ap length told.entries ∙ length-map (drop t h) entry_of ∙ length-drop t h in
     omega (arith, long, entries)
 
--- the second book goes on from the first with these events, at most one. It has not given up a call that the first doesn't have
-pub record GoesOn (a b : Contents) (g : History) : Type 0 where
+-- The second book goes on from the first with these events, at most one, or gives up n calls more. It has not given up a call that the first doesn't have
+pub record GoesOn (a b : Contents) (g : History) (n : ℕ) : Type 0 where
   pub width : b.width ≡ a.width
   pub limit : b.limit ≡ a.limit
   pub few : length g ≤ 1
   pub told : (h : History) → Tells a h → Tells b (h ++ g)
   pub held : (h : History) → Tells a h → b.base.trimmed ≤ length h
+  pub given : b.base.trimmed ≡ a.base.trimmed + n
+  pub one : 0 < length g → n ≡ 0
+  pub room : 0 < length g → length a.entries ≢ a.limit
 
 -- what lies between them is these events
-pub between_is : (a b : Contents) (g h : History) → GoesOn a b g → Tells a h → between a b ≡ g
-between_is a b g h on told =
+pub between_is : (a b : Contents) (g h : History) (n : ℕ) → GoesOn a b g n → Tells a h → between a b ≡ g
+between_is a b g h n on told =
     let t = b.base.trimmed in
     let later : Tells b (h ++ g) = on.told h told in
     let entries : b.entries ≡ map entry_of (drop t h) ++ map entry_of g =
@@ -79,11 +85,61 @@ between_is a b g h on told =
     ap (first_in b) ((λ i. drop (place i) (entries i)) ∙ drop-append_seam (map entry_of (drop t h)) (map entry_of g))
     ∙ events_back b h g later on.few
 
-pub goes_follows : (a b : Contents) (g : History) → GoesOn a b g → MayFollow a b
-goes_follows a b g on = record {
+pub below_unless : (m n : ℕ) → m ≤ n → m ≢ n → m < n
+below_unless m n le apart = dite (dec_le n m) (λ past. absurd (apart (omega arith))) (λ inside. omega arith)
+
+-- ---- acts
+pub events-append : (xs ys : List Act) → events_in (xs ++ ys) ≡ events_in xs ++ events_in ys
+events-append [] ys = refl
+events-append (call e ∷ xs) ys = ap (λ l. e ∷ l) (events-append xs ys)
+events-append (trim n ∷ xs) ys = events-append xs ys
+
+pub given-append : (xs ys : List Act) → given_in (xs ++ ys) ≡ given_in xs + given_in ys
+given-append [] ys = omega arith
+given-append (call e ∷ xs) ys = given-append xs ys
+given-append (trim n ∷ xs) ys = let more = given-append xs ys in omega arith
+
+pub events_for : (g : History) (n : ℕ) → length g ≤ 1 → events_in (acts_for g n) ≡ g
+events_for [] zero few = refl
+events_for [] (suc n) few = refl
+events_for (e ∷ []) n few = refl
+events_for (d ∷ e ∷ g) n few = absurd (omega arith)
+
+given_for : (g : History) (n : ℕ) → (0 < length g → n ≡ 0) → given_in (acts_for g n) ≡ n
+given_for [] zero one = refl
+given_for [] (suc n) one = omega arith
+given_for (e ∷ g) n one = sym (one (omega arith))
+
+-- what was done between them
+pub acts_are : (a b : Contents) (g h : History) (n : ℕ) → GoesOn a b g n → Tells a h → acts_between a b ≡ acts_for g n
+acts_are a b g h n on told =
+    let more : b.base.trimmed - a.base.trimmed ≡ n = let is = on.given in omega arith in
+    λ i. acts_for (between_is a b g h n on told i) (more i)
+
+-- after these acts the books tell one more
+pub tells_more : (a b : Contents) (g : History) (n : ℕ) → GoesOn a b g n → (acts : List Act) → TellsActs a acts → TellsActs b (acts ++ acts_for g n)
+tells_more a b g n on acts t =
+    let h : History = events_in acts in
+    let later : Tells b (h ++ g) = on.told h t.tells in
+    let old : a.base.trimmed + length a.entries ≡ length h = told_length a h t.tells in
+    let new : b.base.trimmed + length b.entries ≡ length (h ++ g) = told_length b (h ++ g) later in
+    let long = length-append h g in
+    let fits : length a.entries ≤ a.limit = t.room in
+    let given : b.base.trimmed ≡ a.base.trimmed + n = on.given in
+    let same : b.limit ≡ a.limit = on.limit in
+    record {
+      tells = subst (Tells b) (sym (events-append acts (acts_for g n) ∙ ap (λ l. h ++ l) (events_for g n on.few))) later;
+      given = given ∙ (λ i. t.given i + sym (given_for g n on.one) i) ∙ sym (given-append acts (acts_for g n));
+      room = dite (dec_le 1 (length g))
+      (λ some. let free : length a.entries < a.limit = below_unless (length a.entries) a.limit fits (on.room some) in let few = on.few in let none = on.one some in omega arith)
+      (λ none. omega arith);
+    }
+
+pub goes_follows : (a b : Contents) (g : History) (n : ℕ) → GoesOn a b g n → MayFollow a b
+goes_follows a b g n on = record {
   width = on.width;
   limit = on.limit;
-  told = λ h told. subst (λ es. Tells b (h ++ es)) (sym (between_is a b g h on told)) (on.told h told);
+  told = λ acts told. subst (λ (es : List Act). TellsActs b (acts ++ es)) (sym (acts_are a b g (events_in acts) n on told.tells)) (tells_more a b g n on acts told);
 }
 
 -- at most one call lies between two books
@@ -93,3 +149,12 @@ one_call a b = at_most_one (drop (a.base.trimmed + length a.entries - b.base.tri
     at_most_one : (es : List Entry) → length (first_in b es) ≤ 1
     at_most_one [] = omega arith
     at_most_one (e ∷ es) = omega arith
+
+-- and at most one act
+pub one_act : (a b : Contents) → length (acts_between a b) ≤ 1
+one_act a b = at_most (between a b) (b.base.trimmed - a.base.trimmed)
+  where
+    at_most : (g : History) (n : ℕ) → length (acts_for g n) ≤ 1
+    at_most [] zero = omega arith
+    at_most [] (suc n) = omega arith
+    at_most (e ∷ g) n = omega arith

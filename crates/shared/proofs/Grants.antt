@@ -17,6 +17,7 @@ use Rattle.book.specs.declared.answer.Answer.{Answer}
 use Rattle.book.specs.declared.answer.Answer.TheVariants as answer
 use Rattle.book.specs.Asked.{IsReadAnswer, IsGrantable}
 use Rattle.book.specs.Contents.{sealed_at}
+use Rattle.book.specs.Serial.{events_in}
 use Rattle.book.specs.Tells.{Represents, Correspond}
 use Rattle.book.proofs.Reading.{inside_from}
 use Rattle.book.proofs.Same.{unreadable_alike}
@@ -27,7 +28,7 @@ use Rattle.shared.specs.declared.request.Request.TheVariants.{Put, Read, Lose, I
 use Rattle.shared.specs.Passes.{seen_of, width_of}
 use Rattle.shared.specs.Calls.{event, made_by, GrantedIn, IfGranted}
 use Rattle.shared.specs.Requests.{operation_of, IsAnswerTo, IsGrantedTo, MayWant, WantedFor}
-use Rattle.shared.proofs.Steps.{Stepped}
+use Rattle.shared.proofs.Steps.{Stepped, told_history}
 
 -- a grant of the book, by the state
 grant_in : (w : ℕ) (found : Option Sealed) (had : Option Blob) (start len : ℕ) (g : Grant) → IsReadAnswer found start len (answer.Granted g) → Correspond w found had
@@ -36,13 +37,13 @@ grant_in w None had start len g right both = absurd right
 grant_in w (Some s) None start len g right both = absurd both
 grant_in w (Some s) (Some blob) start len g right both = (blob, refl, subst (λ (x : Sealed). Represents w x blob) (sym right.0) both, right.1, right.2)
 
-granted : (p q : SeatState Kept) (x : Kept) (who w : ℕ) (n : List ℕ) (start len : ℕ) (a : Answer) → Stepped p q x (event who (read n start len) a ∷ []) → width_of q.list ≡ w
+granted : (p q : SeatState Kept) (x : Kept) (who w : ℕ) (n : List ℕ) (start len : ℕ) (a : Answer) → Stepped p q x (event who (read n start len) a ∷ []) 0 → width_of q.list ≡ w
     → IsReadAnswer (sealed_at x.0.value n) start len a → IfGranted a (GrantedIn (seen_of q.list) w n start len)
 granted p q x who w n start len (answer.Granted g) s width right =
-    let h : History = seen_of p.list ++ s.others in
+    let h : History = seen_of p.list ++ events_in s.others in
     let e : Event = event who (read n start len) (answer.Granted g) in
     let state : state_of (seen_of q.list) ≡ state_of h = ap state_of s.seen ∙ after_all-append empty_state h (e ∷ []) in
-    let is = grant_in x.0.value.width (sealed_at x.0.value n) (finite.get (state_of h).names n) start len g right (s.told.tells.catalogue n) in
+    let is = grant_in x.0.value.width (sealed_at x.0.value n) (finite.get (state_of h).names n) start len g right ((told_history p q x _ 0 s).catalogue n) in
     let here : finite.get (state_of (seen_of q.list)).names n ≡ Some is.0 = ap (λ (t : State). finite.get t.names n) state ∙ is.1 in
     let put_is : HasPut (seen_of q.list) is.0.version n is.0.code is.0.bytes = was_put (width_of q.list) (seen_of q.list) s.legal n is.0 here in record {
       start_is = is.3;
@@ -56,7 +57,7 @@ granted p q x who w n start len (answer.Granted g) s width right =
 granted p q x who w n start len a s width right = tt
 
 -- where the request is a read
-pub all_granted : (r : Result Answer Fault) (p q : SeatState Kept) (x : Kept) (who w : ℕ) (request : Request) → Stepped p q x (made_by who (operation_of request) r) → width_of q.list ≡ w
+pub all_granted : (r : Result Answer Fault) (p q : SeatState Kept) (x : Kept) (who w : ℕ) (request : Request) → Stepped p q x (made_by who (operation_of request) r) 0 → width_of q.list ≡ w
     → IfOk r (IsAnswerTo x.0.value request) → IfOk r (IsGrantedTo (seen_of q.list) w request)
 all_granted (Err e) p q x who w request s width right = tt
 all_granted (Ok a) p q x who w (Read n start len) s width right = granted p q x who w n start len a s width right
@@ -81,13 +82,13 @@ can_grant w (Some s) (Some blob) start len can both =
     (blob.version, second_case _ _ _ (subst (λ (l : ℕ). is_outside l start len ≡ false) len_is can.0) (inr (λ u. can.1 ((unreadable_alike w wide s blob both start len fits).1 u), refl)))
 
 -- where the request is a read, memory was wanted for a grant
-pub wanted_for : (r : Result Answer Fault) (p q : SeatState Kept) (x : Kept) (who w : ℕ) (request : Request) → Stepped p q x (made_by who (operation_of request) r) → width_of q.list ≡ w
+pub wanted_for : (r : Result Answer Fault) (p q : SeatState Kept) (x : Kept) (who w : ℕ) (request : Request) → Stepped p q x (made_by who (operation_of request) r) 0 → width_of q.list ≡ w
     → (r ≡ Err NoMemory → MayWant x.0.value request) → r ≡ Err NoMemory → WantedFor (seen_of q.list) w request
 wanted_for (Ok a) p q x who w request s width may is = absurd (cc (is))
 wanted_for (Err e) p q x who w (Read n start len) s width may is =
-    let h : History = seen_of p.list ++ s.others in
+    let h : History = seen_of p.list ++ events_in s.others in
     let same : h ≡ seen_of q.list = sym (s.seen ∙ append-nil h) in
-    let can = can_grant x.0.value.width (sealed_at x.0.value n) (finite.get (state_of h).names n) start len (may is) (s.told.tells.catalogue n) in
+    let can = can_grant x.0.value.width (sealed_at x.0.value n) (finite.get (state_of h).names n) start len (may is) ((told_history p q x _ 0 s).catalogue n) in
     let at_last = subst (λ (g : History). IsReadReply x.0.value.width (finite.get (state_of g).names n) start len (noted.Granted can.0)) same can.1 in
     (can.0, subst (λ (v : ℕ). IsReadReply v (finite.get (state_of (seen_of q.list)).names n) start len (noted.Granted can.0)) (s.told.width ∙ width) at_last)
 wanted_for (Err e) p q x who w (Put alloc n sealed) s width may is = tt

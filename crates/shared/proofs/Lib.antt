@@ -7,4 +7,5 @@ pub mod Grants
 pub mod Mends
 pub mod Looks
 pub mod Runs
+pub mod Serving
 pub mod Trims

@@ -1,8 +1,9 @@
 -- Looks before a repair, and repairs with bytes that were rebuilt outside.
-use Rattle.std.proofs.Common.{◌≡◌, ℕ, ◌<◌, List, [], ◌∷◌, ◌++◌, length, Option, Some, None, Result, Ok, Err, refl, ap, sym, subst, ◌∙◌, ⊎_elim, append_assoc}
+use Rattle.std.proofs.Common.{◌≡◌, ◌≢◌, ◌⊎◌, ℕ, ◌<◌, List, [], ◌∷◌, ◌++◌, length, Option, Some, None, Result, Ok, Err, refl, ap, sym, subst, ◌∙◌, ⊎_elim, append_assoc}
 use Rattle.std.proofs.lemmas.List.{append-nil}
 use Rattle.std.specs.FinMap as finite
 use Rattle.gate.specs.Places.{SeatState}
+use Rattle.gate.specs.Events.{number_if}
 use Rattle.gate.proofs.Lists.{prefix_trans}
 use Rattle.lrc_code.specs.Code.{fragment_count}
 use Rattle.sealed.specs.declared.value.Sealed.{Sealed}
@@ -17,16 +18,18 @@ use Rattle.book.specs.declared.answer.Answer.{Answer}
 use Rattle.book.specs.Contents.{Contents, sealed_at}
 use Rattle.book.specs.Known.{IsFragmentIn}
 use Rattle.book.specs.Losing.{IsFragmentOf}
+use Rattle.book.specs.Serial.{Deed, Act, events_in, standing_of}
 use Rattle.book.specs.Tells.{Represents, Correspond}
 use Rattle.book.proofs.Versions.{was_put}
 use Rattle.shared.specs.declared.kept.Kept.{Kept}
 use Rattle.shared.specs.declared.mending.Look.{Look}
 use Rattle.shared.specs.declared.mending.Look.TheVariants.{Done, Refused, Mendable}
-use Rattle.shared.specs.Passes.{Shows, Calls, seen_of, width_of, trimmed_of, shows}
+use Rattle.shared.specs.Passes.{Which, Shows, Calls, seen_of, width_of, trimmed_of, shows}
+use Rattle.shared.specs.Deeds.{deed_of, act_if, DoesIf, Takes}
 use Rattle.shared.specs.Calls.{event, Called, Looked}
 use Rattle.shared.specs.Mends.{IsMendable, IsKnown, FoundIn, Found}
 use Rattle.shared.proofs.Between.{GoesOn}
-use Rattle.shared.proofs.Steps.{Stepped, looked, call_goes_on, same_goes_on, called}
+use Rattle.shared.proofs.Steps.{Stepped, told_history, looked, takes, IsFullIf, call_goes_on, same_goes_on, called}
 
 -- the event of a repair, where the look made it
 abbrev pub events_at_look : Look → ℕ → Operation → History
@@ -34,7 +37,7 @@ events_at_look (Done a) who o = event who o a ∷ []
 events_at_look look who o = []
 
 pub look_goes_on : (l : Look) (old new : Contents) (who : ℕ) (n : List ℕ) (j f : ℕ) → (new.width ≡ old.width) × (new.limit ≡ old.limit) × (new.base ≡ old.base)
-    → FoundIn old new who n j f l → GoesOn old new (events_at_look l who (repair n j f))
+    → FoundIn old new who n j f l → GoesOn old new (events_at_look l who (repair n j f)) 0
 look_goes_on (Done a) old new who n j f kept is = call_goes_on (Ok a) old new who (repair n j f) kept is tt
 look_goes_on (Refused e) old new who n j f kept is = same_goes_on old new is.0
 look_goes_on (Mendable s) old new who n j f kept is = same_goes_on old new is.0
@@ -44,27 +47,37 @@ known_by w None had s is both = absurd (cc (is))
 known_by w (Some t) None s is both = absurd both
 known_by w (Some t) (Some blob) s is both = (blob, refl, (let same : t ≡ s = cc in subst (λ (x : Sealed). Represents w x blob) same both))
 
-known : (p q : SeatState Kept) (x : Kept) (n : List ℕ) (s : Sealed) → Stepped p q x [] → sealed_at x.0.value n ≡ Some s → IsKnown (seen_of q.list) (width_of q.list) n s
+known : (p q : SeatState Kept) (x : Kept) (n : List ℕ) (s : Sealed) → Stepped p q x [] 0 → sealed_at x.0.value n ≡ Some s → IsKnown (seen_of q.list) (width_of q.list) n s
 known p q x n s step found =
-    let h : History = seen_of p.list ++ step.others in
+    let h : History = seen_of p.list ++ events_in step.others in
     let same : seen_of q.list ≡ h = step.seen ∙ append-nil h in
-    let is = known_by x.0.value.width (sealed_at x.0.value n) (finite.get (state_of h).names n) s found (step.told.tells.catalogue n) in
+    let is = known_by x.0.value.width (sealed_at x.0.value n) (finite.get (state_of h).names n) s found ((told_history p q x [] 0 step).catalogue n) in
     record {
       blob = is.0;
       represents = subst (λ (w : ℕ). Represents w s is.0) step.told.width is.2;
       put_is = was_put (width_of q.list) (seen_of q.list) step.legal n is.0 (ap (λ (g : History). finite.get (state_of g).names n) same ∙ is.1);
     }
 
+-- why a look was refused, as a book says it of its calls
+refused_full : (e : Fault) (book : Contents) → ((e ≡ NoMemory) × (length book.entries ≢ book.limit)) ⊎ ((e ≡ JournalFull) × (length book.entries ≡ book.limit)) → IsFullIf book (Err e)
+refused_full e book is =
+    ⊎_elim (λ (none : (e ≡ NoMemory) × (length book.entries ≢ book.limit)). ((λ there. absurd (other none.0 there)), (λ there. absurd (none.1 there))))
+    (λ (full : (e ≡ JournalFull) × (length book.entries ≡ book.limit)). ((λ there. full.1), (λ there. ap (λ (f : Fault). Err f) full.0))) is
+  where
+    other : e ≡ NoMemory → ◌≡◌ {A = Result Answer Fault} (Err e) (Err JournalFull) → ⊥
+    other none there = cc (none, there)
+
 -- what a look in the book makes of a pass
-pub look_found : (p q : SeatState Kept) (x y : Kept) (who : ℕ) (n : List ℕ) (j f : ℕ) (l : Look) → Stepped p q x (events_at_look l who (repair n j f)) → trimmed_of q.list ≡ x.0.value.base.trimmed → FoundIn x.0.value y.0.value who n j f l
+pub look_found : (p q : SeatState Kept) (x y : Kept) (who : ℕ) (n : List ℕ) (j f : ℕ) (l : Look) → Stepped p q x (events_at_look l who (repair n j f)) 0 → trimmed_of q.list ≡ x.0.value.base.trimmed → FoundIn x.0.value y.0.value who n j f l
     → Found (shows p who) n j f l (shows q who)
-look_found p q x y who n j f (Done a) step left is = called p q x who (repair n j f) (Ok a) step left (λ e. absurd (cc (e))) (λ e. cc (e))
+look_found p q x y who n j f (Done a) step left is =
+    called p q x who (repair n j f) (Ok a) step left ((λ e. absurd (cc (e))), (λ there. absurd (is.1 there))) (λ e. absurd (cc (e))) (λ e. cc (e))
 look_found p q x y who n j f (Refused e) step left is =
-    called p q x who (repair n j f) (Err e) step left
-    (λ full. ⊎_elim (λ (none : e ≡ NoMemory). absurd (cc (none, full))) (λ (there : (e ≡ JournalFull) × (length x.0.value.entries ≡ x.0.value.limit)). there.1) is.1)
-    (λ long. ⊎_elim (λ (none : e ≡ NoMemory). cc (none, long)) (λ (there : (e ≡ JournalFull) × (length x.0.value.entries ≡ x.0.value.limit)). cc (there.0, long)) is.1)
+    called p q x who (repair n j f) (Err e) step left (refused_full e x.0.value is.1) (λ full long. long)
+    (λ long. ⊎_elim (λ (none : (e ≡ NoMemory) × (length x.0.value.entries ≢ x.0.value.limit)). cc (none.0, long)) (λ (there : (e ≡ JournalFull) × (length x.0.value.entries ≡ x.0.value.limit)). cc (there.0, long)) is.1)
 look_found p q x y who n j f (Mendable s) step left is = record {
-  looked = looked p q x who step;
+  looked = looked p q x 0 who step;
+  takes = takes p q x [] 0 who None step refl tt;
   base = λ all. left ∙ (step.lone all).1;
   known = known p q x n s.value step is.1;
   mendable = is.2;
@@ -81,9 +94,23 @@ known_fragment h w n s j f bytes k m is = record {
   is = is k.blob.bytes k.blob.lost k.represents.stands ∙ (λ i. fragment (k.represents.code i) (k.represents.width i) k.blob.bytes j f);
 }
 
+-- a look, and then a deed
+pub takes_later : (u v w : Shows) (deed : Option Deed) → u.who ≡ v.who → u.room ≡ v.room → u.store ≡ v.store → Takes u None v → Takes v deed w → Takes u deed w
+takes_later u v w deed who room store first then =
+    let between : (u.acts ++ first.others) ++ [] ≡ u.acts ++ first.others = append-nil (u.acts ++ first.others) in
+    let all : v.acts ++ then.others ≡ u.acts ++ (first.others ++ then.others) = ap (λ l. l ++ then.others) (first.acts ∙ between) ∙ append_assoc u.acts first.others then.others in
+    record {
+      others = first.others ++ then.others;
+      does = subst (λ (u : Which × List Act). DoesIf u.0.width u.0.limit (standing_of u.1) deed) (λ i. (sym store i, all i)) then.does;
+      acts = then.acts ∙ (λ i. all i ++ act_if (sym who i) deed);
+      did = then.did ∙ (λ i. (first.did ∙ append-nil u.did) i ++ number_if (length (all i)) (act_if (sym who i) deed));
+      agrees = then.agrees;
+      lone = λ alone. (λ i. first.lone alone i ++ then.lone (sym room ∙ alone) i);
+    }
+
 -- a look, and then a call
-pub looks_then_called : (u v w : Shows) (o : Operation) (r : Result Answer Fault) → Looked u v → (u.room ≡ 64 → v.trimmed ≡ u.trimmed) → Called v o r w → Called u o r w
-looks_then_called u v w o (Ok a) l base c =
+pub looks_then_called : (u v w : Shows) (o : Operation) (r : Result Answer Fault) → Looked u v → Takes u None v → (u.room ≡ 64 → v.trimmed ≡ u.trimmed) → Called v o r w → Called u o r w
+looks_then_called u v w o (Ok a) l t base c =
     let k = c.ok in
     let first = l.looks.0 in
     let all : u.seen ++ (first.0 ++ k.0) ≡ v.seen ++ k.0 = sym (append_assoc u.seen first.0 k.0) ∙ ap (λ h. h ++ k.0) first.1 in
@@ -94,16 +121,18 @@ looks_then_called u v w o (Ok a) l base c =
       err = tt;
       full = c.full;
       too_long = c.too_long;
+      takes = takes_later u v w (deed_of o (Ok a)) (sym l.stays.1) (sym l.stays.2) (sym l.stays.0) t c.takes;
       lone = λ all.
           let k = c.lone (l.stays.2 ∙ all) in
           (subst (λ (who : ℕ). w.seen ≡ u.seen ++ event who o a ∷ []) l.stays.1 (k.0 ∙ ap (λ h. h ++ event v.who o a ∷ []) (l.lone all)), k.1 ∙ base all);
     }
-looks_then_called u v w o (Err e) l base c = record {
+looks_then_called u v w o (Err e) l t base c = record {
   stays = (c.stays.0 ∙ l.stays.0, c.stays.1 ∙ l.stays.1, c.stays.2 ∙ l.stays.2);
   legal = c.legal;
   ok = tt;
   err = (prefix_trans u.seen v.seen w.seen l.looks.0 c.err.0, c.err.1 ∙ l.looks.1);
   full = c.full;
   too_long = c.too_long;
+  takes = takes_later u v w (deed_of o (Err e)) (sym l.stays.1) (sym l.stays.2) (sym l.stays.0) t c.takes;
   lone = λ all. let k = c.lone (l.stays.2 ∙ all) in (k.0 ∙ ap (λ h. h ++ []) (l.lone all), k.1 ∙ base all);
 }

@@ -1,13 +1,24 @@
 -- What a pass knows.
-use Rattle.std.proofs.Common.{◌≡◌, ◌⊎◌, ℕ, ◌+◌, ◌≤◌, ◌<◌, false, List, [], ◌∷◌, ◌++◌, length, Some, refl, ap, sym, subst, ◌∙◌, ⊎_elim, arith}
+use Rattle.std.proofs.Common.{◌≡◌, ◌⊎◌, ℕ, ◌+◌, ◌-◌, ◌≤◌, ◌<◌, false, List, [], ◌∷◌, ◌++◌, length, Some, refl, ap, sym, subst, ◌∙◌, ⊎_elim, arith}
 use mathlib.Core.List.{IsPrefix}
 use Rattle.gate.specs.Places.{SeatState, last_of, IsWithin, times, AreApart, HasAll}
+use Rattle.gate.specs.Events.{history_of, events_at}
 use Rattle.gate.proofs.Events.{history_prefix, events_at_prefix, events_at-append, once_each, all_made, all_below, once_below_length, within_prefix}
 use Rattle.gate.proofs.Lists.{times-append}
 use Rattle.book.specs.Tells.{Tells}
 use Rattle.shared.specs.declared.kept.Kept.{Kept}
-use Rattle.shared.specs.Passes.{between_kept, seen_of, made_of, width_of, limit_of, trimmed_of, TellsAs, IsTold, IsPass}
-use Rattle.shared.proofs.Between.{one_call, told_length}
+use Rattle.history.specs.History.{History, IsLegal}
+use Rattle.book.specs.Serial.{events_in}
+use Rattle.shared.specs.Passes.{between_kept, acts_between_kept, acts_of, did_of, seen_of, made_of, width_of, limit_of, trimmed_of, shows, TellsAs, IsTold, IsPass, Agrees, IsWhole}
+use Rattle.shared.proofs.Between.{one_call, one_act, told_length, events-append, events_for}
+
+-- the calls among the acts are those that lie between the books
+pub seen_is : (list : List Kept) → seen_of list ≡ history_of between_kept list
+seen_is [] = refl
+seen_is (x ∷ []) = refl
+seen_is (x ∷ y ∷ ys) =
+    events-append (acts_between_kept x y) (acts_of (y ∷ ys))
+    ∙ (λ i. events_for (between_kept x y) (y.0.value.base.trimmed - x.0.value.base.trimmed) (one_call x.0.value y.0.value) i ++ seen_is (y ∷ ys) i)
 
 -- a longer list begins with the same book
 pub width_stays : (xs ys : List Kept) (x : Kept) → last_of xs ≡ Some x → IsPrefix xs ys → width_of ys ≡ width_of xs
@@ -23,10 +34,18 @@ trimmed_is [] x e = absurd (cc)
 trimmed_is (y ∷ []) x e = let same : y ≡ x = cc in ap (λ (k : Kept). k.0.value.base.trimmed) same
 trimmed_is (y ∷ z ∷ zs) x e = trimmed_is (z ∷ zs) x e
 
+-- what a pass shows agrees
+pub agreed : (p : SeatState Kept) (who : ℕ) → IsPass p → Agrees (shows p who)
+agreed p who pass = record { seen_is = refl; trimmed_is = trimmed_is p.list pass.told.0 pass.told.1 ∙ pass.told.2.told.given }
+
+pub legal_shown : (p : SeatState Kept) (who : ℕ) → IsPass p → IsLegal (shows p who).store.width (shows p who).seen
+legal_shown p who pass = let told = pass.told.2 in subst (λ (w : ℕ). IsLegal w (seen_of p.list)) told.width told.told.tells.legal
+
 pub opened : (p : SeatState Kept) (x : Kept) → p.list ≡ x ∷ [] → p.own ≡ [] → p.inside ≡ false → Tells x.0.value [] → IsPass p
-opened p x list own outside tells = record {
+opened p x list own outside tells =
+    let all : x.0.value.base.trimmed + length x.0.value.entries ≡ 0 = told_length x.0.value [] tells in record {
   outside = outside;
-  told = subst IsTold (sym list) (x, refl, record { width = refl; limit = refl; tells = tells });
+  told = subst IsTold (sym list) (x, refl, record { width = refl; limit = refl; told = record { tells = tells; given = omega arith; room = omega arith } });
   within = λ q past. ap (times q) own;
 }
 
@@ -47,11 +66,17 @@ module _ (a b q : SeatState Kept) (pass : IsPass a) (other : IsPass b) (first : 
         omega arith;
   }
 
+  joined_places : {E : Type 0} (between : Kept → Kept → List E) → events_at between q.list q.own ≡ events_at between a.list a.own ++ events_at between b.list b.own
+  joined_places between =
+      ap (events_at between q.list) own
+      ∙ (events_at-append between q.list a.own b.own
+      ∙ (λ i. events_at_prefix between a.list q.list a.own first pass.within i ++ events_at_prefix between b.list q.list b.own second other.within i))
+
   pub joined_made : made_of q.list q.own ≡ made_of a.list a.own ++ made_of b.list b.own
-  joined_made =
-      ap (made_of q.list) own
-      ∙ (events_at-append between_kept q.list a.own b.own
-      ∙ (λ i. events_at_prefix between_kept a.list q.list a.own first pass.within i ++ events_at_prefix between_kept b.list q.list b.own second other.within i))
+  joined_made = joined_places between_kept
+
+  pub joined_did : did_of q.list q.own ≡ did_of a.list a.own ++ did_of b.list b.own
+  joined_did = joined_places acts_between_kept
 
   pub joined_apart : AreApart a.own b.own → AreApart (made_of a.list a.own) (made_of b.list b.own)
   joined_apart apart k =
@@ -60,25 +85,42 @@ module _ (a b q : SeatState Kept) (pass : IsPass a) (other : IsPass b) (first : 
       ap (times k) joined_made ∙ times-append k (made_of a.list a.own) (made_of b.list b.own) in
       omega arith
 
+pub joined_acts : (a q : SeatState Kept) → IsPass a → IsPrefix a.list q.list → IsPrefix (acts_of a.list) (acts_of q.list)
+joined_acts a q pass first = history_prefix acts_between_kept a.list q.list pass.told.0 pass.told.1 first
+
 pub joined_seen : (a q : SeatState Kept) → IsPass a → IsPrefix a.list q.list → IsPrefix (seen_of a.list) (seen_of q.list)
-joined_seen a q pass first = history_prefix between_kept a.list q.list pass.told.0 pass.told.1 first
+joined_seen a q pass first =
+    let more = joined_acts a q pass first in
+    (events_in more.0, sym (events-append (acts_of a.list) more.0) ∙ ap events_in more.1)
 
 one_kept : (a b : Kept) → length (between_kept a b) ≤ 1
 one_kept a b = one_call a.0.value b.0.value
 
 -- who left all values made all calls
 pub closed : (p : SeatState Kept) → HasAll p.list p.own → (k : ℕ) → k < length (seen_of p.list) → times k (made_of p.list p.own) ≡ 1
-closed p has k inside = all_made between_kept one_kept p.list p.own has.0 k inside
+closed p has k inside = all_made between_kept one_kept p.list p.own has.0 k (subst (λ (h : History). k < length h) (seen_is p.list) inside)
 
 pub closed_count : (p : SeatState Kept) → HasAll p.list p.own → length (made_of p.list p.own) ≡ length (seen_of p.list)
-closed_count p has = once_below_length (length (seen_of p.list)) (made_of p.list p.own) (closed p has) (all_below between_kept p.list p.own)
+closed_count p has =
+    once_below_length (length (seen_of p.list)) (made_of p.list p.own) (closed p has)
+    (λ k past. all_below between_kept p.list p.own k (subst (λ (h : History). length h ≤ k) (seen_is p.list) past))
+
+-- and did all acts
+pub closed_acts : (p : SeatState Kept) → HasAll p.list p.own → (k : ℕ) → k < length (acts_of p.list) → times k (did_of p.list p.own) ≡ 1
+closed_acts p has k inside = all_made acts_between_kept (λ a b. one_act a.0.value b.0.value) p.list p.own has.0 k inside
+
+pub closed_acts_count : (p : SeatState Kept) → HasAll p.list p.own → length (did_of p.list p.own) ≡ length (acts_of p.list)
+closed_acts_count p has = once_below_length (length (acts_of p.list)) (did_of p.list p.own) (closed_acts p has) (all_below acts_between_kept p.list p.own)
+
+pub whole : (p : SeatState Kept) (who : ℕ) → HasAll p.list p.own → IsWhole (shows p who)
+whole p who has = record { calls = closed p has; all = closed_acts p has }
 
 -- the book that was left last tells what was seen
-pub closed_told : (p : SeatState Kept) (x : Kept) → IsPass p → last_of p.list ≡ Some x → TellsAs (width_of p.list) (limit_of p.list) x (seen_of p.list)
-closed_told p x pass e = let same : pass.told.0 ≡ x = by_some (sym pass.told.1 ∙ e) in subst (λ (k : Kept). TellsAs (width_of p.list) (limit_of p.list) k (seen_of p.list)) same pass.told.2
+pub closed_told : (p : SeatState Kept) (x : Kept) → IsPass p → last_of p.list ≡ Some x → TellsAs (width_of p.list) (limit_of p.list) x (acts_of p.list)
+closed_told p x pass e = let same : pass.told.0 ≡ x = by_some (sym pass.told.1 ∙ e) in subst (λ (k : Kept). TellsAs (width_of p.list) (limit_of p.list) k (acts_of p.list)) same pass.told.2
   where
     by_some : {a b : Kept} → Some a ≡ Some b → a ≡ b
     by_some f = cc (f)
 
 pub closed_entries : (p : SeatState Kept) (x : Kept) → IsPass p → last_of p.list ≡ Some x → HasAll p.list p.own → x.0.value.base.trimmed + length x.0.value.entries ≡ length (made_of p.list p.own)
-closed_entries p x pass e has = told_length x.0.value (seen_of p.list) (closed_told p x pass e).tells ∙ sym (closed_count p has)
+closed_entries p x pass e has = told_length x.0.value (seen_of p.list) (closed_told p x pass e).told.tells ∙ sym (closed_count p has)

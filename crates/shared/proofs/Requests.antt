@@ -1,26 +1,32 @@
 -- What a request makes of the book in the gate.
-use Rattle.std.proofs.Common.{◌≡◌, ◌⊎◌, ℕ, List, ◌++◌, Result, Ok, Err, IfOk, IfErr, ap, sym, subst, ◌∙◌, ⊎_elim, append_assoc}
+use Rattle.std.proofs.Common.{◌≡◌, ◌⊎◌, ℕ, ◌<◌, ◌≤◌, List, ◌++◌, length, None, Result, Ok, Err, IfOk, IfErr, refl, ap, sym, subst, ◌∙◌, ⊎_elim, append_assoc, arith}
 use mathlib.Core.List.{IsPrefix}
 use Rattle.gate.specs.Places.{SeatState}
 use Rattle.sealed.specs.declared.fault.Fault.{Fault}
-use Rattle.sealed.specs.declared.fault.Fault.TheVariants.{NoMemory, JournalFull, TooLong}
+use Rattle.sealed.specs.declared.fault.Fault.TheVariants.{NoMemory, JournalFull, TooLong, Busy}
 use Rattle.sealed.specs.declared.value.Sealed.{Sealed}
 use Rattle.sealed.specs.Blob.{nothing}
+use Rattle.sealed.specs.Layout.{stripe_count}
 use Rattle.sealed.specs.Sealed.{StandsFor}
-use Rattle.history.specs.Step.{put}
-use Rattle.history.specs.History.{History}
+use Rattle.history.specs.Step.{Operation, put}
+use Rattle.history.specs.History.{History, IsLegal}
 use Rattle.book.specs.declared.answer.Answer.{Answer}
 use Rattle.book.specs.Contents.{Contents}
 use Rattle.book.specs.Known.{IsFragmentIn}
+use Rattle.book.specs.Serial.{IsTooLong}
 use Rattle.book.specs.Tells.{CarriesOn}
 use Rattle.shared.specs.declared.kept.Kept.{Kept}
 use Rattle.shared.specs.declared.request.Request.{Request}
 use Rattle.shared.specs.declared.request.Request.TheVariants.{Put, Read, Lose, Install, Delete, Stat}
 use Rattle.shared.specs.Bytes.{bytes_of}
-use Rattle.shared.specs.Passes.{seen_of, width_of, shows}
-use Rattle.shared.specs.Requests.{CanMake, CanAsk, IsFaultOf}
+use Rattle.lrc_code.specs.declared.Code.{Code}
+use Rattle.shared.specs.Deeds.{Takes}
+use Rattle.shared.specs.Calls.{Called}
+use Rattle.shared.specs.Passes.{Shows, IsPass, Agrees, seen_of, width_of, shows}
+use Rattle.shared.specs.Requests.{operation_of, CanMake, CanAsk, IsFaultOf}
 use Rattle.shared.proofs.Bytes.{bytes_are}
-use Rattle.shared.proofs.Steps.{Found}
+use Rattle.shared.proofs.Passes.{agreed, legal_shown}
+use Rattle.shared.proofs.Steps.{Enters, Found, found, found_before, takes_nothing, refused}
 
 -- a put carries on the bytes that are read out of its sealed value
 pub put_carries : (r : Result Answer Fault) (old new : Contents) (who : ℕ) (n : List ℕ) (s : Sealed) → (b : List ℕ) × StandsFor s b nothing
@@ -57,15 +63,52 @@ put_later h h' w n v j f x more is = record {
   is = is.is;
 }
 
+-- no request that can be made is too long
+pub request_fits : (book : Contents) (request : Request) → CanMake book request → ¬ IsTooLong book.width (operation_of request)
+request_fits book (Put alloc n s) can over =
+    let few : length s.stripes ≤ 4096 = s.shaped.few in
+    let count : length s.stripes ≡ stripe_count s.code s.width s.len = s.shaped.count in
+    let long : length (bytes_of s) ≡ s.len = ap length (bytes_are s can.1.0 can.1.1) ∙ sym can.1.1.length_is in
+    let same : stripe_count s.code book.width (length (bytes_of s)) ≡ stripe_count s.code s.width s.len = λ i. stripe_count s.code (sym can.0 i) (long i) in
+    absurd (omega arith)
+request_fits book (Read n start len) can over = over
+request_fits book (Lose alloc n j g) can over = over
+request_fits book (Install alloc n version j g bytes) can over = over
+request_fits book (Delete n) can over = over
+request_fits book (Stat n) can over = over
+
 -- what a pass may ask can be made on the book that it finds
-pub can_make : (p m : SeatState Kept) (x : Kept) (who : ℕ) (request : Request) → Found p m x → CanAsk (shows p who) request → CanMake x.0.value request
+can_make : (p m : SeatState Kept) (x : Kept) (who : ℕ) (request : Request) → Found p m x → CanAsk (shows p who) request → CanMake x.0.value request
 can_make p m x who (Put alloc n s) f can = (can.0 ∙ sym f.told.width, can.1)
 can_make p m x who (Install alloc n version j g bytes) f can = (
   seen_of m.list,
-  f.told.tells,
-  subst (λ (w : ℕ). IsFragmentIn (seen_of m.list) w n version j g bytes) (sym f.told.width) (put_later (seen_of p.list) (seen_of m.list) (width_of p.list) n version j g bytes f.before can),
+  f.told.told.tells,
+  subst (λ (w : ℕ). IsFragmentIn (seen_of m.list) w n version j g bytes) (sym f.told.width) (put_later (seen_of p.list) (seen_of m.list) (width_of p.list) n version j g bytes (found_before p m x f) can),
 )
 can_make p m x who (Read n start len) f can = tt
 can_make p m x who (Lose alloc n j g) f can = tt
 can_make p m x who (Delete n) f can = tt
 can_make p m x who (Stat n) f can = tt
+
+-- and on the book that it enters to
+pub can_make_inside : (p m : SeatState Kept) (x : Kept) (who : ℕ) (request : Request) (v : Shows) → shows p who ≡ v → IsPass p → Enters p m x → CanAsk v request → CanMake x.0.value request
+can_make_inside p m x who request v same pass enters can = can_make p m x who request (found p m x pass enters) (subst (λ (u : Shows). CanAsk u request) (sym same) can)
+
+-- a blob that was refused before the gate was entered
+pub refused_put : (v : Shows) (n : List ℕ) (code : Code) (b : List ℕ) (w : ℕ) (f : Fault) → IsLegal v.store.width v.seen → Agrees v → w ≡ v.store.width → (f ≡ NoMemory) ⊎ (f ≡ TooLong)
+    → (f ≡ TooLong → 4096 < stripe_count code w (length b)) → Called v (put n code b) (Err f) v
+refused_put v n code b w f legal agrees width is long =
+    refused v (put n code b) f legal agrees (λ full. ⊎_elim (λ (m : f ≡ NoMemory). cc (m, full)) (λ (t : f ≡ TooLong). cc (t, full)) is)
+    (λ there. subst (λ (u : ℕ). 4096 < stripe_count code u (length b)) width (long there))
+
+-- a pass that found somebody inside
+pub was_busy : (p q : SeatState Kept) (who : ℕ) (v : Shows) (o : Operation) → IsPass p → q ≡ p → shows p who ≡ v → Called v o (Err Busy) (shows q who)
+was_busy p q who v o pass same is =
+    let now : shows q who ≡ v = ap (λ (s : SeatState Kept). shows s who) same ∙ is in
+    subst (Called v o (Err Busy)) (sym now)
+    (refused v o Busy (subst (λ (u : Shows). IsLegal u.store.width u.seen) is (legal_shown p who pass)) (subst Agrees is (agreed p who pass)) (λ e. cc (e)) (λ e. absurd (cc (e))))
+
+pub did_nothing : (p q : SeatState Kept) (who : ℕ) (v : Shows) → IsPass p → q ≡ p → shows p who ≡ v → Takes v None (shows q who)
+did_nothing p q who v pass same is =
+    let now : shows q who ≡ v = ap (λ (s : SeatState Kept). shows s who) same ∙ is in
+    subst (Takes v None) (sym now) (takes_nothing v None (subst Agrees is (agreed p who pass)) refl tt)

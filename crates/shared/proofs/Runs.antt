@@ -13,7 +13,8 @@ use Rattle.shared.specs.declared.jobs.Reply.TheVariants.{Made, Refused, Trimmed}
 use Rattle.shared.specs.declared.run.Outcome.{Outcome}
 use Rattle.shared.specs.declared.run.Outcome.TheVariants as outcome
 use Rattle.shared.specs.Passes.{Which, Shows, Stays, Looks}
-use Rattle.shared.specs.Calls.{IsTooLong, event, Called}
+use Rattle.book.specs.Serial.{IsTooLong}
+use Rattle.shared.specs.Calls.{event, Called}
 use Rattle.shared.specs.Runs.{IfReadGranted, ComesOf, reply_of, IsRefusal, IsReplyTo, AreReplies, call_of, calls_of, IsAt, AreAt, Runs}
 
 -- ---- what stands in a history stands in a longer one

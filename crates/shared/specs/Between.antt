@@ -1,5 +1,5 @@
 -- What was done between two books that were left one after the other.
-use Rattle.std.specs.Prelude.{◌≡◌, ℕ, ◌+◌, ◌-◌, List, [], ◌∷◌, ◌++◌, length, drop, Option, None, Some}
+use Rattle.std.specs.Prelude.{◌≡◌, ℕ, ◌+◌, ◌-◌, ◌≤◌, List, [], ◌∷◌, ◌++◌, length, drop, Option, None, Some}
 use Rattle.sealed.specs.declared.value.Sealed.{Sealed}
 use Rattle.history.specs.declared.note.Call.{Call}
 use Rattle.history.specs.declared.note.Call.TheVariants.{Put, Read, Lose, Repair, Delete, Stat}
@@ -7,6 +7,7 @@ use Rattle.history.specs.declared.note.Entry.{Entry}
 use Rattle.history.specs.Step.{Operation, put, read, lose, repair, delete, stat}
 use Rattle.history.specs.History.{History}
 use Rattle.book.specs.Contents.{Contents, sealed_at}
+use Rattle.book.specs.Serial.{Act, call, trim_acts, events_in, given_in}
 use Rattle.book.specs.Tells.{Tells}
 use Rattle.shared.specs.Bytes.{bytes_of}
 
@@ -32,8 +33,23 @@ first_in book (e ∷ es) = record { who = e.who; operation = operation_in book e
 abbrev pub between : Contents → Contents → History
 between a b = first_in b (drop (a.base.trimmed + length a.entries - b.base.trimmed) b.entries)
 
--- each history that the first book tells is told by the second, with the call that was made between them
+-- a call, or else a trim that gave up n entries, as acts
+abbrev pub acts_for : History → ℕ → List Act
+acts_for [] n = trim_acts n
+acts_for (e ∷ es) n = call e ∷ []
+
+-- what was done between two books: the call, or else the trim that gave up what the second one keeps no more
+abbrev pub acts_between : Contents → Contents → List Act
+acts_between a b = acts_for (between a b) (b.base.trimmed - a.base.trimmed)
+
+-- the book tells the calls of these acts, has given up as many as they give up, and holds no more entries than its limit
+pub record TellsActs (book : Contents) (acts : List Act) : Type 0 where
+  pub tells : Tells book (events_in acts)
+  pub given : book.base.trimmed ≡ given_in acts
+  pub room : length book.entries ≤ book.limit
+
+-- all that the first book tells is told by the second, with what was done between them
 pub record MayFollow (a b : Contents) : Type 0 where
   pub width : b.width ≡ a.width
   pub limit : b.limit ≡ a.limit
-  pub told : (h : History) → Tells a h → Tells b (h ++ between a b)
+  pub told : (acts : List Act) → TellsActs a acts → TellsActs b (acts ++ acts_between a b)

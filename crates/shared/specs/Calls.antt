@@ -1,10 +1,9 @@
 -- What a call leaves of a pass.
-use Rattle.std.specs.Prelude.{◌≡◌, ℕ, ◌+◌, ◌-◌, ◌<◌, List, [], ◌∷◌, ◌++◌, length, Some, Result, Ok, Err, IfOk, OnErr}
+use Rattle.std.specs.Prelude.{◌≡◌, ℕ, ◌+◌, ◌-◌, List, [], ◌∷◌, ◌++◌, length, Some, Result, Ok, Err, IfOk, OnErr}
 use Rattle.std.specs.FinMap as finite
 use Rattle.lrc_code.specs.declared.Code.{Code}
 use Rattle.sealed.specs.declared.fault.Fault.{Fault}
 use Rattle.sealed.specs.declared.fault.Fault.TheVariants.{JournalFull, TooLong}
-use Rattle.sealed.specs.Layout.{stripe_count}
 use Rattle.lent.specs.declared.grant.Grant.{Grant}
 use Rattle.history.specs.State.{Blob}
 use Rattle.history.specs.declared.note.Note.TheVariants as noted
@@ -13,8 +12,10 @@ use Rattle.history.specs.History.{Event, History, IsLegal, HasPut, state_of}
 use Rattle.book.specs.declared.answer.Answer.{Answer}
 use Rattle.book.specs.declared.answer.Answer.TheVariants.{Granted}
 use Rattle.book.specs.Notes.{note_of}
+use Rattle.book.specs.Serial.{IsTooLong}
 use Rattle.book.specs.Tells.{Represents}
 use Rattle.book.specs.Trimming.{given_up}
+use Rattle.shared.specs.Deeds.{deed_of, Takes}
 use Rattle.shared.specs.Passes.{Shows, Stays, Calls, Looks}
 
 abbrev pub event : ℕ → Operation → Answer → Event
@@ -36,11 +37,6 @@ abbrev pub made_by : ℕ → Operation → Result Answer Fault → History
 made_by who operation (Ok answer) = event who operation answer ∷ []
 made_by who operation (Err fault) = []
 
--- a put of more than 4,096 stripes
-abbrev pub IsTooLong : ℕ → Operation → Type 0
-IsTooLong w (put n code b) = 4096 < stripe_count code w (length b)
-IsTooLong w operation = ⊥
-
 -- how many calls were given up by then, where no other pass is out
 abbrev pub GivesUpAlone : Shows → Result ℕ Fault → Shows → Type 0
 GivesUpAlone v (Ok n) w = w.trimmed ≡ v.trimmed + n
@@ -55,6 +51,7 @@ pub record Called (v : Shows) (operation : Operation) (r : Result Answer Fault) 
   pub err : OnErr r (Looks v w)
   pub full : r ≡ Err JournalFull → length w.seen ≡ w.trimmed + w.store.limit
   pub too_long : r ≡ Err TooLong → IsTooLong w.store.width operation
+  pub takes : Takes v (deed_of operation r) w
   pub lone : v.room ≡ 64 → (w.seen ≡ v.seen ++ made_by v.who operation r) × (w.trimmed ≡ v.trimmed)
 
 -- The grant has the range that was asked for. After the history the name has a blob, which the grant's value represents. The blob was put in the history under its

@@ -1,7 +1,9 @@
 pub mod Bytes
 pub mod Between
 pub mod Passes
+pub mod Deeds
 pub mod Calls
 pub mod Requests
 pub mod Mends
 pub mod Runs
+pub mod Serving

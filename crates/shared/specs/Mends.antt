@@ -1,5 +1,5 @@
 -- What a look before a repair finds.
-use Rattle.std.specs.Prelude.{◌≡◌, ◌⊎◌, ℕ, ◌<◌, true, List, length, Some, Ok, Err}
+use Rattle.std.specs.Prelude.{◌≡◌, ◌≢◌, ◌⊎◌, ℕ, ◌<◌, true, List, length, None, Some, Ok, Err}
 use Rattle.lrc_code.specs.Code.{fragment_count, Open}
 use Rattle.sealed.specs.declared.value.Sealed.{Sealed}
 use Rattle.sealed.specs.declared.fault.Fault.{Fault}
@@ -14,6 +14,7 @@ use Rattle.book.specs.Tells.{CarriesOn, Represents}
 use Rattle.shared.specs.declared.mending.Look.{Look}
 use Rattle.shared.specs.declared.mending.Look.TheVariants.{Done, Refused, Mendable}
 use Rattle.shared.specs.Passes.{Shows}
+use Rattle.shared.specs.Deeds.{Takes}
 use Rattle.shared.specs.Calls.{Called, Looked}
 
 -- the value lacks the fragment, which can be told from those left
@@ -31,13 +32,14 @@ pub record IsKnown (h : History) (w : ℕ) (n : List ℕ) (s : Sealed) : Type 0 
 
 -- what is found in the book: the repair was made, or was refused, or nothing was changed and the fragment can be rebuilt outside
 abbrev pub FoundIn : Contents → Contents → ℕ → List ℕ → ℕ → ℕ → Look → Type 0
-FoundIn old new who n j f (Done a) = CarriesOn old new who (repair n j f) a
-FoundIn old new who n j f (Refused e) = (new ≡ old) × ((e ≡ NoMemory) ⊎ ((e ≡ JournalFull) × (length old.entries ≡ old.limit)))
+FoundIn old new who n j f (Done a) = CarriesOn old new who (repair n j f) a × (length old.entries ≢ old.limit)
+FoundIn old new who n j f (Refused e) = (new ≡ old) × (((e ≡ NoMemory) × (length old.entries ≢ old.limit)) ⊎ ((e ≡ JournalFull) × (length old.entries ≡ old.limit)))
 FoundIn old new who n j f (Mendable s) = (new ≡ old) × (sealed_at old n ≡ Some s.value) × IsMendable s.value j f
 
 -- a pass found that the fragment can be rebuilt from this value
 pub record CanMend (v : Shows) (n : List ℕ) (j f : ℕ) (s : Sealed) (w : Shows) : Type 0 where
   pub looked : Looked v w
+  pub takes : Takes v None w
   pub base : v.room ≡ 64 → w.trimmed ≡ v.trimmed
   pub known : IsKnown w.seen w.store.width n s
   pub mendable : IsMendable s j f

@@ -1,12 +1,12 @@
--- What a pass shows: a history, and the places in it of the calls that it made.
-use Rattle.std.specs.Prelude.{◌≡◌, ℕ, false, List, [], ◌∷◌, ◌++◌, length, Some}
+-- What a pass shows: what was done, the history that it makes, and its own places in both.
+use Rattle.std.specs.Prelude.{◌≡◌, ℕ, ◌<◌, false, List, [], ◌∷◌, ◌++◌, length, Some}
 use mathlib.Core.List.{IsPrefix}
-use Rattle.gate.specs.Places.{TableId, SeatState, last_of, IsWithin}
+use Rattle.gate.specs.Places.{TableId, SeatState, last_of, IsWithin, times}
 use Rattle.gate.specs.Events.{history_of, events_at}
 use Rattle.history.specs.History.{Event, History}
-use Rattle.book.specs.Tells.{Tells}
+use Rattle.book.specs.Serial.{Act, events_in, given_in}
 use Rattle.shared.specs.declared.kept.Kept.{Kept}
-use Rattle.shared.specs.Between.{between}
+use Rattle.shared.specs.Between.{between, acts_between, TellsActs}
 
 -- a store, with the width and the limit of its books
 pub record Which : Type 0 where
@@ -14,7 +14,8 @@ pub record Which : Type 0 where
   pub width : ℕ
   pub limit : ℕ
 
--- what a clause sees of a pass. Of the calls that it has seen, so many were given up when it was inside last
+-- What a clause sees of a pass. Of the calls that it has seen, so many were given up when it was inside last. `made` are the places in `seen` of the calls that it made,
+-- and `did` those in `acts` of the calls and the trims
 pub record Shows : Type 0 where
   pub store : Which
   pub who : ℕ
@@ -22,12 +23,23 @@ pub record Shows : Type 0 where
   pub seen : History
   pub trimmed : ℕ
   pub made : List ℕ
+  pub acts : List Act
+  pub did : List ℕ
 
 abbrev pub between_kept : Kept → Kept → History
 between_kept a b = between a.0.value b.0.value
 
+abbrev pub acts_between_kept : Kept → Kept → List Act
+acts_between_kept a b = acts_between a.0.value b.0.value
+
+abbrev pub acts_of : List Kept → List Act
+acts_of list = history_of acts_between_kept list
+
+abbrev pub did_of : List Kept → List ℕ → List ℕ
+did_of list own = events_at acts_between_kept list own
+
 abbrev pub seen_of : List Kept → History
-seen_of list = history_of between_kept list
+seen_of list = events_in (acts_of list)
 
 abbrev pub made_of : List Kept → List ℕ → List ℕ
 made_of list own = events_at between_kept list own
@@ -55,22 +67,34 @@ shows p who = record {
   seen = seen_of p.list;
   trimmed = trimmed_of p.list;
   made = made_of p.list p.own;
+  acts = acts_of p.list;
+  did = did_of p.list p.own;
 }
 
--- the book has this width and limit, and tells the history
-pub record TellsAs (w l : ℕ) (x : Kept) (h : History) : Type 0 where
+-- the book has this width and limit, and tells these acts
+pub record TellsAs (w l : ℕ) (x : Kept) (acts : List Act) : Type 0 where
   pub width : x.0.value.width ≡ w
   pub limit : x.0.value.limit ≡ l
-  pub tells : Tells x.0.value h
+  pub told : TellsActs x.0.value acts
 
 -- the last book tells what was done
 abbrev pub IsTold : List Kept → Type 0
-IsTold list = (x : Kept) × (last_of list ≡ Some x) × TellsAs (width_of list) (limit_of list) x (seen_of list)
+IsTold list = (x : Kept) × (last_of list ≡ Some x) × TellsAs (width_of list) (limit_of list) x (acts_of list)
 
 pub record IsPass (p : SeatState Kept) : Type 0 where
   pub outside : p.inside ≡ false
   pub told : IsTold p.list
   pub within : IsWithin p.list p.own
+
+-- the history and what was given up of it are those of the acts
+pub record Agrees (v : Shows) : Type 0 where
+  pub seen_is : v.seen ≡ events_in v.acts
+  pub trimmed_is : v.trimmed ≡ given_in v.acts
+
+-- each call and each trim that it has seen is its own
+pub record IsWhole (v : Shows) : Type 0 where
+  pub calls : (k : ℕ) → k < length v.seen → times k v.made ≡ 1
+  pub all : (k : ℕ) → k < length v.acts → times k v.did ≡ 1
 
 -- the same pass
 abbrev pub Stays : Shows → Shows → Type 0

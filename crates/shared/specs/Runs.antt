@@ -15,7 +15,8 @@ use Rattle.shared.specs.declared.jobs.Reply.TheVariants.{Made, Refused, Trimmed}
 use Rattle.shared.specs.declared.run.Outcome.{Outcome}
 use Rattle.shared.specs.declared.run.Outcome.TheVariants as outcome
 use Rattle.shared.specs.Passes.{Shows, Stays}
-use Rattle.shared.specs.Calls.{IsTooLong, event, Called, Looked, Trims, GrantedIn, IfGranted}
+use Rattle.book.specs.Serial.{IsTooLong}
+use Rattle.shared.specs.Calls.{event, Called, Looked, Trims, GrantedIn, IfGranted}
 
 -- the operation that is asked for. A trim is none
 abbrev pub operation_asked : Ask → Option Operation

@@ -3,6 +3,7 @@ ghost use Rattle.std.specs.Prelude.{◌≡◌, ◌⊎◌, ◌↔◌, ◌+◌, �
 ghost use mathlib.Core.List.{IsPrefix};
 ghost use Rattle.gate.specs.Places.{AreApart};
 ghost use Rattle.history.specs.History.{IsLegal};
+ghost use Rattle.shared.specs.Passes.{Agrees, IsWhole};
 
 use crate::{Kept, Store};
 use book::{Answer, Fault};
@@ -10,7 +11,7 @@ use gate::Seat;
 use std::marker::Model;
 
 /// A caller's pass to a store. A clause sees which store it is, the label of its calls, how many passes can be made of it, the legal history that it has
-/// seen, and the places in it of the calls that it made, with those of the passes that it joined. Who drops a pass drops its room, and then no other pass
+/// seen, and the places in it of the calls that it made, with those of the passes that it joined; and the same with the trims among the calls. Who drops a pass drops its room, and then no other pass
 /// comes to a room of 64 again.
 #[derive(Drop)]
 pub struct Pass {
@@ -37,10 +38,11 @@ impl Pass {
         self.seat.room()
     }
 
-    /// The label of its calls. Whatever the pass has seen is a legal history.
+    /// The label of its calls. Whatever the pass has seen is a legal history: that of the acts that it shows.
     pub fn who(&self) -> u32
         ensures value { result ≡ self.now.who }
         ensures legal { IsLegal self.now.store.width self.now.seen }
+        ensures agrees { Agrees self.now }
     {
         self.who
     }
@@ -51,7 +53,7 @@ impl Pass {
     pub fn split(&mut self, store: &Store, who: u32) -> Result<Pass, Fault>
         requires store { self.old.store ≡ store.now }
         ensures kept { OnOk result (self.new ≡ record self.old { room = self.old.room - 1 }) }
-        ensures given { IfOk result (λ p. p ≡ record { store = self.old.store; who = who; room = 1; seen = self.old.seen; trimmed = self.old.trimmed; made = [] }) }
+        ensures given { IfOk result (λ p. p ≡ record { store = self.old.store; who = who; room = 1; seen = self.old.seen; trimmed = self.old.trimmed; made = []; acts = self.old.acts; did = [] }) }
         ensures no_pass { (result ≡ Err Fault.NoPass) ↔ (self.old.room ≡ 1) }
         ensures faults { IfErr result (λ e. (e ≡ Fault.NoMemory) ⊎ (e ≡ Fault.NoPass)) }
         ensures err { OnErr result (self.new ≡ self.old) }
@@ -66,13 +68,16 @@ impl Pass {
     }
 
     /// Takes in another pass with its room and the calls that it made, which had none in common with those of this one. Of the two histories the one that begins
-    /// with both is shown. It asks for no memory.
+    /// with both is shown. With a room of 64 every call is its own. It asks for no memory.
     pub fn join(&mut self, store: &Store, other: Pass)
         requires store { (self.old.store ≡ store.now) × (other.store ≡ store.now) }
         ensures kept { (self.new.store ≡ self.old.store) × (self.new.who ≡ self.old.who) × (self.new.room ≡ self.old.room + other.room) }
         ensures one { ((self.new.seen ≡ self.old.seen) × (self.new.trimmed ≡ self.old.trimmed)) ⊎ ((self.new.seen ≡ other.seen) × (self.new.trimmed ≡ other.trimmed)) }
         ensures seen { IsPrefix self.old.seen self.new.seen × IsPrefix other.seen self.new.seen }
         ensures made { self.new.made ≡ self.old.made ++ other.made }
+        ensures acts { IsPrefix self.old.acts self.new.acts × IsPrefix other.acts self.new.acts }
+        ensures did { self.new.did ≡ self.old.did ++ other.did }
+        ensures whole { self.new.room ≡ 64 → IsWhole self.new }
         ensures apart { AreApart self.old.made other.made }
     {
         let Pass { seat, who: _ } = other;
@@ -83,6 +88,7 @@ impl Pass {
     pub(crate) fn refuse(&self, fault: Fault) -> Result<Answer, Fault>
         ensures refused { result ≡ Err fault }
         ensures legal { IsLegal self.now.store.width self.now.seen }
+        ensures agrees { Agrees self.now }
     {
         // Once a field is read, it is known what every pass keeps.
         let _seat = &self.seat;

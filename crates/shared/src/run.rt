@@ -1,6 +1,8 @@
 //! Running jobs in order.
 ghost use Rattle.std.specs.Prelude.{◌≡◌, length, IfOk, IfErr};
+ghost use Rattle.shared.specs.Deeds.{Takes};
 ghost use Rattle.shared.specs.Runs.{operation_asked, asked, ComesOf, GivesUp, reply_of, Runs, AreTrims};
+ghost use Rattle.shared.specs.Serving.{asks_of, outcome_deed, Serves};
 
 use crate::{Ask, Cause, Job, Pace, Pass, Reply, Stopped, Store};
 use book::{Answer, Fault};
@@ -31,6 +33,8 @@ impl Store {
         ensures all { IfOk result (λ replies. length replies.items ≡ length jobs.items) }
         ensures ok { IfOk result (λ replies. Runs pass.old (asked jobs.items) replies.items pass.new) }
         ensures err { IfErr result (λ stopped. Runs pass.old (asked jobs.items) stopped.done.items pass.new) }
+        ensures serves { IfOk result (λ replies. Serves pass.old (asks_of jobs.items) replies.items pass.new) }
+        ensures serves_by_then { IfErr result (λ stopped. Serves pass.old (asks_of jobs.items) stopped.done.items pass.new) }
         ensures trims { IfOk result (λ replies. AreTrims pass.new.seen jobs.items replies.items) }
         ensures trims_by_then { IfErr result (λ stopped. AreTrims pass.new.seen jobs.items stopped.done.items) }
     {
@@ -66,6 +70,7 @@ impl Store {
         requires { pass.old.store ≡ self.now }
         ensures comes { ComesOf pass.old (operation_asked ask) result pass.new }
         ensures trims { GivesUp ask result pass.new }
+        ensures takes { Takes pass.old (outcome_deed ask result) pass.new }
     {
         match ask {
             Ask::Put { name, code, bytes } => {

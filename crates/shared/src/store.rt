@@ -2,6 +2,7 @@
 ghost use Rattle.std.specs.Prelude.{◌≡◌, ◌⊎◌, ◌↔◌, ◌+◌, ◌≤◌, ◌<◌, ℕ, [], length, IfOk, IfErr};
 ghost use Rattle.gate.specs.Places.{times};
 ghost use Rattle.book.specs.Tells.{Tells};
+ghost use Rattle.shared.specs.Passes.{Agrees};
 
 use crate::{Kept, Pass};
 use book::{Book, Fault, Limit};
@@ -33,7 +34,7 @@ impl Store {
     /// `BadWidth` where the width is not in 1..=65,536; else `NoMemory` where memory is refused.
     pub fn open(alloc: Global, width: u32, limit: Limit) -> Result<(Store, Pass), Fault>
         ensures store { IfOk result (λ r. (r.0.width ≡ width) × (r.0.limit ≡ limit)) }
-        ensures pass { IfOk result (λ r. r.1 ≡ record { store = r.0; who = 0; room = 64; seen = []; trimmed = 0; made = [] }) }
+        ensures pass { IfOk result (λ r. r.1 ≡ record { store = r.0; who = 0; room = 64; seen = []; trimmed = 0; made = []; acts = []; did = [] }) }
         ensures bad_width { (result ≡ Err Fault.BadWidth) ↔ ((1 ≤ width) × (width ≤ 65536) → ⊥) }
         ensures faults { IfErr result (λ e. (e ≡ Fault.NoMemory) ⊎ (e ≡ Fault.BadWidth)) }
     {
@@ -53,7 +54,7 @@ impl Store {
         Ok((store, Pass { seat, who: 0 }))
     }
 
-    /// Gives the book, once all passes are joined. It tells the history that the pass has seen, and each call of it was made by this pass or by one that it joined.
+    /// Gives the book, once all passes are joined. It tells the history that the pass has seen, and each call of it, and each trim among them, was made by this pass or by one that it joined.
     /// It asks for no memory.
     pub fn close(self, pass: Pass) -> Book
         requires store { pass.store ≡ self }
@@ -62,6 +63,9 @@ impl Store {
         ensures made { (k : ℕ) → k < length pass.seen → times k pass.made ≡ 1 }
         ensures count { length pass.made ≡ length pass.seen }
         ensures trimmed { result.base.trimmed ≡ pass.trimmed }
+        ensures agrees { Agrees pass }
+        ensures did { (k : ℕ) → k < length pass.acts → times k pass.did ≡ 1 }
+        ensures did_count { length pass.did ≡ length pass.acts }
         ensures entries { result.base.trimmed + length result.entries ≡ length pass.made }
         ensures kept { (result.width ≡ self.width) × (result.limit ≡ self.limit) }
     {

@@ -1,6 +1,7 @@
 //! Giving up the beginning of the journal.
 ghost use Rattle.std.specs.Prelude.{◌≡◌, ◌≢◌, ◌⊎◌, IfOk, IfErr};
 ghost use Rattle.shared.specs.Calls.{Looked, Trims, GivesUpAlone};
+ghost use Rattle.shared.specs.Deeds.{Takes, trim_deed};
 
 use crate::{Pass, Store};
 use book::Fault;
@@ -22,6 +23,7 @@ impl Store {
         requires { pass.old.store ≡ self.now }
         ensures looked { Looked pass.old pass.new }
         ensures ok { IfOk result (λ n. Trims keep n pass.new) }
+        ensures takes { Takes pass.old (trim_deed keep result) pass.new }
         ensures alone { pass.old.room ≡ 64 → GivesUpAlone pass.old result pass.new }
         ensures faults { IfErr result (λ e. e ≡ Fault.NoMemory) }
     {
@@ -36,6 +38,7 @@ impl Store {
         requires { pass.old.store ≡ self.now }
         ensures looked { Looked pass.old pass.new }
         ensures ok { IfOk result (λ n. Trims keep n pass.new) }
+        ensures takes { Takes pass.old (trim_deed keep result) pass.new }
         ensures alone { pass.old.room ≡ 64 → GivesUpAlone pass.old result pass.new }
         ensures faults { IfErr result (λ e. (e ≡ Fault.Busy) ⊎ (e ≡ Fault.NoMemory)) }
         ensures lone { pass.old.room ≡ 64 → result ≢ Err Fault.Busy }

@@ -1,7 +1,8 @@
 use Rattle.std.proofs.Common.{◌≡◌, ℕ, ◌+◌, ◌<◌, length, sym, subst}
 use Rattle.gate.specs.Places.{times}
 use Rattle.book.specs.Contents.{Contents}
-use Rattle.shared.proofs.Passes.{closed, closed_count, closed_entries, trimmed_is}
+use Rattle.shared.specs.Passes.{Agrees}
+use Rattle.shared.proofs.Passes.{closed, closed_count, closed_acts, closed_acts_count, closed_entries, trimmed_is, agreed}
 use Rattle.shared.proofs.store.Store.close.Goals as goal
 
 pub returns-clause-made : goal.returns-clause-made
@@ -20,3 +21,12 @@ pub returns-clause-trimmed : goal.returns-clause-trimmed
 returns-clause-trimmed c =
     let Q : Contents → Type 0 = λ book. book.base.trimmed ≡ c.args.pass.trimmed in
     subst Q (sym c.into_inner.ensures) (subst (λ v. c.close-book.result.0.value.base.trimmed ≡ v.trimmed) c.pass.view_is (sym (trimmed_is c.pass.inside.seat.list c.close-book.result c.close-book.ensures.last)))
+
+pub returns-clause-did : goal.returns-clause-did
+returns-clause-did c = subst (λ v. (k : ℕ) → k < length v.acts → times k v.did ≡ 1) c.pass.view_is (closed_acts c.pass.inside.seat c.close-book.ensures.own)
+
+pub returns-clause-did_count : goal.returns-clause-did_count
+returns-clause-did_count c = subst (λ v. length v.did ≡ length v.acts) c.pass.view_is (closed_acts_count c.pass.inside.seat c.close-book.ensures.own)
+
+pub returns-clause-agrees : goal.returns-clause-agrees
+returns-clause-agrees c = subst Agrees c.pass.view_is (agreed c.pass.inside.seat c.pass.inside.who c.pass.invariant)

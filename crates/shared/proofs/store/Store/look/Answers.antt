@@ -13,15 +13,15 @@ pub leave-requires-clause-follows : goal.leave-requires-clause-follows
 leave-requires-clause-follows g c =
     let e = c.look_in-look.ensures in
     subst (λ o. IfSome o (λ found. MayFollow found.0.value c.look_in-look.new.kept.0.value)) (sym c.enter-inside.ensures.found)
-    (goes_follows c.enter-inside.result.value.0.value c.look_in-look.new.kept.0.value _
+    (goes_follows c.enter-inside.result.value.0.value c.look_in-look.new.kept.0.value _ 0
     (look_goes_on c.look_in-look.result c.enter-inside.result.value.0.value c.look_in-look.new.kept.0.value c.pass.inside.who c.args.name.now c.args.stripe c.args.fragment e.kept e.found))
 
-steps : (g : given.Over) (c : goal.After-leave g) → Stepped c.pass.inside.seat c.leave.new.seat c.enter-inside.result.value (events_at_look c.look_in-look.result c.pass.inside.who (repair c.args.name.now c.args.stripe c.args.fragment))
+steps : (g : given.Over) (c : goal.After-leave g) → Stepped c.pass.inside.seat c.leave.new.seat c.enter-inside.result.value (events_at_look c.look_in-look.result c.pass.inside.who (repair c.args.name.now c.args.stripe c.args.fragment)) 0
 steps g c =
     let e = c.enter-inside.ensures in
     let m = c.look_in-look.ensures in
     let l = c.leave.ensures in
-    stepped c.pass.inside.seat c.enter-inside.new.seat c.leave.new.seat c.enter-inside.result.value _ _ c.pass.invariant
+    stepped c.pass.inside.seat c.enter-inside.new.seat c.leave.new.seat c.enter-inside.result.value _ _ 0 c.pass.invariant
     (record { same = (e.kept.0, e.kept.1, e.kept.2); seen = e.seen; found = e.found; lone = e.lone })
     (record { same = l.kept; list = l.list; own = l.own })
     (look_goes_on c.look_in-look.result c.enter-inside.result.value.0.value c.look_in-look.new.kept.0.value c.pass.inside.who c.args.name.now c.args.stripe c.args.fragment m.kept m.found)

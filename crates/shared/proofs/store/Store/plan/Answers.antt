@@ -1,26 +1,34 @@
-use Rattle.std.proofs.Common.{◌≡◌, [], refl, subst, ◌∙◌}
+use Rattle.std.proofs.Common.{◌≡◌, [], None, IfSome, refl, sym, subst, ◌∙◌}
+use Rattle.shared.specs.Between.{MayFollow}
 use Rattle.shared.specs.Passes.{Shows, shows}
+use Rattle.shared.specs.Deeds.{Takes}
 use Rattle.shared.specs.Calls.{Looked}
-use Rattle.shared.proofs.Steps.{Stepped, left_base, stepped, same_goes_on, looked}
+use Rattle.shared.proofs.Between.{goes_follows}
+use Rattle.shared.proofs.Steps.{Stepped, left_base, stepped, same_goes_on, looked, takes}
 use Rattle.shared.proofs.Looks.{planned}
 use Rattle.shared.proofs.store.Store.plan.Given as given
 use Rattle.shared.proofs.store.Store.plan.Goals as goal
 
-steps : (g : given.Over) (c : goal.After-leave g) → Stepped c.pass.inside.seat c.leave.new.seat c.enter-inside.result.value []
+steps : (g : given.Over) (c : goal.After-leave g) → Stepped c.pass.inside.seat c.leave.new.seat c.enter-inside.result.value [] 0
 steps g c =
     let e = c.enter-inside.ensures in
     let l = c.leave.ensures in
-    stepped c.pass.inside.seat c.enter-inside.new.seat c.leave.new.seat c.enter-inside.result.value c.enter-inside.result.value [] c.pass.invariant
+    stepped c.pass.inside.seat c.enter-inside.new.seat c.leave.new.seat c.enter-inside.result.value c.enter-inside.result.value [] 0 c.pass.invariant
     (record { same = (e.kept.0, e.kept.1, e.kept.2); seen = e.seen; found = e.found; lone = e.lone })
     (record { same = l.kept; list = l.list; own = l.own })
     (same_goes_on c.enter-inside.result.value.0.value c.enter-inside.result.value.0.value refl)
+
+pub leave-requires-clause-follows : goal.leave-requires-clause-follows
+leave-requires-clause-follows g c =
+    let b = c.enter-inside.result.value.0.value in
+    subst (λ o. IfSome o (λ found. MayFollow found.0.value b)) (sym c.enter-inside.ensures.found) (goes_follows b b [] 0 (same_goes_on b b refl))
 
 pub invariant_of-pass : goal.invariant_of-pass
 invariant_of-pass g c = (steps g c).pass
 
 pub returns-clause-looked : goal.returns-clause-looked
 returns-clause-looked g c =
-    subst (λ v. Looked v (shows c.leave.new.seat c.pass.inside.who)) c.pass.view_is (looked c.pass.inside.seat c.leave.new.seat c.enter-inside.result.value c.pass.inside.who (steps g c))
+    subst (λ v. Looked v (shows c.leave.new.seat c.pass.inside.who)) c.pass.view_is (looked c.pass.inside.seat c.leave.new.seat c.enter-inside.result.value 0 c.pass.inside.who (steps g c))
 
 pub returns-clause-ok : goal.returns-clause-ok
 returns-clause-ok g c =
@@ -34,3 +42,8 @@ returns-clause-alone g c =
     (λ all.
     left_base c.enter-inside.new.seat c.leave.new.seat c.enter-inside.result.value c.enter-inside.result.value (record { same = l.kept; list = l.list; own = l.own }) refl
     ∙ ((steps g c).lone all).1)
+
+pub returns-clause-takes : goal.returns-clause-takes
+returns-clause-takes g c =
+    subst (λ v. Takes v None (shows c.leave.new.seat c.pass.inside.who)) c.pass.view_is
+    (takes c.pass.inside.seat c.leave.new.seat c.enter-inside.result.value [] 0 c.pass.inside.who None (steps g c) refl tt)

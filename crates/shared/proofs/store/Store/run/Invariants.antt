@@ -1,6 +1,7 @@
 use Rattle.std.proofs.Common.{◌≡◌, length, ◌≤◌, ◌++◌}
 use Rattle.std.specs.Vec.{vec_capacity}
 use Rattle.shared.specs.Runs.{asked, Runs, AreTrims}
+use Rattle.shared.specs.Serving.{asks_of, Serves}
 use Rattle.shared.proofs.store.Store.run.Given as goal
 
 abbrev pub invariant-loop-job : goal.invariant-loop-job
@@ -11,3 +12,4 @@ invariant-loop-job g l =
     × (length l.fn.jobs.items ≤ vec_capacity l.done)
     × Runs l.fn.pass (asked l.yielded) l.done.items l.pass
     × AreTrims l.pass.seen l.yielded l.done.items
+    × Serves l.fn.pass (asks_of l.yielded) l.done.items l.pass

@@ -4,6 +4,7 @@ use Rattle.shared.specs.Between.{MayFollow}
 use Rattle.shared.specs.Passes.{shows}
 use Rattle.shared.specs.Mends.{Found}
 use Rattle.shared.proofs.Between.{goes_follows}
+use Rattle.shared.proofs.Requests.{was_busy}
 use Rattle.shared.proofs.Steps.{Stepped, left_base, stepped}
 use Rattle.shared.proofs.Mends.{events_at_look, look_goes_on, look_found}
 use Rattle.shared.proofs.store.Store.try_look.Goals as goal
@@ -12,15 +13,15 @@ pub leave-requires-clause-follows : goal.leave-requires-clause-follows
 leave-requires-clause-follows c =
     let e = c.look_in-look.ensures in
     subst (λ o. IfSome o (λ found. MayFollow found.0.value c.look_in-look.new.kept.0.value)) (sym c.in-Some.ensures.found.1)
-    (goes_follows c.in-Some.inside.value.0.value c.look_in-look.new.kept.0.value _
+    (goes_follows c.in-Some.inside.value.0.value c.look_in-look.new.kept.0.value _ 0
     (look_goes_on c.look_in-look.result c.in-Some.inside.value.0.value c.look_in-look.new.kept.0.value c.pass.inside.who c.args.name.now c.args.stripe c.args.fragment e.kept e.found))
 
-steps : (c : goal.After-leave) → Stepped c.pass.inside.seat c.leave.new.seat c.in-Some.inside.value (events_at_look c.look_in-look.result c.pass.inside.who (repair c.args.name.now c.args.stripe c.args.fragment))
+steps : (c : goal.After-leave) → Stepped c.pass.inside.seat c.leave.new.seat c.in-Some.inside.value (events_at_look c.look_in-look.result c.pass.inside.who (repair c.args.name.now c.args.stripe c.args.fragment)) 0
 steps c =
     let e = c.try_enter.ensures in
     let m = c.look_in-look.ensures in
     let l = c.leave.ensures in
-    stepped c.pass.inside.seat c.try_enter.new.seat c.leave.new.seat c.in-Some.inside.value _ _ c.pass.invariant
+    stepped c.pass.inside.seat c.try_enter.new.seat c.leave.new.seat c.in-Some.inside.value _ _ 0 c.pass.invariant
     (record { same = (e.kept.0, e.kept.1, e.kept.2); seen = e.seen; found = c.in-Some.ensures.found.1; lone = λ all. (e.lone all).1 })
     (record { same = l.kept; list = l.list; own = l.own })
     (look_goes_on c.look_in-look.result c.in-Some.inside.value.0.value c.look_in-look.new.kept.0.value c.pass.inside.who c.args.name.now c.args.stripe c.args.fragment m.kept m.found)
@@ -33,3 +34,7 @@ returns-clause-found c =
     subst (λ v. Found v c.args.name.now c.args.stripe c.args.fragment c.look_in-look.result (shows c.leave.new.seat c.pass.inside.who)) c.pass.view_is
     (look_found c.pass.inside.seat c.leave.new.seat c.in-Some.inside.value c.look_in-look.new.kept c.pass.inside.who c.args.name.now c.args.stripe c.args.fragment c.look_in-look.result (steps c)
     (left_base c.try_enter.new.seat c.leave.new.seat c.in-Some.inside.value c.look_in-look.new.kept (record { same = c.leave.ensures.kept; list = c.leave.ensures.list; own = c.leave.ensures.own }) c.look_in-look.ensures.kept.2) c.look_in-look.ensures.found)
+
+pub returns-in_default-clause-found : goal.returns-in_default-clause-found
+returns-in_default-clause-found c =
+    was_busy c.pass.inside.seat c.try_enter.new.seat c.pass.inside.who c.args.pass.now (repair c.args.name.now c.args.stripe c.args.fragment) c.pass.invariant c.in_default.ensures.none c.pass.view_is

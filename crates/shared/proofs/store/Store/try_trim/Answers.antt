@@ -1,34 +1,36 @@
 use Rattle.std.proofs.Common.{◌≡◌, [], IfSome, sym, subst}
 use Rattle.shared.specs.Between.{MayFollow}
 use Rattle.shared.specs.Passes.{Shows, shows}
+use Rattle.shared.specs.Deeds.{trim_deed, Takes}
 use Rattle.shared.specs.Calls.{Looked, GivesUpAlone}
 use Rattle.shared.proofs.Between.{goes_follows}
-use Rattle.shared.proofs.Steps.{Stepped, stepped, still_goes_on, looked}
-use Rattle.shared.proofs.Looks.{trims, trims_alone}
+use Rattle.shared.proofs.Requests.{did_nothing}
+use Rattle.shared.proofs.Steps.{Stepped, stepped, looked}
+use Rattle.shared.proofs.Looks.{given_by, trim_goes_on, takes_trim, trims, trims_alone}
 use Rattle.shared.proofs.store.Store.try_trim.Goals as goal
 
 pub leave-requires-clause-follows : goal.leave-requires-clause-follows
 leave-requires-clause-follows c =
     let t = c.trim-result.ensures in
     subst (λ o. IfSome o (λ found. MayFollow found.0.value c.trim-result.new.self.0.value)) (sym c.in-Some.ensures.found.1)
-    (goes_follows c.in-Some.inside.value.0.value c.trim-result.new.self.0.value [] (still_goes_on c.in-Some.inside.value.0.value c.trim-result.new.self.0.value t.kept.0 t.kept.1 t.told))
+    (goes_follows c.in-Some.inside.value.0.value c.trim-result.new.self.0.value [] (given_by c.trim-result.result) (trim_goes_on c.trim-result.result c.in-Some.inside.value.0.value c.trim-result.new.self.0.value t.kept.0 t.kept.1 t.told t.trimmed t.err))
 
-steps : (c : goal.After-leave) → Stepped c.pass.inside.seat c.leave.new.seat c.in-Some.inside.value []
+steps : (c : goal.After-leave) → Stepped c.pass.inside.seat c.leave.new.seat c.in-Some.inside.value [] (given_by c.trim-result.result)
 steps c =
     let e = c.try_enter.ensures in
     let t = c.trim-result.ensures in
     let l = c.leave.ensures in
-    stepped c.pass.inside.seat c.try_enter.new.seat c.leave.new.seat c.in-Some.inside.value _ [] c.pass.invariant
+    stepped c.pass.inside.seat c.try_enter.new.seat c.leave.new.seat c.in-Some.inside.value _ [] (given_by c.trim-result.result) c.pass.invariant
     (record { same = (e.kept.0, e.kept.1, e.kept.2); seen = e.seen; found = c.in-Some.ensures.found.1; lone = λ all. (e.lone all).1 })
     (record { same = l.kept; list = l.list; own = l.own })
-    (still_goes_on c.in-Some.inside.value.0.value c.trim-result.new.self.0.value t.kept.0 t.kept.1 t.told)
+    (trim_goes_on c.trim-result.result c.in-Some.inside.value.0.value c.trim-result.new.self.0.value t.kept.0 t.kept.1 t.told t.trimmed t.err)
 
 pub invariant_of-pass-2 : goal.invariant_of-pass-2
 invariant_of-pass-2 c = (steps c).pass
 
 pub returns-clause-looked : goal.returns-clause-looked
 returns-clause-looked c =
-    subst (λ v. Looked v (shows c.leave.new.seat c.pass.inside.who)) c.pass.view_is (looked c.pass.inside.seat c.leave.new.seat c.in-Some.inside.value c.pass.inside.who (steps c))
+    subst (λ v. Looked v (shows c.leave.new.seat c.pass.inside.who)) c.pass.view_is (looked c.pass.inside.seat c.leave.new.seat c.in-Some.inside.value (given_by c.trim-result.result) c.pass.inside.who (steps c))
 
 pub returns-clause-ok : goal.returns-clause-ok
 returns-clause-ok c =
@@ -45,3 +47,12 @@ returns-clause-alone c =
     subst P c.pass.view_is
     (trims_alone c.trim-result.result c.pass.inside.seat c.try_enter.new.seat c.leave.new.seat c.in-Some.inside.value _ c.pass.inside.who
     (record { same = l.kept; list = l.list; own = l.own }) (steps c) t.trimmed t.err)
+
+pub returns-clause-takes : goal.returns-clause-takes
+returns-clause-takes c =
+    subst (λ v. Takes v (trim_deed c.args.keep c.trim-result.result) (shows c.leave.new.seat c.pass.inside.who)) c.pass.view_is
+    (takes_trim c.trim-result.result c.pass.inside.seat c.leave.new.seat c.in-Some.inside.value c.pass.inside.who c.args.keep (steps c) c.trim-result.ensures.answer)
+
+pub returns-in_default-clause-takes : goal.returns-in_default-clause-takes
+returns-in_default-clause-takes c =
+    did_nothing c.pass.inside.seat c.try_enter.new.seat c.pass.inside.who c.args.pass.now c.pass.invariant c.in_default.ensures.none c.pass.view_is

@@ -1,0 +1,98 @@
+-- Runs of jobs, as the store of one thread does them, each at its place.
+use Rattle.std.specs.Prelude.{◌≡◌, ℕ, ◌+◌, ◌≤◌, List, [], ◌∷◌, ◌++◌, map, length, Option, Some, None, Result}
+use Rattle.std.specs.List.{flat_map}
+use Rattle.std.specs.Option.{option_map}
+use mathlib.Core.List.{IsPrefix}
+use Rattle.gate.specs.Events.{number_if}
+use Rattle.sealed.specs.declared.fault.Fault.{Fault}
+use Rattle.sealed.specs.declared.fault.Fault.TheVariants.{JournalFull, TooLong}
+use Rattle.history.specs.Step.{Operation}
+use Rattle.history.specs.History.{History}
+use Rattle.book.specs.declared.answer.Answer.{Answer}
+use Rattle.book.specs.Notes.{note_of}
+use Rattle.book.specs.Serial.{Deed, called, full, too_long, trimmed, Does, Act, act_of, events_in, standing_of}
+use Rattle.shared.specs.declared.jobs.Ask.{Ask}
+use Rattle.shared.specs.declared.jobs.Ask.TheVariants as ask
+use Rattle.shared.specs.declared.jobs.Job.{Job}
+use Rattle.shared.specs.declared.jobs.Reply.{Reply}
+use Rattle.shared.specs.declared.jobs.Reply.TheVariants.{Made, Refused, Trimmed}
+use Rattle.shared.specs.declared.run.Outcome.{Outcome}
+use Rattle.shared.specs.declared.run.Outcome.TheVariants as outcome
+use Rattle.shared.specs.Passes.{Shows}
+use Rattle.shared.specs.Deeds.{deed_of, trim_deed, act_if}
+use Rattle.shared.specs.Runs.{operation_asked, IfReadGranted}
+
+abbrev pub asks_of : List Job → List Ask
+asks_of jobs = map (λ job. job.ask) jobs
+
+-- how many entries a trim is asked to keep
+abbrev pub keep_asked : Ask → Option ℕ
+keep_asked (ask.Trim keep) = Some keep
+keep_asked other = None
+
+-- ---- one job
+-- what was done of what was asked for
+abbrev pub call_deed : Option Operation → Result Answer Fault → Option Deed
+call_deed None r = None
+call_deed (Some o) r = deed_of o r
+
+abbrev pub keep_deed : Option ℕ → Result ℕ Fault → Option Deed
+keep_deed None r = None
+keep_deed (Some keep) r = trim_deed keep r
+
+abbrev pub outcome_deed : Ask → Outcome → Option Deed
+outcome_deed a (outcome.Made r) = call_deed (operation_asked a) r
+outcome_deed a (outcome.Trimmed r) = keep_deed (keep_asked a) r
+
+-- the same, as the reply tells it
+abbrev pub deed_told : Ask → Reply → Option Deed
+deed_told a (Made answer) = option_map (λ o. called o (note_of answer)) (operation_asked a)
+deed_told a (Refused JournalFull) = option_map full (operation_asked a)
+deed_told a (Refused TooLong) = option_map too_long (operation_asked a)
+deed_told a (Refused fault) = None
+deed_told a (Trimmed n) = option_map (λ keep. trimmed keep n) (keep_asked a)
+
+-- where a read was granted after this history
+abbrev pub IfGrantedTo : History → ℕ → Option Operation → Reply → Type 0
+IfGrantedTo h w (Some o) (Made answer) = IfReadGranted h w o answer
+IfGrantedTo h w asked reply = Unit {0}
+
+-- what was asked for and the reply, after so many acts
+pub record Turn : Type 0 where
+  pub place : ℕ
+  pub ask : Ask
+  pub reply : Reply
+
+-- as an act, if it is one
+abbrev pub act_in : ℕ → Turn → List Act
+act_in who t = act_if who (deed_told t.ask t.reply)
+
+-- What the reply tells is what one thread does after the first acts, as many as the place says. It is the next act, where it is one. A granted read is so after just these acts
+-- and itself
+pub record IsServed (w limit : ℕ) (acts : List Act) (who : ℕ) (t : Turn) : Type 0 where
+  pub deed : Deed
+  pub told : deed_told t.ask t.reply ≡ Some deed
+  pub before : List Act
+  pub place_is : length before ≡ t.place
+  pub does : Does w limit (standing_of before) deed
+  pub stands : IsPrefix (before ++ act_of who deed) acts
+  pub granted : IfGrantedTo (events_in (before ++ act_of who deed)) w (operation_asked t.ask) t.reply
+
+-- ---- all jobs
+-- one after the other, from this place on
+abbrev pub AreServed : ℕ → ℕ → List Act → ℕ → ℕ → List Turn → Type 0
+AreServed w limit acts who low [] = Unit {0}
+AreServed w limit acts who low (t ∷ turns) = (low ≤ t.place) × IsServed w limit acts who t × AreServed w limit acts who (t.place + length (act_in who t)) turns
+
+-- the places of those that are acts
+abbrev pub places_of : ℕ → List Turn → List ℕ
+places_of who turns = flat_map (λ t. number_if t.place (act_in who t)) turns
+
+-- the first jobs have these replies, in order, each in its turn, under the pass's label and after all that the pass had seen; and the pass did nothing else
+pub record Serves (v : Shows) (asks : List Ask) (replies : List Reply) (w : Shows) : Type 0 where
+  pub acts : IsPrefix v.acts w.acts
+  pub turns : List Turn
+  pub asked : IsPrefix (map (λ t. t.ask) turns) asks
+  pub replied : map (λ t. t.reply) turns ≡ replies
+  pub each : AreServed v.store.width v.store.limit w.acts v.who (length v.acts) turns
+  pub did : w.did ≡ v.did ++ places_of v.who turns
