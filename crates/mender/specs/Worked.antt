@@ -1,12 +1,17 @@
 -- What a worker did.
-use Rattle.std.specs.Prelude.{◌≡◌, ◌⊎◌, ℕ, ◌+◌, ◌<◌, ◌≤◌, List, [], ◌∷◌, ◌++◌, length, map, All, Option, Some}
+use Rattle.std.specs.Prelude.{◌≡◌, ◌⊎◌, ℕ, ◌+◌, ◌<◌, ◌≤◌, List, [], ◌∷◌, ◌++◌, length, map, All, Option, Some, slice_get}
 use Rattle.book.specs.declared.plan.Item.{Item}
 use Rattle.gate.specs.Places.{times}
 use Rattle.history.specs.Step.{Operation, repair}
 use Rattle.shared.specs.declared.jobs.Reply.{Reply}
-use Rattle.shared.specs.declared.jobs.Reply.TheVariants.{Made}
+use Rattle.shared.specs.declared.jobs.Reply.TheVariants.{Made, Refused}
+use Rattle.shared.specs.declared.jobs.Ask.{Ask}
+use Rattle.shared.specs.declared.jobs.Ask.TheVariants.{Repair}
+use Rattle.sealed.specs.declared.fault.Fault.{Fault}
+use Rattle.sealed.specs.declared.fault.Fault.TheVariants.{JournalFull}
 use Rattle.shared.specs.Passes.{Shows}
 use Rattle.shared.specs.Runs.{Runs}
+use Rattle.shared.specs.Serving.{Serves}
 use Rattle.mender.specs.declared.done.Done.{Done}
 use Rattle.mender.specs.Drawn.{Hand}
 use Rattle.mender.specs.Gathered.{tickets_of, IsOfPlan}
@@ -27,6 +32,17 @@ replies_of done = map (λ d. Made d.answer) done
 abbrev pub Repairs : Shows → List Done → Shows → Type 0
 Repairs v done w = Runs v (repairs_of done) (replies_of done) w
 
+-- what is asked for the repair of an item
+abbrev pub ask_of : Item → Ask
+ask_of item = Repair item.name item.stripe item.f
+
+abbrev pub asks_of : List Done → List Ask
+asks_of done = map (λ d. ask_of d.item) done
+
+-- and each of them is what the store of one thread does, at its place
+abbrev pub AreMended : Shows → List Done → Shows → Type 0
+AreMended v done w = Serves v (asks_of done) (replies_of done) w
+
 -- the drawer drew just these numbers, in this order
 pub record Draws (old : Hand) (numbers : List ℕ) (new : Hand) : Type 0 where
   pub tickets : new.tickets ≡ old.tickets
@@ -46,3 +62,15 @@ Finished plan old new done = (Worked plan old new done [] × (new.allowance ≡ 
 -- each ticket that was drawn has its result, but the one in hand, which is below the plan's length
 abbrev pub Stopped : List Item → Hand → Hand → List Done → Type 0
 Stopped plan old new done = (n : ℕ) × (n < length plan) × (times n (tickets_of done) ≡ 0) × Worked plan old new done (n ∷ [])
+
+-- where a call was refused as the journal was full
+abbrev pub IfFull : Fault → Type 0 → Type 0
+IfFull fault P = fault ≡ JournalFull → P
+
+-- the repair of the item in hand was refused, as the journal was full
+pub record StoppedFull (plan : List Item) (old new : Hand) (v : Shows) (done : List Done) (w : Shows) : Type 0 where
+  pub ticket : ℕ
+  pub item : Item
+  pub there : slice_get plan ticket ≡ Some item
+  pub worked : Worked plan old new done (ticket ∷ [])
+  pub serves : Serves v (asks_of done ++ ask_of item ∷ []) (replies_of done ++ Refused JournalFull ∷ []) w

@@ -2,7 +2,8 @@
 use Rattle.std.specs.Prelude.{◌≡◌, ℕ, List, [], ◌∷◌, map, length, Ok, Err}
 use Rattle.shared.specs.Passes.{Shows, Which}
 use Rattle.shared.specs.Runs.{asked, Runs}
-use Rattle.mender.specs.Worked.{Finished, Repairs}
+use Rattle.shared.specs.Serving.{asks_of, Serves}
+use Rattle.mender.specs.Worked.{Finished, Repairs, AreMended, StoppedFull, IfFull}
 use Rattle.mender.specs.Worked as worked
 use Rattle.rounds.specs.declared.work.Errand.{Errand}
 use Rattle.rounds.specs.declared.work.Errand.TheVariants.{Calls, Mend}
@@ -31,14 +32,15 @@ AreOf store (w ∷ ws) = IsOf store w × AreOf store ws
 -- ---- what came of an errand, with the pass before and after it
 -- just the calls with an answer were made, in order, and all of them where the run did not stop
 abbrev pub DidCalls : Shows → Errand → Outcome → Shows → Type 0
-DidCalls v (Calls jobs) (Called (Ok replies)) w = Runs v (asked jobs.items) replies.items w × (length replies.items ≡ length jobs.items)
+DidCalls v (Calls jobs) (Called (Ok replies)) w = Runs v (asked jobs.items) replies.items w × (length replies.items ≡ length jobs.items) × Serves v (asks_of jobs.items) replies.items w
 DidCalls v (Calls jobs) (Called (Err stopped)) w = Runs v (asked jobs.items) stopped.done.items w
 DidCalls v errand outcome w = ⊥
 
 -- just the repairs with a result were made, in order, each by a ticket that was drawn
 abbrev pub DidMend : Shows → Mending → Outcome → Shows → Type 0
-DidMend v m (Mended drawer (Worked (Ok done))) w = Finished m.plan.value.items.items m.drawer drawer done.items × Repairs v done.items w
-DidMend v m (Mended drawer (Worked (Err stop))) w = worked.Stopped m.plan.value.items.items m.drawer drawer stop.done.items × Repairs v stop.done.items w
+DidMend v m (Mended drawer (Worked (Ok done))) w = Finished m.plan.value.items.items m.drawer drawer done.items × Repairs v done.items w × AreMended v done.items w
+DidMend v m (Mended drawer (Worked (Err stop))) w =
+    worked.Stopped m.plan.value.items.items m.drawer drawer stop.done.items × Repairs v stop.done.items w × IfFull stop.fault (StoppedFull m.plan.value.items.items m.drawer drawer v stop.done.items w)
 DidMend v m (Mended drawer Paused) w = (drawer ≡ m.drawer) × (w ≡ v)
 DidMend v m (Called r) w = ⊥
 
