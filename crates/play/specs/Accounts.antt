@@ -1,0 +1,111 @@
+-- What is told of each row, beside the steps that it took.
+use Rattle.std.specs.Prelude.{◌≡◌, ◌⊎◌, ℕ, ◌+◌, ◌<◌, ◌≤◌, List, [], ◌∷◌, ◌++◌, map, length, Some, slice_get}
+use Rattle.std.specs.List.{flat_map}
+use mathlib.Core.List.{IsPrefix}
+use Rattle.gate.specs.Events.{number_if}
+use Rattle.book.specs.Serial.{Does, Act, act_of, standing_of}
+use Rattle.script.specs.declared.rows.Row.{Row}
+use Rattle.script.specs.declared.rows.Task.{Task}
+use Rattle.script.specs.declared.rows.Task.TheVariants.{Make, Mend}
+use Rattle.play.specs.Steps.{Step}
+use Rattle.play.specs.Lists.{Each, Pairs}
+use Rattle.play.specs.Runs.{IsAsked, MayPrecede, round_in}
+use Rattle.play.specs.Lines.{IsReplyTo, reply_text}
+use Rattle.play.specs.Printed.{deed_text}
+use Rattle.play.specs.declared.calls.Call.{Call}
+use Rattle.play.specs.declared.outcome.Done.{Done}
+use Rattle.play.specs.declared.outcome.RowOutcome.{RowOutcome}
+use Rattle.play.specs.declared.reply.Reply.{Reply}
+
+-- a step, and the acts that were done before it
+pub record Placed : Type 0 where
+  pub before : List Act
+  pub step : Step
+
+-- the step as an act, if it is one
+abbrev pub act_at : Placed → List Act
+act_at p = act_of p.step.who p.step.deed
+
+-- it is what one thread does after the first of these acts, and the next of them, where it is one
+pub record Stands (w limit : ℕ) (acts : List Act) (p : Placed) : Type 0 where
+  pub does : Does w limit (standing_of p.before) p.step.deed
+  pub stands : IsPrefix (p.before ++ act_at p) acts
+
+-- the places of those that are acts
+abbrev pub own_places : List Placed → List ℕ
+own_places steps = flat_map (λ p. number_if (length p.before) (act_at p)) steps
+
+-- what is told of a row, and its steps
+pub record Account : Type 0 where
+  pub done : Done
+  pub steps : List Placed
+
+abbrev pub dones_in : List Account → List Done
+dones_in accounts = map (λ a. a.done) accounts
+
+abbrev pub steps_in : List Account → List Placed
+steps_in accounts = flat_map (λ a. a.steps) accounts
+
+-- the reply is the text of the step
+abbrev pub IsTextOf : ℕ → Placed → RowOutcome → Type 0
+IsTextOf w p outcome = (reply : Reply) → IsReplyTo outcome reply → reply_text reply ≡ deed_text w (standing_of p.before) p.step.deed
+
+-- the row's steps are what it asks for, and the reply tells them
+abbrev pub Settles : ℕ → Row → Task → RowOutcome → List Placed → Type 0
+Settles w row (Make ask) outcome steps = (p : Placed) × (steps ≡ p ∷ []) × (p.step.who ≡ row.worker) × IsAsked ask p.step.deed × IsTextOf w p outcome
+Settles w row Mend outcome steps = Unit {0}
+
+-- the account of a row of the script
+pub record IsAccount (w : ℕ) (rows : List Row) (a : Account) : Type 0 where
+  pub before : ℕ
+  pub row : Row
+  pub number : a.done.number ≡ before + 1
+  pub there : slice_get rows before ≡ Some row
+  pub settles : Settles w row row.task a.done.outcome a.steps
+
+-- ---- a round
+-- the call is that of a row of the script, of this round
+pub record IsCallOf (rows : List Row) (round : ℕ) (call : Call) : Type 0 where
+  pub before : ℕ
+  pub row : Row
+  pub number : call.number ≡ before + 1
+  pub there : slice_get rows before ≡ Some row
+  pub worker : row.worker ≡ call.worker
+  pub task : row.task ≡ Make call.ask
+  pub in_round : round_in rows call.number ≡ round
+
+-- the calls' numbers rise, past this one
+abbrev pub RiseFrom : ℕ → List Call → Type 0
+RiseFrom base [] = Unit {0}
+RiseFrom base (c ∷ calls) = (base < c.number) × RiseFrom c.number calls
+
+-- one is done, and its row is no later, before the other begins
+abbrev pub IsBefore : Placed → Placed → Type 0
+IsBefore x y = (x.step.row ≤ y.step.row) × (length x.before + length (act_at x) ≤ length y.before)
+
+-- a step of this worker and round, whose row and place are past these
+pub record IsOf (rows : List Row) (round who base low : ℕ) (p : Placed) : Type 0 where
+  pub label : p.step.who ≡ who
+  pub row : base < p.step.row
+  pub place : low ≤ length p.before
+  pub in_round : round_in rows p.step.row ≡ round
+
+-- one may stand before the other, and the other before it, but where it is done before the other begins
+abbrev pub IsGood : (ℕ → ℕ) → Placed → Placed → Type 0
+IsGood round_of x y = MayPrecede round_of x.step y.step × (MayPrecede round_of y.step x.step ⊎ (length x.before + length (act_at x) ≤ length y.before))
+
+-- a step of this round, whose row and place are past these
+pub record IsLater (rows : List Row) (round base low : ℕ) (p : Placed) : Type 0 where
+  pub row : base < p.step.row
+  pub place : low ≤ length p.before
+  pub in_round : round_in rows p.step.row ≡ round
+
+-- what a round did, between these acts and places: it is told of its rows behind what was told before
+pub record IsRound (w limit : ℕ) (rows : List Row) (round base : ℕ) (before acts : List Act) (old_did new_did : List ℕ) (old new : List Done) : Type 0 where
+  pub accounts : List Account
+  pub dones : new ≡ old ++ dones_in accounts
+  pub right : Each (IsAccount w rows) accounts
+  pub places : new_did ≡ old_did ++ own_places (steps_in accounts)
+  pub stand : Each (Stands w limit acts) (steps_in accounts)
+  pub are_later : Each (IsLater rows round base (length before)) (steps_in accounts)
+  pub order : Pairs (IsGood (round_in rows)) (steps_in accounts)

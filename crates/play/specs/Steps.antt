@@ -1,0 +1,35 @@
+-- The steps of a run: what the store of one thread does for the rows of a script.
+use Rattle.std.specs.Prelude.{◌≡◌, ℕ, List, [], ◌∷◌, ◌++◌, All}
+use Rattle.std.specs.List.{fold}
+use Rattle.history.specs.History.{History}
+use Rattle.book.specs.Serial.{Standing, opening, Deed, Does, next, act_of, events_in}
+
+-- a step: the row of the script that asks for it, counted from 1, the worker that takes it, and what is done
+pub record Step : Type 0 where
+  pub row : ℕ
+  pub who : ℕ
+  pub deed : Deed
+
+-- the standing after these steps
+abbrev pub standing_after : List Step → Standing
+standing_after steps = fold (λ s x. next s x.deed) opening steps
+
+-- each step beside the standing that it finds
+abbrev pub Found : Type 0
+Found = Standing × Step
+
+abbrev pub found_from : Standing → List Step → List Found
+found_from s [] = []
+found_from s (x ∷ xs) = (s, x) ∷ found_from (next s x.deed) xs
+
+abbrev pub found : List Step → List Found
+found steps = found_from opening steps
+
+-- each is what one thread does there
+abbrev pub AreDone : ℕ → ℕ → List Step → Type 0
+AreDone w limit steps = All (λ (f : Found). Does w limit f.0 f.1.deed) (found steps)
+
+-- the calls that were answered, in order: the history
+abbrev pub calls_in : List Step → History
+calls_in [] = []
+calls_in (x ∷ xs) = events_in (act_of x.who x.deed) ++ calls_in xs
