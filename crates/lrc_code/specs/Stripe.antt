@@ -1,4 +1,5 @@
 -- Stripes: sixteen lists of one length, a column at each place; and what is left of one.
+pub use Rattle.kernels.specs.Lists.{list_at, bytes_at}
 use Rattle.lrc_code.specs.declared.Code.{Code}
 use Rattle.std.specs.Prelude.{◌≡◌, ℕ, ◌<◌, ◌≤◌, Bool, false, List, [], Option, Some, None, IfSome, length, slice_index, slice_index_or, slice_range}
 use Rattle.std.specs.Borrow.{Bor}
@@ -9,13 +10,6 @@ use Rattle.lrc_code.specs.Column.{parity_of}
 pub record IsStripe (code : Code) (w : ℕ) (s : ℕ → List ℕ) : Type 0 where
   pub width : (i : ℕ) → i < fragment_count code → length (s i) ≡ w
   pub columns : (k : ℕ) → k < w → IsColumn code (λ i. slice_index (s i) k)
-
-abbrev pub list_at : List (List ℕ) → ℕ → List ℕ
-list_at lists i = slice_index_or lists i []
-
--- the bytes of the lists at place k
-abbrev pub bytes_at : List (List ℕ) → ℕ → ℕ → ℕ
-bytes_at lists k i = slice_index (list_at lists i) k
 
 -- at place k the lists have the parities of the data, one for each equation
 abbrev pub AreParities : Code → List (List ℕ) → List (List ℕ) → ℕ → Type 0

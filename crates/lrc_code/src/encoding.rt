@@ -1,28 +1,14 @@
 //! Encoding: the four parities of the data fragments.
 
 ghost use Rattle.lrc_code.specs.Code.{data_count};
-ghost use Rattle.std.specs.Prelude.{◌≡◌, ℕ, ◌<◌, ◌++◌, [], ◌∷◌, All, IfOk, EachIndex, length, map, slice_index, bit_xor};
+ghost use Rattle.std.specs.Prelude.{◌≡◌, ℕ, ◌<◌, ◌++◌, [], ◌∷◌, All, IfOk, EachIndex, length, map, slice_index};
 ghost use Rattle.lrc_code.specs.Column.{parity_of};
 ghost use Rattle.lrc_code.specs.Stripe.{IsStripe, list_at, bytes_at};
 
 use crate::recipes::weight_of;
-use crate::wide::encode_into;
 use crate::{Code, NoMemory};
-use gf256::add_scaled;
+use kernels::{combine_lists, write_parities};
 use std::alloc::Global;
-
-/// Adds the data, each times what it weighs in an equation, place by place.
-fn add_data(bytes: &mut [u8], code: Code, equation: usize, sources: &[&[u8]])
-    requires equation_below { equation < 4 }
-    requires count { length sources.now ≡ data_count code }
-    requires long { All (λ s. length s.now ≡ length bytes.old) sources.now }
-    ensures { EachIndex bytes.new (λ k.
-        slice_index bytes.new k ≡ bit_xor (slice_index bytes.old k) (parity_of code equation (bytes_at (map (λ s. s.now) sources.now) k))) }
-{
-    for i in 0..sources.len() {
-        add_scaled(bytes, weight_of(code, equation, i), sources[i]);
-    }
-}
 
 /// The elements of a slice are below 256: a proof knows it of a parameter, and not of a slice inside another.
 fn fits(bytes: &[u8])
@@ -38,15 +24,6 @@ fn all_fit(sources: &[&[u8]])
     }
 }
 
-/// Makes every byte 0.
-pub(crate) fn clear(bytes: &mut [u8])
-    ensures { EachIndex bytes.new (λ k. slice_index bytes.new k ≡ 0) }
-{
-    for i in 0..bytes.len() {
-        bytes[i] = 0;
-    }
-}
-
 /// Writes the parity that an equation gives.
 fn parity_to(bytes: &mut [u8], code: Code, equation: usize, sources: &[&[u8]])
     requires equation_below { equation < 4 }
@@ -54,8 +31,11 @@ fn parity_to(bytes: &mut [u8], code: Code, equation: usize, sources: &[&[u8]])
     requires long { All (λ s. length s.now ≡ length bytes.old) sources.now }
     ensures { EachIndex bytes.new (λ k. slice_index bytes.new k ≡ parity_of code equation (bytes_at (map (λ s. s.now) sources.now) k)) }
 {
-    clear(bytes);
-    add_data(bytes, code, equation, sources);
+    let mut weights = [0; 12];
+    for i in 0..sources.len() {
+        weights[i] = weight_of(code, equation, i);
+    }
+    combine_lists(bytes, &weights[..sources.len()], sources);
 }
 
 /// Writes the four parities of a code's data fragments, which have as many bytes as each parity: together they are a stripe of
@@ -77,7 +57,7 @@ pub fn encode_to(
 {
     all_fit(sources);
     match code {
-        Code::Wide => encode_into(sources, first, second, third, fourth),
+        Code::Wide => write_parities(sources, first, second, third, fourth),
         Code::Small => {
             parity_to(first, code, 0, sources);
             parity_to(second, code, 1, sources);
