@@ -1,10 +1,11 @@
 -- Data with the four parities are a stripe.
-use Rattle.std.proofs.Common.{◌≡◌, ℕ, zero, suc, ◌+◌, ◌-◌, ◌<◌, ◌≤◌, List, [], ◌∷◌, ◌++◌, take, length, get_or, sym, ap, ◌∙◌, subst, refl, arith, inl, inr, map, Bor}
+use Rattle.std.proofs.Common.{◌≡◌, ℕ, zero, suc, ◌+◌, ◌-◌, ◌*◌, ◌<◌, ◌≤◌, List, [], ◌∷◌, ◌++◌, take, length, get_or, sym, ap, ap₂, ◌∙◌, subst, refl, arith, inl, inr, map, Bor}
 use Rattle.std.proofs.lemmas.Bool.{cases_eq, cases_lt}
-use Rattle.std.proofs.lemmas.List.{get_or_append_left, get_or-append-add}
+use Rattle.std.proofs.lemmas.List.{get_or_append_left, get_or-append-add, append_assoc, append-nil, length-append}
 use Rattle.std.proofs.Math.ListN.{get_or-map}
-use Rattle.std.proofs.Math.Seq.{take-append_seam}
-use Rattle.std.specs.List.{All}
+use Rattle.std.proofs.Math.Seq.{take-append_seam, drop-append_seam}
+use Rattle.std.proofs.Math.ListN.{drop}
+use Rattle.std.specs.List.{All, slice_range}
 use Rattle.std.proofs.lemmas.List.Elements.{All-get_or}
 use Rattle.gf256.specs.Field.{product}
 use Rattle.kernels.specs.Lists.{combined}
@@ -14,7 +15,7 @@ use Rattle.lrc_code.specs.declared.Code.{Code}
 use Rattle.lrc_code.specs.declared.Code.TheVariants.{Wide, Small}
 use Rattle.lrc_code.specs.Code.{fragment_count, xor_sum, weight, weights, data_count, IsColumn}
 use Rattle.lrc_code.specs.Column.{column, parity_of}
-use Rattle.lrc_code.specs.Stripe.{IsStripe, list_at, bytes_at, AreParities}
+use Rattle.lrc_code.specs.Stripe.{IsStripe, list_at, bytes_at, AreParities, quarters}
 use Rattle.lrc_code.proofs.Columns.{column_is, column_data, column_parity, count_with_parities}
 use Rattle.kernels.proofs.Sums.{xor_sum_same}
 
@@ -113,3 +114,19 @@ parity_by_weights code e coefficients x long same =
 -- a list that is written back over one of its length
 pub written_back : (n : ℕ) (xs ys : List ℕ) → length xs ≡ n → take n (xs ++ ys) ≡ xs
 written_back n xs ys e = ap (λ k. take k (xs ++ ys)) (sym e) ∙ take-append_seam xs ys
+
+-- ---- four lists that stand one after the other
+part_between : (xs ys zs : List ℕ) (from to : ℕ) → length xs ≡ from → length ys ≡ to - from → slice_range (xs ++ (ys ++ zs)) from to ≡ ys
+part_between xs ys zs from to start long =
+    ap₂ (λ (n : ℕ) (rest : List ℕ). take n rest) (sym long) (ap (λ n. drop n (xs ++ (ys ++ zs))) (sym start) ∙ drop-append_seam xs (ys ++ zs)) ∙ take-append_seam ys zs
+
+pub quarters_joined : (w : ℕ) (a b c d : List ℕ) → length a ≡ w → length b ≡ w → length c ≡ w → length d ≡ w → quarters w (a ++ (b ++ (c ++ d))) ≡ a ∷ b ∷ c ∷ d ∷ []
+quarters_joined w a b c d la lb lc ld =
+    let ab : a ++ (b ++ (c ++ d)) ≡ (a ++ b) ++ (c ++ d) = sym (append_assoc a b (c ++ d)) in
+    let abc : a ++ (b ++ (c ++ d)) ≡ ((a ++ b) ++ c) ++ (d ++ []) = ab ∙ sym (append_assoc (a ++ b) c d) ∙ ap (λ xs. ((a ++ b) ++ c) ++ xs) (sym (append-nil d)) in
+    let two : length (a ++ b) ≡ 2 * w = omega (arith, length-append a b) in
+    let three : length ((a ++ b) ++ c) ≡ 3 * w = omega (arith, two, length-append (a ++ b) c) in
+    ap₂ (λ (x : List ℕ) (xs : List (List ℕ)). x ∷ xs) (part_between [] a (b ++ (c ++ d)) 0 w refl (omega (arith, la)))
+    (ap₂ (λ (x : List ℕ) (xs : List (List ℕ)). x ∷ xs) (part_between a b (c ++ d) w (2 * w) la (omega (arith, lb)))
+    (ap₂ (λ (x : List ℕ) (xs : List (List ℕ)). x ∷ xs) (ap (λ xs. slice_range xs (2 * w) (3 * w)) ab ∙ part_between (a ++ b) c d (2 * w) (3 * w) two (omega (arith, lc)))
+    (ap (λ (x : List ℕ). x ∷ []) (ap (λ xs. slice_range xs (3 * w) (4 * w)) abc ∙ part_between ((a ++ b) ++ c) d [] (3 * w) (4 * w) three (omega (arith, ld))))))
