@@ -6,7 +6,6 @@ ghost use Rattle.kernels.specs.Tables.{AreLow, AreHigh};
 
 use crate::blocks::{LANES, load, store};
 use crate::factor::{Factor, look_up, plus};
-use crate::groups::sum_of_six;
 use gf256::add_scaled;
 use std::simd::prelude::*;
 
@@ -116,6 +115,69 @@ fn sum_blocks(
     );
 }
 
+/// The sum at thirty-two places from `at` on, where each coefficient is 1.
+#[inline(always)]
+fn plain_block(coefficients: &[u8], sources: &[&[u8]], at: usize) -> u8x32
+    requires ones { All (λ c. c ≡ 1) coefficients.now }
+    requires count { length sources.now ≡ length coefficients.now }
+    requires inside { All (λ s. at + LANES ≤ length s.now) sources.now }
+    ensures { (k : ℕ) → k < LANES → slice_index result k ≡ combined coefficients.now (bytes_at (map (λ s. s.now) sources.now) (at + k)) }
+{
+    let mut sum = u8x32::splat(0);
+    for i in 0..coefficients.len() {
+        sum = plus(sum, load(sources[i], at));
+    }
+    sum
+}
+
+/// Makes the target the sum at each place, where each coefficient is 1.
+#[inline(always)]
+fn plain_blocks(target: &mut [u8], coefficients: &[u8], sources: &[&[u8]])
+    requires ones { All (λ c. c ≡ 1) coefficients.now }
+    requires count { length sources.now ≡ length coefficients.now }
+    requires wide { LANES ≤ length target.old }
+    requires same { All (λ s. length s.now ≡ length target.old) sources.now }
+    ensures { EachIndex target.new (λ k. slice_index target.new k ≡ combined coefficients.now (bytes_at (map (λ s. s.now) sources.now) k)) }
+{
+    let width = target.len();
+    let mut at = 0;
+    'pairs: while width - at > LANES + LANES {
+        let next = at + LANES;
+        let first = plain_block(coefficients, sources, at);
+        let second = plain_block(coefficients, sources, next);
+        store(first, target, at);
+        store(second, target, next);
+        at = next + LANES;
+    }
+    'whole: while width - at > LANES {
+        store(plain_block(coefficients, sources, at), target, at);
+        at += LANES;
+    }
+    // the last block ends with the lists, and may overlap the one before
+    let last = width - LANES;
+    store(plain_block(coefficients, sources, last), target, last);
+}
+
+/// Makes the target the sum at each place, where each coefficient is 1.
+fn sum_plainly(target: &mut [u8], coefficients: &[u8], sources: &[&[u8]])
+    requires ones { All (λ c. c ≡ 1) coefficients.now }
+    requires count { length sources.now ≡ length coefficients.now }
+    requires wide { LANES ≤ length target.old }
+    requires same { All (λ s. length s.now ≡ length target.old) sources.now }
+    ensures { EachIndex target.new (λ k. slice_index target.new k ≡ combined coefficients.now (bytes_at (map (λ s. s.now) sources.now) k)) }
+{
+    // the same call twice: where there are six lists, as in a group, the code for a block has no loop, and keeps copies of the
+    // slices in registers, which a store to the target cannot change
+    if coefficients.len() == 6 {
+        let six = [
+            sources[0], sources[1], sources[2], sources[3], sources[4], sources[5],
+        ];
+        plain_blocks(target, coefficients, &six);
+    } else {
+        plain_blocks(target, coefficients, sources);
+    }
+}
+
 /// Makes the tables of the coefficients.
 #[inline(always)]
 fn tables_of(coefficients: &[u8], lows: &mut [u8x32; 15], highs: &mut [u8x32; 15])
@@ -175,11 +237,11 @@ fn clear(target: &mut [u8])
     }
 }
 
-/// Whether the coefficients are six times 1.
-fn are_six_ones(coefficients: &[u8]) -> bool
-    ensures { IsTrue result → (length coefficients.now ≡ 6) × All (λ c. c ≡ 1) coefficients.now }
+/// Whether each coefficient is 1.
+fn are_ones(coefficients: &[u8]) -> bool
+    ensures { IsTrue result → All (λ c. c ≡ 1) coefficients.now }
 {
-    coefficients.len() == 6 && coefficients.iter().all(|c| *c == 1)
+    coefficients.iter().all(|c| *c == 1)
 }
 
 /// Makes the target the sum of at most fifteen lists of its length, each times its coefficient, place by place.
@@ -192,11 +254,8 @@ pub fn combine_lists(target: &mut [u8], coefficients: &[u8], sources: &[&[u8]])
     if target.len() < LANES {
         clear(target);
         add_each(target, coefficients, sources);
-    } else if are_six_ones(coefficients) {
-        let six = [
-            sources[0], sources[1], sources[2], sources[3], sources[4], sources[5],
-        ];
-        sum_of_six(target, &six);
+    } else if are_ones(coefficients) {
+        sum_plainly(target, coefficients, sources);
     } else {
         sum_by_tables(target, coefficients, sources);
     }

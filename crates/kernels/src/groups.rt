@@ -1,5 +1,5 @@
-//! The parities of two groups of six lists, and the sum of six lists, thirty-two places at a time. Each list is read once.
-ghost use Rattle.std.specs.Prelude.{◌≡◌, ◌<◌, ◌≤◌, ◌+◌, ℕ, [], ◌∷◌, map, length, slice_index, All, EachIndex};
+//! The parities of two groups of six lists, thirty-two places at a time. Each list is read once.
+ghost use Rattle.std.specs.Prelude.{◌≡◌, ◌<◌, ◌≤◌, ◌+◌, ℕ, [], ◌∷◌, map, length, slice_index, All};
 ghost use Rattle.kernels.specs.Doublings.{sum_of_6, with_bit_0, with_bit_1, with_bit_2};
 ghost use Rattle.kernels.specs.Lists.{xor_sum, bytes_at, list_at};
 ghost use Rattle.kernels.specs.Parities.{AreParities};
@@ -53,29 +53,6 @@ fn sums_of(sources: &[&[u8]], first: usize, at: usize) -> Sums
         bit_1: sum_3(x1, x2, x5),
         bit_2: sum_3(x3, x4, x5),
     }
-}
-
-/// Makes the target the sum of six lists of its length, thirty-two places at a time.
-pub(crate) fn sum_of_six(target: &mut [u8], sources: &[&[u8]; 6])
-    requires wide { LANES ≤ length target.old }
-    requires same { All (λ s. length s.now ≡ length target.old) sources.now }
-    ensures bytes { (i k : ℕ) → i < 6 → k < length target.new → bytes_at (map (λ s. s.now) sources.now) k i < 256 }
-    ensures sums { EachIndex target.new (λ k. slice_index target.new k ≡ sum_of_6 (bytes_at (map (λ s. s.now) sources.now) k)) }
-{
-    // a copy, which a store to the target cannot change
-    let lists = *sources;
-    let width = target.len();
-    let mut at = 0;
-    'six: while width - at > LANES {
-        store(sums_of(&lists, 0, at).whole, target, at);
-        at += LANES;
-    }
-    // the last block ends with the lists, and may overlap the one before
-    store(
-        sums_of(&lists, 0, width - LANES).whole,
-        target,
-        width - LANES,
-    );
 }
 
 /// Writes the parities of thirty-two places from `at` on.
