@@ -40,6 +40,7 @@ typedef struct {
     void v##_timed_encode_to(const Slice *, size_t, uint8_t *, size_t, uint8_t *, size_t, uint8_t *, size_t, uint8_t *,    \
                              size_t, uint32_t);                                                                           \
     bool v##_timed_encode(const Slice *, size_t, size_t, uint32_t);                                                       \
+    bool v##_timed_encode_joined(const Slice *, size_t, size_t, uint32_t);                                                \
     void v##_timed_combine(uint8_t *, size_t, const uint8_t *, size_t, const Slice *, size_t, uint32_t);                  \
     bool v##_timed_rebuild_to(uint8_t *, size_t, const Slice *, size_t, uint16_t, size_t, uint32_t);                      \
     bool v##_timed_rebuild(const Slice *, size_t, size_t, uint16_t, size_t, uint8_t, uint32_t);
@@ -161,6 +162,7 @@ static void isal_global(long n) {
         v##_timed_encode_to(stripe, DATA, made[0], width, made[1], width, made[2], width, made[3], width, n);             \
     }                                                                                                                     \
     static void v##_encode(long n) { seen = v##_timed_encode(stripe, DATA, width, n); }                                   \
+    static void v##_encode_joined(long n) { seen = v##_timed_encode_joined(stripe, DATA, width, n); }                     \
     static void v##_local_kernel(long n) { v##_timed_combine(made[0], width, ones, 6, group, 6, n); }                     \
     static void v##_local_to(long n) { seen = v##_timed_rebuild_to(made[0], width, stripe, FRAGMENTS, LOCAL, 0, n); }     \
     static void v##_local(long n) { seen = v##_timed_rebuild(stripe, FRAGMENTS, width, LOCAL, 0, 0, n); }                 \
@@ -180,7 +182,8 @@ typedef struct {
     double best[WIDTHS]; // seconds
 } Row;
 
-#define ENCODE(v) {#v " encode_to", v##_encode_to, 1}, {#v " encode", v##_encode, 2}
+#define ENCODE(v)                                                                                                         \
+    {#v " encode_to", v##_encode_to, 1}, {#v " encode", v##_encode, 2}, {#v " encode_joined", v##_encode_joined, 2}
 #define REBUILD(v, work)                                                                                                  \
     {#v " combine_lists", v##_##work##_kernel, 1}, {#v " rebuild_to", v##_##work##_to, 1},                                \
         {#v " rebuild", v##_##work, 2}, {#v " Plans::rebuild", v##_##work##_kept, 2}

@@ -9,7 +9,7 @@ ghost use Rattle.lrc_code.specs.Code.{fragment_count};
 ghost use Rattle.lrc_code.specs.Stripe.{IsStripe, is_absent, Reaches};
 
 use kernels::combine_lists;
-use lrc_code::{Code, Left, Plans, encode_in, encode_to, rebuild, rebuild_to};
+use lrc_code::{Code, Left, Plans, encode_in, encode_joined, encode_to, rebuild, rebuild_to};
 use std::alloc::Global;
 
 /// `encode_to` of twelve data fragments.
@@ -44,6 +44,24 @@ pub extern "C" fn timed_encode(alloc: Global, sources: &[&[u8]], w: usize, reps:
     let mut done = true;
     for _ in 0..reps {
         done &= encode_in(alloc, Code::Wide, sources, w).is_ok();
+    }
+    done
+}
+
+/// `encode_joined` of twelve data fragments of `w` bytes, whose parities are given back. Whether there was memory for all.
+#[unsafe(no_mangle)]
+pub extern "C" fn timed_encode_joined(
+    alloc: Global,
+    sources: &[&[u8]],
+    w: usize,
+    reps: u32,
+) -> bool
+    requires count { length sources.now ≡ 12 }
+    requires same { All (λ s. length s.now ≡ w) sources.now }
+{
+    let mut done = true;
+    for _ in 0..reps {
+        done &= encode_joined(alloc, Code::Wide, sources, w).is_ok();
     }
     done
 }
