@@ -12,3 +12,6 @@ mod place;
 
 pub use combine::combine_lists;
 pub use groups::write_parities;
+
+#[cfg(test)]
+mod tests;
