@@ -1,7 +1,7 @@
 //! Encoding: the four parities of the data fragments.
 
 ghost use Rattle.lrc_code.specs.Code.{data_count};
-ghost use Rattle.std.specs.Prelude.{◌≡◌, ℕ, ◌<◌, ◌++◌, All, IfOk, EachIndex, length, map, slice_index, bit_xor};
+ghost use Rattle.std.specs.Prelude.{◌≡◌, ℕ, ◌<◌, ◌++◌, [], ◌∷◌, All, IfOk, EachIndex, length, map, slice_index, bit_xor};
 ghost use Rattle.lrc_code.specs.Column.{parity_of};
 ghost use Rattle.lrc_code.specs.Stripe.{AreParities, IsStripe, list_at, bytes_at};
 
@@ -107,6 +107,55 @@ pub fn encode_in(
     match code {
         Code::Wide => encode_wide(alloc, sources, w),
         Code::Small => encode_by_equations(alloc, code, sources, w),
+    }
+}
+
+/// Makes every byte 0.
+pub(crate) fn clear(bytes: &mut [u8])
+    ensures { EachIndex bytes.new (λ k. slice_index bytes.new k ≡ 0) }
+{
+    for i in 0..bytes.len() {
+        bytes[i] = 0;
+    }
+}
+
+/// Writes the parity that an equation gives.
+fn parity_to(bytes: &mut [u8], code: Code, equation: usize, sources: &[&[u8]])
+    requires equation_below { equation < 4 }
+    requires count { length sources.now ≡ data_count code }
+    requires long { All (λ s. length s.now ≡ length bytes.old) sources.now }
+    ensures { EachIndex bytes.new (λ k. slice_index bytes.new k ≡ parity_of code equation (bytes_at (map (λ s. s.now) sources.now) k)) }
+{
+    clear(bytes);
+    add_data(bytes, code, equation, sources);
+}
+
+/// Writes the four parities of a code's data fragments, which have as many bytes as each parity: together they are a stripe of
+/// the code. It asks for no memory.
+pub fn encode_to(
+    code: Code,
+    sources: &[&[u8]],
+    first: &mut [u8],
+    second: &mut [u8],
+    third: &mut [u8],
+    fourth: &mut [u8],
+)
+    requires count { length sources.now ≡ data_count code }
+    requires same { All (λ s. length s.now ≡ length first.old) sources.now }
+    requires same_second { length second.old ≡ length first.old }
+    requires same_third { length third.old ≡ length first.old }
+    requires same_fourth { length fourth.old ≡ length first.old }
+    ensures { IsStripe code (length first.new) (list_at (map (λ s. s.now) sources.now ++ first.new ∷ second.new ∷ third.new ∷ fourth.new ∷ [])) }
+{
+    all_fit(sources);
+    match code {
+        Code::Wide => encode_into(sources, first, second, third, fourth),
+        Code::Small => {
+            parity_to(first, code, 0, sources);
+            parity_to(second, code, 1, sources);
+            parity_to(third, code, 2, sources);
+            parity_to(fourth, code, 3, sources);
+        }
     }
 }
 
