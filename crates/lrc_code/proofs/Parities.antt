@@ -1,6 +1,5 @@
 -- Data with the four parities are a stripe.
-use Rattle.std.proofs.Common.{◌≡◌, ℕ, zero, suc, ◌+◌, ◌-◌, ◌<◌, List, [], ◌∷◌, ◌++◌, length, get_or, bit_xor, sym, ap, ap₂, ◌∙◌, subst, arith, inl, inr, map, add-one, Bor}
-use Rattle.std.specs.Prelude.{Result, Ok, Err, IfOk}
+use Rattle.std.proofs.Common.{◌≡◌, ℕ, zero, suc, ◌+◌, ◌-◌, ◌<◌, List, [], ◌∷◌, ◌++◌, length, get_or, bit_xor, sym, ap, ap₂, ◌∙◌, subst, refl, arith, inl, inr, map, add-one, Bor}
 use Rattle.std.proofs.lemmas.Bool.{cases_eq, cases_lt}
 use Rattle.std.proofs.lemmas.List.{get_or_append_left, get_or-append-add}
 use lib.Bits.{xor_assoc}
@@ -96,10 +95,9 @@ long_at sources w all i l =
     let f : Bor (List ℕ) → List ℕ = λ s. s.now in
     ap (length {A = ℕ}) (get_or-map f sources i (record { ref_ptr = (0, 0); now = [] })) ∙ All-get_or (λ s. length s.now ≡ w) sources i (record { ref_ptr = (0, 0); now = [] }) l all
 
--- where both are known of what a call returned, it is a stripe
-pub encoded_ok : {V E : Type 0} (items : V → List ℕ) (code : Code) (w : ℕ) (sources : List (List ℕ)) (result : Result (List V) E) → length sources ≡ data_count code
-    → ((i : ℕ) → i < data_count code → length (list_at sources i) ≡ w) → ((i k : ℕ) → i < data_count code → k < w → get_or (list_at sources i) k 0 < 256)
-    → IfOk result (λ ps. (e : ℕ) → e < 4 → length (list_at (map items ps) e) ≡ w) → IfOk result (λ ps. (k : ℕ) → k < w → AreParities code sources (map items ps) k)
-    → IfOk result (λ ps. IsStripe code w (list_at (sources ++ map items ps)))
-encoded_ok items code w sources (Ok ps) count long bytes as_long are = encoded code w sources (map items ps) count long bytes as_long are
-encoded_ok items code w sources (Err e) count long bytes as_long are = tt
+-- equal parities, the same stripe
+pub stripe_same : (code : Code) (sources : List (List ℕ)) (p q g h p' q' g' h' : List ℕ) (n w : ℕ) → p' ≡ p → q' ≡ q → g' ≡ g → h' ≡ h → n ≡ w
+    → IsStripe code n (list_at (sources ++ p ∷ q ∷ g ∷ h ∷ [])) → IsStripe code w (list_at (sources ++ p' ∷ q' ∷ g' ∷ h' ∷ []))
+stripe_same code sources p q g h p' q' g' h' n w ep eq eg eh en stripe =
+    let four : p ∷ q ∷ g ∷ h ∷ [] ≡ p' ∷ q' ∷ g' ∷ h' ∷ [] = rw ep (rw eq (rw eg (rw eh refl))) in
+    subst (λ ps. IsStripe code w (list_at (sources ++ ps))) four (subst (λ n. IsStripe code n (list_at (sources ++ p ∷ q ∷ g ∷ h ∷ []))) en stripe)

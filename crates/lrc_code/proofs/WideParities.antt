@@ -11,7 +11,7 @@ use Rattle.lrc_code.specs.declared.Code.TheVariants.{Wide}
 use Rattle.lrc_code.specs.Code.{xor_sum, weight, weights}
 use Rattle.lrc_code.specs.Column.{parity_of}
 use Rattle.lrc_code.specs.Stripe.{list_at, bytes_at, AreParities}
-use Rattle.lrc_code.specs.Doublings.{sum_of_3, sum_of_6, with_bit_0, with_bit_1, with_bit_2, third_of, fourth_of, times_4}
+use Rattle.lrc_code.specs.Doublings.{sum_of_3, sum_of_6, with_bit_0, with_bit_1, with_bit_2, third_of, fourth_of, third_apart, fourth_apart, times_4}
 use Rattle.lrc_code.proofs.Opening.{each_of_four}
 use Rattle.lrc_code.proofs.Sums.{xor_sum_same}
 
@@ -78,6 +78,13 @@ third = plus sum_s0 (twice (plus sum_s1 (twice (plus sum_s2 (four (plus sum_t0 (
 abbrev pub fourth : Term
 fourth = plus sum_s0 (four (plus sum_s1 (four (plus sum_s2 (four (four (plus sum_t0 (four (plus sum_t1 (four sum_t2))))))))))
 
+-- the same, each group by itself
+abbrev pub third_of_groups : Term
+third_of_groups = plus (plus sum_s0 (twice (plus sum_s1 (twice sum_s2)))) (times (num 0x10) (plus sum_t0 (twice (plus sum_t1 (twice sum_t2)))))
+
+abbrev pub fourth_of_groups : Term
+fourth_of_groups = plus (plus sum_s0 (four (plus sum_s1 (four sum_s2)))) (times (num 0x1D) (plus sum_t0 (four (plus sum_t1 (four sum_t2)))))
+
 -- what equation e gives for the first n of the twelve bytes
 abbrev equation : ℕ → ℕ → Term
 equation e zero = num 0
@@ -103,6 +110,12 @@ third_by_bits xs = third_of (of_3 xs 0 2 4) (of_3 xs 1 2 5) (of_3 xs 3 4 5) (of_
 abbrev pub fourth_by_bits : List ℕ → ℕ
 fourth_by_bits xs = fourth_of (of_3 xs 0 2 4) (of_3 xs 1 2 5) (of_3 xs 3 4 5) (of_3 xs 6 8 10) (of_3 xs 7 8 11) (of_3 xs 9 10 11)
 
+abbrev pub third_by_groups : List ℕ → ℕ
+third_by_groups xs = third_apart (of_3 xs 0 2 4) (of_3 xs 1 2 5) (of_3 xs 3 4 5) (of_3 xs 6 8 10) (of_3 xs 7 8 11) (of_3 xs 9 10 11)
+
+abbrev pub fourth_by_groups : List ℕ → ℕ
+fourth_by_groups xs = fourth_apart (of_3 xs 0 2 4) (of_3 xs 1 2 5) (of_3 xs 3 4 5) (of_3 xs 6 8 10) (of_3 xs 7 8 11) (of_3 xs 9 10 11)
+
 module _ (xs : List ℕ) (fits : Each1 (λ x. x < 256) xs) where
   first_is : first_of xs ≡ parity_of Wide 0 (λ i. get_or xs i 0)
   unfolding xor_sum weight weights
@@ -119,6 +132,18 @@ module _ (xs : List ℕ) (fits : Each1 (λ x. x < 256) xs) where
   fourth_is : fourth_by_bits xs ≡ parity_of Wide 3 (λ i. get_or xs i 0)
   unfolding xor_sum weight weights
   fourth_is = same_by_ring xs fits fourth (equation 3 12) refl
+
+  third_of_groups_is : third_by_groups xs ≡ parity_of Wide 2 (λ i. get_or xs i 0)
+  unfolding xor_sum weight weights
+  third_of_groups_is = same_by_ring xs fits third_of_groups (equation 2 12) refl
+
+  fourth_of_groups_is : fourth_by_groups xs ≡ parity_of Wide 3 (λ i. get_or xs i 0)
+  unfolding xor_sum weight weights
+  fourth_of_groups_is = same_by_ring xs fits fourth_of_groups (equation 3 12) refl
+
+  pub parities_of_groups : (r : ℕ → ℕ) → r 0 ≡ first_of xs → r 1 ≡ second_of xs → r 2 ≡ third_by_groups xs → r 3 ≡ fourth_by_groups xs
+      → (e : ℕ) → e < 4 → r e ≡ parity_of Wide e (λ i. get_or xs i 0)
+  parities_of_groups r p q g h = each_of_four (λ e. r e ≡ parity_of Wide e (λ i. get_or xs i 0)) (p ∙ first_is) (q ∙ second_is) (g ∙ third_of_groups_is) (h ∙ fourth_of_groups_is)
 
   -- four bytes that are made of the twelve by doublings are their parities
   pub parities_of : (r : ℕ → ℕ) → r 0 ≡ first_of xs → r 1 ≡ second_of xs → r 2 ≡ third_by_bits xs → r 3 ≡ fourth_by_bits xs
@@ -141,10 +166,10 @@ fourth_from s0 s1 s2 t0 t1 t2 r1 r2 r3 r4 r5 r6 e1 e2 e3 e4 e5 e6 =
     ap (bit_xor s0) (e6 ∙ ap (λ x. times_4 (bit_xor s1 x)) (e5 ∙ ap (λ x. times_4 (bit_xor s2 x)) (e4 ∙ ap times_4 (e3 ∙ ap (λ x. times_4 (bit_xor t0 x)) (e2 ∙ ap (λ x. times_4 (bit_xor t1 x)) e1)))))
 
 -- equal sums, equal parities
-pub third_same : (s0 s1 s2 t0 t1 t2 u0 u1 u2 v0 v1 v2 : ℕ) → s0 ≡ u0 → s1 ≡ u1 → s2 ≡ u2 → t0 ≡ v0 → t1 ≡ v1 → t2 ≡ v2 → third_of s0 s1 s2 t0 t1 t2 ≡ third_of u0 u1 u2 v0 v1 v2
+pub third_same : (s0 s1 s2 t0 t1 t2 u0 u1 u2 v0 v1 v2 : ℕ) → s0 ≡ u0 → s1 ≡ u1 → s2 ≡ u2 → t0 ≡ v0 → t1 ≡ v1 → t2 ≡ v2 → third_apart s0 s1 s2 t0 t1 t2 ≡ third_apart u0 u1 u2 v0 v1 v2
 third_same s0 s1 s2 t0 t1 t2 u0 u1 u2 v0 v1 v2 a b c d e f = cc
 
-pub fourth_same : (s0 s1 s2 t0 t1 t2 u0 u1 u2 v0 v1 v2 : ℕ) → s0 ≡ u0 → s1 ≡ u1 → s2 ≡ u2 → t0 ≡ v0 → t1 ≡ v1 → t2 ≡ v2 → fourth_of s0 s1 s2 t0 t1 t2 ≡ fourth_of u0 u1 u2 v0 v1 v2
+pub fourth_same : (s0 s1 s2 t0 t1 t2 u0 u1 u2 v0 v1 v2 : ℕ) → s0 ≡ u0 → s1 ≡ u1 → s2 ≡ u2 → t0 ≡ v0 → t1 ≡ v1 → t2 ≡ v2 → fourth_apart s0 s1 s2 t0 t1 t2 ≡ fourth_apart u0 u1 u2 v0 v1 v2
 fourth_same s0 s1 s2 t0 t1 t2 u0 u1 u2 v0 v1 v2 a b c d e f = cc
 
 -- ---- the parities of a stripe, place by place
@@ -180,12 +205,12 @@ twelve sources place = map (bytes_at sources place) (0 ∷ 1 ∷ 2 ∷ 3 ∷ 4 �
 -- the same where four bytes are written that are made by doublings
 pub block_parities : (sources : List (List ℕ)) (p q g h : List ℕ) (place : ℕ) → Each1 (λ x. x < 256) (twelve sources place)
     → get_or p place 0 ≡ first_of (twelve sources place) → get_or q place 0 ≡ second_of (twelve sources place)
-    → get_or g place 0 ≡ third_by_bits (twelve sources place) → get_or h place 0 ≡ fourth_by_bits (twelve sources place)
+    → get_or g place 0 ≡ third_by_groups (twelve sources place) → get_or h place 0 ≡ fourth_by_groups (twelve sources place)
     → AreParities Wide sources (p ∷ q ∷ g ∷ h ∷ []) place
 block_parities sources p q g h place fits ep eq eg eh =
     parities_at sources (p ∷ q ∷ g ∷ h ∷ []) place (twelve sources place)
     (at_below (λ i. get_or (twelve sources place) i 0 ≡ bytes_at sources place i) 12 ((((((((((((tt, refl), refl), refl), refl), refl), refl), refl), refl), refl), refl), refl), refl))
-    (parities_of (twelve sources place) fits (bytes_at (p ∷ q ∷ g ∷ h ∷ []) place) ep eq eg eh)
+    (parities_of_groups (twelve sources place) fits (bytes_at (p ∷ q ∷ g ∷ h ∷ []) place) ep eq eg eh)
 
 -- parities below `at` stay, and those from `at` to `to` are new
 pub parities_more : (sources : List (List ℕ)) (p q g h p' q' g' h' : List ℕ) (at to : ℕ)
@@ -212,17 +237,6 @@ at_last P at p k h =
 -- a list that is written back over one of its length
 pub written_back : (n : ℕ) (xs ys : List ℕ) → length xs ≡ n → take n (xs ++ ys) ≡ xs
 written_back n xs ys e = ap (λ k. take k (xs ++ ys)) (sym e) ∙ take-append_seam xs ys
-
--- equal lists, equal parities
-pub parities_same : (sources : List (List ℕ)) (p q g h p' q' g' h' : List ℕ) (w : ℕ) → p' ≡ p → q' ≡ q → g' ≡ g → h' ≡ h
-    → ((k : ℕ) → k < w → AreParities Wide sources (p ∷ q ∷ g ∷ h ∷ []) k) → (k : ℕ) → k < w → AreParities Wide sources (p' ∷ q' ∷ g' ∷ h' ∷ []) k
-parities_same sources p q g h p' q' g' h' w ep eq eg eh are k l e m =
-    ap (λ xs. get_or xs k 0) (each_of_four (λ e. list_at (p' ∷ q' ∷ g' ∷ h' ∷ []) e ≡ list_at (p ∷ q ∷ g ∷ h ∷ []) e) ep eq eg eh e m) ∙ are k l e m
-
-pub long_same : (p q g h p' q' g' h' : List ℕ) (w : ℕ) → p' ≡ p → q' ≡ q → g' ≡ g → h' ≡ h → length p ≡ w → length q ≡ w → length g ≡ w → length h ≡ w
-    → (e : ℕ) → e < 4 → length (list_at (p' ∷ q' ∷ g' ∷ h' ∷ []) e) ≡ w
-long_same p q g h p' q' g' h' w ep eq eg eh lp lq lg lh =
-    each_of_four (λ e. length (list_at (p' ∷ q' ∷ g' ∷ h' ∷ []) e) ≡ w) (ap length ep ∙ lp) (ap length eq ∙ lq) (ap length eg ∙ lg) (ap length eh ∙ lh)
 
 -- ---- lanes of a group
 pub each_of_six : (P : ℕ → Type 0) → P 0 → P 1 → P 2 → P 3 → P 4 → P 5 → (i : ℕ) → i < 6 → P i
@@ -273,3 +287,21 @@ module _ (x y : ℕ → ℕ) (same : (i : ℕ) → i < 6 → x i ≡ y i) where
 
   pub six_same : sum_of_6 x ≡ sum_of_6 y
   six_same = ap₂ bit_xor (ap₂ bit_xor (ap₂ bit_xor bit_0_same at_1) at_3) at_5
+
+-- twelve elements, one by one
+pub twelve_of : (sources : List (Bor (List ℕ))) → length sources ≡ 12
+    → (get_or sources 0 nothing ∷ get_or sources 1 nothing ∷ get_or sources 2 nothing ∷ get_or sources 3 nothing ∷ get_or sources 4 nothing ∷ get_or sources 5 nothing ∷ get_or sources 6 nothing ∷ get_or sources 7 nothing ∷ get_or sources 8 nothing ∷ get_or sources 9 nothing ∷ get_or sources 10 nothing ∷ get_or sources 11 nothing ∷ []) ≡ sources
+twelve_of [] long = absurd (omega arith)
+twelve_of (a ∷ []) long = absurd (omega arith)
+twelve_of (a ∷ b ∷ []) long = absurd (omega arith)
+twelve_of (a ∷ b ∷ c ∷ []) long = absurd (omega arith)
+twelve_of (a ∷ b ∷ c ∷ d ∷ []) long = absurd (omega arith)
+twelve_of (a ∷ b ∷ c ∷ d ∷ e ∷ []) long = absurd (omega arith)
+twelve_of (a ∷ b ∷ c ∷ d ∷ e ∷ f ∷ []) long = absurd (omega arith)
+twelve_of (a ∷ b ∷ c ∷ d ∷ e ∷ f ∷ g ∷ []) long = absurd (omega arith)
+twelve_of (a ∷ b ∷ c ∷ d ∷ e ∷ f ∷ g ∷ h ∷ []) long = absurd (omega arith)
+twelve_of (a ∷ b ∷ c ∷ d ∷ e ∷ f ∷ g ∷ h ∷ i ∷ []) long = absurd (omega arith)
+twelve_of (a ∷ b ∷ c ∷ d ∷ e ∷ f ∷ g ∷ h ∷ i ∷ j ∷ []) long = absurd (omega arith)
+twelve_of (a ∷ b ∷ c ∷ d ∷ e ∷ f ∷ g ∷ h ∷ i ∷ j ∷ k ∷ []) long = absurd (omega arith)
+twelve_of (a ∷ b ∷ c ∷ d ∷ e ∷ f ∷ g ∷ h ∷ i ∷ j ∷ k ∷ l ∷ []) long = refl
+twelve_of (a ∷ b ∷ c ∷ d ∷ e ∷ f ∷ g ∷ h ∷ i ∷ j ∷ k ∷ l ∷ m ∷ rest) long = absurd (omega arith)

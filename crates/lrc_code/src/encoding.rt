@@ -3,7 +3,7 @@
 ghost use Rattle.lrc_code.specs.Code.{data_count};
 ghost use Rattle.std.specs.Prelude.{◌≡◌, ℕ, ◌<◌, ◌++◌, [], ◌∷◌, All, IfOk, EachIndex, length, map, slice_index, bit_xor};
 ghost use Rattle.lrc_code.specs.Column.{parity_of};
-ghost use Rattle.lrc_code.specs.Stripe.{AreParities, IsStripe, list_at, bytes_at};
+ghost use Rattle.lrc_code.specs.Stripe.{IsStripe, list_at, bytes_at};
 
 use crate::recipes::weight_of;
 use crate::wide::encode_into;
@@ -24,25 +24,6 @@ fn add_data(bytes: &mut [u8], code: Code, equation: usize, sources: &[&[u8]])
     }
 }
 
-/// The parity that an equation gives.
-fn parity(
-    alloc: Global,
-    code: Code,
-    equation: usize,
-    sources: &[&[u8]],
-    w: usize,
-) -> Result<Vec<u8>, NoMemory>
-    requires equation_below { equation < 4 }
-    requires count { length sources.now ≡ data_count code }
-    requires long { All (λ s. length s.now ≡ w) sources.now }
-    ensures long { IfOk result (λ v. length v.items ≡ w) }
-    ensures sums { IfOk result (λ v. EachIndex v.items (λ k. slice_index v.items k ≡ parity_of code equation (bytes_at (map (λ s. s.now) sources.now) k))) }
-{
-    let mut bytes = vec![in alloc; 0; w]?;
-    add_data(&mut bytes, code, equation, sources);
-    Ok(bytes)
-}
-
 /// The elements of a slice are below 256: a proof knows it of a parameter, and not of a slice inside another.
 fn fits(bytes: &[u8])
     ensures { EachIndex bytes.now (λ k. slice_index bytes.now k < 256) }
@@ -54,59 +35,6 @@ fn all_fit(sources: &[&[u8]])
 {
     for i in 0..sources.len() {
         fits(sources[i]);
-    }
-}
-
-/// The parities in LRC(12,2,2), by the sums over the bits of the coefficients.
-fn encode_wide(alloc: Global, sources: &[&[u8]], w: usize) -> Result<[Vec<u8>; 4], NoMemory>
-    requires count { length sources.now ≡ 12 }
-    requires long { All (λ s. length s.now ≡ w) sources.now }
-    ensures long { IfOk result (λ parities. (e : ℕ) → e < 4 → length (list_at (map (λ v. v.items) parities) e) ≡ w) }
-    ensures are { IfOk result (λ parities. (k : ℕ) → k < w → AreParities Code.Wide (map (λ s. s.now) sources.now) (map (λ v. v.items) parities) k) }
-{
-    let mut first = vec![in alloc; 0; w]?;
-    let mut second = vec![in alloc; 0; w]?;
-    let mut third = vec![in alloc; 0; w]?;
-    let mut fourth = vec![in alloc; 0; w]?;
-    encode_into(sources, &mut first, &mut second, &mut third, &mut fourth);
-    Ok([first, second, third, fourth])
-}
-
-/// The parities in any code, each by its equation.
-fn encode_by_equations(
-    alloc: Global,
-    code: Code,
-    sources: &[&[u8]],
-    w: usize,
-) -> Result<[Vec<u8>; 4], NoMemory>
-    requires count { length sources.now ≡ data_count code }
-    requires long { All (λ s. length s.now ≡ w) sources.now }
-    ensures long { IfOk result (λ parities. (e : ℕ) → e < 4 → length (list_at (map (λ v. v.items) parities) e) ≡ w) }
-    ensures are { IfOk result (λ parities. (k : ℕ) → k < w → AreParities code (map (λ s. s.now) sources.now) (map (λ v. v.items) parities) k) }
-{
-    let first = parity(alloc, code, 0, sources, w)?;
-    let second = parity(alloc, code, 1, sources, w)?;
-    let third = parity(alloc, code, 2, sources, w)?;
-    let fourth = parity(alloc, code, 3, sources, w)?;
-    Ok([first, second, third, fourth])
-}
-
-/// The four parities of a code's data fragments, which have `w` bytes each: together they are a stripe of the code.
-/// Refused memory is `NoMemory`.
-pub fn encode_in(
-    alloc: Global,
-    code: Code,
-    sources: &[&[u8]],
-    w: usize,
-) -> Result<[Vec<u8>; 4], NoMemory>
-    requires count { length sources.now ≡ data_count code }
-    requires long { All (λ s. length s.now ≡ w) sources.now }
-    ensures { IfOk result (λ parities. IsStripe code w (list_at (map (λ s. s.now) sources.now ++ map (λ v. v.items) parities))) }
-{
-    all_fit(sources);
-    match code {
-        Code::Wide => encode_wide(alloc, sources, w),
-        Code::Small => encode_by_equations(alloc, code, sources, w),
     }
 }
 
@@ -157,6 +85,33 @@ pub fn encode_to(
             parity_to(fourth, code, 3, sources);
         }
     }
+}
+
+/// The four parities of a code's data fragments, which have `w` bytes each: together they are a stripe of the code.
+/// Refused memory is `NoMemory`.
+pub fn encode_in(
+    alloc: Global,
+    code: Code,
+    sources: &[&[u8]],
+    w: usize,
+) -> Result<[Vec<u8>; 4], NoMemory>
+    requires count { length sources.now ≡ data_count code }
+    requires long { All (λ s. length s.now ≡ w) sources.now }
+    ensures { IfOk result (λ parities. IsStripe code w (list_at (map (λ s. s.now) sources.now ++ map (λ v. v.items) parities))) }
+{
+    let mut first = vec![in alloc; 0; w]?;
+    let mut second = vec![in alloc; 0; w]?;
+    let mut third = vec![in alloc; 0; w]?;
+    let mut fourth = vec![in alloc; 0; w]?;
+    encode_to(
+        code,
+        sources,
+        &mut first,
+        &mut second,
+        &mut third,
+        &mut fourth,
+    );
+    Ok([first, second, third, fourth])
 }
 
 /// Fragments 12 to 15 of the stripe of LRC(12,2,2) with these data fragments, which have `w` bytes each. Refused memory is
