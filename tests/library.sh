@@ -42,16 +42,30 @@ c_program() {
     "$compiler" -std="$standard" -O1 "${warnings[@]}" "$@" "$file" "$archive" -lpthread -o "$work/program" && "$work/program"
 }
 
+# The archive asks for `memset` alone, and its names are those of the header.
+symbols() {
+    local names
+    names=$(nm -g --defined-only "$archive" | awk 'NF == 3 { print $3 }' | sort | tr '\n' ' ')
+    [ "$(nm -u "$archive" | awk 'NF == 2 { print $2 }' | sort -u)" = memset ] \
+        && [ "$names" = "lrc_add lrc_encode lrc_encode_add lrc_is_open lrc_rebuild lrc_recipe " ] \
+        && echo "symbols: six functions, which ask for memset alone"
+}
+
+header() {
+    gcc -std=c99 "${warnings[@]}" -fsyntax-only -x c include/lrc_coder.h && g++ -std=c++11 "${warnings[@]}" -fsyntax-only -x c++ include/lrc_coder.h \
+        && echo "header: as C99 and as C++11"
+}
+
 shared_library() {
     gcc -shared -Wl,--whole-archive "$archive" -Wl,--no-whole-archive -o "$work/liblrc_coder.so"
 }
 
 python() {
-    LRC_CODER_LIB="$work/liblrc_coder.so" PYTHONDONTWRITEBYTECODE=1 PYTHONPATH=bindings/python python3 "$@"
+    LRC_CODER_SO="$work/liblrc_coder.so" PYTHONDONTWRITEBYTECODE=1 PYTHONPATH=bindings/python python3 "$@"
 }
 
 rust() {
-    LRC_CODER_LIB="$PWD/crates/coder_c/out" CARGO_TARGET_DIR="$work/cargo" CARGO_TERM_COLOR=never cargo "$1" --quiet --offline --release --manifest-path bindings/rust/Cargo.toml "${@:2}"
+    LRC_CODER_DIR="$PWD/crates/coder_c/out" CARGO_TARGET_DIR="$work/cargo" CARGO_TERM_COLOR=never cargo "$1" --quiet --offline --release --manifest-path bindings/rust/Cargo.toml "${@:2}"
 }
 
 rust_tests() {
@@ -82,6 +96,8 @@ pyeclib() {
 }
 
 (cd crates/coder_c && rt lib > "$work/lib" 2>&1) || { cat "$work/lib"; exit 1; }
+test_of "symbols" nm binutils symbols
+test_of "header" g++ g++ header
 test_of "C" gcc gcc c_program gcc c11 tests/library/coder.c
 test_of "C, sanitizers of gcc" gcc gcc c_program gcc c11 tests/library/coder.c "${sanitizers[@]}"
 test_of "C, sanitizers of clang" clang clang c_program clang c11 tests/library/coder.c "${sanitizers[@]}"

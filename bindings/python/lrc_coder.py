@@ -1,5 +1,5 @@
 """The Local Reconstruction Codes LRC(12,2,2) and LRC(6,2,2), by ctypes over liblrc_coder.so, which is libcoder_c.a as a shared library. It is looked for
-beside this file, or where the environment's LRC_CODER_LIB says. include/lrc_coder.h describes the functions.
+beside this file, or where the environment's LRC_CODER_SO says. include/lrc_coder.h describes the functions.
 
 A code is named by its number of data fragments, 12 or 6; `lost` is any iterable of fragment numbers. Every call lets other threads of Python run.
 """
@@ -28,7 +28,7 @@ DECLARED = {
     "lrc_recipe": [_SIZE, _U16, _U8, _BYTES, _BYTES, ctypes.POINTER(_U32)],
     "lrc_add": [_BYTES, _SIZE, _U8, _BYTES, _SIZE],
 }
-_library = ctypes.CDLL(os.environ.get("LRC_CODER_LIB") or os.path.join(os.path.dirname(os.path.abspath(__file__)), "liblrc_coder.so"))
+_library = ctypes.CDLL(os.environ.get("LRC_CODER_SO") or os.path.join(os.path.dirname(os.path.abspath(__file__)), "liblrc_coder.so"))
 for _name, _types in DECLARED.items():
     getattr(_library, _name).argtypes = _types
     getattr(_library, _name).restype = _U32

@@ -70,8 +70,10 @@ pub extern "C" fn lrc_encode(
     DONE
 }
 
+/// A fragment of one byte, 0.
 const ZERO: &[u8] = &[0];
 
+/// A fragment of one byte, 1.
 const ONE: &[u8] = &[1];
 
 /// Data of a byte each: 1 at a fragment, and 0 at the others.
