@@ -1,5 +1,6 @@
-/* lrc_coder.h: the Local Reconstruction Codes LRC(12,2,2) and LRC(6,2,2) over GF(2^8) with the polynomial
- * 0x11D, from libcoder_c.a. The functions are proved; those in the second half of this file are plain C.
+/* lrc_coder.h: the Local Reconstruction Codes LRC(12,2,2) and LRC(6,2,2) over GF(2^8) with the
+ * polynomial 0x11D, from libcoder_c.a. The functions are proved; those in the second half of this
+ * file are plain C.
  *
  * A code is named by its number of data fragments, and the fragments of a stripe by their numbers:
  *
@@ -7,13 +8,14 @@
  *     12               0 to 5        6 to 11        12, 13           14, 15
  *     6                0 to 2        3 to 5         6, 7             8, 9
  *
- * All fragments of a stripe have one length, in bytes. A set of lost fragments is a number: bit i is set where
- * fragment i is lost. Bits past the code's fragments are not looked at.
+ * All fragments of a stripe have one length, in bytes. A set of lost fragments is a number: bit i
+ * is set where fragment i is lost. Bits past the code's fragments are not looked at.
  *
- * Each function tests its arguments, but for these, which C has to keep: an address is not NULL, also where
- * the length is 0, and valid for its length; and a target overlaps no other argument. No function asks for
- * memory, keeps anything or wants an address aligned to more than its C type, so any number of threads may
- * call them at once. What is not LRC_DONE leaves every target as it was. */
+ * Each function tests its arguments, but for these, which C has to keep: an address is not NULL,
+ * also where the length is 0, and valid for its length; and a target overlaps no other argument.
+ * No function asks for memory, keeps anything or wants an address aligned to more than its C type,
+ * so any number of threads may call them at once. What is not LRC_DONE leaves every target as it
+ * was. */
 #ifndef LRC_CODER_H
 #define LRC_CODER_H
 
@@ -26,10 +28,12 @@ extern "C" {
 
 /* What a function returns. */
 enum {
-    LRC_DONE = 0,        /* what was asked was done; of lrc_is_open: the fragment is left, or can be rebuilt */
-    LRC_OPEN = 1,        /* nothing that is left tells the fragment: two stripes agree on all that is left, and
-                            differ at it */
-    LRC_BAD_ARGUMENT = 2 /* an argument is none that the function takes */
+    /* what was asked was done; of lrc_is_open: the fragment is left, or can be rebuilt */
+    LRC_DONE = 0,
+    /* nothing that is left tells the fragment: two stripes agree on all of it, and differ there */
+    LRC_OPEN = 1,
+    /* an argument is none that the function takes */
+    LRC_BAD_ARGUMENT = 2
 };
 
 /* Bytes that are read. */
@@ -38,47 +42,51 @@ typedef struct {
     size_t len;
 } lrc_slice;
 
-/* Writes the four parities of the data, which are given in the order of their numbers; `data_fragments` is 12
- * or 6. LRC_BAD_ARGUMENT exactly where it is neither, or the lengths, of data and parities, are not all one. */
+/* Writes the four parities of the data, which are given in the order of their numbers;
+ * `data_fragments` is 12 or 6. LRC_BAD_ARGUMENT exactly where it is neither, or the lengths, of
+ * data and parities, are not all one. */
 uint32_t lrc_encode(const lrc_slice *data, size_t data_fragments,
                     uint8_t *first, size_t first_len, uint8_t *second, size_t second_len,
                     uint8_t *third, size_t third_len, uint8_t *fourth, size_t fourth_len);
 
-/* Adds the data fragment with the number `fragment` into the four parities. Into parities of zeros, one call
- * for each data fragment, in any order, comes to what lrc_encode writes. To write over a data fragment, add
- * the exclusive or of its old and its new bytes. LRC_BAD_ARGUMENT exactly where `data_fragments` is neither 12
- * nor 6, `fragment` is not below it, or the five lengths are not all one. */
+/* Adds the data fragment with the number `fragment` into the four parities. Into parities of
+ * zeros, one call for each data fragment, in any order, comes to what lrc_encode writes. To write
+ * over a data fragment, add the exclusive or of its old and its new bytes. LRC_BAD_ARGUMENT
+ * exactly where `data_fragments` is neither 12 nor 6, `fragment` is not below it, or the five
+ * lengths are not all one. */
 uint32_t lrc_encode_add(size_t data_fragments, uint8_t fragment, const uint8_t *source, size_t source_len,
                         uint8_t *first, size_t first_len, uint8_t *second, size_t second_len,
                         uint8_t *third, size_t third_len, uint8_t *fourth, size_t fourth_len);
 
-/* LRC_OPEN exactly where nothing that is left tells `fragment`. LRC_BAD_ARGUMENT exactly where there is no such
- * code or fragment. */
+/* LRC_OPEN exactly where nothing that is left tells `fragment`. LRC_BAD_ARGUMENT exactly where
+ * there is no such code or fragment. */
 uint32_t lrc_is_open(size_t data_fragments, uint16_t lost, uint8_t fragment);
 
-/* Writes the bytes from..from+len of the lost `fragment` into `target`, as every stripe has them that agrees with
- * the fragments left. Of the sixteen slices those of lost fragments, and those past the code's, are not read:
- * give any address there but NULL, and any length, as 0. LRC_OPEN exactly where nothing that is left tells the
- * fragment, and no argument is refused. LRC_BAD_ARGUMENT exactly where there is no such code or fragment, it is
- * not in `lost`, a fragment left has less than from+len bytes, or that sum is more than SIZE_MAX. */
+/* Writes the bytes from..from+len of the lost `fragment` into `target`, as every stripe has them
+ * that agrees with the fragments left. Of the sixteen slices those of lost fragments, and those
+ * past the code's, are not looked at: give them any address but NULL, and the length 0. LRC_OPEN
+ * exactly where nothing that is left tells the fragment, and no argument is refused.
+ * LRC_BAD_ARGUMENT exactly where there is no such code or fragment, it is not in `lost`, a
+ * fragment left has less than from+len bytes, or that sum is more than SIZE_MAX. */
 uint32_t lrc_rebuild(size_t data_fragments, const lrc_slice fragments[16], uint16_t lost, uint8_t fragment,
                      size_t from, uint8_t *target, size_t len);
 
-/* Writes how the lost `fragment` comes from those left: their numbers, a coefficient for each, and how many they
- * are, at most 15. The fragment is their sum, each times its coefficient. Alone lost in its group, it comes
- * from the six (or three) others of its group, and no recipe has fewer. LRC_OPEN as by lrc_rebuild;
- * LRC_BAD_ARGUMENT exactly where there is no such code or fragment, or it is not in `lost`. */
+/* Writes how the lost `fragment` comes from those left: their numbers, a coefficient for each, and
+ * how many they are, at most 15. The fragment is their sum, each times its coefficient. Alone lost
+ * in its group, it comes from the six (or three) others of its group, and no recipe has fewer.
+ * LRC_OPEN as by lrc_rebuild; LRC_BAD_ARGUMENT exactly where there is no such code or fragment, or
+ * it is not in `lost`. */
 uint32_t lrc_recipe(size_t data_fragments, uint16_t lost, uint8_t fragment,
                     uint8_t fragments[16], uint8_t coefficients[16], uint32_t *count);
 
-/* Adds `source` times `coefficient` to `target`, byte by byte, in the field. With lrc_recipe it rebuilds as fragments
- * arrive: into zeros, one call for each term, in any order and any cut of the bytes. LRC_BAD_ARGUMENT exactly
- * where the lengths differ. */
+/* Adds `source` times `coefficient` to `target`, byte by byte, in the field. With lrc_recipe it
+ * rebuilds as fragments arrive: into zeros, one call for each term, in any order and any cut of
+ * the bytes. LRC_BAD_ARGUMENT exactly where the lengths differ. */
 uint32_t lrc_add(uint8_t *target, size_t target_len, uint8_t coefficient,
                  const uint8_t *source, size_t source_len);
 
-/* ---- The same with plain arrays of addresses, each of `len` bytes. A NULL means a lost fragment among the
- * fragments of lrc_rebuild_arrays; anywhere else it is LRC_BAD_ARGUMENT. */
+/* ---- The same with plain arrays of addresses, each of `len` bytes. A NULL means a lost fragment
+ * among the fragments of lrc_rebuild_arrays; anywhere else it is LRC_BAD_ARGUMENT. */
 
 /* `data` has `data_fragments` addresses and `parities` four. */
 static inline uint32_t lrc_encode_arrays(size_t data_fragments, size_t len,
@@ -115,8 +123,8 @@ static inline uint32_t lrc_encode_add_arrays(size_t data_fragments, size_t len, 
                           parities[2], len, parities[3], len);
 }
 
-/* `fragments` has data_fragments + 4 addresses: NULL where the fragment is lost. `fragment` counts as lost,
- * also where an address is given for it. */
+/* `fragments` has data_fragments + 4 addresses: NULL where the fragment is lost. `fragment` counts
+ * as lost, also where an address is given for it. */
 static inline uint32_t lrc_rebuild_arrays(size_t data_fragments, size_t len, const uint8_t *const *fragments,
                                           uint8_t fragment, uint8_t *target)
 {

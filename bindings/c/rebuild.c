@@ -10,7 +10,8 @@ int main(void) {
     if (lrc_encode_arrays(12, 2, left, parities) != LRC_DONE)
         return 1;
     left[0] = left[1] = NULL; /* two fragments are lost */
-    if (lrc_rebuild_arrays(12, 2, left, 0, rebuilt) != LRC_DONE || lrc_rebuild_arrays(12, 2, left, 1, rebuilt + 2) != LRC_DONE)
+    if (lrc_rebuild_arrays(12, 2, left, 0, rebuilt) != LRC_DONE
+        || lrc_rebuild_arrays(12, 2, left, 1, rebuilt + 2) != LRC_DONE)
         return 1;
     return printf("%.4s\n", (const char *)rebuilt) < 0;
 }

@@ -6,7 +6,8 @@ fn main() -> Result<(), lrc_coder::Error> {
     let [a, b, c, d] = &mut parities;
     encode(&data, [a, b, c, d])?;
 
-    let mut left: Vec<Option<&[u8]>> = data.iter().copied().chain(parities.iter().map(|p| &p[..])).map(Some).collect();
+    let fragments = data.iter().copied().chain(parities.iter().map(|parity| &parity[..]));
+    let mut left: Vec<Option<&[u8]>> = fragments.map(Some).collect();
     left[0] = None;
     left[1] = None;
     let mut rebuilt = [0; 4];

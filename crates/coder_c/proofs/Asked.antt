@@ -1,10 +1,10 @@
 -- What is known of the lost fragment that was asked for, in the words of the arguments.
-use Rattle.std.proofs.Common.{◌≡◌, ℕ, ◌<◌, Bool, true, List, sym, ap, ◌∙◌, subst}
+use Rattle.std.proofs.Common.{◌≡◌, ℕ, ◌<◌, Bool, true, List, sym, ap, ap₂, ◌∙◌, subst}
 use Rattle.std.specs.Prelude.{Option, Some, IfSome, IsSomeAnd}
 use Rattle.lrc_code.specs.declared.Code.{Code}
 use Rattle.lrc_code.specs.declared.recipes.Term.{Term}
-use Rattle.lrc_code.specs.Code.{fragment_count, is_alone, Open}
-use Rattle.lrc_code.specs.Recipe.{IsRecipe, IsLeast}
+use Rattle.lrc_code.specs.Code.{fragment_count, is_alone, is_only_lost_of, Open}
+use Rattle.lrc_code.specs.Recipe.{IsRecipe, IsLeast, local_recipe}
 use Rattle.lrc_code.proofs.Stripes.{open_same, alone_same, recipe_not_open}
 
 pub at_code : (found : Option Code) (code : Code) (P : Code → Type 0) → found ≡ Some code → P code → IfSome found P
@@ -22,3 +22,10 @@ pub least_there : (code : Code) (t u : ℕ → Bool) (f g : ℕ) (terms written 
 least_there code t u f g terms written l same e are least alone =
     let here : is_alone code t f ≡ true = alone_same code t u f l (λ i m. same i) ∙ ap (is_alone code u) e ∙ alone in
     subst (λ n. IsLeast code n written) e (subst (λ xs. IsLeast code f xs) (sym are) (least here))
+
+-- alone lost in its group, its recipe is the local one
+pub local_there : (t u : ℕ → Bool) (f g : ℕ) (terms written : List Term) (group : List ℕ) → ((i : ℕ) → t i ≡ u i) → f ≡ g → written ≡ terms
+    → (is_only_lost_of t group f ≡ true → terms ≡ local_recipe group f) → is_only_lost_of u group g ≡ true → written ≡ local_recipe group g
+local_there t u f g terms written group same e are local only =
+    let sets : t ≡ u = λ j i. same i j in
+    are ∙ local (ap₂ (λ (l : ℕ → Bool) (x : ℕ). is_only_lost_of l group x) sets e ∙ only) ∙ ap (local_recipe group) e

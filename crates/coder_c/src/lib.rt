@@ -7,9 +7,9 @@
 
 ghost use Rattle.std.specs.Prelude.{◌≡◌, ◌≢◌, ℕ, ◌+◌, ◌<◌, ◌≤◌, ◌^◌, ◌↔◌, ◌⊎◌, IsTrue, All, IfSome, IsSomeAnd, MatchOption, EachIndex, length, map, slice_index, bit_xor, true, false, [], ◌∷◌, ◌==◌, if◌then◌else◌};
 ghost use Rattle.gf256.specs.Field.{product};
-ghost use Rattle.lrc_code.specs.Code.{fragment_count, data_count, weight, is_lost, is_alone, Open};
+ghost use Rattle.lrc_code.specs.Code.{fragment_count, data_count, weight, is_lost, is_alone, is_only_lost_of, first_group, second_group, Open};
 ghost use Rattle.lrc_code.specs.Stripe.{IsStripe, list_at, is_absent, slot, bytes_of};
-ghost use Rattle.lrc_code.specs.Recipe.{IsRecipe, IsLeast};
+ghost use Rattle.lrc_code.specs.Recipe.{IsRecipe, IsLeast, local_recipe};
 ghost use Rattle.coder_c.specs.Call.{code_with, with_parities, FourHave, AddsData, IsLostIn, LeftReach, RebuildsLost, terms_of};
 
 use gf256::add_scaled;
@@ -163,9 +163,10 @@ pub extern "C" fn lrc_is_open(data_fragments: usize, lost: u16, fragment: u8) ->
         return BAD_ARGUMENT;
     }
     if is_open_in(code, LostSet::of_bits(lost), fragment) {
-        return OPEN;
+        OPEN
+    } else {
+        DONE
     }
-    DONE
 }
 
 /// A lost fragment of a stripe.
@@ -263,7 +264,7 @@ fn write_terms(terms: &[Term], fragments: &mut [u8; 16], coefficients: &mut [u8;
 
 /// How a lost fragment comes from those that are left: writes which of them, each with a coefficient, and their `count`, 15 at
 /// most. At each place of every stripe the fragment is their sum, each times its coefficient. Where it is alone lost in its
-/// group, no recipe has fewer.
+/// group, they are the others of that group, each times 1, and no recipe has fewer.
 ///
 /// `OPEN` comes exactly where nothing that is left tells the fragment, and no argument is refused. `BAD_ARGUMENT` comes exactly
 /// where there is no such code or fragment, or the fragment is not lost.
@@ -278,6 +279,10 @@ pub extern "C" fn lrc_recipe(
 ) -> u32
     ensures recipe { result ≡ DONE → IfSome (code_with data_fragments) (λ code.
         IsRecipe code (is_lost lost) fragment (terms_of fragments.new coefficients.new count.new)) }
+    ensures first { result ≡ DONE → IfSome (code_with data_fragments) (λ code. is_only_lost_of (is_lost lost) (first_group code) fragment ≡ true
+        → terms_of fragments.new coefficients.new count.new ≡ local_recipe (first_group code) fragment) }
+    ensures second { result ≡ DONE → IfSome (code_with data_fragments) (λ code. is_only_lost_of (is_lost lost) (second_group code) fragment ≡ true
+        → terms_of fragments.new coefficients.new count.new ≡ local_recipe (second_group code) fragment) }
     ensures least { result ≡ DONE → IfSome (code_with data_fragments) (λ code.
         is_alone code (is_lost lost) fragment ≡ true → IsLeast code fragment (terms_of fragments.new coefficients.new count.new)) }
     ensures few { result ≡ DONE → count.new ≤ 15 }
