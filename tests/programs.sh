@@ -6,3 +6,4 @@ cd "$(dirname "$0")/.."
 [ -x crates/lrcstore/out/lrcstore ] || (cd crates/lrcstore && rt run -- ../examples/data/first_path.csv --workers 2 > /dev/null)
 python3 tests/statuses.py
 python3 tests/refused_memory.py
+tests/library.sh

@@ -1,0 +1,151 @@
+//! The Local Reconstruction Codes LRC(12,2,2) and LRC(6,2,2), by `libcoder_c.a`: safe calls over the functions that
+//! `include/lrc_coder.h` describes. A set of lost fragments is a number: bit i is set where fragment i is lost.
+#![warn(missing_docs)]
+
+use std::fmt;
+
+/// The layout of `lrc_slice`.
+#[repr(C)]
+#[derive(Clone, Copy)]
+struct Slice {
+    at: *const u8,
+    len: usize,
+}
+
+impl From<&[u8]> for Slice {
+    fn from(bytes: &[u8]) -> Slice {
+        Slice { at: bytes.as_ptr(), len: bytes.len() }
+    }
+}
+
+#[rustfmt::skip]
+extern "C" {
+    fn lrc_encode(data: *const Slice, data_fragments: usize, first: *mut u8, first_len: usize, second: *mut u8, second_len: usize, third: *mut u8, third_len: usize, fourth: *mut u8, fourth_len: usize) -> u32;
+    fn lrc_encode_add(data_fragments: usize, fragment: u8, source: *const u8, source_len: usize, first: *mut u8, first_len: usize, second: *mut u8, second_len: usize, third: *mut u8, third_len: usize, fourth: *mut u8, fourth_len: usize) -> u32;
+    fn lrc_is_open(data_fragments: usize, lost: u16, fragment: u8) -> u32;
+    fn lrc_rebuild(data_fragments: usize, fragments: *const Slice, lost: u16, fragment: u8, from: usize, target: *mut u8, len: usize) -> u32;
+    fn lrc_recipe(data_fragments: usize, lost: u16, fragment: u8, fragments: *mut u8, coefficients: *mut u8, count: *mut u32) -> u32;
+    fn lrc_add(target: *mut u8, target_len: usize, coefficient: u8, source: *const u8, source_len: usize) -> u32;
+}
+
+const LRC_DONE: u32 = 0;
+const LRC_OPEN: u32 = 1;
+
+/// A code, by its number of data fragments. Four parities come after them.
+#[derive(Clone, Copy, Debug, PartialEq, Eq)]
+pub enum Code {
+    /// LRC(12,2,2).
+    Wide = 12,
+    /// LRC(6,2,2).
+    Small = 6,
+}
+
+/// Why nothing was done.
+#[derive(Clone, Copy, Debug, PartialEq, Eq)]
+pub enum Error {
+    /// Nothing that is left tells the fragment.
+    Open,
+    /// An argument is none that the call takes: `lrc_coder.h` says which are.
+    BadArgument,
+}
+
+impl fmt::Display for Error {
+    fn fmt(&self, f: &mut fmt::Formatter<'_>) -> fmt::Result {
+        f.write_str(match self {
+            Error::Open => "nothing that is left tells the fragment",
+            Error::BadArgument => "bad argument",
+        })
+    }
+}
+
+impl std::error::Error for Error {}
+
+fn result_of(status: u32) -> Result<(), Error> {
+    match status {
+        LRC_DONE => Ok(()),
+        LRC_OPEN => Err(Error::Open),
+        _ => Err(Error::BadArgument),
+    }
+}
+
+/// A fragment that is left, and what its bytes are multiplied by.
+#[derive(Clone, Copy, Debug, PartialEq, Eq)]
+pub struct Term {
+    /// The number of the fragment.
+    pub fragment: u8,
+    /// An element of the field, and not 0.
+    pub coefficient: u8,
+}
+
+/// Writes the four parities of 12 or 6 data fragments. All have one length.
+pub fn encode(data: &[&[u8]], parities: [&mut [u8]; 4]) -> Result<(), Error> {
+    let mut slices = [Slice::from(&[][..]); 12];
+    let used = slices.get_mut(..data.len()).ok_or(Error::BadArgument)?;
+    for (slice, bytes) in used.iter_mut().zip(data) {
+        *slice = Slice::from(*bytes);
+    }
+    let [a, b, c, d] = parities;
+    // SAFETY: each address is a slice's with its length, and no `&mut` overlaps another reference.
+    result_of(unsafe {
+        lrc_encode(
+            slices.as_ptr(), data.len(), a.as_mut_ptr(), a.len(), b.as_mut_ptr(), b.len(),
+            c.as_mut_ptr(), c.len(), d.as_mut_ptr(), d.len(),
+        )
+    })
+}
+
+/// Adds a data fragment into the four parities. All have one length.
+pub fn encode_add(code: Code, fragment: u8, source: &[u8], parities: [&mut [u8]; 4]) -> Result<(), Error> {
+    let [a, b, c, d] = parities;
+    // SAFETY: as in `encode`.
+    result_of(unsafe {
+        lrc_encode_add(
+            code as usize, fragment, source.as_ptr(), source.len(), a.as_mut_ptr(), a.len(),
+            b.as_mut_ptr(), b.len(), c.as_mut_ptr(), c.len(), d.as_mut_ptr(), d.len(),
+        )
+    })
+}
+
+/// Whether nothing that is left tells the fragment.
+pub fn is_open(code: Code, lost: u16, fragment: u8) -> Result<bool, Error> {
+    // SAFETY: numbers alone are passed.
+    match result_of(unsafe { lrc_is_open(code as usize, lost, fragment) }) {
+        Ok(()) => Ok(false),
+        Err(Error::Open) => Ok(true),
+        Err(refused) => Err(refused),
+    }
+}
+
+/// Writes the bytes of a lost fragment from `from` on, as many as `target` has. `fragments` has those that are left at their
+/// numbers, and None elsewhere.
+pub fn rebuild(code: Code, fragments: &[Option<&[u8]>], fragment: u8, from: usize, target: &mut [u8]) -> Result<(), Error> {
+    let mut slices = [Slice::from(&[][..]); 16];
+    let mut lost = u16::MAX;
+    for (i, bytes) in fragments.iter().enumerate().take(16) {
+        if let Some(bytes) = bytes {
+            slices[i] = Slice::from(*bytes);
+            lost &= !(1 << i);
+        }
+    }
+    // SAFETY: sixteen slices are passed, and as in `encode`.
+    result_of(unsafe {
+        lrc_rebuild(code as usize, slices.as_ptr(), lost, fragment, from, target.as_mut_ptr(), target.len())
+    })
+}
+
+/// How a lost fragment comes from those that are left: it is their sum, each times its coefficient.
+pub fn recipe(code: Code, lost: u16, fragment: u8) -> Result<Vec<Term>, Error> {
+    let (mut fragments, mut coefficients, mut count) = ([0; 16], [0; 16], 0);
+    // SAFETY: both lists have sixteen places.
+    result_of(unsafe {
+        lrc_recipe(code as usize, lost, fragment, fragments.as_mut_ptr(), coefficients.as_mut_ptr(), &mut count)
+    })?;
+    let terms = fragments.into_iter().zip(coefficients).take(count as usize);
+    Ok(terms.map(|(fragment, coefficient)| Term { fragment, coefficient }).collect())
+}
+
+/// Adds a source times a coefficient to the target, byte by byte. Both have one length.
+pub fn add(target: &mut [u8], coefficient: u8, source: &[u8]) -> Result<(), Error> {
+    // SAFETY: as in `encode`.
+    result_of(unsafe { lrc_add(target.as_mut_ptr(), target.len(), coefficient, source.as_ptr(), source.len()) })
+}

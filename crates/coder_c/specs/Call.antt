@@ -1,0 +1,51 @@
+-- What C passes and gets: the code by its number of data fragments, the lost fragments as the bits of a number, the bytes of a stripe, a recipe in two lists.
+use Rattle.std.specs.Prelude.{◌≡◌, ℕ, ◌<◌, ◌≤◌, ◌++◌, ◌==◌, true, false, List, [], ◌∷◌, Option, find, map, length, slice_index, slice_range, bit_xor, EachIndex}
+use Rattle.std.specs.List.{range_with_len}
+use Rattle.gf256.specs.Field.{product}
+use Rattle.lrc_code.specs.declared.Code.{Code}
+use Rattle.lrc_code.specs.declared.Code.TheVariants.{Wide, Small}
+use Rattle.lrc_code.specs.Code.{fragment_count, data_count, weight, is_lost}
+use Rattle.lrc_code.specs.Stripe.{IsStripe, list_at}
+use Rattle.lrc_code.specs.declared.recipes.Term.{Term}
+
+-- the code whose stripes have so many data fragments
+abbrev pub code_with : ℕ → Option Code
+code_with data_fragments = find (λ code. data_count code == data_fragments) (Wide ∷ Small ∷ [])
+
+-- ---- encoding
+-- the fragments of a stripe: the data, and after them the four parities
+abbrev pub with_parities : List (List ℕ) → List ℕ → List ℕ → List ℕ → List ℕ → ℕ → List ℕ
+with_parities sources first second third fourth = list_at (sources ++ first ∷ second ∷ third ∷ fourth ∷ [])
+
+-- all four parities have w bytes
+abbrev pub FourHave : ℕ → List ℕ → List ℕ → List ℕ → List ℕ → Type 0
+FourHave w first second third fourth = (length first ≡ w) × (length second ≡ w) × (length third ≡ w) × (length fourth ≡ w)
+
+-- the parity of equation e has the bytes of a data fragment added, times what the fragment weighs there
+abbrev pub AddsData : Code → ℕ → ℕ → List ℕ → List ℕ → List ℕ → Type 0
+AddsData code e fragment source old new =
+    EachIndex new (λ k. slice_index new k ≡ bit_xor (slice_index old k) (product (weight code e fragment) (slice_index source k)))
+
+-- ---- rebuilding
+-- the fragment is one of the code's, and lost
+abbrev pub IsLostIn : Code → ℕ → ℕ → Type 0
+IsLostIn code lost fragment = (fragment < fragment_count code) × (is_lost lost fragment ≡ true)
+
+-- each fragment left has at least `to` bytes
+abbrev pub LeftReach : Code → List (List ℕ) → ℕ → ℕ → Type 0
+LeftReach code fragments lost to = (i : ℕ) → i < fragment_count code → is_lost lost i ≡ false → to ≤ length (list_at fragments i)
+
+-- the stripe has these bytes at each fragment left
+abbrev pub AgreesWithLeft : Code → List (List ℕ) → ℕ → (ℕ → List ℕ) → Type 0
+AgreesWithLeft code fragments lost s = (i : ℕ) → i < fragment_count code → is_lost lost i ≡ false → s i ≡ list_at fragments i
+
+-- each stripe that agrees with what is left has these bytes at the fragment, from..to
+abbrev pub RebuildsLost : Code → List (List ℕ) → ℕ → ℕ → ℕ → ℕ → List ℕ → Type 0
+RebuildsLost code fragments lost fragment from to bytes =
+    (w : ℕ) (s : ℕ → List ℕ) → to ≤ w → IsStripe code w s → AgreesWithLeft code fragments lost s → bytes ≡ slice_range (s fragment) from to
+
+-- ---- recipes
+-- the terms that two lists have: the first `count` of the fragments, each with the coefficient at its place
+abbrev pub terms_of : List ℕ → List ℕ → ℕ → List Term
+terms_of fragments coefficients count =
+    map (λ k. record { fragment = slice_index fragments k; coefficient = slice_index coefficients k }) (range_with_len 0 count)

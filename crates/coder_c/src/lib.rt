@@ -1,0 +1,322 @@
+//! The coder for C: `include/lrc_coder.h` declares these functions.
+//!
+//! A slice is passed as an address and a length, and an array of slices as an array of such pairs. What a call needs of
+//! its arguments it tests, and answers `BAD_ARGUMENT` where one is none that it takes. No call asks for memory or keeps
+//! anything, so any number of threads may call them; and each leaves its targets as they were, unless it is `DONE`.
+#![tactic(auto)]
+
+ghost use Rattle.std.specs.Prelude.{◌≡◌, ◌≢◌, ℕ, ◌+◌, ◌<◌, ◌≤◌, ◌^◌, ◌↔◌, ◌⊎◌, IsTrue, All, IfSome, IsSomeAnd, MatchOption, EachIndex, length, map, slice_index, bit_xor, true, false, [], ◌∷◌, ◌==◌, if◌then◌else◌};
+ghost use Rattle.gf256.specs.Field.{product};
+ghost use Rattle.lrc_code.specs.Code.{fragment_count, data_count, weight, is_lost, is_alone, is_only_lost_of, first_group, second_group, Open};
+ghost use Rattle.lrc_code.specs.Stripe.{IsStripe, list_at, is_absent, slot, bytes_of};
+ghost use Rattle.lrc_code.specs.Recipe.{IsRecipe, IsLeast, local_recipe};
+ghost use Rattle.coder_c.specs.Call.{code_with, with_parities, FourHave, AddsData, IsLostIn, LeftReach, RebuildsLost, terms_of};
+
+use gf256::add_scaled;
+use lrc_code::{Code, Left, LostSet, Term, encode_to, is_open_in, rebuild_to, recipe_in};
+
+/// What was asked was done; or the answer is no.
+const DONE: u32 = 0;
+
+/// Nothing that is left tells the fragment; or the answer is yes.
+const OPEN: u32 = 1;
+
+/// An argument is none that the call takes.
+const BAD_ARGUMENT: u32 = 2;
+
+/// The code whose stripes have so many data fragments.
+fn code_of(data_fragments: usize) -> Option<Code>
+    ensures { result ≡ code_with data_fragments }
+{
+    [Code::Wide, Code::Small].iter().copied().find(|code| usize::from(code.data_fragments())
+        == data_fragments)
+}
+
+/// Whether all four parities have `w` bytes.
+fn four_have(w: usize, first: &[u8], second: &[u8], third: &[u8], fourth: &[u8]) -> bool
+    ensures { IsTrue result ↔ FourHave w first.now second.now third.now fourth.now }
+{
+    first.len() == w && second.len() == w && third.len() == w && fourth.len() == w
+}
+
+/// Writes the four parities of the data fragments: together they are a stripe of the code with so many data fragments.
+///
+/// `BAD_ARGUMENT` comes exactly where no code has so many, or the data and the parities have not all the same length.
+#[unsafe(no_mangle)]
+pub extern "C" fn lrc_encode(
+    sources: &[&[u8]],
+    first: &mut [u8],
+    second: &mut [u8],
+    third: &mut [u8],
+    fourth: &mut [u8],
+) -> u32
+    ensures stripe { result ≡ DONE → IfSome (code_with (length sources.now)) (λ code.
+        IsStripe code (length first.new) (with_parities (map (λ s. s.now) sources.now) first.new second.new third.new fourth.new)) }
+    ensures taken { (result ≢ BAD_ARGUMENT) ↔ IsSomeAnd (code_with (length sources.now)) (λ _.
+        All (λ s. length s.now ≡ length first.old) sources.now × FourHave (length first.old) first.old second.old third.old fourth.old) }
+    ensures answers { (result ≡ DONE) ⊎ (result ≡ BAD_ARGUMENT) }
+    ensures kept { result ≢ DONE → (first.new ≡ first.old) × (second.new ≡ second.old) × (third.new ≡ third.old) × (fourth.new ≡ fourth.old) }
+{
+    let w = first.len();
+    let Some(code) = code_of(sources.len()) else {
+        return BAD_ARGUMENT;
+    };
+    if !four_have(w, first, second, third, fourth)
+        || !sources.iter().all(|source| source.len() == w)
+    {
+        return BAD_ARGUMENT;
+    }
+    encode_to(code, sources, first, second, third, fourth);
+    DONE
+}
+
+/// A fragment of one byte, 0.
+const ZERO: &[u8] = &[0];
+
+/// A fragment of one byte, 1.
+const ONE: &[u8] = &[1];
+
+/// Data of a byte each: 1 at a fragment, and 0 at the others.
+fn unit_data(fragment: usize) -> [&'static [u8]; 12]
+    requires { fragment < 12 }
+    ensures count { length result ≡ 12 }
+    ensures at { (i : ℕ) → i < 12 → list_at (map (λ s. s.now) result) i ≡ (if i == fragment then 1 else 0) ∷ [] }
+{
+    let mut data = [ZERO; 12];
+    data[fragment] = ONE;
+    data
+}
+
+/// What a data fragment weighs in the four equations: the parities of data that are 1 there, and 0 elsewhere.
+fn weights_of(code: Code, fragment: usize) -> [u8; 4]
+    requires { fragment < data_count code }
+    ensures { (e : ℕ) → e < 4 → slice_index result e ≡ weight code e fragment }
+{
+    let data = unit_data(fragment);
+    let mut first = [0];
+    let mut second = [0];
+    let mut third = [0];
+    let mut fourth = [0];
+    encode_to(
+        code,
+        &data[..usize::from(code.data_fragments())],
+        &mut first,
+        &mut second,
+        &mut third,
+        &mut fourth,
+    );
+    [first[0], second[0], third[0], fourth[0]]
+}
+
+/// Adds one data fragment into the four parities: each has the fragment's bytes added, times what the fragment weighs in its
+/// equation. So parities of zeros to which every data fragment was added, in any order, are those of `lrc_encode`; and to write
+/// over a data fragment, add the sum of its old and new bytes.
+///
+/// `BAD_ARGUMENT` comes exactly where there is no such code, the fragment is none of its data, or the lengths differ.
+#[unsafe(no_mangle)]
+pub extern "C" fn lrc_encode_add(
+    data_fragments: usize,
+    fragment: u8,
+    source: &[u8],
+    first: &mut [u8],
+    second: &mut [u8],
+    third: &mut [u8],
+    fourth: &mut [u8],
+) -> u32
+    ensures first { result ≡ DONE → IfSome (code_with data_fragments) (λ code. AddsData code 0 fragment source.now first.old first.new) }
+    ensures second { result ≡ DONE → IfSome (code_with data_fragments) (λ code. AddsData code 1 fragment source.now second.old second.new) }
+    ensures third { result ≡ DONE → IfSome (code_with data_fragments) (λ code. AddsData code 2 fragment source.now third.old third.new) }
+    ensures fourth { result ≡ DONE → IfSome (code_with data_fragments) (λ code. AddsData code 3 fragment source.now fourth.old fourth.new) }
+    ensures taken { (result ≢ BAD_ARGUMENT) ↔ IsSomeAnd (code_with data_fragments) (λ code.
+        (fragment < data_count code) × FourHave (length source.now) first.old second.old third.old fourth.old) }
+    ensures answers { (result ≡ DONE) ⊎ (result ≡ BAD_ARGUMENT) }
+    ensures kept { result ≢ DONE → (first.new ≡ first.old) × (second.new ≡ second.old) × (third.new ≡ third.old) × (fourth.new ≡ fourth.old) }
+{
+    let Some(code) = code_of(data_fragments) else {
+        return BAD_ARGUMENT;
+    };
+    if fragment >= code.data_fragments() || !four_have(source.len(), first, second, third, fourth) {
+        return BAD_ARGUMENT;
+    }
+    let weights = weights_of(code, usize::from(fragment));
+    add_scaled(first, weights[0], source);
+    add_scaled(second, weights[1], source);
+    add_scaled(third, weights[2], source);
+    add_scaled(fourth, weights[3], source);
+    DONE
+}
+
+/// Whether a fragment is open, where the fragments of the bits of `lost` are lost: `OPEN`, or `DONE` where it is left or can be
+/// rebuilt.
+///
+/// `BAD_ARGUMENT` comes exactly where there is no such code or fragment.
+#[unsafe(no_mangle)]
+pub extern "C" fn lrc_is_open(data_fragments: usize, lost: u16, fragment: u8) -> u32
+    ensures open { (result ≡ OPEN) ↔ IsSomeAnd (code_with data_fragments) (λ code. Open code (is_lost lost) fragment) }
+    ensures taken { (result ≢ BAD_ARGUMENT) ↔ IsSomeAnd (code_with data_fragments) (λ code. fragment < fragment_count code) }
+    ensures answers { (result ≡ DONE) ⊎ (result ≡ OPEN) ⊎ (result ≡ BAD_ARGUMENT) }
+{
+    let Some(code) = code_of(data_fragments) else {
+        return BAD_ARGUMENT;
+    };
+    if fragment >= code.fragments() {
+        return BAD_ARGUMENT;
+    }
+    if is_open_in(code, LostSet::of_bits(lost), fragment) {
+        OPEN
+    } else {
+        DONE
+    }
+}
+
+/// A lost fragment of a stripe.
+#[derive(Clone, Copy, Drop)]
+struct LostFragment {
+    code: Code,
+    lost: LostSet,
+    number: u8,
+    ghost inside: { number < fragment_count code },
+    ghost is_lost: { is_lost lost number ≡ true },
+}
+
+/// The lost fragment that the arguments name.
+fn lost_fragment(data_fragments: usize, lost: u16, number: u8) -> Option<LostFragment>
+    ensures { MatchOption result
+        (IsSomeAnd (code_with data_fragments) (λ code. IsLostIn code lost number) → ⊥)
+        (λ found. (code_with data_fragments ≡ Some found.code) × ((i : ℕ) → is_lost found.lost i ≡ is_lost lost i) × (found.number ≡ number)) }
+{
+    let code = code_of(data_fragments)?;
+    let lost = LostSet::of_bits(lost);
+    if number >= code.fragments() || lost.left(number) {
+        return None;
+    }
+    Some(LostFragment { code, lost, number })
+}
+
+/// What is left of a stripe of which these fragments are lost.
+fn left_of<'a>(code: Code, fragments: &[&'a [u8]; 16], lost: LostSet) -> Left<'a>
+    ensures code { result.code ≡ code }
+    ensures absent { (i : ℕ) → i < 16 → is_absent result.fragments i ≡ is_lost lost i }
+    ensures bytes { (i : ℕ) → i < 16 → is_lost lost i ≡ false → bytes_of (slot result.fragments i) ≡ list_at (map (λ f. f.now) fragments.now) i }
+{
+    let mut slots: [Option<&'a [u8]>; 16] = [None; 16];
+    for i in 0..16 {
+        if lost.left(i as u8) {
+            slots[i] = Some(fragments[i]);
+        }
+    }
+    Left {
+        code,
+        fragments: slots,
+    }
+}
+
+/// Writes the bytes of a lost fragment from `from` on, as many as `target` has: those that every stripe has there which agrees with
+/// the fragments left. What is passed for a lost fragment is never read.
+///
+/// `OPEN` comes exactly where nothing that is left tells the fragment, and no argument is refused. `BAD_ARGUMENT` comes exactly
+/// where there is no such code or fragment, the fragment is not lost, one that is left is too short, or the last place is more
+/// than 2^64 - 1.
+#[unsafe(no_mangle)]
+pub extern "C" fn lrc_rebuild(
+    data_fragments: usize,
+    fragments: &[&[u8]; 16],
+    lost: u16,
+    fragment: u8,
+    from: usize,
+    target: &mut [u8],
+) -> u32
+    ensures rebuilt { result ≡ DONE → IfSome (code_with data_fragments) (λ code.
+        RebuildsLost code (map (λ f. f.now) fragments.now) lost fragment from (from + length target.new) target.new) }
+    ensures open { (result ≡ OPEN) ↔ ((result ≢ BAD_ARGUMENT) × IsSomeAnd (code_with data_fragments) (λ code. Open code (is_lost lost) fragment)) }
+    ensures taken { (result ≢ BAD_ARGUMENT) ↔ IsSomeAnd (code_with data_fragments) (λ code. IsLostIn code lost fragment
+        × LeftReach code (map (λ f. f.now) fragments.now) lost (from + length target.old) × (from + length target.old < 2 ^ 64)) }
+    ensures answers { (result ≡ DONE) ⊎ (result ≡ OPEN) ⊎ (result ≡ BAD_ARGUMENT) }
+    ensures kept { result ≢ DONE → target.new ≡ target.old }
+{
+    let Some(asked) = lost_fragment(data_fragments, lost, fragment) else {
+        return BAD_ARGUMENT;
+    };
+    let Some(to) = from.checked_add(target.len()) else {
+        return BAD_ARGUMENT;
+    };
+    let left = left_of(asked.code, fragments, asked.lost);
+    if !left.reaches(to) {
+        return BAD_ARGUMENT;
+    }
+    if rebuild_to(&left, usize::from(asked.number), from, to, target) {
+        DONE
+    } else {
+        OPEN
+    }
+}
+
+/// Writes the terms into two lists, one of their fragments and one of their coefficients.
+fn write_terms(terms: &[Term], fragments: &mut [u8; 16], coefficients: &mut [u8; 16])
+    requires { length terms.now ≤ 16 }
+    ensures { terms_of fragments.new coefficients.new (length terms.now) ≡ terms.now }
+{
+    for (i, term) in terms.iter().enumerate() {
+        fragments[i] = term.fragment;
+        coefficients[i] = term.coefficient;
+    }
+}
+
+/// How a lost fragment comes from those that are left: writes which of them, each with a coefficient, and their `count`, 15 at
+/// most. At each place of every stripe the fragment is their sum, each times its coefficient. Where it is alone lost in its
+/// group, they are the others of that group, each times 1, and no recipe has fewer.
+///
+/// `OPEN` comes exactly where nothing that is left tells the fragment, and no argument is refused. `BAD_ARGUMENT` comes exactly
+/// where there is no such code or fragment, or the fragment is not lost.
+#[unsafe(no_mangle)]
+pub extern "C" fn lrc_recipe(
+    data_fragments: usize,
+    lost: u16,
+    fragment: u8,
+    fragments: &mut [u8; 16],
+    coefficients: &mut [u8; 16],
+    count: &mut u32,
+) -> u32
+    ensures recipe { result ≡ DONE → IfSome (code_with data_fragments) (λ code.
+        IsRecipe code (is_lost lost) fragment (terms_of fragments.new coefficients.new count.new)) }
+    ensures first { result ≡ DONE → IfSome (code_with data_fragments) (λ code. is_only_lost_of (is_lost lost) (first_group code) fragment ≡ true
+        → terms_of fragments.new coefficients.new count.new ≡ local_recipe (first_group code) fragment) }
+    ensures second { result ≡ DONE → IfSome (code_with data_fragments) (λ code. is_only_lost_of (is_lost lost) (second_group code) fragment ≡ true
+        → terms_of fragments.new coefficients.new count.new ≡ local_recipe (second_group code) fragment) }
+    ensures least { result ≡ DONE → IfSome (code_with data_fragments) (λ code.
+        is_alone code (is_lost lost) fragment ≡ true → IsLeast code fragment (terms_of fragments.new coefficients.new count.new)) }
+    ensures few { result ≡ DONE → count.new ≤ 15 }
+    ensures open { (result ≡ OPEN) ↔ ((result ≢ BAD_ARGUMENT) × IsSomeAnd (code_with data_fragments) (λ code. Open code (is_lost lost) fragment)) }
+    ensures taken { (result ≢ BAD_ARGUMENT) ↔ IsSomeAnd (code_with data_fragments) (λ code. IsLostIn code lost fragment) }
+    ensures answers { (result ≡ DONE) ⊎ (result ≡ OPEN) ⊎ (result ≡ BAD_ARGUMENT) }
+    ensures kept { result ≢ DONE → (fragments.new ≡ fragments.old) × (coefficients.new ≡ coefficients.old) × (count.new ≡ count.old) }
+{
+    let Some(asked) = lost_fragment(data_fragments, lost, fragment) else {
+        return BAD_ARGUMENT;
+    };
+    let Some(recipe) = recipe_in(asked.code, asked.lost, asked.number) else {
+        return OPEN;
+    };
+    write_terms(recipe.as_slice(), fragments, coefficients);
+    *count = recipe.len() as u32;
+    DONE
+}
+
+/// Adds a source times a coefficient to the target, place by place: the terms of a recipe, one call each, in any order and any cut
+/// of the bytes, make a lost fragment of zeros.
+///
+/// `BAD_ARGUMENT` comes exactly where the lengths differ.
+#[unsafe(no_mangle)]
+pub extern "C" fn lrc_add(target: &mut [u8], coefficient: u8, source: &[u8]) -> u32
+    ensures added { result ≡ DONE → EachIndex target.new (λ k.
+        slice_index target.new k ≡ bit_xor (slice_index target.old k) (product coefficient (slice_index source.now k))) }
+    ensures taken { (result ≢ BAD_ARGUMENT) ↔ (length source.now ≡ length target.old) }
+    ensures answers { (result ≡ DONE) ⊎ (result ≡ BAD_ARGUMENT) }
+    ensures kept { result ≢ DONE → target.new ≡ target.old }
+{
+    if source.len() != target.len() {
+        return BAD_ARGUMENT;
+    }
+    add_scaled(target, coefficient, source);
+    DONE
+}

@@ -1,0 +1,150 @@
+/* lrc_coder.h: the Local Reconstruction Codes LRC(12,2,2) and LRC(6,2,2) over GF(2^8) with the
+ * polynomial 0x11D, from libcoder_c.a. The functions are proved; those in the second half of this
+ * file are plain C.
+ *
+ * A code is named by its number of data fragments, and the fragments of a stripe by their numbers:
+ *
+ *     data_fragments   first group   second group   local parities   global parities
+ *     12               0 to 5        6 to 11        12, 13           14, 15
+ *     6                0 to 2        3 to 5         6, 7             8, 9
+ *
+ * All fragments of a stripe have one length, in bytes. A set of lost fragments is a number: bit i
+ * is set where fragment i is lost. Bits past the code's fragments are not looked at.
+ *
+ * Each function tests its arguments, but for these, which C has to keep: an address is not NULL,
+ * also where the length is 0, and valid for its length; and a target overlaps no other argument.
+ * No function asks for memory, keeps anything or wants an address aligned to more than its C type,
+ * so any number of threads may call them at once. What is not LRC_DONE leaves every target as it
+ * was. */
+#ifndef LRC_CODER_H
+#define LRC_CODER_H
+
+#include <stddef.h>
+#include <stdint.h>
+
+#ifdef __cplusplus
+extern "C" {
+#endif
+
+/* What a function returns. */
+enum {
+    /* what was asked was done; of lrc_is_open: the fragment is left, or can be rebuilt */
+    LRC_DONE = 0,
+    /* nothing that is left tells the fragment: two stripes agree on all of it, and differ there */
+    LRC_OPEN = 1,
+    /* an argument is none that the function takes */
+    LRC_BAD_ARGUMENT = 2
+};
+
+/* Bytes that are read. */
+typedef struct {
+    const uint8_t *at;
+    size_t len;
+} lrc_slice;
+
+/* Writes the four parities of the data, which are given in the order of their numbers;
+ * `data_fragments` is 12 or 6. LRC_BAD_ARGUMENT exactly where it is neither, or the lengths, of
+ * data and parities, are not all one. */
+uint32_t lrc_encode(const lrc_slice *data, size_t data_fragments,
+                    uint8_t *first, size_t first_len, uint8_t *second, size_t second_len,
+                    uint8_t *third, size_t third_len, uint8_t *fourth, size_t fourth_len);
+
+/* Adds the data fragment with the number `fragment` into the four parities. Into parities of
+ * zeros, one call for each data fragment, in any order, comes to what lrc_encode writes. To write
+ * over a data fragment, add the exclusive or of its old and its new bytes. LRC_BAD_ARGUMENT
+ * exactly where `data_fragments` is neither 12 nor 6, `fragment` is not below it, or the five
+ * lengths are not all one. */
+uint32_t lrc_encode_add(size_t data_fragments, uint8_t fragment, const uint8_t *source, size_t source_len,
+                        uint8_t *first, size_t first_len, uint8_t *second, size_t second_len,
+                        uint8_t *third, size_t third_len, uint8_t *fourth, size_t fourth_len);
+
+/* LRC_OPEN exactly where nothing that is left tells `fragment`. LRC_BAD_ARGUMENT exactly where
+ * there is no such code or fragment. */
+uint32_t lrc_is_open(size_t data_fragments, uint16_t lost, uint8_t fragment);
+
+/* Writes the bytes from..from+len of the lost `fragment` into `target`, as every stripe has them
+ * that agrees with the fragments left. Of the sixteen slices those of lost fragments, and those
+ * past the code's, are not looked at: give them any address but NULL, and the length 0. LRC_OPEN
+ * exactly where nothing that is left tells the fragment, and no argument is refused.
+ * LRC_BAD_ARGUMENT exactly where there is no such code or fragment, it is not in `lost`, a
+ * fragment left has less than from+len bytes, or that sum is more than SIZE_MAX. */
+uint32_t lrc_rebuild(size_t data_fragments, const lrc_slice fragments[16], uint16_t lost, uint8_t fragment,
+                     size_t from, uint8_t *target, size_t len);
+
+/* Writes how the lost `fragment` comes from those left: their numbers, a coefficient for each, and
+ * how many they are, at most 15. The fragment is their sum, each times its coefficient. Alone lost
+ * in its group, it comes from the six (or three) others of its group, and no recipe has fewer.
+ * LRC_OPEN as by lrc_rebuild; LRC_BAD_ARGUMENT exactly where there is no such code or fragment, or
+ * it is not in `lost`. */
+uint32_t lrc_recipe(size_t data_fragments, uint16_t lost, uint8_t fragment,
+                    uint8_t fragments[16], uint8_t coefficients[16], uint32_t *count);
+
+/* Adds `source` times `coefficient` to `target`, byte by byte, in the field. With lrc_recipe it
+ * rebuilds as fragments arrive: into zeros, one call for each term, in any order and any cut of
+ * the bytes. LRC_BAD_ARGUMENT exactly where the lengths differ. */
+uint32_t lrc_add(uint8_t *target, size_t target_len, uint8_t coefficient,
+                 const uint8_t *source, size_t source_len);
+
+/* ---- The same with plain arrays of addresses, each of `len` bytes. A NULL means a lost fragment
+ * among the fragments of lrc_rebuild_arrays; anywhere else it is LRC_BAD_ARGUMENT. */
+
+/* `data` has `data_fragments` addresses and `parities` four. */
+static inline uint32_t lrc_encode_arrays(size_t data_fragments, size_t len,
+                                         const uint8_t *const *data, uint8_t *const *parities)
+{
+    lrc_slice slices[12];
+    size_t i;
+    if (data_fragments != 12 && data_fragments != 6)
+        return LRC_BAD_ARGUMENT;
+    for (i = 0; i < data_fragments; i++) {
+        if (!data[i])
+            return LRC_BAD_ARGUMENT;
+        slices[i].at = data[i];
+        slices[i].len = len;
+    }
+    for (i = 0; i < 4; i++)
+        if (!parities[i])
+            return LRC_BAD_ARGUMENT;
+    return lrc_encode(slices, data_fragments, parities[0], len, parities[1], len,
+                      parities[2], len, parities[3], len);
+}
+
+/* `parities` has four addresses. */
+static inline uint32_t lrc_encode_add_arrays(size_t data_fragments, size_t len, uint8_t fragment,
+                                             const uint8_t *source, uint8_t *const *parities)
+{
+    size_t i;
+    if (!source)
+        return LRC_BAD_ARGUMENT;
+    for (i = 0; i < 4; i++)
+        if (!parities[i])
+            return LRC_BAD_ARGUMENT;
+    return lrc_encode_add(data_fragments, fragment, source, len, parities[0], len, parities[1], len,
+                          parities[2], len, parities[3], len);
+}
+
+/* `fragments` has data_fragments + 4 addresses: NULL where the fragment is lost. `fragment` counts
+ * as lost, also where an address is given for it. */
+static inline uint32_t lrc_rebuild_arrays(size_t data_fragments, size_t len, const uint8_t *const *fragments,
+                                          uint8_t fragment, uint8_t *target)
+{
+    static const uint8_t nothing = 0;
+    lrc_slice slices[16];
+    unsigned lost = 1u << (fragment & 15u);
+    size_t i;
+    if ((data_fragments != 12 && data_fragments != 6) || !target)
+        return LRC_BAD_ARGUMENT;
+    for (i = 0; i < 16; i++) {
+        const uint8_t *at = i < data_fragments + 4 ? fragments[i] : NULL;
+        slices[i].at = at ? at : &nothing;
+        slices[i].len = at ? len : 0;
+        if (!at)
+            lost |= 1u << i;
+    }
+    return lrc_rebuild(data_fragments, slices, (uint16_t)lost, fragment, 0, target, len);
+}
+
+#ifdef __cplusplus
+}
+#endif
+#endif

@@ -1,0 +1,115 @@
+#!/usr/bin/env bash
+# Tests of the coder for C, C++, Rust and Python and of its use under liberasurecode, which `rt ci` proves and does not run.
+# The last line says how many passed, and what was skipped. A package that is missing is installed by its name where apt-get can.
+set -u
+cd "$(dirname "$0")/.."
+work=$(mktemp -d)
+trap 'rm -rf "$work"' EXIT
+archive=crates/coder_c/out/libcoder_c.a
+backend=integrations/liberasurecode
+passed=0
+failed=0
+skipped=()
+
+# Whether a command or a file is here, once the package that has it was asked for.
+has() {
+    command -v "$1" > /dev/null || [ -e "$1" ] && return
+    [ "$(id -u)" = 0 ] && command -v apt-get > /dev/null && apt-get install -y --no-install-recommends "$2" > "$work/apt" 2>&1
+    command -v "$1" > /dev/null || [ -e "$1" ]
+}
+
+# test_of NAME COMMAND PACKAGE FUNCTION WORD..: calls the function with the words, or skips it where the command is missing.
+test_of() {
+    local name=$1 command=$2 package=$3
+    shift 3
+    if ! has "$command" "$package"; then
+        skipped+=("$name: no $package")
+    elif "$@"; then
+        passed=$((passed + 1))
+    else
+        failed=$((failed + 1))
+        echo "failed: $name"
+    fi
+}
+
+warnings=(-Wall -Wextra -Wpedantic -Wconversion -Wshadow -Werror -I include)
+sanitizers=(-g -fsanitize=address,undefined -fno-sanitize-recover=all)
+
+# c_program COMPILER STANDARD FILE FLAG..
+c_program() {
+    local compiler=$1 standard=$2 file=$3
+    shift 3
+    "$compiler" -std="$standard" -O1 "${warnings[@]}" "$@" "$file" "$archive" -lpthread -o "$work/program" && "$work/program"
+}
+
+# The archive asks for `memset` alone, and its names are those of the header.
+symbols() {
+    local names
+    names=$(nm -g --defined-only "$archive" | awk 'NF == 3 { print $3 }' | sort | tr '\n' ' ')
+    [ "$(nm -u "$archive" | awk 'NF == 2 { print $2 }' | sort -u)" = memset ] \
+        && [ "$names" = "lrc_add lrc_encode lrc_encode_add lrc_is_open lrc_rebuild lrc_recipe " ] \
+        && echo "symbols: six functions, which ask for memset alone"
+}
+
+header() {
+    gcc -std=c99 "${warnings[@]}" -fsyntax-only -x c include/lrc_coder.h && g++ -std=c++11 "${warnings[@]}" -fsyntax-only -x c++ include/lrc_coder.h \
+        && echo "header: as C99 and as C++11"
+}
+
+shared_library() {
+    gcc -shared -Wl,--whole-archive "$archive" -Wl,--no-whole-archive -o "$work/liblrc_coder.so"
+}
+
+python() {
+    LRC_CODER_SO="$work/liblrc_coder.so" PYTHONDONTWRITEBYTECODE=1 PYTHONPATH=bindings/python python3 "$@"
+}
+
+rust() {
+    LRC_CODER_DIR="$PWD/crates/coder_c/out" CARGO_TARGET_DIR="$work/cargo" CARGO_TERM_COLOR=never cargo "$1" --quiet --offline --release --manifest-path bindings/rust/Cargo.toml "${@:2}"
+}
+
+rust_tests() {
+    rust test > "$work/rust" 2>&1 || { cat "$work/rust"; return 1; }
+    echo "Rust: $(grep -c '^test result: ok' "$work/rust") test programs passed"
+}
+
+# The programs of docs/library.md say what is left of the text, and the document has them as they are.
+examples() {
+    local each
+    for each in c python rust; do
+        [ "$("example_in_$each")" = HELL ] || { echo "the example in $each prints something else"; return 1; }
+    done
+    python3 tests/library/examples.py
+}
+
+example_in_c() { c_program gcc c11 bindings/c/rebuild.c; }
+example_in_python() { python bindings/python/rebuild.py; }
+example_in_rust() { rust run --example rebuild; }
+
+liberasurecode() {
+    gcc -std=c11 -O1 -Wall -Wextra -Werror -I include "$backend/lrc_backend.c" "$backend/test_backend.c" "$archive" -lerasurecode -o "$work/backend" && "$work/backend"
+}
+
+pyeclib() {
+    gcc -std=c11 -O1 -shared -fPIC -Wall -Wextra -Werror -I include "$backend/lrc_backend.c" "$backend/preload.c" "$archive" -lerasurecode -ldl -o "$work/liblrc_erasurecode.so" \
+        && LD_PRELOAD="$work/liblrc_erasurecode.so" /usr/bin/python3 "$backend/test_pyeclib.py"
+}
+
+(cd crates/coder_c && rt lib > "$work/lib" 2>&1) || { cat "$work/lib"; exit 1; }
+test_of "symbols" nm binutils symbols
+test_of "header" g++ g++ header
+test_of "C" gcc gcc c_program gcc c11 tests/library/coder.c
+test_of "C, sanitizers of gcc" gcc gcc c_program gcc c11 tests/library/coder.c "${sanitizers[@]}"
+test_of "C, sanitizers of clang" clang clang c_program clang c11 tests/library/coder.c "${sanitizers[@]}"
+test_of "C++" g++ g++ c_program g++ c++17 tests/library/coder.cpp
+test_of "C++, sanitizers of gcc" g++ g++ c_program g++ c++17 tests/library/coder.cpp "${sanitizers[@]}"
+test_of "C++, sanitizers of clang" clang++ clang c_program clang++ c++17 tests/library/coder.cpp "${sanitizers[@]}"
+test_of "shared library" gcc gcc shared_library
+test_of "Python" python3 python3 python tests/library/bindings.py
+test_of "declarations" python3 python3 python tests/library/declarations.py
+test_of "Rust" cargo cargo rust_tests
+test_of "examples" cargo cargo examples
+test_of "liberasurecode" /usr/include/liberasurecode/erasurecode_backend.h liberasurecode-dev liberasurecode
+test_of "PyECLib" /usr/lib/python3/dist-packages/pyeclib python3-pyeclib pyeclib
+printf '%d tests of the library passed, %d failed, %d skipped%s\n' "$passed" "$failed" "${#skipped[@]}" "${skipped[*]:+ (${skipped[*]})}"
+[ "$failed" = 0 ]
