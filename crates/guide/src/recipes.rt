@@ -1,7 +1,7 @@
 //! What a read of a lost fragment costs: from which fragments it is built.
 ghost use Rattle.std.specs.Prelude.{◌<◌, All};
 
-use anyhow::Result;
+use anyhow::{Result, ensure};
 use lrc_code::{Code, LostSet, recipe_in};
 
 /// Prints from which fragments the first one is built where these are lost, or that it is open.
@@ -14,6 +14,7 @@ fn show<R: Print>(rt: &R, lost: &[u8]) -> Result<()>
         print!(rt; " {fragment}")?;
         set = set.with(*fragment);
     }
+    ensure!(!set.left(0), "the first one is there");
     match recipe_in(Code::Wide, set, 0) {
         Some(recipe) => {
             print!(rt; ": 0 is built from")?;

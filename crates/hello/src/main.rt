@@ -16,8 +16,10 @@ fn main(rt: HostRuntime) -> Result<()> {
     let Answer::Granted(grant) = store.read(&rt, &mut pass, name, 0, 12)? else {
         bail!("it can't be told from what is left");
     };
-    for piece in &grant.collect(alloc)? {
-        println!(rt; "{}", str::from_utf8(piece.bytes())?)?;
+    let pieces = grant.collect(alloc)?;
+    for piece in pieces.as_slice() {
+        let text = str::from_utf8(piece.bytes())?;
+        println!(rt; "{text}")?;
     }
     Ok(())
 }
