@@ -73,7 +73,8 @@ def owner_of(header):
     """The type of an `impl`: what stands behind `for`, or else behind `impl`, without its parameters."""
     header = re.sub(r"^impl\s*(<(?:[^<>]|<[^<>]*>)*>)?", "", header).strip(" {\n")
     header = header.split(" for ")[-1].strip()
-    return re.match(r"[&\w:' ]*?(\w+)\s*(?:<|$|\swhere)", header + " ").group(1) if re.search(r"\w", header) else ""
+    named = re.match(r"[&\w:' ]*?(\w+)\s*(?:<|$|\swhere)", header)
+    return named.group(1) if named else ""
 
 
 def function_at(code, found, owner, is_test):
@@ -134,7 +135,8 @@ def functions_of(text):
 
 
 def files_of(folder):
-    for at, _, names in os.walk(folder):
+    for at, folders, names in os.walk(folder):
+        folders[:] = sorted(set(folders) - {"out"})
         yield from (os.path.join(at, name) for name in sorted(names) if name.endswith(".rt"))
 
 
