@@ -2,8 +2,9 @@
 """Holds docs/promises.md to the code: tests/promises.py [--write]
 
 It fails where a clause of a public function, a must-fail edit or a test is not named there, where something is named that is not there, or where
-docs/edits.md is not what the edits make it. With --write it makes docs/edits.md anew, names each missing edit in the row of the function that it
-changes, and adds a row for each missing clause or test. What such a row says is to be filled in by hand: an empty cell fails too.
+docs/edits.md is not what the edits make it. With --write it makes docs/edits.md anew, takes out the names of edits and tests that are gone, names each
+missing edit in the row of the function that it changes, and adds rows for missing clauses and tests. What such a row says is to be filled in by hand:
+an empty cell fails too.
 """
 
 import os
@@ -17,6 +18,7 @@ PROMISES = os.path.join(TOP, "docs", "promises.md")
 EDITS = os.path.join(TOP, "docs", "edits.md")
 HEAD = ["| Function, clauses | What it says | Wrong bodies | Test |", "|---|---|---|---|"]
 INDEX = "Wrong bodies, and what refuses them"
+OTHERS = "## The other crates"
 WORDS = re.compile(r"`([^`]+)`")
 # A test reaches a function through another one, or through another crate.
 THROUGH = re.compile(r"by (?:the crate )?`([^`]+)`")
@@ -37,6 +39,11 @@ class Row:
         self.is_inner = named.startswith("inside")
         self.names, self.told = words(named), told
         self.clauses = words(told) + ([RESULT] if re.match(RESULT + r"\b", told) else [])
+
+    def take_out(self, cell, name):
+        """Takes a name that is gone out of a list of names."""
+        kept = [part for part in re.split(r"[,;] ", self.cells[cell]) if f"`{name}`" not in part]
+        self.cells[cell] = ", ".join(kept) or "none"
 
     def line(self):
         return "| " + " | ".join(self.cells) + " |"
@@ -98,7 +105,7 @@ class Check:
 
     def check_row(self, row):
         if len(row.cells) != 4 or not all(row.cells):
-            return self.complain(row.number, "a cell is empty, or there are not four")
+            return self.complain(row.number, "a cell is to be filled in, or there are not four")
         functions = self.functions(row)
         for function in functions[:1] if row.is_inner else functions:
             has = [clause for f in functions for clause in f.clauses] if row.is_inner else function.clauses
@@ -108,12 +115,14 @@ class Check:
         for edit in words(row.cells[2]):
             if edit not in self.crates[row.crate].edits:
                 self.complain(row.number, f"no edit of {row.crate} is `{edit}`")
+                row.take_out(2, edit)
         for through in THROUGH.findall(row.cells[3]):
             if through not in self.crates and not any(crate.named(through) for crate in self.crates.values()):
                 self.complain(row.number, f"`{through}` is no function or crate")
         for test in words(THROUGH.sub("", row.cells[3])):
             if not self.is_test(row, test):
                 self.complain(row.number, f"`{test}` is no test, program or file")
+                row.take_out(3, test)
 
     def check_index(self):
         known = {edit for crate in self.crates.values() for edit in crate.edits} | self.tests | set(self.crates)
@@ -159,30 +168,65 @@ class Check:
         return len(self.wrong) + len(self.uncovered) + len(self.unnamed_edits) + len(self.unnamed_tests)
 
 
-def with_stubs(check):
-    """The lines of the document with what is missing: each edit in the first row of the function that it changes, else all in rows of their own."""
-    lines, stubs = list(check.lines), {}
+class Stubs:
+    """Rows for what has none, by crate. What they say is left empty."""
+
+    def __init__(self):
+        self.rows = {}
+
+    def add(self, crate, function, clauses, edits, tests):
+        self.rows.setdefault(crate, []).append([function, clauses, edits, tests])
+
+    def of(self, crate, function):
+        """The row of a function, if there is one."""
+        return next((row for row in self.rows.get(crate, []) if row[0] is function), None)
+
+    def lines(self, crate):
+        for function, clauses, edits, tests in self.rows[crate]:
+            inside = "" if clauses else "inside, "
+            first = f"{inside}`{function.path()}`" if function else "inside"
+            told = ": " + ", ".join(clause if clause == RESULT else f"`{clause}`" for clause in clauses) if clauses else ""
+            yield f"| {first}{told} |  | {listed(edits)} | {listed(tests)} |"
+
+
+def listed(names):
+    return ", ".join(f"`{name}`" for name in names) or "none"
+
+
+def stubs_of(check):
+    """Rows for clauses, and for the edits and tests that find no row. An edit goes to the first row of the function that it changes."""
+    stubs = Stubs()
+    for crate, function, lacking in check.uncovered:
+        stubs.add(crate, function, lacking, [], [])
     for crate, edit in check.unnamed_edits:
         target = check.crates[crate].edits[edit][1]
         row = next((r for r in check.rows if r.crate == crate and target and {target.name, target.path()} & set(r.names)), None)
+        stub = stubs.of(crate, target)
         if row:
             row.cells[2] = f"`{edit}`" if row.cells[2].startswith("none") else f"{row.cells[2]}, `{edit}`"
-            lines[row.number] = row.line()
+        elif stub:
+            stub[2].append(edit)
         else:
-            where = f"inside, `{target.name}`" if target else "inside"
-            stubs.setdefault(crate, []).append(f"| {where} |  | `{edit}` |  |")
-    for crate, function, lacking in check.uncovered:
-        clauses = ", ".join(clause if clause == RESULT else f"`{clause}`" for clause in lacking)
-        stubs.setdefault(crate, []).append(f"| `{function.path()}`: {clauses} |  | none |  |")
+            stubs.add(crate, target, [], [edit], [])
     for crate, test in check.unnamed_tests:
-        stubs.setdefault(crate, []).append(f"|  |  |  | `{test}` |")
-    for crate, added in stubs.items():
+        stubs.add(crate, None, [], [], [test])
+    return stubs
+
+
+def with_stubs(check):
+    """The document with a place for what is missing."""
+    stubs, lines, sections = stubs_of(check), list(check.lines), []
+    for row in check.rows:
+        if row.cells != Row(row.number, row.crate, lines[row.number]).cells:
+            lines[row.number] = row.line()
+    for crate in stubs.rows:
         last = max((row.number for row in check.rows if row.crate == crate), default=None)
         if last is None:
-            lines[len(lines) :] = ["", f"## {crate}", "", *HEAD, *added]
+            sections += [f"## {crate}", "", *HEAD, *stubs.lines(crate), ""]
         else:
-            lines[last] += "\n" + "\n".join(added)
-    return "\n".join(lines) + "\n"
+            lines[last] = "\n".join([lines[last], *stubs.lines(crate)])
+    place = lines.index(OTHERS)
+    return "\n".join(lines[:place] + sections + lines[place:]) + "\n"
 
 
 def code(text):

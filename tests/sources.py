@@ -7,7 +7,7 @@ from dataclasses import dataclass, field
 TOP = os.path.dirname(os.path.dirname(os.path.abspath(__file__)))
 CRATES = os.path.join(TOP, "crates")
 ITEM = re.compile(
-    r"(?P<cfg>#\[test\])|(?P<impl>\bimpl\b[^{;]*\{)|(?P<fn>\b(?:pub(?:\([a-z]+\))?\s+)?fn\s+(?P<name>\w+))|(?P<open>\{)|(?P<close>\})"
+    r"(?P<cfg>#\[test\])|(?P<impl>\bimpl\b[^{;]*\{)|(?P<fn>\b(?:pub(?:\([a-z]+\))?\s+)?(?:const\s+|unsafe\s+|extern\s+)*fn\s+(?P<name>\w+))|(?P<open>\{)|(?P<close>\})"
 )
 CLAUSE = re.compile(r"\s*(requires|ensures)\*?(?:\s+(\w+))?\s*\{")
 RESULT = "result"
@@ -48,6 +48,7 @@ class Function:
     start: int
     end: int
     is_test: bool = False
+    is_exported: bool = False
 
     def path(self):
         return f"{self.owner}::{self.name}" if self.owner else self.name
@@ -96,8 +97,9 @@ def function_at(code, found, owner, is_test):
         place = end
     brace = step.end()
     end = closing(code, brace) if code[brace] == "{" else brace
-    is_public = bool(re.match(r"pub\s+fn", found.group()))
-    return Function(owner, found.group("name"), is_public, clauses, found.start(), end, is_test)
+    is_public = bool(re.match(r"pub\s", found.group()))
+    is_exported = is_public and "extern" in found.group().split()
+    return Function(owner, found.group("name"), is_public, clauses, found.start(), end, is_test, is_exported)
 
 
 def matching_angle(code, place):
@@ -176,7 +178,7 @@ def crate(name):
             result.tests += [f.name for f in functions[inner] if f.is_test]
             continue
         for function in functions[inner]:
-            function.is_public = function.is_public and (function.owner or function.name) in names
+            function.is_public = function.is_exported or function.is_public and (function.owner or function.name) in names
             result.functions.append(function)
     edits = os.path.join(folder, "must-fail")
     for file in sorted(os.listdir(edits)) if os.path.isdir(edits) else []:
