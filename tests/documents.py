@@ -1,8 +1,9 @@
 #!/usr/bin/env python3
 """The documents' code is the code: tests/documents.py
 
-Each block of Rattle in README.md and docs/guide.md stands in a file of the crates `hello` and `guide`, and each block of what is printed in what one of
-them prints. Each clause that README.md quotes is the function's own. Each file that a document names is there. README.md keeps to 90 lines of 100.
+Each block of Rattle in README.md and docs/guide.md stands in a file of the crates `hello` and `guide`, and each block of what is printed in what
+one of them prints. Each clause that README.md quotes is the function's own. Each file that a document names is there. README.md keeps to 90 lines
+of 100 characters.
 """
 
 import os

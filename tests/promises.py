@@ -2,9 +2,9 @@
 """Holds docs/promises.md to the code: tests/promises.py [--write]
 
 It fails where a clause of a public function, a must-fail edit or a test is not named there, where something is named that is not there, or where
-docs/edits.md is not what the edits make it. With --write it makes docs/edits.md anew, takes out the names of edits and tests that are gone, names each
-missing edit in the row of the function that it changes, and adds rows for missing clauses and tests. What such a row says is to be filled in by hand:
-an empty cell fails too.
+docs/edits.md is not what the edits make it. With --write it makes docs/edits.md anew, takes out the names of edits and tests that are gone, names
+each missing edit in the row of the function that it changes, and adds rows for missing clauses and tests. What such a row says is to be filled in
+by hand: an empty cell fails too.
 """
 
 import os
@@ -240,8 +240,8 @@ def edits_text(crates):
     lines = [
         "# The edits that the prover must refuse",
         "",
-        "Made by `tests/promises.py --write` from `crates/NAME/must-fail/*.edit`. Each is a wrong body, by its change of the code; `docs/promises.md` says",
-        "which clauses it stands for.",
+        "Made by `tests/promises.py --write` from `crates/NAME/must-fail/*.edit`. Each is a wrong body, by its change of the",
+        "code; `docs/promises.md` says for which clauses it stands.",
     ]
     for name, crate in crates.items():
         if not crate.edits:

@@ -7,7 +7,8 @@ from dataclasses import dataclass, field
 TOP = os.path.dirname(os.path.dirname(os.path.abspath(__file__)))
 CRATES = os.path.join(TOP, "crates")
 ITEM = re.compile(
-    r"(?P<cfg>#\[test\])|(?P<impl>\bimpl\b[^{;]*\{)|(?P<fn>\b(?:pub(?:\([a-z]+\))?\s+)?(?:const\s+|unsafe\s+|extern\s+)*fn\s+(?P<name>\w+))|(?P<open>\{)|(?P<close>\})"
+    r"(?P<cfg>#\[test\])|(?P<impl>\bimpl\b[^{;]*\{)|(?P<open>\{)|(?P<close>\})"
+    r"|(?P<fn>\b(?:pub(?:\([a-z]+\))?\s+)?(?:const\s+|unsafe\s+|extern\s+)*fn\s+(?P<name>\w+))"
 )
 CLAUSE = re.compile(r"\s*(requires|ensures)\*?(?:\s+(\w+))?\s*\{")
 RESULT = "result"

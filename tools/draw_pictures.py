@@ -14,6 +14,16 @@ from svg import FIRST, GREY, INK, MADE, RED, SECOND, WHITE, box, drawing, group_
 CODE = "Wide"
 DATA, ALL = lrc.data_fragments(CODE), lrc.fragments(CODE)
 HALF = DATA // 2
+GLOBALS = f"{DATA + 2} and {DATA + 3} sum both groups, each fragment times its weight, or its weight squared."
+UNRECOVERABLE = "they are open: two stripes agree on all that is left, and differ in them. All others can be read"
+# Who makes which call, in the order in which they enter, and what is noted.
+CALLS = [
+    ("p", "put a → stored 1"),
+    ("q", "lose a 0 0 → lost 1"),
+    ("p", "read a 0 12 → granted 1"),
+    ("q", "delete a → deleted 1"),
+    ("p", "stat a → no-name"),
+]
 
 
 def place(f, left, step, gap=14):
@@ -60,7 +70,7 @@ def blob_in_stripes():
             x1, x2 = place(first, left, 52), place(last, left, 52) + 46
             shapes += [line(x1, y + 62, x2, y + 62, INK), middle((x1 + x2) / 2, y + 80, name, 12)]
     shapes += [
-        text(left, 380, f"Parity {DATA} is the sum of group X, {DATA + 1} that of Y. {DATA + 2} and {DATA + 3} sum both groups, each fragment times its weight, or its weight squared.", 12),
+        text(left, 380, f"Parity {DATA} is the sum of group X, {DATA + 1} that of Y. {GLOBALS}", 12),
         text(left, 399, "Dashed: the last stripe is filled up with zero bytes. They are stored, and can be lost like all else.", 12),
     ]
     return drawing(930, 416, "A blob in its stripes", shapes)
@@ -104,7 +114,7 @@ def degraded_read():
         ((0,), "Fragment 0 is lost", "alone in its group: the sum of the others and of the group's parity"),
         ((0, 1), "Two of one group are lost", "the group alone can't tell: a global parity helps, and with it the other group's data"),
         ((0, 1, 6, 7), "Two of each group are lost", "both global parities are used up"),
-        ((0, 1, 2, 3), "Four of one group are lost", "they are open: two stripes agree on all that is left, and differ in them. All others can be read"),
+        ((0, 1, 2, 3), "Four of one group are lost", UNRECOVERABLE),
     ]
     shapes = [
         text(24, 30, "A read of what is lost", 16, bold=True),
@@ -124,18 +134,17 @@ def passes_and_history():
         if i < 3:
             shapes.append(line(x + 178, 73, x + 215, 73, arrow=True))
     shapes.append(middle(439, 118, "between 2 and 3 the call is made on the book, and its note becomes the next entry", 12, GREY))
-    calls = [("p", "put a → stored 1"), ("q", "lose a 0 0 → lost 1"), ("p", "read a 0 12 → granted 1"), ("q", "delete a → deleted 1"), ("p", "stat a → no-name")]
     colour = {"p": FIRST, "q": SECOND}
     shapes.append(text(24, 156, "the history, in the order in which p and q entered", bold=True))
-    for i, (who, call) in enumerate(calls):
+    for i, (who, call) in enumerate(CALLS):
         x = 24 + i * 174
         shapes += [box(x, 168, 168, 44, colour[who]), middle(x + 84, 187, f"{i}: {who}", 12, bold=True), middle(x + 84, 204, call, 12)]
     shapes.append(text(24, 250, "what each pass shows after its call; coloured: the places of its own calls", bold=True))
-    for seen, (who, call) in enumerate(calls, 1):
+    for seen, (who, call) in enumerate(CALLS, 1):
         y = 262 + (seen - 1) * 32
         shapes.append(text(24, y + 17, f"{who}, after its {call.split()[0]}", 12))
-        for i in range(len(calls)):
-            own, is_seen = calls[i][0] == who, i < seen
+        for i in range(len(CALLS)):
+            own, is_seen = CALLS[i][0] == who, i < seen
             stroke, paint = (INK, colour[who] if own else "#f4f6f8") if is_seen else ("#c5ccd3", WHITE)
             shapes.append(box(170 + i * 56, y, 50, 24, paint, stroke, dashed=not is_seen))
             if is_seen:

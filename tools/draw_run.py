@@ -16,6 +16,7 @@ from svg import GREY, INK, MADE, RED, WHITE, box, drawing, group_fill, line, mid
 
 PROGRAM = os.path.join(lrc.TOP, "crates", "lrcstore", "out", "lrcstore")
 LEFT, FIRST_BOX, STEP, ROW = 24, 330, 30, 30
+LEGEND = "Each row: the fragments after the call. Struck out: lost. Crossed out: open. Thick: read. Yellow: mended by the call."
 
 
 def run(script, options):
@@ -108,7 +109,7 @@ def panels(printed, width):
 def draw(printed, width, title):
     shapes = [
         text(LEFT, 30, title, 16, bold=True),
-        text(LEFT, 50, "Each row: the fragments after the call. Struck out: lost. Crossed out: open. Thick: read. Yellow: mended by the call.", 12, fill=GREY),
+        text(LEFT, 50, LEGEND, 12, fill=GREY),
     ]
     y = 82
     for panel in panels(printed, width):
