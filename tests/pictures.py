@@ -30,12 +30,31 @@ def drawn(name):
         return picture.read()
 
 
+def printed_of(rows, *options):
+    """What the program prints of a script's rows, with its history."""
+    command = [draw_run.PROGRAM, "/dev/stdin", *options, "--history"]
+    return subprocess.run(command, input="\n".join(rows), capture_output=True, text=True, check=True).stdout
+
+
+def are_calls_noted():
+    """Whether the calls of the picture of passes, each in a round of its own, are noted as it says."""
+    rows = ["1,1,put,a,text,ABCDEFGHIJKL", "2,2,lose,a,0,0", "3,1,read,a,0,12", "4,2,delete,a,,", "5,1,stat,a,,"]
+    noted = []
+    for entry in history.entries(printed_of(rows, "--workers", "2")):
+        numbers = [] if entry.word == "put" else entry.numbers
+        call = " ".join([entry.word, entry.name, *map(str, numbers)])
+        noted.append(("pq"[entry.worker - 1], f"{call} → {entry.note}"))
+    return noted == draw_pictures.CALLS
+
+
 def wrong_pictures():
     wanted = {name: draw() for name, draw in draw_pictures.PICTURES.items()}
     for name, script in RUNS.items():
         printed = draw_run.run(os.path.join(EXAMPLES, script), [])
         wanted[name] = draw_run.draw(printed, 1, "The run of " + script)
     unknown = set(os.listdir(PICTURES)) - set(wanted)
+    if not are_calls_noted():
+        unknown.add("passes_and_history.svg")
     return [name for name, text in wanted.items() if drawn(name) != text] + sorted(unknown)
 
 
@@ -71,10 +90,8 @@ def compared():
     """How many notes were compared, and those that were another than the rule's."""
     count, wrong = 0, []
     for rows in scripts():
-        command = [draw_run.PROGRAM, "/dev/stdin", "--limit", str(MOST_ROWS), "--history"]
-        printed = subprocess.run(command, input="\n".join(rows), capture_output=True, text=True, check=True).stdout
         replay = history.Replay(1)
-        for entry in history.entries(printed):
+        for entry in history.entries(printed_of(rows, "--limit", str(MOST_ROWS))):
             count += 1
             if replay.note(entry) != entry.note:
                 wrong.append(entry)
@@ -84,7 +101,7 @@ def compared():
 def main():
     pictures, (count, wrong) = wrong_pictures(), compared()
     for name in pictures:
-        print("docs/pictures/" + name, "is not what tools/ draws")
+        print("docs/pictures/" + name, "is not what tools/draw_pictures.py or tools/draw_run.py draws, or what the program does")
     for entry in wrong[:10]:
         print("another note than the rule's:", entry)
     print(count, "notes compared,", len(wrong), "wrong;", len(draw_pictures.PICTURES) + len(RUNS), "pictures,", len(pictures), "wrong")
