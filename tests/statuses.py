@@ -25,8 +25,13 @@ REFUSED = [
 ]
 
 
-def run(folder, words, out=subprocess.PIPE):
-    return subprocess.run([PROGRAM, *words], cwd=folder, stdout=out, stderr=subprocess.PIPE, env={}, timeout=60)
+# What the help has to name: the operations, the statuses and where the rest is told.
+HELPS = ["put", "put6", "read", "lose", "repair", "delete", "stat", "trim", "mend", "/dev/stdin", "--history", "Exit status", "docs/script.md"]
+MOST_ROWS = 65536
+
+
+def run(folder, words, out=subprocess.PIPE, given=None):
+    return subprocess.run([PROGRAM, *words], cwd=folder, input=given, stdout=out, stderr=subprocess.PIPE, env={}, timeout=60)
 
 
 def ended(what, ran, status, out, err):
@@ -43,9 +48,15 @@ def main():
             script.write(FIRST_PATH)
         with open(os.path.join(folder, "cut.csv"), "wb") as script:
             script.write(FIRST_PATH[:-3])
+        helped = run(folder, ["--help"])
+        too_many = b"1,1,stat,a,,\n" * (MOST_ROWS + 1)
         results = [
             ended("a script", run(folder, ["script.csv"]), 0, PRINTED, b""),
-            ended("help", run(folder, ["--help"]), 0, None, b""),
+            ended("standard input", run(folder, ["/dev/stdin"], given=FIRST_PATH), 0, PRINTED, b""),
+            ended("help", helped, 0, None, b""),
+            all(word.encode() in helped.stdout for word in HELPS),
+            ended("version", run(folder, ["--version"]), 0, b"lrcstore 0.1.0\n", b""),
+            ended("too many rows", run(folder, ["/dev/stdin"], given=too_many), 1, b"", b"lrcstore: row 65537: rows\n"),
             ended("a cut script", run(folder, ["cut.csv"]), 1, b"", b"lrcstore: row 2: fields\n"),
             ended("no script", run(folder, ["none.csv"]), 1, b"", b"lrcstore: cannot read the script\n"),
             ended("a folder", run(folder, ["."]), 1, b"", b"lrcstore: cannot read the script\n"),

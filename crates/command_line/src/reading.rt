@@ -3,6 +3,7 @@
 ghost use Rattle.std.specs.Prelude.{◌≡◌, ◌≤◌, IfOk, MatchOption};
 ghost use Rattle.command_line.specs.Ranges.{InRange};
 
+use crate::help::{ABOUT, MORE};
 use crate::line::{BadLine, Options};
 use clap::builder::ValueParser;
 use clap::error::ErrorKind;
@@ -17,6 +18,9 @@ const MAX_WORKERS: u32 = 16;
 
 /// The most entries that a journal can have room for.
 const MAX_LIMIT: u32 = 1_048_576;
+
+/// What `--version` says after the program's name.
+const VERSION: &str = "0.1.0";
 
 /// An error of `clap`, from which want of memory is told apart.
 fn refused(error: Error) -> BadLine {
@@ -47,7 +51,7 @@ fn number_option<'a>(
 fn command<'a>(alloc: Global) -> Result<Command<'a>, AllocError> {
     let script = Arg::new(alloc, "SCRIPT")
         .required(true)
-        .help("the script's file");
+        .help("the script's file, or /dev/stdin");
     let width = number_option(
         alloc,
         "width",
@@ -75,9 +79,12 @@ fn command<'a>(alloc: Global) -> Result<Command<'a>, AllocError> {
     let history = Arg::new(alloc, "history")
         .long("history")
         .action(ArgAction::SetTrue)
-        .help("print the history");
+        .help("print the journal: each call and its reply");
     let command = Command::new(alloc, "lrcstore")
         .no_binary_name(true)
+        .version(VERSION)
+        .about(ABOUT)
+        .after_help(MORE)
         .arg(script)?
         .arg(width)?
         .arg(workers)?
@@ -98,7 +105,7 @@ fn number(matches: &ArgMatches, id: &str, most: u32) -> Option<u32>
 /// J from 1 to 1,048,576; without them 1, 1 and 4,096. The parser has tested that the numbers lie in their ranges; they are tested once more here, so
 /// that what a caller gets is proved to.
 ///
-/// `BadLine::Clap` has the text that `clap` prints for a line that it refuses, or for `--help`.
+/// `BadLine::Clap` has the text that `clap` prints for a line that it refuses, or for `--help` or `--version`.
 pub fn options<'a>(alloc: Global, words: &'a [&'a str]) -> Result<Options, BadLine>
     ensures { IfOk result (λ options. InRange options.width 65536 × InRange options.workers 16 × InRange options.limit 1048576) }
 {

@@ -40,5 +40,6 @@ fn lines(rt: HostRuntime) -> Result<(), Fail> {
     assert!(rt; is_refused(&rt, &["script.csv", "--limit", "1048577"]));
     assert!(rt; is_refused(&rt, &["script.csv", "--mirrors", "2"]));
     assert!(rt; is_refused(&rt, &["--help"]));
+    assert!(rt; is_refused(&rt, &["--version"]));
     Ok(())
 }

@@ -1,5 +1,5 @@
-//! Runs the scripts of `examples/` as the program would, and compares what they print with the texts beside them.
-//! It prints the words of each run, and ends with status 1 at the first that prints something else.
+//! Runs the scripts of `examples/` as the program would, and compares what they print with the texts beside them; and those of `examples/refused/`.
+//! It prints the words of each run, and ends with status 1 at the first that prints something else. Of a script that is refused it prints what is said of it.
 #![tactic(auto)]
 
 ghost use Rattle.std.specs.Prelude.{IfOk};
@@ -48,6 +48,21 @@ const RUNS: [Run; 7] = [
     },
 ];
 
+/// Scripts that are refused.
+const REFUSED: [&str; 11] = [
+    "refused/header_row.csv",
+    "refused/utf_16.csv",
+    "refused/falling_round.csv",
+    "refused/semicolons.csv",
+    "refused/comment.csv",
+    "refused/open_quote.csv",
+    "refused/space_after_comma.csv",
+    "refused/capital_operation.csv",
+    "refused/space_in_name.csv",
+    "refused/no_text_or_hex.csv",
+    "refused/mend_beside_a_row.csv",
+];
+
 /// Whether one of the files has just this text.
 fn is_one_of(rt: &HostRuntime, printed: &[u8], texts: &[&str]) -> Result<bool> {
     for path in texts {
@@ -85,6 +100,16 @@ fn main(rt: HostRuntime) -> Result<()> {
             "another text is printed"
         );
         println!(rt; "prints its text")?;
+    }
+    for path in REFUSED {
+        let options = options_of(&rt, &[path])?;
+        let script = File::open(&rt, path)?;
+        let mut printed: Vec<u8> = Vec::new(rt.alloc());
+        match play(&rt, rt.alloc(), &options, script, &mut printed, &Always) {
+            Ok(()) => bail!("{path} is not refused"),
+            Err(fail) => println!(rt; "{path}: {fail}")?,
+        }
+        ensure!(printed.is_empty(), "something is printed");
     }
     Ok(())
 }

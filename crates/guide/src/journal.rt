@@ -1,0 +1,31 @@
+//! The journal's limit, and what to do at it.
+
+use anyhow::{Context, Result, ensure};
+use book::{Fault, Limit, Name, is_lawful_from};
+use bytes::Bytes;
+use shared::Store;
+use std::alloc::Global;
+use std::sync::Wait;
+
+/// Fills a journal of two entries, gives up the older, goes on, and closes the store.
+pub(crate) fn trim_and_close<R: Print + Wait>(rt: &R, alloc: Global) -> Result<()> {
+    let name = Name::new("a")?;
+    let limit = Limit::new(2).context("a limit")?;
+    let (store, mut pass) = Store::open(alloc, 1, limit)?;
+    let blob = Bytes::from_static(b"ABC");
+    store.put(rt, alloc, &mut pass, name.duplicate(), blob)?;
+    store.stat(rt, &mut pass, name.duplicate())?;
+    if let Err(Fault::JournalFull) = store.stat(rt, &mut pass, name.duplicate()) {
+        let given_up = store.trim(rt, alloc, &mut pass, 1)?;
+        println!(rt; "full: {given_up} given up")?;
+    }
+    store.stat(rt, &mut pass, name)?;
+    let book = store.close(pass);
+    let (base, entries) = (book.base(), book.entries());
+    println!(rt; "{} given up, {} kept", base.trimmed, entries.len())?;
+    ensure!(
+        is_lawful_from(alloc, base, entries, book.width())?,
+        "what is kept is lawful"
+    );
+    Ok(())
+}

@@ -1,0 +1,77 @@
+//! Reads without a copy, and without the gate.
+ghost use Rattle.std.specs.Prelude.{◌≡◌};
+ghost use Rattle.shared.specs.Passes.{Stays};
+
+use anyhow::{Context, Result, bail};
+use book::{Answer, Limit, Name};
+use bytes::Bytes;
+use lent::{Asked, Grant, Piece};
+use lrc_code::Plans;
+use shared::{Pass, Store};
+use std::alloc::Global;
+use std::sync::Wait;
+
+/// Prints the pieces of a grant as they come. What is there is lent; only what is lost is built, and takes memory.
+fn show<R: Print>(rt: &R, alloc: Global, grant: &Grant) -> Result<()> {
+    let mut walk = grant.walk();
+    while let Some(piece) = walk.next_piece(alloc)? {
+        let kind = match &piece {
+            Piece::Lent(_) => "lent",
+            Piece::Built(_) => "built",
+        };
+        println!(rt; "{kind} {}", str::from_utf8(piece.bytes())?)?;
+    }
+    Ok(())
+}
+
+/// Four bytes of the beginning of the blob, by a call of the store.
+fn beginning<R: Wait>(rt: &R, store: &Store, pass: &mut Pass, name: Name) -> Result<Grant>
+    requires { pass.old.store ≡ store.now }
+    ensures { Stays pass.old pass.new }
+{
+    match store.read(rt, pass, name, 0, 4)? {
+        Answer::Granted(grant) => Ok(grant),
+        Answer::NoName => bail!("no blob has this name"),
+        Answer::OutOfRange => bail!("the blob is shorter"),
+        Answer::Unrecoverable(version) => bail!("version {version} has lost too much"),
+        _ => bail!("another answer"),
+    }
+}
+
+/// Eight bytes more of the version that a grant holds. It is no call of the store: nobody waits, and no entry is made.
+fn more(grant: &Grant) -> Result<Grant> {
+    match Grant::ask(&grant.sealed, 4, 8)? {
+        Asked::Granted(grant) => Ok(grant),
+        Asked::OutOfRange => bail!("the blob is shorter"),
+        Asked::Unrecoverable => bail!("this version has lost too much"),
+    }
+}
+
+/// A walk that builds by kept recipes: how many pieces it built.
+fn count_built(alloc: Global, grant: &Grant, plans: &mut Plans) -> Result<u64> {
+    let mut built = 0u64;
+    let mut walk = grant.walk_with(plans);
+    while let Some(piece) = walk.next_piece(alloc)? {
+        built = built.saturating_add(u64::from(matches!(piece, Piece::Built(_))));
+    }
+    Ok(built)
+}
+
+/// Reads a blob in parts. The second part is of the version of the first, though the name has none by then.
+pub(crate) fn read_on<R: Print + Wait>(rt: &R, alloc: Global) -> Result<()> {
+    let name = Name::new("a")?;
+    let limit = Limit::new(1_000).context("a limit")?;
+    let (store, mut pass) = Store::open(alloc, 2, limit)?;
+    let blob = Bytes::from_static(b"ABCDEFGHIJKL");
+    store.put(rt, alloc, &mut pass, name.duplicate(), blob)?;
+    store.lose(rt, alloc, &mut pass, name.duplicate(), 0, 1)?;
+    let grant = beginning(rt, &store, &mut pass, name.duplicate())?;
+    store.delete(rt, &mut pass, name)?;
+    show(rt, alloc, &grant)?;
+    show(rt, alloc, &more(&grant)?)?;
+    let mut plans = Plans::new(alloc);
+    let first = count_built(alloc, &grant, &mut plans)?;
+    let second = count_built(alloc, &grant, &mut plans)?;
+    println!(rt; "{first} and {second} built by one recipe")?;
+    Ok(())
+}

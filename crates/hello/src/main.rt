@@ -1,0 +1,25 @@
+//! The store in a dozen lines: what is asked for is read, though a fragment of it is lost.
+#![tactic(auto)]
+
+use anyhow::{Context, Result, bail};
+use book::{Answer, Limit, Name};
+use bytes::Bytes;
+use shared::Store;
+
+fn main(rt: HostRuntime) -> Result<()> {
+    let (alloc, name) = (rt.alloc(), Name::new("greeting")?);
+    let limit = Limit::new(1_000).context("a limit")?;
+    let (store, mut pass) = Store::open(alloc, 4, limit)?;
+    let blob = Bytes::from_static(b"HELLO, WORLD");
+    store.put(&rt, alloc, &mut pass, name.duplicate(), blob)?;
+    store.lose(&rt, alloc, &mut pass, name.duplicate(), 0, 0)?;
+    let Answer::Granted(grant) = store.read(&rt, &mut pass, name, 0, 12)? else {
+        bail!("it can't be told from what is left");
+    };
+    let pieces = grant.collect(alloc)?;
+    for piece in pieces.as_slice() {
+        let text = str::from_utf8(piece.bytes())?;
+        println!(rt; "{text}")?;
+    }
+    Ok(())
+}

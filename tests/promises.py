@@ -1,0 +1,280 @@
+#!/usr/bin/env python3
+"""Holds docs/promises.md to the code: tests/promises.py [--write]
+
+It fails where a clause of a public function, a must-fail edit or a test is not named there, where something is named that is not there, or where
+docs/edits.md is not what the edits make it. With --write it makes docs/edits.md anew, takes out the names of edits and tests that are gone, names
+each missing edit in the row of the function that it changes, and adds rows for missing clauses and tests. What such a row says is to be filled in
+by hand: an empty cell fails too.
+"""
+
+import os
+import re
+import sys
+
+import sources
+from sources import RESULT, TOP
+
+PROMISES = os.path.join(TOP, "docs", "promises.md")
+EDITS = os.path.join(TOP, "docs", "edits.md")
+HEAD = ["| Function, clauses | What it says | Wrong bodies | Test |", "|---|---|---|---|"]
+INDEX = "Wrong bodies, and what refuses them"
+OTHERS = "## The other crates"
+WORDS = re.compile(r"`([^`]+)`")
+# A test reaches a function through another one, or through another crate.
+THROUGH = re.compile(r"by (?:the crate )?`([^`]+)`")
+
+
+def words(cell):
+    """What stands in backquotes, but for what stands in brackets beside it."""
+    return WORDS.findall(re.sub(r"\([^()]*\)", "", cell))
+
+
+class Row:
+    """A row of a crate's table, by the number of its line."""
+
+    def __init__(self, number, crate, line):
+        self.number, self.crate = number, crate
+        self.cells = [cell.strip() for cell in line.strip().strip("|").split(" | ")]
+        named, _, told = self.cells[0].partition(": ")
+        self.is_inner = named.startswith("inside")
+        self.names, self.told = words(named), told
+        self.clauses = words(told) + ([RESULT] if re.match(RESULT + r"\b", told) else [])
+
+    def take_out(self, cell, name):
+        """Takes a name that is gone out of a list of names."""
+        kept = [part for part in re.split(r"[,;] ", self.cells[cell]) if f"`{name}`" not in part]
+        self.cells[cell] = ", ".join(kept) or "none"
+
+    def line(self):
+        return "| " + " | ".join(self.cells) + " |"
+
+
+def parse(lines, crates):
+    """The rows of the crates' tables, and the lines of the index, each with its number from 0."""
+    rows, index, section = [], [], ""
+    for number, line in enumerate(lines):
+        if line.startswith("## "):
+            section = line[3:].strip()
+        elif line.startswith("|") and not line.startswith("|---") and line != HEAD[0]:
+            if section in crates:
+                rows.append(Row(number, section, line))
+            elif section == INDEX:
+                index.append((number, line))
+    return rows, index
+
+
+def types_of(name):
+    """The types of a crate that its callers can name."""
+    return sources.exported(sources.read(os.path.join(sources.CRATES, name, "src", "lib.rt")))
+
+
+class Check:
+    """What is missing, and what is wrong, as (line number or None, words)."""
+
+    def __init__(self, text):
+        self.crates, self.lines = sources.crates(), text.splitlines()
+        self.rows, self.index = parse(self.lines, self.crates)
+        self.wrong, self.uncovered, self.unnamed_edits, self.unnamed_tests = [], [], [], []
+        self.tests = {test for crate in self.crates.values() for test in crate.tests}
+        self.check()
+
+    def complain(self, number, complaint):
+        self.wrong.append((number + 1, complaint))
+
+    def functions(self, row):
+        """The functions that a row is about."""
+        crate, found = self.crates[row.crate], []
+        for name in row.names:
+            named = crate.named(name)
+            named = [f for f in named if f.is_public] if not row.is_inner else named
+            if len(named) == 1 or row.is_inner:
+                found += named
+            elif named:
+                self.complain(row.number, f"`{name}` is " + " or ".join(f"`{f.path()}`" for f in named))
+            elif not crate.named(name) and name.split("::")[0] not in types_of(row.crate):
+                self.complain(row.number, f"no public function of {row.crate} is `{name}`")
+        return found
+
+    def is_test(self, row, word):
+        """Whether a word names a test, of this crate or with its crate before it, a program, or a file."""
+        crate, _, test = word.rpartition("::")
+        crate = crate or row.crate
+        if crate in self.crates and test in self.crates[crate].tests:
+            return True
+        return word in self.crates and self.crates[word].is_program or os.path.exists(os.path.join(TOP, word))
+
+    def check_row(self, row):
+        if len(row.cells) != 4 or not all(row.cells):
+            return self.complain(row.number, "a cell is to be filled in, or there are not four")
+        functions = self.functions(row)
+        for function in functions[:1] if row.is_inner else functions:
+            has = [clause for f in functions for clause in f.clauses] if row.is_inner else function.clauses
+            for clause in row.clauses:
+                if clause not in has:
+                    self.complain(row.number, f"`{function.path()}` has no clause {clause}: it has " + ", ".join(has))
+        for edit in words(row.cells[2]):
+            if edit not in self.crates[row.crate].edits:
+                self.complain(row.number, f"no edit of {row.crate} is `{edit}`")
+                row.take_out(2, edit)
+        for through in THROUGH.findall(row.cells[3]):
+            if through not in self.crates and not any(crate.named(through) for crate in self.crates.values()):
+                self.complain(row.number, f"`{through}` is no function or crate")
+        for test in words(THROUGH.sub("", row.cells[3])):
+            if not self.is_test(row, test):
+                self.complain(row.number, f"`{test}` is no test, program or file")
+                row.take_out(3, test)
+
+    def check_index(self):
+        known = {edit for crate in self.crates.values() for edit in crate.edits} | self.tests | set(self.crates)
+        known |= {f.name for crate in self.crates.values() for f in crate.functions}
+        for number, line in self.index:
+            for word in words(line.split(" | ", 1)[-1]):
+                if word not in known and not re.fullmatch(r"[A-Z]\w+|serial", word):
+                    self.complain(number, f"`{word}` is no edit, test, function or crate")
+
+    def check_whole(self):
+        """Whether all clauses, edits and tests are named."""
+        named_tests = {word.rpartition("::")[2] for row in self.rows for word in words(row.cells[-1])}
+        for name, crate in self.crates.items():
+            mine = [row for row in self.rows if row.crate == name]
+            covered = {(f.path(), clause) for row in mine if not row.is_inner for f in self.quiet_functions(row) for clause in row.clauses}
+            for function in crate.public():
+                lacking = [clause for clause in function.clauses if (function.path(), clause) not in covered]
+                if lacking:
+                    self.uncovered.append((name, function, lacking))
+            named = {edit for row in mine for edit in words(row.cells[2])} if mine else set()
+            self.unnamed_edits += [(name, edit) for edit in crate.edits if edit not in named]
+            self.unnamed_tests += [(name, test) for test in crate.tests if test not in named_tests]
+
+    def quiet_functions(self, row):
+        return [f for name in row.names for f in self.crates[row.crate].named(name) if f.is_public]
+
+    def check(self):
+        for row in self.rows:
+            self.check_row(row)
+        self.check_index()
+        self.check_whole()
+
+    def report(self):
+        """Prints what is wrong, and gives how much it is."""
+        for number, complaint in sorted(self.wrong):
+            print(f"docs/promises.md:{number}: {complaint}")
+        for crate, function, lacking in self.uncovered:
+            print(f"{crate}: no row has of `{function.path()}` the clauses " + ", ".join(lacking))
+        for crate, edit in self.unnamed_edits:
+            print(f"{crate}: no row has the edit `{edit}`")
+        for crate, test in self.unnamed_tests:
+            print(f"{crate}: no row has the test `{test}`")
+        return len(self.wrong) + len(self.uncovered) + len(self.unnamed_edits) + len(self.unnamed_tests)
+
+
+class Stubs:
+    """Rows for what has none, by crate. What they say is left empty."""
+
+    def __init__(self):
+        self.rows = {}
+
+    def add(self, crate, function, clauses, edits, tests):
+        self.rows.setdefault(crate, []).append([function, clauses, edits, tests])
+
+    def of(self, crate, function):
+        """The row of a function, if there is one."""
+        return next((row for row in self.rows.get(crate, []) if row[0] is function), None)
+
+    def lines(self, crate):
+        for function, clauses, edits, tests in self.rows[crate]:
+            inside = "" if clauses else "inside, "
+            first = f"{inside}`{function.path()}`" if function else "inside"
+            told = ": " + ", ".join(clause if clause == RESULT else f"`{clause}`" for clause in clauses) if clauses else ""
+            yield f"| {first}{told} |  | {listed(edits)} | {listed(tests)} |"
+
+
+def listed(names):
+    return ", ".join(f"`{name}`" for name in names) or "none"
+
+
+def stubs_of(check):
+    """Rows for clauses, and for the edits and tests that find no row. An edit goes to the first row of the function that it changes."""
+    stubs = Stubs()
+    for crate, function, lacking in check.uncovered:
+        stubs.add(crate, function, lacking, [], [])
+    for crate, edit in check.unnamed_edits:
+        target = check.crates[crate].edits[edit][1]
+        row = next((r for r in check.rows if r.crate == crate and target and {target.name, target.path()} & set(r.names)), None)
+        stub = stubs.of(crate, target)
+        if row:
+            row.cells[2] = f"`{edit}`" if row.cells[2].startswith("none") else f"{row.cells[2]}, `{edit}`"
+        elif stub:
+            stub[2].append(edit)
+        else:
+            stubs.add(crate, target, [], [edit], [])
+    for crate, test in check.unnamed_tests:
+        stubs.add(crate, None, [], [], [test])
+    return stubs
+
+
+def with_stubs(check):
+    """The document with a place for what is missing."""
+    stubs, lines, sections = stubs_of(check), list(check.lines), []
+    for row in check.rows:
+        if row.cells != Row(row.number, row.crate, lines[row.number]).cells:
+            lines[row.number] = row.line()
+    for crate in stubs.rows:
+        last = max((row.number for row in check.rows if row.crate == crate), default=None)
+        if last is None:
+            sections += [f"## {crate}", "", *HEAD, *stubs.lines(crate), ""]
+        else:
+            lines[last] = "\n".join([lines[last], *stubs.lines(crate)])
+    place = lines.index(OTHERS)
+    return "\n".join(lines[:place] + sections + lines[place:]) + "\n"
+
+
+def code(text):
+    """Some code in a cell of a table."""
+    text = text.strip().replace("|", "\\|")
+    return f"`` {text} ``" if "`" in text else f"`{text}`" if text else "nothing"
+
+
+def edits_text(crates):
+    """docs/edits.md: each edit, the function that it changes first, and the change."""
+    lines = [
+        "# The edits that the prover must refuse",
+        "",
+        "Made by `tests/promises.py --write` from `crates/NAME/must-fail/*.edit`. Each is a wrong body, by its change of the",
+        "code; `docs/promises.md` says for which clauses it stands.",
+    ]
+    for name, crate in crates.items():
+        if not crate.edits:
+            continue
+        lines += ["", f"## {name}", "", "| Edit | Changes | From | To |", "|---|---|---|---|"]
+        for edit, (path, target, pairs) in crate.edits.items():
+            where = f"`{target.path()}`" if target else path
+            more = f" and {len(pairs) - 1} more" if len(pairs) > 1 else ""
+            lines.append(f"| `{edit}` | {where} | {code(pairs[0][0])} | {code(pairs[0][1])}{more} |")
+    return "\n".join(lines) + "\n"
+
+
+def write(path, text):
+    with open(path, "w", encoding="utf-8") as out:
+        out.write(text)
+
+
+def main(arguments):
+    check = Check(sources.read(PROMISES))
+    edits = edits_text(check.crates)
+    if "--write" in arguments:
+        write(EDITS, edits)
+        write(PROMISES, with_stubs(check))
+        check = Check(sources.read(PROMISES))
+    count = check.report()
+    if not os.path.exists(EDITS) or sources.read(EDITS) != edits:
+        print("docs/edits.md is not what the edits make it: tests/promises.py --write makes it anew")
+        count += 1
+    crates = check.crates.values()
+    clauses, made = sum(len(f.clauses) for c in crates for f in c.public()), sum(len(c.edits) for c in crates)
+    print(clauses, "public clauses,", made, "edits and", sum(len(c.tests) for c in crates), "tests,", count, "wrong")
+    return 1 if count else 0
+
+
+if __name__ == "__main__":
+    sys.exit(main(sys.argv[1:]))

@@ -1,0 +1,195 @@
+"""What the crates have: public functions with their clauses, must-fail edits with the function that each changes, and tests."""
+
+import os
+import re
+from dataclasses import dataclass, field
+
+TOP = os.path.dirname(os.path.dirname(os.path.abspath(__file__)))
+CRATES = os.path.join(TOP, "crates")
+ITEM = re.compile(
+    r"(?P<cfg>#\[test\])|(?P<impl>\bimpl\b[^{;]*\{)|(?P<open>\{)|(?P<close>\})"
+    r"|(?P<fn>\b(?:pub(?:\([a-z]+\))?\s+)?(?:const\s+|unsafe\s+|extern\s+)*fn\s+(?P<name>\w+))"
+)
+CLAUSE = re.compile(r"\s*(requires|ensures)\*?(?:\s+(\w+))?\s*\{")
+RESULT = "result"
+
+
+def read(path):
+    with open(path, encoding="utf-8") as text:
+        return text.read()
+
+
+def blanked(code):
+    """The code with comments, strings, characters and the semicolons of array types as blanks, so that its brackets match."""
+    def blank(found):
+        return re.sub(r"[^\n]", " ", found.group())
+    code = re.sub(r"//[^\n]*|b?\"(?:\\.|[^\"\\])*\"|b?'(?:\\.[^']*|[^'\\\n])'", blank, code)
+    return re.sub(r";(?=[^][{};]*\])", " ", code)
+
+
+def closing(code, start):
+    """The place behind the bracket that closes the one at `start`."""
+    pairs, depth = {"{": "}", "(": ")", "[": "]"}, 0
+    opened, closed = code[start], pairs[code[start]]
+    for place in range(start, len(code)):
+        depth += (code[place] == opened) - (code[place] == closed)
+        if depth == 0:
+            return place + 1
+    raise ValueError("a bracket is not closed")
+
+
+@dataclass
+class Function:
+    """A function: its type, where it is a method, its name, its clauses in order, and which part of the file it is."""
+
+    owner: str
+    name: str
+    is_public: bool
+    clauses: list
+    start: int
+    end: int
+    is_test: bool = False
+    is_exported: bool = False
+
+    def path(self):
+        return f"{self.owner}::{self.name}" if self.owner else self.name
+
+
+@dataclass
+class Crate:
+    name: str
+    functions: list = field(default_factory=list)
+    edits: dict = field(default_factory=dict)
+    tests: list = field(default_factory=list)
+    is_program: bool = False
+
+    def public(self):
+        return [f for f in self.functions if f.is_public and f.clauses]
+
+    def named(self, word):
+        """The functions that a word names: `put`, or `Store::put` where several types have one."""
+        return [f for f in self.functions if f.path() == word] or [f for f in self.functions if f.name == word]
+
+
+def owner_of(header):
+    """The type of an `impl`: what stands behind `for`, or else behind `impl`, without its parameters."""
+    header = re.sub(r"^impl\s*(<(?:[^<>]|<[^<>]*>)*>)?", "", header).strip(" {\n")
+    header = header.split(" for ")[-1].strip()
+    named = re.match(r"[&\w:' ]*?(\w+)\s*(?:<|$|\swhere)", header)
+    return named.group(1) if named else ""
+
+
+def function_at(code, found, owner, is_test):
+    """The function whose header is found, with its clauses and its body."""
+    place = code.index("(", found.end())
+    angle = code.find("<", found.end(), place)
+    if angle >= 0:
+        place = code.index("(", matching_angle(code, angle))
+    place = closing(code, place)
+    clauses = []
+    while True:
+        step = re.compile(r"[^{};]*?(?=\b(?:requires|ensures)\b|\{|;)", re.S).match(code, place)
+        clause = CLAUSE.match(code, step.end())
+        if not clause:
+            break
+        end = closing(code, clause.end() - 1)
+        if clause.group(1) == "ensures":
+            clauses.append(clause.group(2) or RESULT)
+        place = end
+    brace = step.end()
+    end = closing(code, brace) if code[brace] == "{" else brace
+    is_public = bool(re.match(r"pub\s", found.group()))
+    is_exported = is_public and "extern" in found.group().split()
+    return Function(owner, found.group("name"), is_public, clauses, found.start(), end, is_test, is_exported)
+
+
+def matching_angle(code, place):
+    depth = 0
+    for at in range(place, len(code)):
+        if code[at] == "<":
+            depth += 1
+        elif code[at] == ">" and code[at - 1] not in "-=":
+            depth -= 1
+            if depth == 0:
+                return at + 1
+    raise ValueError("a list of type parameters is not closed")
+
+
+def functions_of(text):
+    """The functions of a file, in order."""
+    code, owners, found, place, is_test = blanked(text), [], [], 0, False
+    while True:
+        item = ITEM.search(code, place)
+        if not item:
+            return found
+        place = item.end()
+        if item.group("cfg"):
+            is_test = True
+        elif item.group("impl"):
+            owners.append(owner_of(item.group("impl")))
+        elif item.group("fn"):
+            function = function_at(code, item, next((o for o in reversed(owners) if o), ""), is_test)
+            found.append(function)
+            place, is_test = function.end, False
+        elif item.group("open"):
+            owners.append("")
+        elif owners:
+            owners.pop()
+
+
+def files_of(folder):
+    for at, folders, names in os.walk(folder):
+        folders[:] = sorted(set(folders) - {"out"})
+        yield from (os.path.join(at, name) for name in sorted(names) if name.endswith(".rt"))
+
+
+def is_test_file(path, folder):
+    parts = os.path.relpath(path, folder).split(os.sep)
+    return parts[0] in ("tests", "tests.rt")
+
+
+def exported(root):
+    """The names that a library's root gives its callers."""
+    names = set(re.findall(r"^pub (?:struct|enum|trait|fn|type) (\w+)", root, re.M))
+    for path in re.findall(r"^pub use ([^;]+);", root, re.M):
+        names |= set(re.findall(r"\w+", path.split("::")[-1] if "{" not in path else path[path.index("{") :]))
+    return names
+
+
+def edit_target(edit, texts, functions):
+    """The function that an edit changes first, as its file and path; and each change as its old and new text."""
+    pairs = re.findall(r"^old:[ \t]?(.*)\nnew:[ \t]?(.*)$", edit, re.M)
+    path = re.search(r"^file: *(\S+)", edit, re.M).group(1)
+    place = texts.get(path, "").find(pairs[0][0])
+    inside = [f for f in functions.get(path, []) if f.start <= place < f.end]
+    return path, inside[-1] if inside else None, pairs
+
+
+def crate(name):
+    folder = os.path.join(CRATES, name)
+    source = os.path.join(folder, "src")
+    result, texts, functions = Crate(name), {}, {}
+    root = os.path.join(source, "lib.rt")
+    result.is_program = not os.path.exists(root)
+    names = set() if result.is_program else exported(read(root))
+    for path in files_of(source):
+        text, inner = read(path), "src/" + os.path.relpath(path, source).replace(os.sep, "/")
+        texts[inner], functions[inner] = text, functions_of(text)
+        if is_test_file(path, source):
+            result.tests += [f.name for f in functions[inner] if f.is_test]
+            continue
+        for function in functions[inner]:
+            function.is_public = function.is_exported or function.is_public and (function.owner or function.name) in names
+            result.functions.append(function)
+    edits = os.path.join(folder, "must-fail")
+    for file in sorted(os.listdir(edits)) if os.path.isdir(edits) else []:
+        if file.endswith(".edit"):
+            result.edits[file[: -len(".edit")]] = edit_target(read(os.path.join(edits, file)), texts, functions)
+    return result
+
+
+def crates():
+    """All crates, in the order of crates.txt."""
+    lines = read(os.path.join(TOP, "crates.txt")).splitlines()
+    names = [re.match(r"\w+", row).group() for row in lines if re.match(r"\w", row)]
+    return {name: crate(name) for name in names}

@@ -1,0 +1,69 @@
+"""The two codes, read from the definitions that the proofs stand on, and the one rule of this folder: which lost fragments are open."""
+
+import os
+import re
+from functools import lru_cache
+
+TOP = os.path.dirname(os.path.dirname(os.path.abspath(__file__)))
+
+
+def definition(*path):
+    with open(os.path.join(TOP, "crates", *path), encoding="utf-8") as text:
+        return text.read()
+
+
+MODULUS = int(re.search(r"^modulus = (\w+)", definition("gf256", "specs", "Field.antt"), re.M).group(1), 0)
+
+
+def read_weights(code):
+    """What each fragment weighs in the four equations: the table `weights` of the crate `lrc_code`."""
+    table = re.search(rf"^weights {code} =\n((?:    .*\n)+)", definition("lrc_code", "specs", "Code.antt"), re.M).group(1)
+    rows = re.findall(r"\(([^()]*) ∷ \[\]\)", table)
+    return [[int(number, 0) for number in row.split(" ∷ ")] for row in rows]
+
+
+WEIGHTS = {code: read_weights(code) for code in ("Wide", "Small")}
+
+
+def data_fragments(code):
+    """All fragments but the four parities, one for each equation."""
+    return len(WEIGHTS[code][0]) - 4
+
+
+def fragments(code):
+    return len(WEIGHTS[code][0])
+
+
+def product(a, b):
+    """The carry-less product of two bytes, reduced by the modulus."""
+    result = 0
+    while b:
+        if b & 1:
+            result ^= a
+        a = a << 1 ^ (MODULUS if a & 0x80 else 0)
+        b >>= 1
+    return result
+
+
+INVERSE = {a: b for a in range(1, 256) for b in range(1, 256) if product(a, b) == 1}
+
+
+@lru_cache(maxsize=None)
+def is_open(code, lost, f):
+    """Whether two columns agree on every fragment that is not in `lost`, and differ at `f`.
+
+    A column meets the four equations. The difference of two columns does so too, so `f` is open exactly where the equations,
+    over the lost fragments alone, have a solution that is not zero at `f`: where no sum of equations weighs `f` and nothing
+    else that is lost. `lost` is a frozenset.
+    """
+    if f not in lost:
+        return False
+    rows = [[row[i] for i in sorted(lost - {f})] + [row[f]] for row in WEIGHTS[code]]
+    for column in range(len(lost) - 1):
+        pivot = next((row for row in rows if row[column]), None)
+        if pivot is None:
+            continue
+        rows.remove(pivot)
+        scale = INVERSE[pivot[column]]
+        rows = [[x ^ product(product(row[column], scale), y) for x, y in zip(row, pivot)] for row in rows]
+    return not any(row[-1] for row in rows)
