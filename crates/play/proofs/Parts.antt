@@ -69,3 +69,38 @@ module _ (w l : ℕ) (rows : List Row) (round : ℕ) (acts : List Act) (who : �
             (λ q is. let a : c.number < q.step.row = is.row in let b : t.place + length (act_in who t) ≤ length q.before = is.place in
             let e : length (act_in who t) ≡ length (act_of who s.deed) = ap length act in (omega arith, omega arith)) (steps_in rest.accounts) rest.are_of, rest.order);
       }
+
+-- ---- a mend's worker
+-- what it did, all for one row
+pub record MendPart (w l : ℕ) (rows : List Row) (round : ℕ) (acts : List Act) (who base low number : ℕ) (turns : List Turn) : Type 0 where
+  pub steps : List Placed
+  pub places : own_places steps ≡ places_of who turns
+  pub stand : Each (Stands w l acts) steps
+  pub are_of : Each (IsOf rows round who base low) steps
+  pub order : Pairs IsBefore steps
+  pub of_row : Each (λ (p : Placed). p.step.row ≡ number) steps
+
+module _ (w l : ℕ) (rows : List Row) (round : ℕ) (acts : List Act) (who base number : ℕ) (past : base < number) (here : round_in rows number ≡ round) where
+  pub mend_part : (low : ℕ) (turns : List Turn) → AreServed w l acts who low turns → MendPart w l rows round acts who base low number turns
+  mend_part low [] served = record { steps = []; places = refl; stand = tt; are_of = tt; order = tt; of_row = tt }
+  mend_part low (t ∷ turns) served =
+      let s : IsServed w l acts who t = served.1 in
+      let act : act_in who t ≡ act_of who s.deed = ap (act_if who) s.told in
+      let rest = mend_part (t.place + length (act_in who t)) turns served.2 in
+      let p : Placed = record { before = s.before; step = record { row = number; who = who; deed = s.deed } } in
+      let at : length s.before ≡ t.place = s.place_is in
+      let first : low ≤ t.place = served.0 in
+      let e : length (act_in who t) ≡ length (act_of who s.deed) = ap length act in
+      let later = each-both (IsOf rows round who base (t.place + length (act_in who t))) (λ (q : Placed). q.step.row ≡ number) rest.steps rest.are_of rest.of_row in
+      record {
+        steps = p ∷ rest.steps;
+        places = (λ i. number_if (at i) (sym act i) ++ rest.places i);
+        stand = (record { does = s.does; stands = s.stands }, rest.stand);
+        are_of = (record { label = refl; row = past; place = omega arith; in_round = here },
+            each-weaker (IsOf rows round who base (t.place + length (act_in who t))) (IsOf rows round who base low)
+            (λ q is. let b : t.place + length (act_in who t) ≤ length q.before = is.place in
+            record { label = is.label; row = is.row; place = omega arith; in_round = is.in_round }) rest.steps rest.are_of);
+        order = (each-weaker (λ (q : Placed). IsOf rows round who base (t.place + length (act_in who t)) q × (q.step.row ≡ number)) (IsBefore p)
+            (λ q is. let b : t.place + length (act_in who t) ≤ length q.before = is.0.place in let r : q.step.row ≡ number = is.1 in (omega arith, omega arith)) rest.steps later, rest.order);
+        of_row = (refl, rest.of_row);
+      }

@@ -90,6 +90,16 @@ pub record IsOf (rows : List Row) (round who base low : ℕ) (p : Placed) : Type
   pub place : low ≤ length p.before
   pub in_round : round_in rows p.step.row ≡ round
 
+-- the row with this number, past the row `base`, asks for a mend, in this round
+pub record IsMendOf (rows : List Row) (round base number : ℕ) : Type 0 where
+  pub before : ℕ
+  pub row : Row
+  pub number_is : number ≡ before + 1
+  pub there : slice_get rows before ≡ Some row
+  pub task : row.task ≡ Mend
+  pub past : base < number
+  pub in_round : round_in rows number ≡ round
+
 -- one may stand before the other, and the other before it, but where it is done before the other begins
 abbrev pub IsGood : (ℕ → ℕ) → Placed → Placed → Type 0
 IsGood round_of x y = MayPrecede round_of x.step y.step × (MayPrecede round_of y.step x.step ⊎ (length x.before + length (act_at x) ≤ length y.before))
