@@ -33,12 +33,12 @@ use Rattle.play.specs.declared.outcome.RowOutcome.{RowOutcome}
 use Rattle.play.proofs.Buckets.{each-append, each-across, each-both, each-weaker, pairs-append, pairs-weaker}
 use Rattle.play.proofs.Parts.{MendPart, mend_part}
 
-module _ (store : Which) (rows : List Row) (round base number : ℕ) (past : base < number) (here : round_in rows number ≡ round) (before acts : List Act) (plan : List Item) (tickets : TableId) where
+module _ (store : Which) (rows : List Row) (round top base number : ℕ) (past : base < number) (few : number ≤ top) (here : round_in rows number ≡ round) (before acts : List Act) (plan : List Item) (tickets : TableId) where
   -- a worker that mended: its turns
   pub record Turned (who : ℕ) (w : Shows) : Type 0 where
     pub turns : List Turn
     pub did : w.did ≡ places_of who turns
-    pub part : MendPart store.width store.limit rows round acts who base (length before) number turns
+    pub part : MendPart store.width store.limit rows round top acts who base (length before) number turns
 
   turned : (who : ℕ) (v w : Shows) (asks : List Ask) (replies : List Reply) → v.store ≡ store → (v.who ≡ who) × (v.acts ≡ before) × (v.did ≡ []) → Serves v asks replies w → IsPrefix w.acts acts → Turned who w
   turned who v w asks replies at new serves later =
@@ -48,7 +48,7 @@ module _ (store : Which) (rows : List Row) (round base number : ℕ) (past : bas
       record {
         turns = serves.turns;
         did = serves.did ∙ (λ i. new.2 i ++ places_of (new.0 i) serves.turns);
-        part = mend_part store.width store.limit rows round acts who base number past here (length before) serves.turns each;
+        part = mend_part store.width store.limit rows round top acts who base number past few here (length before) serves.turns each;
       }
 
   mender_did : (who : ℕ) (v w : Shows) (e : Errand) (o : Outcome) → v.store ≡ store → (v.who ≡ who) × (v.acts ≡ before) × (v.did ≡ []) → IsMender plan tickets e → DidErrand v e o w → IsEnded o → IsPrefix w.acts acts
@@ -64,7 +64,7 @@ module _ (store : Which) (rows : List Row) (round base number : ℕ) (past : bas
     pub steps : List Placed
     pub places : did ≡ own_places steps
     pub stand : Each (Stands store.width store.limit acts) steps
-    pub are_later : Each (IsLater rows round base (length before)) steps
+    pub are_later : Each (IsLater rows round top base (length before)) steps
     pub labels : Each (λ (p : Placed). who ≤ p.step.who) steps
     pub order : Pairs (IsGood (round_in rows)) steps
     pub of_row : Each (λ (p : Placed). p.step.row ≡ number) steps
@@ -74,16 +74,16 @@ module _ (store : Which) (rows : List Row) (round base number : ℕ) (past : bas
       let p = t.part in
       let xs = p.steps in
       let ys = rest.steps in
-      let later = each-weaker (IsOf rows round who base (length before)) (IsLater rows round base (length before)) (λ q is. record { row = is.row; place = is.place; in_round = is.in_round }) xs p.are_of in
+      let later = each-weaker (IsOf rows round top who base (length before)) (IsLater rows round top base (length before)) (λ q is. record { row = is.row; few = is.few; place = is.place; in_round = is.in_round }) xs p.are_of in
       let across : (x y : Placed) → (x.step.row ≡ number) → (y.step.row ≡ number) × (who + 1 ≤ y.step.who) → IsGood (round_in rows) x y = λ x y a b. (inl (omega (arith, a, b.0)), inl (inl (omega (arith, a, b.0)))) in
       let both = each-both (λ (q : Placed). q.step.row ≡ number) (λ (q : Placed). who + 1 ≤ q.step.who) ys rest.of_row rest.labels in
       record {
         steps = xs ++ ys;
         places = (λ i. (t.did ∙ sym p.places) i ++ rest.places i) ∙ sym (flat_map-append (λ (q : Placed). number_if (length q.before) (act_at q)) xs ys);
         stand = each-append (Stands store.width store.limit acts) xs ys p.stand rest.stand;
-        are_later = each-append (IsLater rows round base (length before)) xs ys later rest.are_later;
+        are_later = each-append (IsLater rows round top base (length before)) xs ys later rest.are_later;
         labels = each-append (λ (q : Placed). who ≤ q.step.who) xs ys
-            (each-weaker (IsOf rows round who base (length before)) (λ (q : Placed). who ≤ q.step.who) (λ q is. let e : q.step.who ≡ who = is.label in omega arith) xs p.are_of)
+            (each-weaker (IsOf rows round top who base (length before)) (λ (q : Placed). who ≤ q.step.who) (λ q is. let e : q.step.who ≡ who = is.label in omega arith) xs p.are_of)
             (each-weaker (λ (q : Placed). who + 1 ≤ q.step.who) (λ (q : Placed). who ≤ q.step.who) (λ q is. omega arith) ys rest.labels);
         order = pairs-append (IsGood (round_in rows)) xs ys (pairs-weaker IsBefore (IsGood (round_in rows)) (λ x y is. (inl is.0, inr is.1)) xs p.order) rest.order
             (each-across (λ (q : Placed). q.step.row ≡ number) (λ (q : Placed). (q.step.row ≡ number) × (who + 1 ≤ q.step.who)) (IsGood (round_in rows)) across xs ys p.of_row both);
@@ -115,14 +115,14 @@ did_none acts who [] fresh = refl
 did_none acts who (p ∷ ps) fresh = (λ i. fresh.0.2 i ++ did_none acts (who + 1) ps fresh.1 i)
 
 -- ---- the mend as a round
-pub mend_round : (store : Which) (rows : List Row) (round base number : ℕ) (is : IsMendOf rows round base number) (old dismissed hired renewed : Shows) (passes : List Shows) (plan : List Item) (tickets : TableId)
+pub mend_round : (store : Which) (rows : List Row) (round top base number : ℕ) (is : IsMendOf rows round top base number) (old dismissed hired renewed : Shows) (passes : List Shows) (plan : List Item) (tickets : TableId)
     (works : List Work) (rans : List Ran) (outcome : RowOutcome) (done : List Done)
     → AreNew old.acts 1 passes → IsPrefix old.acts dismissed.acts → dismissed.did ≡ old.did ++ did_by passes → (hired.acts ≡ dismissed.acts) × (hired.did ≡ dismissed.did)
     → AreWorkers store (passes_of works) → AreNew hired.acts 1 (passes_of works) → AreMenders plan tickets works → DidAll works rans → AreEnded (outcomes_of rans) → HaveSeen renewed.acts (passes_back rans)
     → renewed.did ≡ hired.did ++ did_by (passes_back rans)
-    → IsRound store.width store.limit rows round base old.acts renewed.acts old.did renewed.did done (done ++ record { number = number; outcome = outcome } ∷ [])
-mend_round store rows round base number is old dismissed hired renewed passes plan tickets works rans outcome done idle more joined same at fresh are did ended seen all_did =
-    let m = menders_did store rows round base number is.past is.in_round hired.acts renewed.acts plan tickets 1 works rans at fresh are did ended seen in
+    → IsRound store.width store.limit rows round top base old.acts renewed.acts old.did renewed.did done (done ++ record { number = number; outcome = outcome } ∷ [])
+mend_round store rows round top base number is old dismissed hired renewed passes plan tickets works rans outcome done idle more joined same at fresh are did ended seen all_did =
+    let m = menders_did store rows round top base number is.past is.few is.in_round hired.acts renewed.acts plan tickets 1 works rans at fresh are did ended seen in
     let one : Account = record { done = record { number = number; outcome = outcome }; steps = m.steps } in
     let steps : steps_in (one ∷ []) ≡ m.steps = append-nil m.steps in
     let longer : length old.acts ≤ length hired.acts = let a = prefix_length old.acts dismissed.acts more in let b : length hired.acts ≡ length dismissed.acts = ap length same.0 in omega arith in
@@ -133,8 +133,8 @@ mend_round store rows round base number is old dismissed hired renewed passes pl
       right = (record { before = is.before; row = is.row; number = is.number_is; there = is.there; settles = subst (λ task. Settles store.width is.row task outcome m.steps) (sym is.task) tt }, tt);
       places = all_did ∙ (λ i. (same.1 ∙ joined ∙ none) i ++ m.places i) ∙ ap (λ l. old.did ++ own_places l) (sym steps);
       stand = subst (Each (Stands store.width store.limit renewed.acts)) (sym steps) m.stand;
-      are_later = subst (Each (IsLater rows round base (length old.acts))) (sym steps)
-          (each-weaker (IsLater rows round base (length hired.acts)) (IsLater rows round base (length old.acts))
-          (λ q q_is. let b : length hired.acts ≤ length q.before = q_is.place in record { row = q_is.row; place = omega arith; in_round = q_is.in_round }) m.steps m.are_later);
+      are_later = subst (Each (IsLater rows round top base (length old.acts))) (sym steps)
+          (each-weaker (IsLater rows round top base (length hired.acts)) (IsLater rows round top base (length old.acts))
+          (λ q q_is. let b : length hired.acts ≤ length q.before = q_is.place in record { row = q_is.row; few = q_is.few; place = omega arith; in_round = q_is.in_round }) m.steps m.are_later);
       order = subst (Pairs (IsGood (round_in rows))) (sym steps) m.order;
     }

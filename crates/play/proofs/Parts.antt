@@ -21,24 +21,24 @@ use Rattle.play.specs.Lists.{Each, Pairs}
 use Rattle.play.proofs.Texts.{text_of, asked_by}
 
 -- what one worker did in a round
-pub record Part (w l : ℕ) (rows : List Row) (round : ℕ) (acts : List Act) (who base low : ℕ) (mine : List Call) (turns : List Turn) : Type 0 where
+pub record Part (w l : ℕ) (rows : List Row) (round top : ℕ) (acts : List Act) (who base low : ℕ) (mine : List Call) (turns : List Turn) : Type 0 where
   pub accounts : List Account
   pub dones : dones_in accounts ≡ noted (map (λ (c : Call). c.number) mine) (map (λ (t : Turn). t.reply) turns)
   pub right : Each (IsAccount w rows) accounts
   pub places : own_places (steps_in accounts) ≡ places_of who turns
   pub stand : Each (Stands w l acts) (steps_in accounts)
-  pub are_of : Each (IsOf rows round who base low) (steps_in accounts)
+  pub are_of : Each (IsOf rows round top who base low) (steps_in accounts)
   pub order : Pairs IsBefore (steps_in accounts)
 
-module _ (w l : ℕ) (rows : List Row) (round : ℕ) (acts : List Act) (who : ℕ) where
+module _ (w l : ℕ) (rows : List Row) (round top : ℕ) (acts : List Act) (who : ℕ) where
   pub part : (base low : ℕ) (mine : List Call) (turns : List Turn) → map (λ (t : Turn). t.ask) turns ≡ map (λ (c : Call). c.ask) mine → AreServed w l acts who low turns
-      → Each (λ (c : Call). IsCallOf rows round c × (c.worker ≡ who)) mine → RiseFrom base mine → Part w l rows round acts who base low mine turns
+      → Each (λ (c : Call). IsCallOf rows round top c × (c.worker ≡ who)) mine → RiseFrom base mine → Part w l rows round top acts who base low mine turns
   part base low [] [] same served calls rise = record { accounts = []; dones = refl; right = tt; places = refl; stand = tt; are_of = tt; order = tt }
   part base low [] (t ∷ turns) same served calls rise = absurd (cc (same))
   part base low (c ∷ mine) [] same served calls rise = absurd (cc (same))
   part base low (c ∷ mine) (t ∷ turns) same served calls rise =
       let s : IsServed w l acts who t = served.1 in
-      let call : IsCallOf rows round c = calls.0.0 in
+      let call : IsCallOf rows round top c = calls.0.0 in
       let ask : t.ask ≡ c.ask = cc (same) in
       let act : act_in who t ≡ act_of who s.deed = ap (act_if who) s.told in
       let rest = part c.number (t.place + length (act_in who t)) mine turns (cc (same)) served.2 calls.1 rise.1 in
@@ -61,27 +61,27 @@ module _ (w l : ℕ) (rows : List Row) (round : ℕ) (acts : List Act) (who : �
         }, rest.right);
         places = (λ i. number_if (at i) (sym act i) ++ rest.places i);
         stand = (record { does = s.does; stands = s.stands }, rest.stand);
-        are_of = (record { label = refl; row = low_row; place = omega arith; in_round = call.in_round },
-            each-weaker (IsOf rows round who c.number (t.place + length (act_in who t))) (IsOf rows round who base low)
+        are_of = (record { label = refl; row = low_row; few = call.few; place = omega arith; in_round = call.in_round },
+            each-weaker (IsOf rows round top who c.number (t.place + length (act_in who t))) (IsOf rows round top who base low)
             (λ q is. let a : c.number < q.step.row = is.row in let b : t.place + length (act_in who t) ≤ length q.before = is.place in
-            record { label = is.label; row = omega arith; place = omega arith; in_round = is.in_round }) (steps_in rest.accounts) rest.are_of);
-        order = (each-weaker (IsOf rows round who c.number (t.place + length (act_in who t))) (IsBefore p)
+            record { label = is.label; row = omega arith; few = is.few; place = omega arith; in_round = is.in_round }) (steps_in rest.accounts) rest.are_of);
+        order = (each-weaker (IsOf rows round top who c.number (t.place + length (act_in who t))) (IsBefore p)
             (λ q is. let a : c.number < q.step.row = is.row in let b : t.place + length (act_in who t) ≤ length q.before = is.place in
             let e : length (act_in who t) ≡ length (act_of who s.deed) = ap length act in (omega arith, omega arith)) (steps_in rest.accounts) rest.are_of, rest.order);
       }
 
 -- ---- a mend's worker
 -- what it did, all for one row
-pub record MendPart (w l : ℕ) (rows : List Row) (round : ℕ) (acts : List Act) (who base low number : ℕ) (turns : List Turn) : Type 0 where
+pub record MendPart (w l : ℕ) (rows : List Row) (round top : ℕ) (acts : List Act) (who base low number : ℕ) (turns : List Turn) : Type 0 where
   pub steps : List Placed
   pub places : own_places steps ≡ places_of who turns
   pub stand : Each (Stands w l acts) steps
-  pub are_of : Each (IsOf rows round who base low) steps
+  pub are_of : Each (IsOf rows round top who base low) steps
   pub order : Pairs IsBefore steps
   pub of_row : Each (λ (p : Placed). p.step.row ≡ number) steps
 
-module _ (w l : ℕ) (rows : List Row) (round : ℕ) (acts : List Act) (who base number : ℕ) (past : base < number) (here : round_in rows number ≡ round) where
-  pub mend_part : (low : ℕ) (turns : List Turn) → AreServed w l acts who low turns → MendPart w l rows round acts who base low number turns
+module _ (w l : ℕ) (rows : List Row) (round top : ℕ) (acts : List Act) (who base number : ℕ) (past : base < number) (few : number ≤ top) (here : round_in rows number ≡ round) where
+  pub mend_part : (low : ℕ) (turns : List Turn) → AreServed w l acts who low turns → MendPart w l rows round top acts who base low number turns
   mend_part low [] served = record { steps = []; places = refl; stand = tt; are_of = tt; order = tt; of_row = tt }
   mend_part low (t ∷ turns) served =
       let s : IsServed w l acts who t = served.1 in
@@ -91,16 +91,16 @@ module _ (w l : ℕ) (rows : List Row) (round : ℕ) (acts : List Act) (who base
       let at : length s.before ≡ t.place = s.place_is in
       let first : low ≤ t.place = served.0 in
       let e : length (act_in who t) ≡ length (act_of who s.deed) = ap length act in
-      let later = each-both (IsOf rows round who base (t.place + length (act_in who t))) (λ (q : Placed). q.step.row ≡ number) rest.steps rest.are_of rest.of_row in
+      let later = each-both (IsOf rows round top who base (t.place + length (act_in who t))) (λ (q : Placed). q.step.row ≡ number) rest.steps rest.are_of rest.of_row in
       record {
         steps = p ∷ rest.steps;
         places = (λ i. number_if (at i) (sym act i) ++ rest.places i);
         stand = (record { does = s.does; stands = s.stands }, rest.stand);
-        are_of = (record { label = refl; row = past; place = omega arith; in_round = here },
-            each-weaker (IsOf rows round who base (t.place + length (act_in who t))) (IsOf rows round who base low)
+        are_of = (record { label = refl; row = past; few = few; place = omega arith; in_round = here },
+            each-weaker (IsOf rows round top who base (t.place + length (act_in who t))) (IsOf rows round top who base low)
             (λ q is. let b : t.place + length (act_in who t) ≤ length q.before = is.place in
-            record { label = is.label; row = is.row; place = omega arith; in_round = is.in_round }) rest.steps rest.are_of);
-        order = (each-weaker (λ (q : Placed). IsOf rows round who base (t.place + length (act_in who t)) q × (q.step.row ≡ number)) (IsBefore p)
+            record { label = is.label; row = is.row; few = is.few; place = omega arith; in_round = is.in_round }) rest.steps rest.are_of);
+        order = (each-weaker (λ (q : Placed). IsOf rows round top who base (t.place + length (act_in who t)) q × (q.step.row ≡ number)) (IsBefore p)
             (λ q is. let b : t.place + length (act_in who t) ≤ length q.before = is.0.place in let r : q.step.row ≡ number = is.1 in (omega arith, omega arith)) rest.steps later, rest.order);
         of_row = (refl, rest.of_row);
       }
