@@ -1,17 +1,13 @@
 -- The accounts of one worker's calls in a round.
-use Rattle.std.proofs.Common.{◌≡◌, ◌∙◌, ◌⊎◌, ℕ, ◌+◌, ◌<◌, ◌≤◌, List, [], ◌∷◌, ◌++◌, Some, length, map, refl, ap, sym, subst, arith}
-use Rattle.std.specs.Prelude.{slice_get}
+use Rattle.std.proofs.Common.{◌≡◌, ◌∙◌, ℕ, ◌+◌, ◌<◌, ◌≤◌, List, [], ◌∷◌, ◌++◌, length, map, refl, ap, sym, subst, arith}
 use Rattle.gate.specs.Events.{number_if}
 use Rattle.book.specs.Serial.{Act, act_of}
 use Rattle.shared.specs.declared.jobs.Ask.{Ask}
-use Rattle.shared.specs.declared.jobs.Reply.{Reply}
 use Rattle.shared.specs.Deeds.{act_if}
-use Rattle.shared.specs.Serving.{deed_told, Turn, act_in, IsServed, AreServed, places_of}
+use Rattle.shared.specs.Serving.{Turn, act_in, IsServed, AreServed, places_of}
 use Rattle.script.specs.declared.rows.Row.{Row}
-use Rattle.script.specs.declared.rows.Task.TheVariants.{Make}
-use Rattle.play.specs.Steps.{Step}
 use Rattle.play.specs.Runs.{IsAsked, round_in}
-use Rattle.play.specs.Accounts.{Placed, act_at, Stands, own_places, Account, dones_in, steps_in, Settles, IsAccount, IsCallOf, RiseFrom, IsBefore, IsOf}
+use Rattle.play.specs.Accounts.{Placed, Stands, own_places, Account, dones_in, steps_in, Settles, IsAccount, IsCallOf, RiseFrom, IsBefore, IsOf}
 use Rattle.play.specs.Noted.{noted}
 use Rattle.play.specs.declared.calls.Call.{Call}
 use Rattle.play.specs.declared.outcome.Done.{Done}
@@ -50,24 +46,36 @@ module _ (w l : ℕ) (rows : List Row) (round top : ℕ) (acts : List Act) (who 
       record {
         accounts = one ∷ rest.accounts;
         dones = ap (λ (l : List Done). one.done ∷ l) rest.dones;
-        right = (record {
-          before = call.before;
-          row = call.row;
-          number = call.number;
-          there = call.there;
-          settles = subst (λ task. Settles w call.row task (Replied t.reply) (p ∷ [])) (sym call.task)
-              (p, refl, sym (call.worker ∙ calls.0.1), subst (λ (a : Ask). IsAsked a s.deed) ask (asked_by t.ask t.reply s.deed s.told),
-               λ reply is. text_of w l who t.ask t.reply s.deed s.before reply s.told s.does s.granted is);
-        }, rest.right);
+        right = (
+          record {
+            before = call.before;
+            row = call.row;
+            number = call.number;
+            there = call.there;
+            settles = subst (λ task. Settles w call.row task (Replied t.reply) (p ∷ [])) (sym call.task) (
+              p,
+              refl,
+              sym (call.worker ∙ calls.0.1),
+              subst (λ (a : Ask). IsAsked a s.deed) ask (asked_by t.ask t.reply s.deed s.told),
+              λ reply is. text_of w l who t.ask t.reply s.deed s.before reply s.told s.does s.granted is,
+            );
+          },
+          rest.right,
+        );
         places = (λ i. number_if (at i) (sym act i) ++ rest.places i);
         stand = (record { does = s.does; stands = s.stands }, rest.stand);
-        are_of = (record { label = refl; row = low_row; few = call.few; place = omega arith; in_round = call.in_round },
-            each-weaker (IsOf rows round top who c.number (t.place + length (act_in who t))) (IsOf rows round top who base low)
-            (λ q is. let a : c.number < q.step.row = is.row in let b : t.place + length (act_in who t) ≤ length q.before = is.place in
-            record { label = is.label; row = omega arith; few = is.few; place = omega arith; in_round = is.in_round }) (steps_in rest.accounts) rest.are_of);
-        order = (each-weaker (IsOf rows round top who c.number (t.place + length (act_in who t))) (IsBefore p)
-            (λ q is. let a : c.number < q.step.row = is.row in let b : t.place + length (act_in who t) ≤ length q.before = is.place in
-            let e : length (act_in who t) ≡ length (act_of who s.deed) = ap length act in (omega arith, omega arith)) (steps_in rest.accounts) rest.are_of, rest.order);
+        are_of = (
+          record { label = refl; row = low_row; few = call.few; place = omega arith; in_round = call.in_round },
+          each-weaker (IsOf rows round top who c.number (t.place + length (act_in who t))) (IsOf rows round top who base low)
+              (λ q is. let a : c.number < q.step.row = is.row in let b : t.place + length (act_in who t) ≤ length q.before = is.place in
+              record { label = is.label; row = omega arith; few = is.few; place = omega arith; in_round = is.in_round }) (steps_in rest.accounts) rest.are_of,
+        );
+        order = (
+          each-weaker (IsOf rows round top who c.number (t.place + length (act_in who t))) (IsBefore p)
+              (λ q is. let a : c.number < q.step.row = is.row in let b : t.place + length (act_in who t) ≤ length q.before = is.place in
+              let e : length (act_in who t) ≡ length (act_of who s.deed) = ap length act in (omega arith, omega arith)) (steps_in rest.accounts) rest.are_of,
+          rest.order,
+        );
       }
 
 -- ---- a mend's worker
@@ -96,11 +104,16 @@ module _ (w l : ℕ) (rows : List Row) (round top : ℕ) (acts : List Act) (who 
         steps = p ∷ rest.steps;
         places = (λ i. number_if (at i) (sym act i) ++ rest.places i);
         stand = (record { does = s.does; stands = s.stands }, rest.stand);
-        are_of = (record { label = refl; row = past; few = few; place = omega arith; in_round = here },
-            each-weaker (IsOf rows round top who base (t.place + length (act_in who t))) (IsOf rows round top who base low)
-            (λ q is. let b : t.place + length (act_in who t) ≤ length q.before = is.place in
-            record { label = is.label; row = is.row; few = is.few; place = omega arith; in_round = is.in_round }) rest.steps rest.are_of);
-        order = (each-weaker (λ (q : Placed). IsOf rows round top who base (t.place + length (act_in who t)) q × (q.step.row ≡ number)) (IsBefore p)
-            (λ q is. let b : t.place + length (act_in who t) ≤ length q.before = is.0.place in let r : q.step.row ≡ number = is.1 in (omega arith, omega arith)) rest.steps later, rest.order);
+        are_of = (
+          record { label = refl; row = past; few = few; place = omega arith; in_round = here },
+          each-weaker (IsOf rows round top who base (t.place + length (act_in who t))) (IsOf rows round top who base low)
+              (λ q is. let b : t.place + length (act_in who t) ≤ length q.before = is.place in
+              record { label = is.label; row = is.row; few = is.few; place = omega arith; in_round = is.in_round }) rest.steps rest.are_of,
+        );
+        order = (
+          each-weaker (λ (q : Placed). IsOf rows round top who base (t.place + length (act_in who t)) q × (q.step.row ≡ number)) (IsBefore p)
+              (λ q is. let b : t.place + length (act_in who t) ≤ length q.before = is.0.place in let r : q.step.row ≡ number = is.1 in (omega arith, omega arith)) rest.steps later,
+          rest.order,
+        );
         of_row = (refl, rest.of_row);
       }

@@ -1,5 +1,5 @@
 -- Rounds, one after the other.
-use Rattle.std.proofs.Common.{◌≡◌, ◌∙◌, ℕ, ◌+◌, ◌-◌, ◌<◌, ◌≤◌, Some, map, List, [], ◌∷◌, ◌++◌, length, refl, ap, sym, subst, append_assoc, length-append, arith, inl, inr}
+use Rattle.std.proofs.Common.{◌≡◌, ◌∙◌, ℕ, ◌+◌, ◌-◌, ◌<◌, ◌≤◌, Some, map, List, [], ◌∷◌, ◌++◌, length, refl, ap, sym, subst, length-append, arith, inl, inr}
 use Rattle.std.proofs.lemmas.Grind.{flat_map-append}
 use Rattle.std.specs.Prelude.{slice_get, slice_index_or}
 use Rattle.std.proofs.lemmas.List.{map-append}
@@ -36,12 +36,12 @@ played_more w l rows round base top before acts old_did new_did old new le more 
     let all : steps_in (p.accounts ++ r.accounts) ≡ xs ++ ys = flat_map-append (λ (a : Account). a.steps) p.accounts r.accounts in
     let early = each-both (Stands w l before) (λ (q : Placed). q.step.row ≤ base) xs p.stand p.few in
     let across : (x y : Placed) → Stands w l before x × (x.step.row ≤ base) → IsLater rows round top base (length before) y → IsGood (round_in rows) x y = λ x y a b.
-        let inside = prefix_length (x.before ++ act_at x) before a.0.stands in
-        let long = length-append x.before (act_at x) in
-        let x_row : x.step.row ≤ base = a.1 in
-        let y_row : base < y.step.row = b.row in
-        let y_place : length before ≤ length y.before = b.place in
-        (inl (omega arith), inr (omega arith)) in
+    let inside = prefix_length (x.before ++ act_at x) before a.0.stands in
+    let long = length-append x.before (act_at x) in
+    let x_row : x.step.row ≤ base = a.1 in
+    let y_row : base < y.step.row = b.row in
+    let y_place : length before ≤ length y.before = b.place in
+    (inl (omega arith), inr (omega arith)) in
     record {
       accounts = p.accounts ++ r.accounts;
       dones = r.dones ∙ ap (λ (l : List Done). l ++ dones_in r.accounts) p.dones ∙ sym (map-append (λ (a : Account). a.done) p.accounts r.accounts);

@@ -5,7 +5,6 @@ use Rattle.script.specs.declared.rows.Row.{Row}
 use Rattle.play.specs.Crews.{IsReady}
 use Rattle.play.specs.Accounts.{IsPlayed}
 use Rattle.play.proofs.Played.{Finds, finds_made, finds_same, makes_call, makes_mend, made_all}
-use Rattle.play.proofs.rows.run_rows.Given as given
 use Rattle.play.proofs.rows.run_rows.Goals as goal
 use Rattle.play.proofs.rows.run_rows.Goals.{then-starts+in_ok-crew, else-starts}
 
@@ -22,9 +21,9 @@ loop-row-preserved-in-Continue-branch-2 g c =
     let next : c.saturating_add-number.result ≡ c.loop-row.number + 1 = omega (arith, long, inv.number, c.requires.few, c.saturating_add-number.ensures) in
     let finds : Finds store rows row c.loop-row.number c.if-starts.current c.if-starts.crew c.if-starts.done.items c.if-starts.calls.items = elim c.if-starts.branch [
       | then-starts+in_ok-crew w ↦ finds_made store rows row c.loop-row.number c.loop-row.current c.if-starts.current c.loop-row.crew w.in_ok-crew.crew c.if-starts.crew c.loop-row.done.items w.run_calls.new.done.items c.if-starts.done.items
-      c.loop-row.calls.items _ c.if-starts.calls.items inv.waits (grind (arith, common_steps)) w.in_ok-crew.ensures.ready w.in_ok-crew.ensures.acts w.in_ok-crew.ensures.round w.crew-is (ap (λ v. v.items) w.done-is) (grind (arith, common_steps)) w.current-is
+          c.loop-row.calls.items _ c.if-starts.calls.items inv.waits (grind (arith, common_steps)) w.in_ok-crew.ensures.ready w.in_ok-crew.ensures.acts w.in_ok-crew.ensures.round w.crew-is (ap (λ v. v.items) w.done-is) (grind (arith, common_steps)) w.current-is
       | else-starts w ↦ finds_same store rows row c.loop-row.number c.loop-row.current c.if-starts.current c.loop-row.crew c.if-starts.crew c.loop-row.done.items c.if-starts.done.items c.loop-row.calls.items c.if-starts.calls.items
-      inv.waits inv.ready w.crew-is (ap (λ v. v.items) w.done-is) (ap (λ v. v.items) w.calls-is) w.current-is (grind (arith, common_steps)) (λ task. grind (arith, common_steps))
+          inv.waits inv.ready w.crew-is (ap (λ v. v.items) w.done-is) (ap (λ v. v.items) w.calls-is) w.current-is (grind (arith, common_steps)) (λ task. grind (arith, common_steps))
     ] in
     record {
       ready = finds.ready;
@@ -53,9 +52,9 @@ loop-row-preserved g c =
     let next : c.saturating_add-number.result ≡ c.loop-row.number + 1 = omega (arith, long, inv.number, c.requires.few, c.saturating_add-number.ensures) in
     let finds : Finds store rows row c.loop-row.number c.if-starts.current c.if-starts.crew c.if-starts.done.items c.if-starts.calls.items = elim c.if-starts.branch [
       | then-starts+in_ok-crew w ↦ finds_made store rows row c.loop-row.number c.loop-row.current c.if-starts.current c.loop-row.crew w.in_ok-crew.crew c.if-starts.crew c.loop-row.done.items w.run_calls.new.done.items c.if-starts.done.items
-      c.loop-row.calls.items _ c.if-starts.calls.items inv.waits (grind (arith, common_steps)) w.in_ok-crew.ensures.ready w.in_ok-crew.ensures.acts w.in_ok-crew.ensures.round w.crew-is (ap (λ v. v.items) w.done-is) (grind (arith, common_steps)) w.current-is
+          c.loop-row.calls.items _ c.if-starts.calls.items inv.waits (grind (arith, common_steps)) w.in_ok-crew.ensures.ready w.in_ok-crew.ensures.acts w.in_ok-crew.ensures.round w.crew-is (ap (λ v. v.items) w.done-is) (grind (arith, common_steps)) w.current-is
       | else-starts w ↦ finds_same store rows row c.loop-row.number c.loop-row.current c.if-starts.current c.loop-row.crew c.if-starts.crew c.loop-row.done.items c.if-starts.done.items c.loop-row.calls.items c.if-starts.calls.items
-      inv.waits inv.ready w.crew-is (ap (λ v. v.items) w.done-is) (ap (λ v. v.items) w.calls-is) w.current-is (grind (arith, common_steps)) (λ task. grind (arith, common_steps))
+          inv.waits inv.ready w.crew-is (ap (λ v. v.items) w.done-is) (ap (λ v. v.items) w.calls-is) w.current-is (grind (arith, common_steps)) (λ task. grind (arith, common_steps))
     ] in
     record {
       ready = c.in_ok-crew-in-Mend.ensures.ready;
