@@ -2,7 +2,7 @@
 use Rattle.std.specs.Prelude.{◌≡◌, ℕ, zero, suc, ◌+◌, ◌-◌, ◌<◌, List, [], ◌∷◌, length}
 use Rattle.sealed.specs.Layout.{stripe_count}
 use Rattle.history.specs.State.{State, empty_state}
-use Rattle.history.specs.Step.{Operation, put, read, lose, repair, delete, stat, IsReply, after}
+use Rattle.history.specs.Step.{Operation, put, IsReply, after}
 use Rattle.history.specs.History.{Event, History, state_of}
 use Rattle.history.specs.declared.note.Note.{Note}
 use Rattle.book.specs.Trimming.{given_up}

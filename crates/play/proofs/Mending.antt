@@ -24,7 +24,7 @@ use Rattle.rounds.specs.declared.work.Outcome.TheVariants as outcome
 use Rattle.rounds.specs.declared.work.Ran.{Ran}
 use Rattle.rounds.specs.declared.work.Work.{Work}
 use Rattle.play.specs.Crews.{AreWorkers, passes_of, outcomes_of}
-use Rattle.play.specs.Mends.{IsPart, IsMender, AreMenders, IsBack, AreBack, given_to, given_to_all, given_before, results_in, left_with, left_of, crew_of}
+use Rattle.play.specs.Mends.{IsPart, IsMender, AreMenders, IsBack, AreBack, IsEnded, AreEnded, given_to, given_to_all, given_before, results_in, left_with, left_of, crew_of}
 
 -- ---- the parts are given out
 -- one worker more
@@ -54,6 +54,10 @@ shares-more works w old new shares kept given =
 
 pub half-left : (works : List Work) (old new : ℕ) → old + given_to_all works ≡ 2 ^ 40 → new ≡ old - old / 2 → new ≤ 2 ^ 39
 half-left works old new shares kept = omega arith
+
+pub ended-more : (os : List Outcome) (o : Outcome) → AreEnded os → IsEnded o → AreEnded (os ++ o ∷ [])
+ended-more [] o all last = (last, tt)
+ended-more (x ∷ os) o all last = (all.0, ended-more os o all.1 last)
 
 -- ---- the workers are back
 -- a worker's drawer is of these tickets still, with its allowance and its draws making up what it was given

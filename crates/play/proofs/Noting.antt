@@ -1,7 +1,6 @@
 -- The numbers of rows, and what is noted of them.
-use Rattle.std.proofs.Common.{◌≡◌, ◌∙◌, ℕ, ◌+◌, List, [], ◌∷◌, ◌++◌, length, map, refl, sym, ap, arith}
+use Rattle.std.proofs.Common.{◌≡◌, ℕ, ◌+◌, List, [], ◌∷◌, ◌++◌, length, refl, ap, arith}
 use Rattle.std.proofs.lemmas.List.{length-map}
-use Rattle.shared.specs.declared.jobs.Reply.{Reply}
 use Rattle.shared.specs.Passes.{Shows}
 use Rattle.rounds.specs.Rounds.{DidAll}
 use Rattle.rounds.specs.declared.work.Outcome.{Outcome}
@@ -11,7 +10,6 @@ use Rattle.play.specs.Crews.{passes_of, outcomes_of}
 use Rattle.play.specs.Jobs.{rows_for, HaveRows}
 use Rattle.play.specs.Noted.{noted}
 use Rattle.play.specs.declared.calls.Call.{Call}
-use Rattle.play.specs.declared.outcome.Done.{Done}
 
 pub rows-more : (who : ℕ) (calls : List Call) (xs : List (List ℕ)) (ns : List ℕ) → HaveRows who calls xs → ns ≡ rows_for (who + length xs) calls → HaveRows who calls (xs ++ ns ∷ [])
 rows-more who calls [] ns have is = let e : who + 0 ≡ who = omega arith in (rw e at is, tt)

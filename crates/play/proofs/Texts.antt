@@ -1,15 +1,14 @@
 -- What is printed of a reply is the text of the deed that it tells.
-use Rattle.std.proofs.Common.{◌≡◌, ◌∙◌, ◌⊎◌, ℕ, ◌+◌, Bool, true, false, List, [], ◌∷◌, ◌++◌, Option, None, Some, MatchBool, refl, ap, sym, subst, ⊎_elim}
+use Rattle.std.proofs.Common.{◌≡◌, ◌∙◌, ℕ, Bool, true, false, List, [], ◌∷◌, ◌++◌, Option, None, Some, MatchBool, refl, ap, sym, subst, ⊎_elim}
 use Rattle.std.specs.Option.{option_map}
 use Rattle.std.specs.FinMap as finite
-use Rattle.sealed.specs.declared.fault.Fault.{Fault}
 use Rattle.sealed.specs.declared.fault.Fault.TheVariants.{NoMemory, JournalFull, BadName, TooLong, Busy, BadWidth, NoPass}
 use Rattle.lent.specs.declared.grant.Grant.{Grant}
 use Rattle.history.specs.State.{Blob, State, empty_state}
 use Rattle.history.specs.Text.{note_text}
 use Rattle.history.specs.declared.note.Note.{Note}
 use Rattle.history.specs.declared.note.Note.TheVariants as note
-use Rattle.history.specs.Step.{Operation, put, read, lose, repair, delete, stat, IfHolds, IsReply, IsLoseReply, IsRepairReply, IsDeleteReply, IsStatReply, is_no_fragment}
+use Rattle.history.specs.Step.{Operation, put, read, lose, repair, delete, stat, IfHolds, IsLoseReply, IsRepairReply, IsDeleteReply, IsStatReply, is_no_fragment}
 use Rattle.history.specs.History.{Event, History, state_of}
 use Rattle.history.proofs.Beginnings.{after_all-append}
 use Rattle.sealed.specs.Blob.{lost_in}
@@ -23,7 +22,7 @@ use Rattle.shared.specs.declared.jobs.Ask.TheVariants as ask
 use Rattle.shared.specs.declared.jobs.Reply.{Reply}
 use Rattle.shared.specs.declared.jobs.Reply.TheVariants.{Made, Refused, Trimmed}
 use Rattle.shared.specs.Runs.{operation_asked, IfReadGranted}
-use Rattle.shared.specs.Serving.{keep_asked, deed_told, IfGrantedTo, Turn, IsServed}
+use Rattle.shared.specs.Serving.{keep_asked, deed_told, IfGrantedTo}
 use Rattle.play.specs.Lines.{IsReplyTo, IsAnswerText, reply_text}
 use Rattle.play.specs.Runs.{IsAsked}
 use Rattle.play.specs.Printed as printed
@@ -133,14 +132,17 @@ text_of w l who a r deed before reply told does there is = by r (operation_asked
     made o x e there is =
         answer_text w l who before o x reply (subst (Does w l (standing_of before)) (sym e) does) (subst (λ (d : Deed). IfReadGranted (events_in (before ++ act_of who d)) w o x) (sym e) there) is
         ∙ ap (λ (d : Deed). deed_text w (standing_of before) d) e
+
     refused : (d : Deed) (s : lines.Reply) → d ≡ deed → reply ≡ s → reply_text s ≡ deed_text w (standing_of before) d → reply_text reply ≡ deed_text w (standing_of before) deed
     refused d s e is same = ap reply_text is ∙ same ∙ ap (λ (d : Deed). deed_text w (standing_of before) d) e
+
     told_in : Option Operation → Option ℕ → Reply → Option Deed
     told_in o k (Made x) = option_map (λ o. called o (note_of x)) o
     told_in o k (Refused JournalFull) = option_map full o
     told_in o k (Refused TooLong) = option_map too_long o
     told_in o k (Refused f) = None
     told_in o k (Trimmed n) = option_map (λ keep. trimmed keep n) k
+
     by : (r : Reply) (o : Option Operation) (k : Option ℕ) → told_in o k r ≡ Some deed → IfGrantedTo (events_in (before ++ act_of who deed)) w o r → IsReplyTo (Replied r) reply → reply_text reply ≡ deed_text w (standing_of before) deed
     by (Made x) None k told there is = absurd (no_deed told)
     by (Made x) (Some o) k told there is = made o x (some_deed told) there is
@@ -172,9 +174,11 @@ asked_by a r deed told = by r told
     call : (f : Operation → Deed) → ((o : Operation) → operation_asked a ≡ Some o → IsAsked a (f o)) → (o : Option Operation) → operation_asked a ≡ o → option_map f o ≡ Some deed → IsAsked a deed
     call f h None e is = absurd (no_deed is)
     call f h (Some o) e is = subst (IsAsked a) (some_deed is) (h o e)
+
     keep : (n : ℕ) (k : Option ℕ) → keep_asked a ≡ k → option_map (λ keep. trimmed keep n) k ≡ Some deed → IsAsked a deed
     keep n None e is = absurd (no_deed is)
     keep n (Some k) e is = subst (IsAsked a) (some_deed is) (trim_of a k e)
+
     by : (r : Reply) → deed_told a r ≡ Some deed → IsAsked a deed
     by (Made x) is = call (λ o. called o (note_of x)) (λ o e. e) (operation_asked a) refl is
     by (Refused JournalFull) is = call full (λ o e. e) (operation_asked a) refl is

@@ -64,14 +64,15 @@ pub record IsAccount (w : ℕ) (rows : List Row) (a : Account) : Type 0 where
   pub settles : Settles w row row.task a.done.outcome a.steps
 
 -- ---- a round
--- the call is that of a row of the script, of this round
-pub record IsCallOf (rows : List Row) (round : ℕ) (call : Call) : Type 0 where
+-- the call is that of a row of the script, of this round, and no later one than `top`
+pub record IsCallOf (rows : List Row) (round top : ℕ) (call : Call) : Type 0 where
   pub before : ℕ
   pub row : Row
   pub number : call.number ≡ before + 1
   pub there : slice_get rows before ≡ Some row
   pub worker : row.worker ≡ call.worker
   pub task : row.task ≡ Make call.ask
+  pub few : call.number ≤ top
   pub in_round : round_in rows call.number ≡ round
 
 -- the calls' numbers rise, past this one
@@ -83,29 +84,53 @@ RiseFrom base (c ∷ calls) = (base < c.number) × RiseFrom c.number calls
 abbrev pub IsBefore : Placed → Placed → Type 0
 IsBefore x y = (x.step.row ≤ y.step.row) × (length x.before + length (act_at x) ≤ length y.before)
 
--- a step of this worker and round, whose row and place are past these
-pub record IsOf (rows : List Row) (round who base low : ℕ) (p : Placed) : Type 0 where
+-- a step of this worker and round, whose row and place are past these, and whose row is no later than `top`
+pub record IsOf (rows : List Row) (round top who base low : ℕ) (p : Placed) : Type 0 where
   pub label : p.step.who ≡ who
   pub row : base < p.step.row
+  pub few : p.step.row ≤ top
   pub place : low ≤ length p.before
   pub in_round : round_in rows p.step.row ≡ round
+
+-- the row with this number, past the row `base`, asks for a mend, in this round
+pub record IsMendOf (rows : List Row) (round top base number : ℕ) : Type 0 where
+  pub before : ℕ
+  pub row : Row
+  pub number_is : number ≡ before + 1
+  pub there : slice_get rows before ≡ Some row
+  pub task : row.task ≡ Mend
+  pub past : base < number
+  pub few : number ≤ top
+  pub in_round : round_in rows number ≡ round
 
 -- one may stand before the other, and the other before it, but where it is done before the other begins
 abbrev pub IsGood : (ℕ → ℕ) → Placed → Placed → Type 0
 IsGood round_of x y = MayPrecede round_of x.step y.step × (MayPrecede round_of y.step x.step ⊎ (length x.before + length (act_at x) ≤ length y.before))
 
--- a step of this round, whose row and place are past these
-pub record IsLater (rows : List Row) (round base low : ℕ) (p : Placed) : Type 0 where
+-- a step of this round, whose row and place are past these, and whose row is no later than `top`
+pub record IsLater (rows : List Row) (round top base low : ℕ) (p : Placed) : Type 0 where
   pub row : base < p.step.row
+  pub few : p.step.row ≤ top
   pub place : low ≤ length p.before
   pub in_round : round_in rows p.step.row ≡ round
 
 -- what a round did, between these acts and places: it is told of its rows behind what was told before
-pub record IsRound (w limit : ℕ) (rows : List Row) (round base : ℕ) (before acts : List Act) (old_did new_did : List ℕ) (old new : List Done) : Type 0 where
+pub record IsRound (w limit : ℕ) (rows : List Row) (round top base : ℕ) (before acts : List Act) (old_did new_did : List ℕ) (old new : List Done) : Type 0 where
   pub accounts : List Account
   pub dones : new ≡ old ++ dones_in accounts
   pub right : Each (IsAccount w rows) accounts
   pub places : new_did ≡ old_did ++ own_places (steps_in accounts)
   pub stand : Each (Stands w limit acts) (steps_in accounts)
-  pub are_later : Each (IsLater rows round base (length before)) (steps_in accounts)
+  pub are_later : Each (IsLater rows round top base (length before)) (steps_in accounts)
+  pub order : Pairs (IsGood (round_in rows)) (steps_in accounts)
+
+-- ---- the whole
+-- what the first rows did, up to this one: each is told of, in some order of the rows, and its steps are all acts that the crew has for its own
+pub record IsPlayed (w limit : ℕ) (rows : List Row) (top : ℕ) (acts : List Act) (did : List ℕ) (done : List Done) : Type 0 where
+  pub accounts : List Account
+  pub dones : done ≡ dones_in accounts
+  pub right : Each (IsAccount w rows) accounts
+  pub places : did ≡ own_places (steps_in accounts)
+  pub stand : Each (Stands w limit acts) (steps_in accounts)
+  pub few : Each (λ (p : Placed). p.step.row ≤ top) (steps_in accounts)
   pub order : Pairs (IsGood (round_in rows)) (steps_in accounts)

@@ -1,7 +1,8 @@
 -- The parts of a mend's workers.
-use Rattle.std.specs.Prelude.{◌≡◌, ℕ, ◌+◌, List, [], ◌∷◌, length, Ok}
+use Rattle.std.specs.Prelude.{◌≡◌, ℕ, ◌+◌, List, [], ◌∷◌, length, Ok, Err}
 use Rattle.std.specs.List.{flat_map, sum_by}
 use Rattle.gate.specs.Places.{TableId}
+use Rattle.sealed.specs.declared.fault.Fault.TheVariants.{JournalFull}
 use Rattle.book.specs.declared.plan.Item.{Item}
 use Rattle.mender.specs.declared.done.Done.{Done}
 use Rattle.mender.specs.Drawn.{Hand}
@@ -9,7 +10,7 @@ use Rattle.mender.specs.Mended.{Left, HasFinished}
 use Rattle.rounds.specs.declared.work.Errand.{Errand}
 use Rattle.rounds.specs.declared.work.Errand.TheVariants.{Calls, Mend}
 use Rattle.rounds.specs.declared.work.Mended.{Mended}
-use Rattle.rounds.specs.declared.work.Mended.TheVariants.{Worked}
+use Rattle.rounds.specs.declared.work.Mended.TheVariants.{Worked, Paused}
 use Rattle.rounds.specs.declared.work.Mending.{Mending}
 use Rattle.rounds.specs.declared.work.Outcome.{Outcome}
 use Rattle.rounds.specs.declared.work.Outcome.TheVariants as outcome
@@ -74,3 +75,17 @@ AreBack plan tickets (o ∷ os) = IsBack plan tickets o × AreBack plan tickets 
 -- the allowances that they were given
 abbrev pub given_before : List Outcome → ℕ
 given_before outcomes = sum_by (λ (left : Left). left.given) (crew_of outcomes)
+
+-- the worker did what it could: it was let through, and stopped only at a full journal
+abbrev pub HasEnded : Mended → Type 0
+HasEnded (Worked (Ok done)) = Unit {0}
+HasEnded (Worked (Err stop)) = stop.fault ≡ JournalFull
+HasEnded Paused = ⊥
+
+abbrev pub IsEnded : Outcome → Type 0
+IsEnded (outcome.Called r) = Unit {0}
+IsEnded (outcome.Mended drawer m) = HasEnded m
+
+abbrev pub AreEnded : List Outcome → Type 0
+AreEnded [] = Unit {0}
+AreEnded (o ∷ os) = IsEnded o × AreEnded os

@@ -1,5 +1,5 @@
 -- The steps of a run: what the store of one thread does for the rows of a script.
-use Rattle.std.specs.Prelude.{◌≡◌, ℕ, List, [], ◌∷◌, ◌++◌, All}
+use Rattle.std.specs.Prelude.{ℕ, List, [], ◌∷◌, ◌++◌, All}
 use Rattle.std.specs.List.{fold}
 use Rattle.history.specs.History.{History}
 use Rattle.book.specs.Serial.{Standing, opening, Deed, Does, next, act_of, events_in}

@@ -1,5 +1,5 @@
 -- One more worker, started or joined.
-use Rattle.std.proofs.Common.{◌≡◌, List, [], ◌∷◌, ◌++◌, map, subst, sym}
+use Rattle.std.proofs.Common.{List, [], ◌∷◌, ◌++◌, map, subst, sym}
 use Rattle.std.proofs.lemmas.List.{map-append}
 use Rattle.shared.specs.Passes.{Which}
 use Rattle.rounds.specs.Rounds.{AreOf, IsOf, AreReady, IsReady, Did, DidAll, work_of}

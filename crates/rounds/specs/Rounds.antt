@@ -1,5 +1,5 @@
 -- What the workers of a round do.
-use Rattle.std.specs.Prelude.{◌≡◌, ℕ, List, [], ◌∷◌, map, length, Ok, Err}
+use Rattle.std.specs.Prelude.{◌≡◌, List, [], ◌∷◌, length, Ok, Err}
 use Rattle.shared.specs.Passes.{Shows, Which}
 use Rattle.shared.specs.Runs.{asked, Runs}
 use Rattle.shared.specs.Serving.{asks_of, Serves}

@@ -1,6 +1,6 @@
 //! Reading a script.
 
-ghost use Rattle.std.specs.Prelude.{◌≡◌, ◌<◌, length, map, MatchResult};
+ghost use Rattle.std.specs.Prelude.{◌≡◌, ◌<◌, ◌≤◌, length, map, MatchResult, IfOk};
 ghost use Rattle.script.specs.Fields.{row_of};
 ghost use Rattle.script.specs.Script.{AcceptedBefore, at_row, Explains, script_records};
 
@@ -23,9 +23,10 @@ fn at_row(refusal: Refusal, row: u32) -> BadScript
 /// and of any lengths. A script is refused where a record is: by the number of the first such record, from 1, and the first of its
 /// tests that refuses it. Want of memory is answered where it is met.
 pub fn script(alloc: Global, text: &[u8], workers: u32) -> Result<Vec<Row>, BadScript>
-    ensures { MatchResult result
+    ensures read { MatchResult result
         (λ rows. AcceptedBefore workers (script_records text.now) (length (script_records text.now)) × (rows.items ≡ map row_of (script_records text.now)))
         (λ error. Explains workers (script_records text.now) error) }
+    ensures few { IfOk result (λ rows. length rows.items ≤ 65536) }
 {
     let reader = ReaderBuilder::new()
         .has_headers(false)

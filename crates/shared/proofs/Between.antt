@@ -131,8 +131,8 @@ tells_more a b g n on acts t =
       tells = subst (Tells b) (sym (events-append acts (acts_for g n) ∙ ap (λ l. h ++ l) (events_for g n on.few))) later;
       given = given ∙ (λ i. t.given i + sym (given_for g n on.one) i) ∙ sym (given-append acts (acts_for g n));
       room = dite (dec_le 1 (length g))
-      (λ some. let free : length a.entries < a.limit = below_unless (length a.entries) a.limit fits (on.room some) in let few = on.few in let none = on.one some in omega arith)
-      (λ none. omega arith);
+          (λ some. let free : length a.entries < a.limit = below_unless (length a.entries) a.limit fits (on.room some) in let few = on.few in let none = on.one some in omega arith)
+          (λ none. omega arith);
     }
 
 pub goes_follows : (a b : Contents) (g : History) (n : ℕ) → GoesOn a b g n → MayFollow a b

@@ -44,10 +44,10 @@ legal_shown p who pass = let told = pass.told.2 in subst (λ (w : ℕ). IsLegal 
 pub opened : (p : SeatState Kept) (x : Kept) → p.list ≡ x ∷ [] → p.own ≡ [] → p.inside ≡ false → Tells x.0.value [] → IsPass p
 opened p x list own outside tells =
     let all : x.0.value.base.trimmed + length x.0.value.entries ≡ 0 = told_length x.0.value [] tells in record {
-  outside = outside;
-  told = subst IsTold (sym list) (x, refl, record { width = refl; limit = refl; told = record { tells = tells; given = omega arith; room = omega arith } });
-  within = λ q past. ap (times q) own;
-}
+      outside = outside;
+      told = subst IsTold (sym list) (x, refl, record { width = refl; limit = refl; told = record { tells = tells; given = omega arith; room = omega arith } });
+      within = λ q past. ap (times q) own;
+    }
 
 -- the same list, with the same places
 pub pass_again : (p q : SeatState Kept) → IsPass p → q.list ≡ p.list → q.own ≡ p.own → q.inside ≡ false → IsPass q

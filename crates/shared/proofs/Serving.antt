@@ -1,6 +1,5 @@
 -- What each job adds to a run, at its place.
 use Rattle.std.proofs.Common.{◌≡◌, ℕ, ◌+◌, ◌≤◌, List, [], ◌∷◌, ◌++◌, map, length, Option, Some, None, Result, Ok, Err, refl, ap, sym, subst, ◌∙◌, arith, append_assoc, append-nil, length-append}
-use Rattle.std.specs.List.{flat_map}
 use Rattle.std.specs.Option.{option_map}
 use Rattle.std.proofs.lemmas.List.{map-append}
 use Rattle.std.proofs.lemmas.Grind.{flat_map-append}
@@ -87,12 +86,15 @@ serves_append v u w asks more replies others many stays one two =
     record {
       acts = prefix_trans v.acts u.acts w.acts one.acts two.acts;
       turns = one.turns ++ two.turns;
-      asked = (two.asked.0, (λ i. map-append (λ (t : Turn). t.ask) one.turns two.turns i ++ two.asked.0) ∙ append_assoc (map (λ (t : Turn). t.ask) one.turns) (map (λ (t : Turn). t.ask) two.turns) two.asked.0
-      ∙ (λ i. whole i ++ two.asked.1 i));
+      asked = (
+        two.asked.0,
+        (λ i. map-append (λ (t : Turn). t.ask) one.turns two.turns i ++ two.asked.0) ∙ append_assoc (map (λ (t : Turn). t.ask) one.turns) (map (λ (t : Turn). t.ask) two.turns) two.asked.0
+            ∙ (λ i. whole i ++ two.asked.1 i),
+      );
       replied = map-append (λ (t : Turn). t.reply) one.turns two.turns ∙ (λ i. one.replied i ++ two.replied i);
       each = are_served-append v.store.width v.store.limit u.acts w.acts v.who (length v.acts) one.turns two.turns two.acts (prefix_length v.acts u.acts one.acts) one.each served;
       did = two.did ∙ (λ i. one.did i ++ places_of (stays.1 i) two.turns) ∙ append_assoc v.did (places_of v.who one.turns) (places_of v.who two.turns)
-      ∙ ap (λ l. v.did ++ l) (sym (flat_map-append (λ (t : Turn). number_if t.place (act_in v.who t)) one.turns two.turns));
+          ∙ ap (λ l. v.did ++ l) (sym (flat_map-append (λ (t : Turn). number_if t.place (act_in v.who t)) one.turns two.turns));
     }
   where
     turns_many : (turns : List Turn) (replies : List Reply) (n : ℕ) → map (λ (t : Turn). t.reply) turns ≡ replies → length replies ≡ n → length (map (λ (t : Turn). t.ask) turns) ≡ n
@@ -101,6 +103,7 @@ serves_append v u w asks more replies others many stays one two =
         both : (turns : List Turn) → length (map (λ (t : Turn). t.ask) turns) ≡ length (map (λ (t : Turn). t.reply) turns)
         both [] = refl
         both (t ∷ turns) = let rest = both turns in omega arith
+
     prefix_all : (xs ys : List Ask) → IsPrefix xs ys → length xs ≡ length ys → xs ≡ ys
     prefix_all [] [] p e = refl
     prefix_all [] (y ∷ ys) p e = absurd (omega arith)
@@ -188,6 +191,7 @@ granted_there v w a x reply comes is = by x (operation_asked a) comes is
   where
     to : (o : Option Operation) (r s : Reply) → Some r ≡ Some s → IfGrantedTo w.seen w.store.width o r → IfGrantedTo w.seen w.store.width o s
     to o r s e is = subst (IfGrantedTo w.seen w.store.width o) (some_reply e) is
+
     by : (x : Outcome) (o : Option Operation) → ComesOf v o x w → reply_of x ≡ Some reply → IfGrantedTo w.seen w.store.width o reply
     by (outcome.Made (Ok answer)) (Some o) comes is = to (Some o) (Made answer) reply is comes.1
     by (outcome.Made (Err JournalFull)) (Some o) comes is = to (Some o) (Refused JournalFull) reply is tt
@@ -217,15 +221,19 @@ serves_one v w a x reply stays comes takes is =
       turns = t ∷ [];
       asked = ([], refl);
       replied = refl;
-      each = (omega arith, record {
-        deed = d.0;
-        told = told;
-        before = before;
-        place_is = refl;
-        does = subst (λ (e : Option Deed). DoesIf v.store.width v.store.limit (standing_of before) e) d.1 takes.does;
-        stands = ([], append-nil (before ++ act_of v.who d.0) ∙ sym done);
-        granted = subst (λ (u : History × ℕ). IfGrantedTo u.0 u.1 (operation_asked a) reply) (λ i. (seen i, ap (λ (s : Which). s.width) stays.0 i)) (granted_there v w a x reply comes is);
-      }, tt);
+      each = (
+        omega arith,
+        record {
+          deed = d.0;
+          told = told;
+          before = before;
+          place_is = refl;
+          does = subst (λ (e : Option Deed). DoesIf v.store.width v.store.limit (standing_of before) e) d.1 takes.does;
+          stands = ([], append-nil (before ++ act_of v.who d.0) ∙ sym done);
+          granted = subst (λ (u : History × ℕ). IfGrantedTo u.0 u.1 (operation_asked a) reply) (λ i. (seen i, ap (λ (s : Which). s.width) stays.0 i)) (granted_there v w a x reply comes is);
+        },
+        tt,
+      );
       did = takes.did ∙ ap (λ l. v.did ++ l) (ap (λ l. number_if (length before) l) (ap (act_if v.who) (told_by a x reply is)) ∙ sym (append-nil (number_if (length before) (act_in v.who t))));
     }
 

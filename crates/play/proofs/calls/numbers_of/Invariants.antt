@@ -1,4 +1,4 @@
-use Rattle.std.proofs.Common.{◌≡◌, ◌≤◌, map, length, vec_len}
+use Rattle.std.proofs.Common.{◌≡◌, ◌≤◌, map, vec_len}
 use Rattle.std.specs.Prelude.{vec_items, vec_capacity}
 use Rattle.play.specs.Jobs.{HaveRows}
 use Rattle.play.proofs.calls.numbers_of.Given as goal

@@ -5,7 +5,7 @@ use Rattle.rounds.specs.declared.work.Mended.TheVariants.{Worked}
 use Rattle.rounds.specs.declared.work.Outcome.{Outcome}
 use Rattle.rounds.specs.declared.work.Outcome.TheVariants.{Mended}
 use Rattle.play.specs.Mends.{AreBack}
-use Rattle.play.proofs.Mending.{joined-more, all-more, mend-complete}
+use Rattle.play.proofs.Mending.{joined-more, all-more, ended-more, mend-complete}
 use Rattle.play.proofs.mend.gathered.Goals as goal
 
 pub loop-outcome-preserved-in-Ok : goal.loop-outcome-preserved-in-Ok
@@ -13,7 +13,7 @@ loop-outcome-preserved-in-Ok c =
     let plan = c.args.plan.now.items.items in
     let other = c.in-Mended.other in
     let done = c.in-Ok.done in
-    let is : c.in-Some.outcome ≡ Mended other (Worked (Ok done)) = c.in-Mended.is ∙ ap (Mended other) c.in-Ok.ensures in
+    let is : c.in-Some.outcome ≡ Mended other (Worked (Ok done)) = c.in-Mended.is ∙ ap (Mended other) c.in-Ok.ensures.done in
     let rest = into_iter_items c.next.new.self in
     let next : into_iter_items c.loop-outcome.outcome-iterator ≡ c.in-Some.outcome ∷ rest = grind (arith, common_steps) in
     let back = subst (AreBack plan c.args.tickets.now) (next ∙ ap (λ (o : Outcome). o ∷ rest) is) c.loop-outcome.invariant.back in
@@ -24,6 +24,7 @@ loop-outcome-preserved-in-Ok c =
           c.join.ensures.both c.join.ensures.whole);
       all = λ fine not_full. rw is (all-more plan c.loop-outcome.yielded c.loop-outcome.all.items c.append.new.self.items other (Worked (Ok done))
           (c.loop-outcome.invariant.all fine not_full) back.0.1 c.in_ok-append-in-Ok.ensures.items);
+      ended = λ fine. rw is (ended-more c.loop-outcome.yielded (Mended other (Worked (Ok done))) (c.loop-outcome.invariant.ended fine) tt);
       outcomes = grind (arith, common_steps);
     }
 
@@ -35,3 +36,19 @@ unreachable-requires c =
     let complete = mend-complete plan c.args.drawer c.loop-outcome.drawer c.loop-outcome.yielded c.loop-outcome.all.items c.requires.none (rw all at c.requires.shares) c.requires.room c.loop-outcome.invariant.hand are in
     let is = c.in-Err.ensures.complete complete in
     grind (arith, common_steps, is)
+
+pub loop-outcome-preserved-in-Err-Full : goal.loop-outcome-preserved-in-Err-Full
+loop-outcome-preserved-in-Err-Full c =
+    let other = c.in-Mended.other in
+    let rest = into_iter_items c.next.new.self in
+    let next : into_iter_items c.loop-outcome.outcome-iterator ≡ c.in-Some.outcome ∷ rest = grind (arith, common_steps) in
+    let back = subst (AreBack c.args.plan.now.items.items c.args.tickets.now) (next ∙ ap (λ (o : Outcome). o ∷ rest) c.in-Mended.is) c.loop-outcome.invariant.back in
+    record {
+      tickets = grind (arith, common_steps);
+      back = back.1;
+      hand = rw c.in-Mended.is (joined-more c.args.drawer c.loop-outcome.yielded c.loop-outcome.drawer c.join.new.self other c.in-Mended.mended c.loop-outcome.invariant.hand
+          c.join.ensures.both c.join.ensures.whole);
+      all = λ fine not_full. absurd (cc (not_full));
+      ended = λ fine. rw c.in-Mended.is (ended-more c.loop-outcome.yielded (Mended other c.in-Mended.mended) (c.loop-outcome.invariant.ended fine) (c.in-Err-Full.ensures.full c.in-Err-Full.field-0-is));
+      outcomes = grind (arith, common_steps);
+    }

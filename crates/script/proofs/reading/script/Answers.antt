@@ -31,14 +31,17 @@ loop-record-preserved c =
     let t = rw c.as_slice.ensures.value at c.in-Ok-row.ensures in
     (s.2, rw (items, t.1) (progress-more c.args.text.now c.args.workers c.loop-record.rows.items c.loop-record.record-iterator.rdr c.next.new.self.rdr (fields_of c.in-Ok.fields) p s.0 s.1 t.0))
 
-pub returns : goal.returns
-returns c =
+pub returns-clause-read : goal.returns-clause-read
+returns-clause-read c =
     let (left, p) = c.loop-record.invariant in
     let s = rw c.in-None.is at ((c.next.ensures.steps left p.trim).0 p.ready) in
     progress-end c.args.text.now c.args.workers c.loop-record.rows.items c.loop-record.record-iterator.rdr c.next.new.self.rdr [] p s
 
-pub returns-in-Err : goal.returns-in-Err
-returns-in-Err c =
+pub returns-clause-few : goal.returns-clause-few
+returns-clause-few c = let (left, p) = c.loop-record.invariant in p.few
+
+pub returns-in-Err-clause-read : goal.returns-in-Err-clause-read
+returns-in-Err-clause-read c =
     let (left, p) = c.loop-record.invariant in
     let s = rw (c.in-Some.is, c.in-Ok.is) at ((c.next.ensures.steps left p.trim).0 p.ready) in
     let t = rw c.as_slice.ensures.value at c.in-Err.ensures in
