@@ -182,27 +182,19 @@ typedef struct {
     double best[WIDTHS]; // seconds
 } Row;
 
+#define ROW(name, call, base) {name, call, base, 0, {0}}
 #define ENCODE(v)                                                                                                         \
-    {#v " encode_to", v##_encode_to, 1}, {#v " encode", v##_encode, 2}, {#v " encode_joined", v##_encode_joined, 2}
+    ROW(#v " encode_to", v##_encode_to, 1), ROW(#v " encode", v##_encode, 2), ROW(#v " encode_joined", v##_encode_joined, 2)
 #define REBUILD(v, work)                                                                                                  \
-    {#v " combine_lists", v##_##work##_kernel, 1}, {#v " rebuild_to", v##_##work##_to, 1},                                \
-        {#v " rebuild", v##_##work, 2}, {#v " Plans::rebuild", v##_##work##_kept, 2}
+    ROW(#v " combine_lists", v##_##work##_kernel, 1), ROW(#v " rebuild_to", v##_##work##_to, 1),                          \
+        ROW(#v " rebuild", v##_##work, 2), ROW(#v " Plans::rebuild", v##_##work##_kept, 2)
 
-static Row encode_rows[] = {{"memcpy", copy_data, 1},
-                            {"ISA-L", isal_encode_to, 1},
-                            {"ISA-L, malloc", isal_encode, 2},
-                            ENCODE(v2),
-                            ENCODE(v3)};
-static Row local_rows[] = {{"memcpy", copy_one, 1},
-                           {"ISA-L", isal_local_to, 1},
-                           {"ISA-L, malloc", isal_local, 2},
-                           REBUILD(v2, local),
-                           REBUILD(v3, local)};
-static Row global_rows[] = {{"memcpy", copy_one, 1},
-                            {"ISA-L", isal_global_to, 1},
-                            {"ISA-L, malloc", isal_global, 2},
-                            REBUILD(v2, global),
-                            REBUILD(v3, global)};
+static Row encode_rows[] = {ROW("memcpy", copy_data, 1), ROW("ISA-L", isal_encode_to, 1), ROW("ISA-L, malloc", isal_encode, 2),
+                            ENCODE(v2), ENCODE(v3)};
+static Row local_rows[] = {ROW("memcpy", copy_one, 1), ROW("ISA-L", isal_local_to, 1), ROW("ISA-L, malloc", isal_local, 2),
+                           REBUILD(v2, local), REBUILD(v3, local)};
+static Row global_rows[] = {ROW("memcpy", copy_one, 1), ROW("ISA-L", isal_global_to, 1), ROW("ISA-L, malloc", isal_global, 2),
+                            REBUILD(v2, global), REBUILD(v3, global)};
 enum { ENCODE_ROWS = sizeof encode_rows / sizeof(Row), REBUILD_ROWS = sizeof local_rows / sizeof(Row) };
 
 static double now(void) {
@@ -266,7 +258,7 @@ static void check(const Row *rows, int count, int lists, const int *wanted) {
 }
 
 int main(int argc, char **argv) {
-    int rounds = argc > 1 ? atoi(argv[1]) : 300;
+    int rounds = argc > 1 ? atoi(argv[1]) : 1000;
     const size_t apart = WIDEST + 320; // so that the fragments do not all fall into one set of the cache
     uint8_t *bytes = aligned_alloc(4096, 4096 * ((FRAGMENTS + 4) * apart / 4096 + 1));
     copy = aligned_alloc(4096, DATA * WIDEST);
@@ -275,6 +267,7 @@ int main(int argc, char **argv) {
     memset(copy, 0, DATA * WIDEST);
     for (int i = 0; i < FRAGMENTS; i++) data[i] = bytes + i * apart;
     for (int i = 0; i < 4; i++) made[i] = bytes + (FRAGMENTS + i) * apart;
+    free(malloc(1 << 20)); // from now on malloc keeps what is given back, and asks the system for none of it again
     make_recipe();
     ec_init_tables(DATA, 4, (uint8_t *)coefficients, encode_tables);
     ec_init_tables(DATA, 1, recipe, recipe_tables);

@@ -3,7 +3,7 @@
 //! A slice is passed as an address and a length, and a slice of slices as an array of such pairs and their number.
 #![tactic(auto)]
 
-ghost use Rattle.std.specs.Prelude.{◌≡◌, ℕ, ◌<◌, ◌≤◌, ◌++◌, ◌∷◌, [], All, IsTrue, IfSome, EachIndex, length, map, slice_index, true, false};
+ghost use Rattle.std.specs.Prelude.{◌≡◌, ℕ, ◌<◌, ◌≤◌, ◌++◌, ◌∷◌, [], All, IsTrue, EachIndex, length, map, slice_index, true, false};
 ghost use Rattle.kernels.specs.Lists.{combined, list_at, bytes_at};
 ghost use Rattle.lrc_code.specs.Code.{fragment_count};
 ghost use Rattle.lrc_code.specs.Stripe.{IsStripe, is_absent, Reaches};
@@ -50,12 +50,7 @@ pub extern "C" fn timed_encode(alloc: Global, sources: &[&[u8]], w: usize, reps:
 
 /// `encode_joined` of twelve data fragments of `w` bytes, whose parities are given back. Whether there was memory for all.
 #[unsafe(no_mangle)]
-pub extern "C" fn timed_encode_joined(
-    alloc: Global,
-    sources: &[&[u8]],
-    w: usize,
-    reps: u32,
-) -> bool
+pub extern "C" fn timed_encode_joined(alloc: Global, sources: &[&[u8]], w: usize, reps: u32) -> bool
     requires count { length sources.now ≡ 12 }
     requires same { All (λ s. length s.now ≡ w) sources.now }
 {
