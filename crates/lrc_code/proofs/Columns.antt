@@ -8,7 +8,7 @@ use Rattle.lrc_code.specs.declared.Code.{Code}
 use Rattle.lrc_code.specs.declared.Code.TheVariants.{Wide, Small}
 use Rattle.lrc_code.specs.Code.{xor_sum, weights, weight, fragment_count, IsColumn, data_count}
 use Rattle.lrc_code.specs.Column.{column, parity_of}
-use Rattle.lrc_code.proofs.Sums.{xor_sum_same, xor_sum-lt}
+use Rattle.kernels.proofs.Sums.{xor_sum_same, xor_sum-lt}
 use Rattle.lrc_code.proofs.Witness.{weight-lt}
 use Rattle.lrc_code.proofs.Opening.{each_of_four}
 

@@ -1,18 +1,23 @@
 -- Data with the four parities are a stripe.
-use Rattle.std.proofs.Common.{◌≡◌, ℕ, zero, suc, ◌+◌, ◌-◌, ◌<◌, List, [], ◌∷◌, ◌++◌, length, get_or, bit_xor, sym, ap, ap₂, ◌∙◌, subst, refl, arith, inl, inr, map, add-one, Bor}
+use Rattle.std.proofs.Common.{◌≡◌, ℕ, zero, suc, ◌+◌, ◌-◌, ◌*◌, ◌<◌, ◌≤◌, List, [], ◌∷◌, ◌++◌, take, length, get_or, sym, ap, ap₂, ◌∙◌, subst, refl, arith, inl, inr, map, Bor}
 use Rattle.std.proofs.lemmas.Bool.{cases_eq, cases_lt}
-use Rattle.std.proofs.lemmas.List.{get_or_append_left, get_or-append-add}
-use lib.Bits.{xor_assoc}
+use Rattle.std.proofs.lemmas.List.{get_or_append_left, get_or-append-add, append_assoc, append-nil, length-append}
 use Rattle.std.proofs.Math.ListN.{get_or-map}
-use Rattle.std.specs.List.{All}
+use Rattle.std.proofs.Math.Seq.{take-append_seam, drop-append_seam}
+use Rattle.std.proofs.Math.ListN.{drop}
+use Rattle.std.specs.List.{All, slice_range}
 use Rattle.std.proofs.lemmas.List.Elements.{All-get_or}
 use Rattle.gf256.specs.Field.{product}
+use Rattle.kernels.specs.Lists.{combined}
+use Rattle.kernels.specs.Parities.{AreParities as AreParitiesOfTwelve}
+use Rattle.kernels.proofs.GroupLemmas.{each_of_four}
 use Rattle.lrc_code.specs.declared.Code.{Code}
-use Rattle.lrc_code.specs.Code.{fragment_count, xor_sum, weight, data_count, IsColumn}
+use Rattle.lrc_code.specs.declared.Code.TheVariants.{Wide, Small}
+use Rattle.lrc_code.specs.Code.{fragment_count, xor_sum, weight, weights, data_count, IsColumn}
 use Rattle.lrc_code.specs.Column.{column, parity_of}
-use Rattle.lrc_code.specs.Stripe.{IsStripe, list_at, bytes_at, AreParities}
+use Rattle.lrc_code.specs.Stripe.{IsStripe, list_at, bytes_at, AreParities, quarters}
 use Rattle.lrc_code.proofs.Columns.{column_is, column_data, column_parity, count_with_parities}
-use Rattle.lrc_code.proofs.Sums.{xor_sum_same}
+use Rattle.kernels.proofs.Sums.{xor_sum_same}
 
 -- bytes that agree with those of a column are one
 column_same : (code : Code) (c d : ℕ → ℕ) → IsColumn code d → ((i : ℕ) → i < fragment_count code → c i ≡ d i) → IsColumn code c
@@ -63,19 +68,6 @@ module _ (code : Code) (w : ℕ) (sources ps : List (List ℕ)) (count : length 
         (λ j l. ap (λ x. get_or x k 0) (at_parity j) ∙ are k kl j l ∙ sym (column_parity code (bytes_at sources k) j)));
   }
 
--- a turn of the loop that adds the sources
-pub data_more : (code : Code) (e : ℕ) (sources : List (Bor (List ℕ))) (k i old now new scale : ℕ)
-    → now ≡ bit_xor old (xor_sum i (λ i. product (weight code e i) (get_or (list_at (map (λ s. s.now) sources) i) k 0)))
-    → scale ≡ weight code e i → new ≡ bit_xor now (product scale (get_or (get_or sources i (record { ref_ptr = (0, 0); now = [] })).now k 0))
-    → new ≡ bit_xor old (xor_sum (i + 1) (λ i. product (weight code e i) (get_or (list_at (map (λ s. s.now) sources) i) k 0)))
-unfolding xor_sum
-data_more code e sources k i old now new scale before is step =
-    let f : Bor (List ℕ) → List ℕ = λ s. s.now in
-    let terms : ℕ → ℕ = λ i. product (weight code e i) (get_or (list_at (map (λ s. s.now) sources) i) k 0) in
-    let term : product scale (get_or (get_or sources i (record { ref_ptr = (0, 0); now = [] })).now k 0) ≡ terms i =
-    ap₂ product is (ap (λ x. get_or x k 0) (sym (get_or-map f sources i (record { ref_ptr = (0, 0); now = [] })))) in
-    rw add-one (step ∙ ap₂ bit_xor before term ∙ xor_assoc old (xor_sum i terms) (terms i))
-
 pub fits_more : (sources : List (Bor (List ℕ))) (i : ℕ) → ((j k : ℕ) → j < i → k < length (list_at (map (λ s. s.now) sources) j) → get_or (list_at (map (λ s. s.now) sources) j) k 0 < 256)
     → ((k : ℕ) → k < length (get_or sources i (record { ref_ptr = (0, 0); now = [] })).now → get_or (get_or sources i (record { ref_ptr = (0, 0); now = [] })).now k 0 < 256)
     → (j k : ℕ) → j < i + 1 → k < length (list_at (map (λ s. s.now) sources) j) → get_or (list_at (map (λ s. s.now) sources) j) k 0 < 256
@@ -101,3 +93,40 @@ pub stripe_same : (code : Code) (sources : List (List ℕ)) (p q g h p' q' g' h'
 stripe_same code sources p q g h p' q' g' h' n w ep eq eg eh en stripe =
     let four : p ∷ q ∷ g ∷ h ∷ [] ≡ p' ∷ q' ∷ g' ∷ h' ∷ [] = rw ep (rw eq (rw eg (rw eh refl))) in
     subst (λ ps. IsStripe code w (list_at (sources ++ ps))) four (subst (λ n. IsStripe code n (list_at (sources ++ p ∷ q ∷ g ∷ h ∷ []))) en stripe)
+
+-- the parities of twelve lists are those of LRC(12,2,2)
+pub wide_parities : (sources parities : List (List ℕ)) (k : ℕ) → AreParitiesOfTwelve sources parities k → AreParities Wide sources parities k
+unfolding xor_sum weight weights
+wide_parities sources parities k are =
+    each_of_four (λ e. bytes_at parities k e ≡ parity_of Wide e (bytes_at sources k)) (are 0 (omega arith)) (are 1 (omega arith)) (are 2 (omega arith)) (are 3 (omega arith))
+
+pub data_count-le : (code : Code) → data_count code ≤ 12
+data_count-le Wide = omega arith
+data_count-le Small = omega arith
+
+-- what an equation gives, where the coefficients are its weights
+pub parity_by_weights : (code : Code) (e : ℕ) (coefficients : List ℕ) (x : ℕ → ℕ) → length coefficients ≡ data_count code
+    → ((i : ℕ) → i < data_count code → get_or coefficients i 0 ≡ weight code e i) → combined coefficients x ≡ parity_of code e x
+parity_by_weights code e coefficients x long same =
+    ap (λ n. xor_sum n (λ i. product (get_or coefficients i 0) (x i))) long
+    ∙ xor_sum_same (data_count code) (λ i. product (get_or coefficients i 0) (x i)) (λ i. product (weight code e i) (x i)) (λ i l. ap (λ c. product c (x i)) (same i l))
+
+-- a list that is written back over one of its length
+pub written_back : (n : ℕ) (xs ys : List ℕ) → length xs ≡ n → take n (xs ++ ys) ≡ xs
+written_back n xs ys e = ap (λ k. take k (xs ++ ys)) (sym e) ∙ take-append_seam xs ys
+
+-- ---- four lists that stand one after the other
+part_between : (xs ys zs : List ℕ) (from to : ℕ) → length xs ≡ from → length ys ≡ to - from → slice_range (xs ++ (ys ++ zs)) from to ≡ ys
+part_between xs ys zs from to start long =
+    ap₂ (λ (n : ℕ) (rest : List ℕ). take n rest) (sym long) (ap (λ n. drop n (xs ++ (ys ++ zs))) (sym start) ∙ drop-append_seam xs (ys ++ zs)) ∙ take-append_seam ys zs
+
+pub quarters_joined : (w : ℕ) (a b c d : List ℕ) → length a ≡ w → length b ≡ w → length c ≡ w → length d ≡ w → quarters w (a ++ (b ++ (c ++ d))) ≡ a ∷ b ∷ c ∷ d ∷ []
+quarters_joined w a b c d la lb lc ld =
+    let ab : a ++ (b ++ (c ++ d)) ≡ (a ++ b) ++ (c ++ d) = sym (append_assoc a b (c ++ d)) in
+    let abc : a ++ (b ++ (c ++ d)) ≡ ((a ++ b) ++ c) ++ (d ++ []) = ab ∙ sym (append_assoc (a ++ b) c d) ∙ ap (λ xs. ((a ++ b) ++ c) ++ xs) (sym (append-nil d)) in
+    let two : length (a ++ b) ≡ 2 * w = omega (arith, length-append a b) in
+    let three : length ((a ++ b) ++ c) ≡ 3 * w = omega (arith, two, length-append (a ++ b) c) in
+    ap₂ (λ (x : List ℕ) (xs : List (List ℕ)). x ∷ xs) (part_between [] a (b ++ (c ++ d)) 0 w refl (omega (arith, la)))
+    (ap₂ (λ (x : List ℕ) (xs : List (List ℕ)). x ∷ xs) (part_between a b (c ++ d) w (2 * w) la (omega (arith, lb)))
+    (ap₂ (λ (x : List ℕ) (xs : List (List ℕ)). x ∷ xs) (ap (λ xs. slice_range xs (2 * w) (3 * w)) ab ∙ part_between (a ++ b) c d (2 * w) (3 * w) two (omega (arith, lc)))
+    (ap (λ (x : List ℕ). x ∷ []) (ap (λ xs. slice_range xs (3 * w) (4 * w)) abc ∙ part_between ((a ++ b) ++ c) d [] (3 * w) (4 * w) three (omega (arith, ld))))))

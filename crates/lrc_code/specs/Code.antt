@@ -1,17 +1,13 @@
 -- The codes LRC(12,2,2) and LRC(6,2,2): which bytes are a column, and which lost fragments can't be told from those left.
 -- The form of the four equations is that of Huang et al., "Erasure Coding in Windows Azure Storage", USENIX ATC 2012; the
 -- coefficients, the field's polynomial and the numbering of the fragments are this project's own.
-use Rattle.std.specs.Prelude.{◌≡◌, ◌≢◌, ℕ, zero, suc, ◌<◌, Bool, true, false, cond, ◌==◌, List, [], ◌∷◌, slice_index, slice_index_or, bit_xor, ◌+◌, ◌-◌, ◌&&◌, ◌||◌, count_by}
+use Rattle.std.specs.Prelude.{◌≡◌, ◌≢◌, ℕ, ◌<◌, Bool, true, false, cond, ◌==◌, List, [], ◌∷◌, slice_index, slice_index_or, ◌+◌, ◌-◌, ◌&&◌, ◌||◌, count_by}
 use Rattle.std.specs.List.{list_any}
 use Rattle.std.specs.Int.{bit_at}
 use Rattle.gf256.specs.Field.{product}
+unfoldable pub use Rattle.kernels.specs.Lists.{xor_sum}
 use Rattle.lrc_code.specs.declared.Code.{Code}
 use Rattle.lrc_code.specs.declared.Code.TheVariants.{Wide, Small}
-
--- the sum of g 0 to g (n - 1)
-unfoldable pub xor_sum : ℕ → (ℕ → ℕ) → ℕ
-xor_sum zero g = 0
-xor_sum (suc n) g = bit_xor (xor_sum n g) (g n)
 
 -- ---- columns of any four equations
 -- n bytes that meet the four equations in which fragment i weighs w 0 i to w 3 i

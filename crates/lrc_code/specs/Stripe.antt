@@ -1,6 +1,7 @@
 -- Stripes: sixteen lists of one length, a column at each place; and what is left of one.
+pub use Rattle.kernels.specs.Lists.{list_at, bytes_at}
 use Rattle.lrc_code.specs.declared.Code.{Code}
-use Rattle.std.specs.Prelude.{◌≡◌, ℕ, ◌<◌, ◌≤◌, Bool, false, List, [], Option, Some, None, IfSome, length, slice_index, slice_index_or, slice_range}
+use Rattle.std.specs.Prelude.{◌≡◌, ℕ, ◌*◌, ◌<◌, ◌≤◌, Bool, false, List, [], ◌∷◌, Option, Some, None, IfSome, length, slice_index, slice_index_or, slice_range}
 use Rattle.std.specs.Borrow.{Bor}
 use Rattle.std.specs.Option.{is_none}
 use Rattle.lrc_code.specs.Code.{fragment_count, IsColumn}
@@ -10,12 +11,9 @@ pub record IsStripe (code : Code) (w : ℕ) (s : ℕ → List ℕ) : Type 0 wher
   pub width : (i : ℕ) → i < fragment_count code → length (s i) ≡ w
   pub columns : (k : ℕ) → k < w → IsColumn code (λ i. slice_index (s i) k)
 
-abbrev pub list_at : List (List ℕ) → ℕ → List ℕ
-list_at lists i = slice_index_or lists i []
-
--- the bytes of the lists at place k
-abbrev pub bytes_at : List (List ℕ) → ℕ → ℕ → ℕ
-bytes_at lists k i = slice_index (list_at lists i) k
+-- four lists of w bytes that stand one after the other
+abbrev pub quarters : ℕ → List ℕ → List (List ℕ)
+quarters w bytes = slice_range bytes 0 w ∷ slice_range bytes w (2 * w) ∷ slice_range bytes (2 * w) (3 * w) ∷ slice_range bytes (3 * w) (4 * w) ∷ []
 
 -- at place k the lists have the parities of the data, one for each equation
 abbrev pub AreParities : Code → List (List ℕ) → List (List ℕ) → ℕ → Type 0

@@ -1,28 +1,14 @@
 //! Encoding: the four parities of the data fragments.
 
 ghost use Rattle.lrc_code.specs.Code.{data_count};
-ghost use Rattle.std.specs.Prelude.{◌≡◌, ℕ, ◌<◌, ◌++◌, [], ◌∷◌, All, IfOk, EachIndex, length, map, slice_index, bit_xor};
+ghost use Rattle.std.specs.Prelude.{◌≡◌, ℕ, ◌<◌, ◌*◌, ◌++◌, [], ◌∷◌, All, IfOk, EachIndex, length, map, slice_index};
 ghost use Rattle.lrc_code.specs.Column.{parity_of};
-ghost use Rattle.lrc_code.specs.Stripe.{IsStripe, list_at, bytes_at};
+ghost use Rattle.lrc_code.specs.Stripe.{IsStripe, list_at, bytes_at, quarters};
 
 use crate::recipes::weight_of;
-use crate::wide::encode_into;
 use crate::{Code, NoMemory};
-use gf256::add_scaled;
-use std::alloc::Global;
-
-/// Adds the data, each times what it weighs in an equation, place by place.
-fn add_data(bytes: &mut [u8], code: Code, equation: usize, sources: &[&[u8]])
-    requires equation_below { equation < 4 }
-    requires count { length sources.now ≡ data_count code }
-    requires long { All (λ s. length s.now ≡ length bytes.old) sources.now }
-    ensures { EachIndex bytes.new (λ k.
-        slice_index bytes.new k ≡ bit_xor (slice_index bytes.old k) (parity_of code equation (bytes_at (map (λ s. s.now) sources.now) k))) }
-{
-    for i in 0..sources.len() {
-        add_scaled(bytes, weight_of(code, equation, i), sources[i]);
-    }
-}
+use kernels::{combine_lists, write_parities};
+use std::alloc::{AllocError, Global};
 
 /// The elements of a slice are below 256: a proof knows it of a parameter, and not of a slice inside another.
 fn fits(bytes: &[u8])
@@ -38,15 +24,6 @@ fn all_fit(sources: &[&[u8]])
     }
 }
 
-/// Makes every byte 0.
-pub(crate) fn clear(bytes: &mut [u8])
-    ensures { EachIndex bytes.new (λ k. slice_index bytes.new k ≡ 0) }
-{
-    for i in 0..bytes.len() {
-        bytes[i] = 0;
-    }
-}
-
 /// Writes the parity that an equation gives.
 fn parity_to(bytes: &mut [u8], code: Code, equation: usize, sources: &[&[u8]])
     requires equation_below { equation < 4 }
@@ -54,8 +31,11 @@ fn parity_to(bytes: &mut [u8], code: Code, equation: usize, sources: &[&[u8]])
     requires long { All (λ s. length s.now ≡ length bytes.old) sources.now }
     ensures { EachIndex bytes.new (λ k. slice_index bytes.new k ≡ parity_of code equation (bytes_at (map (λ s. s.now) sources.now) k)) }
 {
-    clear(bytes);
-    add_data(bytes, code, equation, sources);
+    let mut weights = [0; 12];
+    for i in 0..sources.len() {
+        weights[i] = weight_of(code, equation, i);
+    }
+    combine_lists(bytes, &weights[..sources.len()], sources);
 }
 
 /// Writes the four parities of a code's data fragments, which have as many bytes as each parity: together they are a stripe of
@@ -77,7 +57,7 @@ pub fn encode_to(
 {
     all_fit(sources);
     match code {
-        Code::Wide => encode_into(sources, first, second, third, fourth),
+        Code::Wide => write_parities(sources, first, second, third, fourth),
         Code::Small => {
             parity_to(first, code, 0, sources);
             parity_to(second, code, 1, sources);
@@ -112,6 +92,41 @@ pub fn encode_in(
         &mut fourth,
     );
     Ok([first, second, third, fourth])
+}
+
+/// Writes the four parities of a code's data fragments, of `w` bytes each, one after the other.
+fn encode_quarters(code: Code, sources: &[&[u8]], w: usize, parities: &mut [u8])
+    requires count { length sources.now ≡ data_count code }
+    requires long { All (λ s. length s.now ≡ w) sources.now }
+    requires room { length parities.old ≡ 4 * w }
+    ensures { IsStripe code w (list_at (map (λ s. s.now) sources.now ++ quarters w parities.new)) }
+{
+    let (first, rest) = parities.split_at_mut(w);
+    let (second, rest) = rest.split_at_mut(w);
+    let (third, fourth) = rest.split_at_mut(w);
+    encode_to(code, sources, first, second, third, fourth);
+}
+
+/// The four parities of a code's data fragments, which have `w` bytes each, one after the other in one list, for one request
+/// for memory. Refused memory is `NoMemory`.
+pub fn encode_joined(
+    alloc: Global,
+    code: Code,
+    sources: &[&[u8]],
+    w: usize,
+) -> Result<Vec<u8>, NoMemory>
+    requires count { length sources.now ≡ data_count code }
+    requires long { All (λ s. length s.now ≡ w) sources.now }
+    ensures long { IfOk result (λ parities. length parities.items ≡ 4 * w) }
+    ensures stripe { IfOk result (λ parities. IsStripe code w (list_at (map (λ s. s.now) sources.now ++ quarters w parities.items))) }
+{
+    // no memory has more bytes than a `usize` counts
+    let Some(size) = w.checked_mul(4) else {
+        return Err(AllocError);
+    };
+    let mut parities = vec![in alloc; 0; size]?;
+    encode_quarters(code, sources, w, &mut parities);
+    Ok(parities)
 }
 
 /// Fragments 12 to 15 of the stripe of LRC(12,2,2) with these data fragments, which have `w` bytes each. Refused memory is

@@ -1,6 +1,5 @@
 use Rattle.std.proofs.Common.{map, arith}
-use Rattle.lrc_code.proofs.Parities.{stripe_same}
-use Rattle.lrc_code.proofs.WideParities.{written_back}
+use Rattle.lrc_code.proofs.Parities.{stripe_same, written_back}
 use Rattle.lrc_code.proofs.encoding.encode_in.Goals as goal
 
 pub returns : goal.returns

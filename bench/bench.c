@@ -1,0 +1,287 @@
+// Times the coder beside ISA-L and memcpy: one process, one thread, the calls in turn, the best of many slots.
+// Each row is in GB of data per second: for encoding the twelve data fragments, for rebuilding the one fragment that is made.
+// In brackets is the ratio to ISA-L's row of the same kind: into lists that are given, or into memory that is asked for.
+#define _GNU_SOURCE
+#include <isa-l.h>
+#include <stdbool.h>
+#include <stdint.h>
+#include <stdio.h>
+#include <stdlib.h>
+#include <string.h>
+#include <time.h>
+
+// ---- what the coder asks of its caller: memory
+typedef struct {
+    bool done;
+    void *address;
+} Allocated;
+
+Allocated rattle_alloc(size_t size, size_t align) {
+    (void)align;
+    void *address = malloc(size ? size : 1);
+    return (Allocated){address != NULL, address};
+}
+
+Allocated rattle_realloc(void *old, size_t kept, size_t size, size_t align) {
+    (void)kept, (void)align;
+    void *address = realloc(old, size ? size : 1);
+    return (Allocated){address != NULL, address};
+}
+
+void rattle_dealloc(void *address) { free(address); }
+
+// ---- the coder, as run.sh builds it for each processor
+typedef struct {
+    const uint8_t *bytes;
+    size_t length;
+} Slice;
+
+#define DECLARE(v)                                                                                                        \
+    void v##_timed_encode_to(const Slice *, size_t, uint8_t *, size_t, uint8_t *, size_t, uint8_t *, size_t, uint8_t *,    \
+                             size_t, uint32_t);                                                                           \
+    bool v##_timed_encode(const Slice *, size_t, size_t, uint32_t);                                                       \
+    bool v##_timed_encode_joined(const Slice *, size_t, size_t, uint32_t);                                                \
+    void v##_timed_combine(uint8_t *, size_t, const uint8_t *, size_t, const Slice *, size_t, uint32_t);                  \
+    bool v##_timed_rebuild_to(uint8_t *, size_t, const Slice *, size_t, uint16_t, size_t, uint32_t);                      \
+    bool v##_timed_rebuild(const Slice *, size_t, size_t, uint16_t, size_t, uint8_t, uint32_t);
+DECLARE(v2)
+DECLARE(v3)
+
+// ---- one stripe, and what is made of it
+enum { DATA = 12, FRAGMENTS = 16, WIDEST = 65536, WIDTHS = 4 };
+static const size_t widths[WIDTHS] = {1, 64, 4096, WIDEST};
+static size_t width;
+static Slice stripe[FRAGMENTS]; // all of it
+static uint8_t *data[FRAGMENTS], *made[4], *copy;
+static Slice group[6], others[DATA]; // what fragment 0 is rebuilt from where it alone is lost, and where 0 and 1 are
+static uint8_t *group_bytes[6], *other_bytes[DATA];
+static uint8_t ones[6] = {1, 1, 1, 1, 1, 1}, recipe[DATA];
+static uint8_t encode_tables[32 * 4 * DATA], recipe_tables[32 * DATA];
+static const uint8_t coefficients[4][DATA] = {
+    {1, 1, 1, 1, 1, 1},
+    {0, 0, 0, 0, 0, 0, 1, 1, 1, 1, 1, 1},
+    {1, 2, 3, 4, 5, 6, 0x10, 0x20, 0x30, 0x40, 0x50, 0x60},
+    {1, 4, 5, 0x10, 0x11, 0x14, 0x1D, 0x74, 0x69, 0xCD, 0xD0, 0xB9},
+};
+
+static uint8_t product(uint8_t a, uint8_t b) {
+    unsigned sum = 0, shifted = a;
+    for (int i = 0; i < 8; i++) {
+        if (b >> i & 1) sum ^= shifted;
+        shifted <<= 1;
+        if (shifted & 256) shifted ^= 0x11D;
+    }
+    return sum;
+}
+
+// Where fragments 0 and 1 are lost, 3 times fragment 0 is the sum of twice the first equation and the third.
+static void make_recipe(void) {
+    uint8_t third = 0;
+    while (product(3, third) != 1) third++;
+    for (int i = 2; i < DATA; i++) recipe[i - 2] = product(third, product(2, coefficients[0][i]) ^ coefficients[2][i]);
+    recipe[10] = product(third, 2);
+    recipe[11] = third;
+    for (int i = 0; i < 10; i++) other_bytes[i] = data[i + 2];
+    other_bytes[10] = data[12], other_bytes[11] = data[14];
+    for (int i = 0; i < 5; i++) group_bytes[i] = data[i + 1];
+    group_bytes[5] = data[12];
+}
+
+static void set_width(size_t w) {
+    width = w;
+    for (int i = 0; i < FRAGMENTS; i++) stripe[i] = (Slice){data[i], w};
+    for (int i = 0; i < 6; i++) group[i] = (Slice){group_bytes[i], w};
+    for (int i = 0; i < DATA; i++) others[i] = (Slice){other_bytes[i], w};
+}
+
+// ---- the calls, each made n times
+static volatile uint8_t seen;
+static void use(const void *bytes) { __asm__ volatile("" ::"r"(bytes) : "memory"); }
+
+static void copy_data(long n) {
+    for (long j = 0; j < n; j++)
+        for (int i = 0; i < DATA; i++) memcpy(copy + i * WIDEST, data[i], width), use(copy);
+}
+
+static void copy_one(long n) {
+    for (long j = 0; j < n; j++) memcpy(copy, data[0], width), use(copy);
+}
+
+static void isal_encode_to(long n) {
+    for (long j = 0; j < n; j++) ec_encode_data(width, DATA, 4, encode_tables, data, made), use(made[0]);
+}
+
+static void isal_encode(long n) {
+    for (long j = 0; j < n; j++) {
+        uint8_t *parities[4];
+        for (int i = 0; i < 4; i++) parities[i] = malloc(width);
+        ec_encode_data(width, DATA, 4, encode_tables, data, parities);
+        use(parities);
+        for (int i = 0; i < 4; i++) free(parities[i]);
+    }
+}
+
+static void isal_sum_to(uint8_t *target) {
+    void *lists[7];
+    memcpy(lists, group_bytes, sizeof group_bytes);
+    lists[6] = target;
+    xor_gen(7, width, lists);
+    use(target);
+}
+
+static void isal_local_to(long n) {
+    for (long j = 0; j < n; j++) isal_sum_to(made[0]);
+}
+
+static void isal_local(long n) {
+    for (long j = 0; j < n; j++) {
+        uint8_t *target = malloc(width);
+        isal_sum_to(target);
+        free(target);
+    }
+}
+
+static void isal_global_to(long n) {
+    for (long j = 0; j < n; j++) ec_encode_data(width, DATA, 1, recipe_tables, other_bytes, made), use(made[0]);
+}
+
+static void isal_global(long n) {
+    for (long j = 0; j < n; j++) {
+        uint8_t *target = malloc(width);
+        ec_encode_data(width, DATA, 1, recipe_tables, other_bytes, &target);
+        use(target);
+        free(target);
+    }
+}
+
+// Fragment 0, where it alone is lost, and where fragment 1 is lost too.
+#define LOCAL 1
+#define GLOBAL 3
+#define CALLS(v)                                                                                                          \
+    static void v##_encode_to(long n) {                                                                                   \
+        v##_timed_encode_to(stripe, DATA, made[0], width, made[1], width, made[2], width, made[3], width, n);             \
+    }                                                                                                                     \
+    static void v##_encode(long n) { seen = v##_timed_encode(stripe, DATA, width, n); }                                   \
+    static void v##_encode_joined(long n) { seen = v##_timed_encode_joined(stripe, DATA, width, n); }                     \
+    static void v##_local_kernel(long n) { v##_timed_combine(made[0], width, ones, 6, group, 6, n); }                     \
+    static void v##_local_to(long n) { seen = v##_timed_rebuild_to(made[0], width, stripe, FRAGMENTS, LOCAL, 0, n); }     \
+    static void v##_local(long n) { seen = v##_timed_rebuild(stripe, FRAGMENTS, width, LOCAL, 0, 0, n); }                 \
+    static void v##_local_kept(long n) { seen = v##_timed_rebuild(stripe, FRAGMENTS, width, LOCAL, 0, 1, n); }            \
+    static void v##_global_kernel(long n) { v##_timed_combine(made[0], width, recipe, DATA, others, DATA, n); }           \
+    static void v##_global_to(long n) { seen = v##_timed_rebuild_to(made[0], width, stripe, FRAGMENTS, GLOBAL, 0, n); }   \
+    static void v##_global(long n) { seen = v##_timed_rebuild(stripe, FRAGMENTS, width, GLOBAL, 0, 0, n); }               \
+    static void v##_global_kept(long n) { seen = v##_timed_rebuild(stripe, FRAGMENTS, width, GLOBAL, 0, 1, n); }
+CALLS(v2)
+CALLS(v3)
+
+typedef struct {
+    const char *name;
+    void (*call)(long);
+    int base; // the row that this one is compared with
+    long reps;
+    double best[WIDTHS]; // seconds
+} Row;
+
+#define ROW(name, call, base) {name, call, base, 0, {0}}
+#define ENCODE(v)                                                                                                         \
+    ROW(#v " encode_to", v##_encode_to, 1), ROW(#v " encode", v##_encode, 2), ROW(#v " encode_joined", v##_encode_joined, 2)
+#define REBUILD(v, work)                                                                                                  \
+    ROW(#v " combine_lists", v##_##work##_kernel, 1), ROW(#v " rebuild_to", v##_##work##_to, 1),                          \
+        ROW(#v " rebuild", v##_##work, 2), ROW(#v " Plans::rebuild", v##_##work##_kept, 2)
+
+static Row encode_rows[] = {ROW("memcpy", copy_data, 1), ROW("ISA-L", isal_encode_to, 1), ROW("ISA-L, malloc", isal_encode, 2),
+                            ENCODE(v2), ENCODE(v3)};
+static Row local_rows[] = {ROW("memcpy", copy_one, 1), ROW("ISA-L", isal_local_to, 1), ROW("ISA-L, malloc", isal_local, 2),
+                           REBUILD(v2, local), REBUILD(v3, local)};
+static Row global_rows[] = {ROW("memcpy", copy_one, 1), ROW("ISA-L", isal_global_to, 1), ROW("ISA-L, malloc", isal_global, 2),
+                            REBUILD(v2, global), REBUILD(v3, global)};
+enum { ENCODE_ROWS = sizeof encode_rows / sizeof(Row), REBUILD_ROWS = sizeof local_rows / sizeof(Row) };
+
+static double now(void) {
+    struct timespec t;
+    clock_gettime(CLOCK_MONOTONIC, &t);
+    return t.tv_sec + 1e-9 * t.tv_nsec;
+}
+
+// The time of one call. ISA-L's AVX-512 code leaves the upper halves of registers in use, which slows down what follows.
+static double time_of(Row *row, long reps) {
+    double start = now();
+    row->call(reps);
+    double taken = now() - start;
+    __asm__ volatile("vzeroupper");
+    return taken / reps;
+}
+
+static const double SLOT = 0.0004;
+
+static void run(Row *rows, int count, int w, int rounds) {
+    for (int i = 0; i < count; i++) {
+        double once = time_of(&rows[i], 1);
+        for (long reps = 1; once * reps < SLOT / 4; reps *= 2) once = time_of(&rows[i], reps);
+        rows[i].reps = (long)(SLOT / once) + 1;
+        rows[i].best[w] = once;
+    }
+    for (int round = 0; round < rounds; round++)
+        for (int i = 0; i < count; i++) {
+            double taken = time_of(&rows[i], rows[i].reps);
+            if (taken < rows[i].best[w]) rows[i].best[w] = taken;
+        }
+}
+
+static void print(const char *title, const Row *rows, int count, int lists) {
+    printf("\n| %s |", title);
+    for (int w = 0; w < WIDTHS; w++) printf(" %zu |", widths[w]);
+    printf("\n|---|---|---|---|---|\n");
+    for (int i = 0; i < count; i++) {
+        printf("| %s |", rows[i].name);
+        for (int w = 0; w < WIDTHS; w++)
+            printf(" %.3g (%.2f) |", lists * widths[w] / rows[i].best[w] / 1e9, rows[rows[i].base].best[w] / rows[i].best[w]);
+        printf("\n");
+    }
+}
+
+// ---- every call must make what ISA-L makes
+static void require_same(const char *name, const uint8_t *bytes, const uint8_t *wanted) {
+    if (memcmp(bytes, wanted, width) != 0) {
+        fprintf(stderr, "bench: %s is wrong at width %zu\n", name, width);
+        exit(1);
+    }
+}
+
+static void check(const Row *rows, int count, int lists, const int *wanted) {
+    for (int i = 1; i < count; i++) {
+        if (strstr(rows[i].name, "malloc") || (rows[i].base == 2)) continue;
+        for (int k = 0; k < lists; k++) memset(made[k], 0x55, width);
+        rows[i].call(1);
+        for (int k = 0; k < lists; k++) require_same(rows[i].name, made[k], data[wanted[k]]);
+    }
+}
+
+int main(int argc, char **argv) {
+    int rounds = argc > 1 ? atoi(argv[1]) : 1000;
+    const size_t apart = WIDEST + 320; // so that the fragments do not all fall into one set of the cache
+    uint8_t *bytes = aligned_alloc(4096, 4096 * ((FRAGMENTS + 4) * apart / 4096 + 1));
+    copy = aligned_alloc(4096, DATA * WIDEST);
+    if (!bytes || !copy) return fputs("bench: no memory\n", stderr), 1;
+    for (size_t i = 0; i < (FRAGMENTS + 4) * apart; i++) bytes[i] = rand() >> 8;
+    memset(copy, 0, DATA * WIDEST);
+    for (int i = 0; i < FRAGMENTS; i++) data[i] = bytes + i * apart;
+    for (int i = 0; i < 4; i++) made[i] = bytes + (FRAGMENTS + i) * apart;
+    free(malloc(1 << 20)); // from now on malloc keeps what is given back, and asks the system for none of it again
+    make_recipe();
+    ec_init_tables(DATA, 4, (uint8_t *)coefficients, encode_tables);
+    ec_init_tables(DATA, 1, recipe, recipe_tables);
+    ec_encode_data(WIDEST, DATA, 4, encode_tables, data, data + DATA);
+    for (int w = 0; w < WIDTHS; w++) {
+        set_width(widths[w]);
+        check(encode_rows, ENCODE_ROWS, 4, (int[]){12, 13, 14, 15});
+        check(local_rows, REBUILD_ROWS, 1, (int[]){0});
+        check(global_rows, REBUILD_ROWS, 1, (int[]){0});
+        run(encode_rows, ENCODE_ROWS, w, rounds);
+        run(local_rows, REBUILD_ROWS, w, rounds);
+        run(global_rows, REBUILD_ROWS, w, rounds);
+    }
+    print("encode, GB/s (of ISA-L), by width", encode_rows, ENCODE_ROWS, DATA);
+    print("six to one", local_rows, REBUILD_ROWS, 1);
+    print("twelve to one", global_rows, REBUILD_ROWS, 1);
+}

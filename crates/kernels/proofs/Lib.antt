@@ -1,0 +1,5 @@
+pub mod Sums
+pub mod GroupLemmas
+pub mod BlocksLemmas
+pub mod FactorLemmas
+pub mod CombineLemmas

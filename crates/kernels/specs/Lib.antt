@@ -1,0 +1,4 @@
+pub mod Lists
+pub mod Parities
+pub mod Doublings
+pub mod Tables

@@ -1,0 +1,262 @@
+//! The sum of lists, each times its coefficient, thirty-two places at a time, by tables that are made once. Each list is
+//! read once.
+ghost use Rattle.std.specs.Prelude.{◌≡◌, ℕ, ◌<◌, ◌≤◌, ◌+◌, IsTrue, map, length, slice_index, bit_xor, All, EachIndex};
+ghost use Rattle.kernels.specs.Lists.{combined, bytes_at};
+ghost use Rattle.kernels.specs.Tables.{AreLow, AreHigh};
+
+use crate::blocks::{LANES, load, store};
+use crate::factor::{Factor, look_up, plus};
+use gf256::add_scaled;
+use std::simd::prelude::*;
+
+/// The sum at thirty-two places from `at` on: the products with coefficient `i` stand in the tables `i`.
+#[inline(always)]
+fn sum_block(
+    coefficients: &[u8],
+    lows: &[u8x32],
+    highs: &[u8x32],
+    sources: &[&[u8]],
+    at: usize,
+) -> u8x32
+    requires low { AreLow coefficients.now lows.now }
+    requires high { AreHigh coefficients.now highs.now }
+    requires count { length sources.now ≡ length coefficients.now }
+    requires count_low { length lows.now ≡ length coefficients.now }
+    requires count_high { length highs.now ≡ length coefficients.now }
+    requires inside { All (λ s. at + LANES ≤ length s.now) sources.now }
+    ensures { (k : ℕ) → k < LANES → slice_index result k ≡ combined coefficients.now (bytes_at (map (λ s. s.now) sources.now) (at + k)) }
+{
+    let mut sum = u8x32::splat(0);
+    for i in 0..coefficients.len() {
+        sum = plus(sum, look_up(lows[i], highs[i], load(sources[i], at)));
+    }
+    sum
+}
+
+/// The sums at sixty-four places.
+#[derive(Drop)]
+struct Two {
+    first: u8x32,
+    second: u8x32,
+}
+
+/// The sums at sixty-four places from `at` on: each table is read once for both halves.
+#[inline(always)]
+fn sum_two(
+    coefficients: &[u8],
+    lows: &[u8x32],
+    highs: &[u8x32],
+    sources: &[&[u8]],
+    at: usize,
+    next: usize,
+) -> Two
+    requires low { AreLow coefficients.now lows.now }
+    requires high { AreHigh coefficients.now highs.now }
+    requires count { length sources.now ≡ length coefficients.now }
+    requires count_low { length lows.now ≡ length coefficients.now }
+    requires count_high { length highs.now ≡ length coefficients.now }
+    requires inside { All (λ s. at + LANES + LANES ≤ length s.now) sources.now }
+    requires next { next ≡ at + LANES }
+    ensures first { (k : ℕ) → k < LANES → slice_index result.first k ≡ combined coefficients.now (bytes_at (map (λ s. s.now) sources.now) (at + k)) }
+    ensures second { (k : ℕ) → k < LANES → slice_index result.second k ≡ combined coefficients.now (bytes_at (map (λ s. s.now) sources.now) (next + k)) }
+{
+    let mut first = u8x32::splat(0);
+    let mut second = u8x32::splat(0);
+    for i in 0..coefficients.len() {
+        let low = lows[i];
+        let high = highs[i];
+        let source = sources[i];
+        first = plus(first, look_up(low, high, load(source, at)));
+        second = plus(second, look_up(low, high, load(source, next)));
+    }
+    Two { first, second }
+}
+
+/// Makes the target the sum at each place.
+#[inline(always)]
+fn sum_blocks(
+    target: &mut [u8],
+    coefficients: &[u8],
+    lows: &[u8x32],
+    highs: &[u8x32],
+    sources: &[&[u8]],
+)
+    requires low { AreLow coefficients.now lows.now }
+    requires high { AreHigh coefficients.now highs.now }
+    requires count { length sources.now ≡ length coefficients.now }
+    requires count_low { length lows.now ≡ length coefficients.now }
+    requires count_high { length highs.now ≡ length coefficients.now }
+    requires wide { LANES ≤ length target.old }
+    requires same { All (λ s. length s.now ≡ length target.old) sources.now }
+    ensures { EachIndex target.new (λ k. slice_index target.new k ≡ combined coefficients.now (bytes_at (map (λ s. s.now) sources.now) k)) }
+{
+    let width = target.len();
+    let mut at = 0;
+    'pairs: while width - at > LANES + LANES {
+        let sums = sum_two(coefficients, lows, highs, sources, at, at + LANES);
+        store(sums.first, target, at);
+        store(sums.second, target, at + LANES);
+        at += LANES + LANES;
+    }
+    'whole: while width - at > LANES {
+        store(
+            sum_block(coefficients, lows, highs, sources, at),
+            target,
+            at,
+        );
+        at += LANES;
+    }
+    // the last block ends with the lists, and may overlap the one before
+    let last = width - LANES;
+    store(
+        sum_block(coefficients, lows, highs, sources, last),
+        target,
+        last,
+    );
+}
+
+/// The sum at thirty-two places from `at` on, where each coefficient is 1.
+#[inline(always)]
+fn plain_block(coefficients: &[u8], sources: &[&[u8]], at: usize) -> u8x32
+    requires ones { All (λ c. c ≡ 1) coefficients.now }
+    requires count { length sources.now ≡ length coefficients.now }
+    requires inside { All (λ s. at + LANES ≤ length s.now) sources.now }
+    ensures { (k : ℕ) → k < LANES → slice_index result k ≡ combined coefficients.now (bytes_at (map (λ s. s.now) sources.now) (at + k)) }
+{
+    let mut sum = u8x32::splat(0);
+    for i in 0..coefficients.len() {
+        sum = plus(sum, load(sources[i], at));
+    }
+    sum
+}
+
+/// Makes the target the sum at each place, where each coefficient is 1.
+#[inline(always)]
+fn plain_blocks(target: &mut [u8], coefficients: &[u8], sources: &[&[u8]])
+    requires ones { All (λ c. c ≡ 1) coefficients.now }
+    requires count { length sources.now ≡ length coefficients.now }
+    requires wide { LANES ≤ length target.old }
+    requires same { All (λ s. length s.now ≡ length target.old) sources.now }
+    ensures { EachIndex target.new (λ k. slice_index target.new k ≡ combined coefficients.now (bytes_at (map (λ s. s.now) sources.now) k)) }
+{
+    let width = target.len();
+    let mut at = 0;
+    'pairs: while width - at > LANES + LANES {
+        let next = at + LANES;
+        let first = plain_block(coefficients, sources, at);
+        let second = plain_block(coefficients, sources, next);
+        store(first, target, at);
+        store(second, target, next);
+        at = next + LANES;
+    }
+    'whole: while width - at > LANES {
+        store(plain_block(coefficients, sources, at), target, at);
+        at += LANES;
+    }
+    // the last block ends with the lists, and may overlap the one before
+    let last = width - LANES;
+    store(plain_block(coefficients, sources, last), target, last);
+}
+
+/// Makes the target the sum at each place, where each coefficient is 1.
+fn sum_plainly(target: &mut [u8], coefficients: &[u8], sources: &[&[u8]])
+    requires ones { All (λ c. c ≡ 1) coefficients.now }
+    requires count { length sources.now ≡ length coefficients.now }
+    requires wide { LANES ≤ length target.old }
+    requires same { All (λ s. length s.now ≡ length target.old) sources.now }
+    ensures { EachIndex target.new (λ k. slice_index target.new k ≡ combined coefficients.now (bytes_at (map (λ s. s.now) sources.now) k)) }
+{
+    // the same call twice: where there are six lists, as in a group, the code for a block has no loop, and keeps copies of the
+    // slices in registers, which a store to the target cannot change
+    if coefficients.len() == 6 {
+        let six = [
+            sources[0], sources[1], sources[2], sources[3], sources[4], sources[5],
+        ];
+        plain_blocks(target, coefficients, &six);
+    } else {
+        plain_blocks(target, coefficients, sources);
+    }
+}
+
+/// Makes the tables of the coefficients.
+#[inline(always)]
+fn tables_of(coefficients: &[u8], lows: &mut [u8x32; 15], highs: &mut [u8x32; 15])
+    requires few { length coefficients.now ≤ 15 }
+    ensures low { AreLow coefficients.now lows.new }
+    ensures high { AreHigh coefficients.now highs.new }
+    ensures count_low { length lows.new ≡ 15 }
+    ensures count_high { length highs.new ≡ 15 }
+{
+    for i in 0..coefficients.len() {
+        let factor = Factor::new(coefficients[i]);
+        lows[i] = factor.low();
+        highs[i] = factor.high();
+    }
+}
+
+/// Makes the target the sum at each place, by tables.
+fn sum_by_tables(target: &mut [u8], coefficients: &[u8], sources: &[&[u8]])
+    requires count { length sources.now ≡ length coefficients.now }
+    requires few { length coefficients.now ≤ 15 }
+    requires wide { LANES ≤ length target.old }
+    requires same { All (λ s. length s.now ≡ length target.old) sources.now }
+    ensures { EachIndex target.new (λ k. slice_index target.new k ≡ combined coefficients.now (bytes_at (map (λ s. s.now) sources.now) k)) }
+{
+    let mut lows = [u8x32::splat(0); 15];
+    let mut highs = [u8x32::splat(0); 15];
+    tables_of(coefficients, &mut lows, &mut highs);
+    let count = coefficients.len();
+    let lows = &lows[..count];
+    let highs = &highs[..count];
+    // the same call twice: where there are twelve lists, the code for a block has no loop
+    if count == 12 {
+        sum_blocks(target, coefficients, lows, highs, sources);
+    } else {
+        sum_blocks(target, coefficients, lows, highs, sources);
+    }
+}
+
+/// Adds the lists, each times its coefficient, one by one: for few places.
+fn add_each(target: &mut [u8], coefficients: &[u8], sources: &[&[u8]])
+    requires count { length sources.now ≡ length coefficients.now }
+    requires same { All (λ s. length s.now ≡ length target.old) sources.now }
+    ensures { EachIndex target.new (λ k. slice_index target.new k
+        ≡ bit_xor (slice_index target.old k) (combined coefficients.now (bytes_at (map (λ s. s.now) sources.now) k))) }
+{
+    for i in 0..coefficients.len() {
+        add_scaled(target, coefficients[i], sources[i]);
+    }
+}
+
+/// Makes every byte 0.
+fn clear(target: &mut [u8])
+    ensures { EachIndex target.new (λ k. slice_index target.new k ≡ 0) }
+{
+    for i in 0..target.len() {
+        target[i] = 0;
+    }
+}
+
+/// Whether each coefficient is 1.
+fn are_ones(coefficients: &[u8]) -> bool
+    ensures { IsTrue result → All (λ c. c ≡ 1) coefficients.now }
+{
+    coefficients.iter().all(|c| *c == 1)
+}
+
+/// Makes the target the sum of at most fifteen lists of its length, each times its coefficient, place by place.
+pub fn combine_lists(target: &mut [u8], coefficients: &[u8], sources: &[&[u8]])
+    requires count { length sources.now ≡ length coefficients.now }
+    requires few { length coefficients.now ≤ 15 }
+    requires same { All (λ s. length s.now ≡ length target.old) sources.now }
+    ensures { EachIndex target.new (λ k. slice_index target.new k ≡ combined coefficients.now (bytes_at (map (λ s. s.now) sources.now) k)) }
+{
+    if target.len() < LANES {
+        clear(target);
+        add_each(target, coefficients, sources);
+    } else if are_ones(coefficients) {
+        sum_plainly(target, coefficients, sources);
+    } else {
+        sum_by_tables(target, coefficients, sources);
+    }
+}
