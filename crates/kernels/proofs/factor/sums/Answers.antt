@@ -3,4 +3,4 @@ use Rattle.kernels.proofs.FactorLemmas.{table_is}
 use Rattle.kernels.proofs.factor.sums.Goals as goal
 
 pub returns : goal.returns
-returns c s p which = table_is c.args.a c.args.b c.args.c c.args.d s p which (omega arith) (omega arith) (omega arith) (omega arith)
+returns c s = table_is c.args.a c.args.b c.args.c c.args.d s (omega arith) (omega arith) (omega arith) (omega arith)
