@@ -10,7 +10,7 @@ use Rattle.lrc_code.specs.declared.Code.TheVariants.{Wide, Small}
 use Rattle.lrc_code.specs.Code.{data_count, weight}
 use Rattle.lrc_code.specs.Stripe.{IsStripe, list_at}
 use Rattle.lrc_code.proofs.Columns.{column_only, column_parity, count_with_parities}
-use Rattle.lrc_code.proofs.Sums.{xor_sum_one}
+use Rattle.kernels.proofs.Sums.{xor_sum_one}
 use Rattle.lrc_code.proofs.Witness.{weight-lt}
 
 -- 1 at the fragment, and 0 elsewhere
