@@ -125,7 +125,7 @@ pub record IsRound (w limit : ℕ) (rows : List Row) (round top base : ℕ) (bef
   pub order : Pairs (IsGood (round_in rows)) (steps_in accounts)
 
 -- ---- the whole
--- what the first rows did, up to this one: each is told of, in some order of the rows, and its steps are all acts that the crew has for its own
+-- What the first rows did, up to this one, as far as it is told of: each account is that of a row, and the steps of all accounts are the acts that the crew has for its own
 pub record IsPlayed (w limit : ℕ) (rows : List Row) (top : ℕ) (acts : List Act) (did : List ℕ) (done : List Done) : Type 0 where
   pub accounts : List Account
   pub dones : done ≡ dones_in accounts

@@ -9,7 +9,7 @@ use book::{Book, Fault, Plan};
 use gate::Follows;
 use std::alloc::{AllocError, Global};
 
-/// A book, behind one pointer, so that little goes through the gate. Another may follow it where each history that this one tells is told by the other, as it is or with one call more, the same for all of them.
+/// A book, behind one pointer, so that little goes through the gate. Another may follow it where whatever acts this one tells are told by the other, as they are or with one more, the same for all of them.
 #[derive(Drop)]
 pub struct Kept(pub Box<Book, Global>);
 
