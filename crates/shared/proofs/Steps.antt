@@ -1,5 +1,5 @@
 -- What a call adds to what a pass shows.
-use Rattle.std.proofs.Common.{◌≡◌, ◌≢◌, ℕ, ◌+◌, ◌<◌, ◌≤◌, false, List, [], ◌∷◌, ◌++◌, length, Option, None, Some, Result, Ok, Err, IfOk, OnErr, refl, ap, sym, subst, ◌∙◌, arith, append_assoc, length-append}
+use Rattle.std.proofs.Common.{◌≡◌, ◌≢◌, ℕ, ◌+◌, ◌<◌, ◌≤◌, false, List, [], ◌∷◌, ◌++◌, length, Option, None, Some, Result, Ok, Err, IfOk, IfSome, OnErr, refl, ap, sym, subst, ◌∙◌, arith, append_assoc, length-append}
 use Rattle.std.specs.Prelude.{◌↔◌}
 use Rattle.std.proofs.lemmas.List.{append-nil}
 use mathlib.Core.List.{IsPrefix}
@@ -24,7 +24,7 @@ use Rattle.shared.specs.Between.{MayFollow, TellsActs, acts_for}
 use Rattle.shared.specs.Passes.{Which, Shows, between_kept, acts_between_kept, acts_of, did_of, seen_of, made_of, width_of, limit_of, trimmed_of, shows, TellsAs, IsPass, Agrees, Stays}
 use Rattle.shared.specs.Deeds.{deed_of, act_if, DoesIf, Takes}
 use Rattle.shared.specs.Calls.{event, made_by, Called, Looked}
-use Rattle.shared.proofs.Between.{GoesOn, between_is, acts_are, tells_more, told_length, events-append, events_for, below_unless}
+use Rattle.shared.proofs.Between.{GoesOn, between_is, acts_are, tells_more, told_length, events-append, events_for, below_unless, goes_follows}
 use Rattle.shared.proofs.Passes.{width_stays, limit_stays, trimmed_is, seen_is}
 
 abbrev pub kept_follows : Kept → Kept → Type 0
@@ -198,6 +198,12 @@ pub same_goes_on : (old new : Contents) → new ≡ old → GoesOn old new [] 0
 same_goes_on old new same =
     still_goes_on old new 0 (ap (λ (c : Contents). c.width) same) (ap (λ (c : Contents). c.limit) same) (let e = ap (λ (c : Contents). c.base.trimmed) same in omega arith)
     (λ h told. subst (λ (c : Contents). Tells c h) (sym same) told)
+
+-- a book that is left as it was found
+pub unchanged : (o : Option Kept) (k : Kept) → o ≡ Some k → IfSome o (λ found. MayFollow found.0.value k.0.value)
+unchanged o k is =
+    let b = k.0.value in
+    subst (λ o. IfSome o (λ found. MayFollow found.0.value b)) (sym is) (goes_follows b b [] 0 (same_goes_on b b refl))
 
 -- ---- calls
 -- what is asked of the journal where a call is refused

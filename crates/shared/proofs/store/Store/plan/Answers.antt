@@ -1,10 +1,8 @@
-use Rattle.std.proofs.Common.{◌≡◌, [], None, IfSome, refl, sym, subst, ◌∙◌}
-use Rattle.shared.specs.Between.{MayFollow}
+use Rattle.std.proofs.Common.{◌≡◌, [], None, refl, subst, ◌∙◌}
 use Rattle.shared.specs.Passes.{Shows, shows}
 use Rattle.shared.specs.Deeds.{Takes}
 use Rattle.shared.specs.Calls.{Looked}
-use Rattle.shared.proofs.Between.{goes_follows}
-use Rattle.shared.proofs.Steps.{Stepped, left_base, stepped, same_goes_on, looked, takes}
+use Rattle.shared.proofs.Steps.{Stepped, left_base, stepped, same_goes_on, looked, takes, unchanged}
 use Rattle.shared.proofs.Looks.{planned}
 use Rattle.shared.proofs.store.Store.plan.Given as given
 use Rattle.shared.proofs.store.Store.plan.Goals as goal
@@ -20,8 +18,7 @@ steps g c =
 
 pub leave-requires-clause-follows : goal.leave-requires-clause-follows
 leave-requires-clause-follows g c =
-    let b = c.enter-inside.result.value.0.value in
-    subst (λ o. IfSome o (λ found. MayFollow found.0.value b)) (sym c.enter-inside.ensures.found) (goes_follows b b [] 0 (same_goes_on b b refl))
+    unchanged _ c.enter-inside.result.value c.enter-inside.ensures.found
 
 pub invariant_of-pass : goal.invariant_of-pass
 invariant_of-pass g c = (steps g c).pass
