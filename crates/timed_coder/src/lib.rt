@@ -8,8 +8,10 @@ ghost use Rattle.kernels.specs.Lists.{combined, list_at, bytes_at};
 ghost use Rattle.lrc_code.specs.Code.{fragment_count};
 ghost use Rattle.lrc_code.specs.Stripe.{IsStripe, is_absent, Reaches};
 
+use bytes::Bytes;
 use kernels::combine_lists;
 use lrc_code::{Code, Left, Plans, encode_in, encode_joined, encode_to, rebuild, rebuild_to};
+use sealed::{Width, seal};
 use std::alloc::Global;
 
 /// `encode_to` of twelve data fragments.
@@ -150,6 +152,26 @@ pub extern "C" fn timed_rebuild(
             rebuild(alloc, &left, f, 0, w)
         };
         done &= made.is_ok();
+    }
+    done
+}
+
+/// `seal` of a copy of the blob, in stripes of fragments of `w` bytes, which are given back. Whether there was memory for all, and
+/// `w` is a width.
+#[unsafe(no_mangle)]
+pub extern "C" fn timed_seal(alloc: Global, blob: &[u8], w: u32, reps: u32) -> bool {
+    let Some(width) = Width::new(w) else {
+        return false;
+    };
+    let Ok(copy) = Bytes::copy_from_slice(alloc, blob) else {
+        return false;
+    };
+    let mut done = true;
+    for _ in 0..reps {
+        let Ok(again) = copy.slice(..copy.len()) else {
+            return false;
+        };
+        done &= seal(alloc, again, width).is_ok();
     }
     done
 }
