@@ -1,6 +1,6 @@
 #!/bin/sh
 # bench/run.sh [ROUNDS]: proves and builds the coder as a static library for x86-64-v2 and for x86-64-v3, and times it beside
-# ISA-L and memcpy. Prints three tables. It needs gcc, binutils and libisal-dev of Debian, and fetches nothing.
+# ISA-L and memcpy. Prints four tables. It needs gcc, binutils and libisal-dev of Debian, and fetches nothing.
 set -eu
 bench=$(cd "$(dirname "$0")" && pwd)
 for tool in gcc objcopy nm ar; do
