@@ -1,13 +1,15 @@
 -- The drawers of a mend's workers, given out and joined again.
-use Rattle.std.proofs.Common.{◌≡◌, ⊎_elim, ℕ, ◌+◌, ◌-◌, ◌/◌, ◌^◌, ◌≤◌, List, [], ◌∷◌, ◌++◌, length, All, Ok, Err, sum_by, subst, sym, ap, refl, ◌∙◌, arith, length-append}
+use Rattle.std.proofs.Common.{◌≡◌, ⊎_elim, ℕ, ◌+◌, ◌-◌, ◌/◌, ◌^◌, ◌≤◌, ◌||◌, Bool, true, false, List, [], ◌∷◌, ◌++◌, length, All, Ok, Err, append_assoc, append-nil, sum_by, subst, sym, ap, refl, ◌∙◌, arith, length-append}
 use Rattle.std.proofs.lemmas.List.Elements.{All-append, All-cons, All-nil}
 use Rattle.std.proofs.lemmas.List.Sums.{sum_by-append, sum_by-cons, sum_by_push}
 use Rattle.std.proofs.lemmas.List.{flat_map_more}
+use Rattle.std.proofs.lemmas.List.Folds.{list_any-append}
+use Rattle.std.specs.List.{list_any}
 use Rattle.gate.specs.Places.{TableId, times}
 use Rattle.shared.specs.Passes.{Shows, Which}
 use Rattle.book.specs.declared.plan.Item.{Item}
 use Rattle.mender.specs.declared.done.Done.{Done}
-use Rattle.mender.specs.Drawn.{Hand, IsWhole}
+use Rattle.mender.specs.Drawn.{Hand, IsWhole, AreFirst}
 use Rattle.mender.specs.Gathered.{IsComplete}
 use Rattle.mender.specs.Worked.{Draws, Finished}
 use Rattle.mender.specs.Mended.{Left, HasFinished, joined, results_of, with_hand}
@@ -24,7 +26,7 @@ use Rattle.rounds.specs.declared.work.Outcome.TheVariants as outcome
 use Rattle.rounds.specs.declared.work.Ran.{Ran}
 use Rattle.rounds.specs.declared.work.Work.{Work}
 use Rattle.play.specs.Crews.{AreWorkers, passes_of, outcomes_of}
-use Rattle.play.specs.Mends.{IsPart, IsMender, AreMenders, IsBack, AreBack, IsEnded, AreEnded, given_to, given_to_all, given_before, results_in, left_with, left_of, crew_of}
+use Rattle.play.specs.Mends.{IsPart, IsMender, AreMenders, IsBack, AreBack, IsEnded, AreEnded, given_to, given_to_all, given_before, results_in, left_with, left_of, crew_of, is_stopped, drawn_by, AreDrawnOnce}
 
 -- ---- the parts are given out
 -- one worker more
@@ -172,3 +174,39 @@ pub mend-complete : (plan : List Item) (first drawer : Hand) (outcomes : List Ou
     → first.allowance + length plan ≤ 2 ^ 40 → HasJoined first outcomes drawer → AreAll plan outcomes all → IsComplete plan all
 mend-complete plan first drawer outcomes all none shares room has are = subst (IsComplete plan) (sym are.results)
     (complete_joined plan first (crew_of outcomes) none shares room are.finished (subst IsWhole has.joins has.whole))
+
+-- ---- all draws
+joined-drawn : (first : Hand) (os : List Outcome) → (joined first (crew_of os)).drawn ≡ first.drawn ++ drawn_by os
+joined-drawn first [] = sym (append-nil first.drawn)
+joined-drawn first (outcome.Called r ∷ os) = joined-drawn first os
+joined-drawn first (outcome.Mended drawer m ∷ os) = joined-drawn (with_hand first drawer) os ∙ append_assoc first.drawn drawer.drawn (drawn_by os)
+
+joined-shares : (first : Hand) (os : List Outcome) → (joined first (crew_of os)).allowance + length (joined first (crew_of os)).drawn ≡ first.allowance + length first.drawn + given_before os
+joined-shares first [] = omega arith
+joined-shares first (outcome.Called r ∷ os) = joined-shares first os
+joined-shares first (outcome.Mended drawer m ∷ os) =
+    let rest = joined-shares (with_hand first drawer) os in
+    let both = length-append first.drawn drawer.drawn in
+    let sum = sum_by-cons (λ (left : Left). left.given) (left_with drawer (results_in m)) (crew_of os) in
+    omega (arith, rest, both, sum)
+
+-- the tickets that were drawn are the first ones, each once
+pub drawn-once : (first drawer : Hand) (outcomes : List Outcome) → first.drawn ≡ [] → first.allowance + given_before outcomes ≡ 2 ^ 40 → HasJoined first outcomes drawer → AreDrawnOnce outcomes
+drawn-once first drawer outcomes none shares has =
+    let nothing : length first.drawn ≡ 0 = ap length none in
+    let drawn : drawer.drawn ≡ drawn_by outcomes = ap (λ (h : Hand). h.drawn) has.joins ∙ joined-drawn first outcomes ∙ ap (λ l. l ++ drawn_by outcomes) none in
+    let all = joined-shares first outcomes in
+    let same = ap (λ (h : Hand). h.allowance + length h.drawn) has.joins in
+    subst (λ l. AreFirst l (length l)) drawn (has.whole (omega (arith, all, same, shares, nothing)))
+
+pub or-none : (b : Bool) → (b || false) ≡ b
+or-none true = refl
+or-none false = refl
+
+pub or-one : (b : Bool) → (b || true) ≡ true
+or-one true = refl
+or-one false = refl
+
+-- whether one stopped
+pub stopped-more : (outcomes : List Outcome) (o : Outcome) (was is : Bool) → was ≡ list_any is_stopped outcomes → is ≡ (was || is_stopped o) → is ≡ list_any is_stopped (outcomes ++ o ∷ [])
+stopped-more outcomes o was is before more = more ∙ ap (λ b. b || is_stopped o) before ∙ sym (list_any-append is_stopped outcomes (o ∷ []) ∙ ap (λ b. list_any is_stopped outcomes || b) (or-none (is_stopped o)))

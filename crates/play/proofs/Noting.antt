@@ -21,7 +21,7 @@ pub noted-none : (ns : List ℕ) → noted ns [] ≡ []
 noted-none [] = refl
 noted-none (n ∷ ns) = refl
 
-did-many : (works : List Work) (rans : List Ran) → DidAll works rans → length works ≡ length rans
+pub did-many : (works : List Work) (rans : List Ran) → DidAll works rans → length works ≡ length rans
 did-many [] [] did = refl
 did-many [] (r ∷ rans) did = absurd did
 did-many (w ∷ works) [] did = absurd did

@@ -1,13 +1,13 @@
 -- The accounts of one worker's calls in a round.
-use Rattle.std.proofs.Common.{◌≡◌, ◌∙◌, ℕ, ◌+◌, ◌<◌, ◌≤◌, List, [], ◌∷◌, ◌++◌, length, map, refl, ap, sym, subst, arith}
+use Rattle.std.proofs.Common.{◌≡◌, ◌∙◌, ℕ, ◌+◌, ◌<◌, ◌≤◌, List, [], ◌∷◌, ◌++◌, length, map, None, Some, refl, ap, sym, subst, arith}
 use Rattle.gate.specs.Events.{number_if}
 use Rattle.book.specs.Serial.{Act, act_of}
 use Rattle.shared.specs.declared.jobs.Ask.{Ask}
 use Rattle.shared.specs.Deeds.{act_if}
-use Rattle.shared.specs.Serving.{Turn, act_in, IsServed, AreServed, places_of}
+use Rattle.shared.specs.Serving.{Turn, act_in, deed_told, IsServed, AreServed, places_of}
 use Rattle.script.specs.declared.rows.Row.{Row}
 use Rattle.play.specs.Runs.{IsAsked, round_in}
-use Rattle.play.specs.Accounts.{Placed, Stands, own_places, Account, dones_in, steps_in, Settles, IsAccount, IsCallOf, RiseFrom, IsBefore, IsOf}
+use Rattle.play.specs.Accounts.{Placed, Stands, own_places, Account, dones_in, numbers_in, steps_in, Settles, IsAccount, IsCallOf, RiseFrom, IsBefore, IsOf}
 use Rattle.play.specs.Noted.{noted}
 use Rattle.play.specs.declared.calls.Call.{Call}
 use Rattle.play.specs.declared.outcome.Done.{Done}
@@ -16,51 +16,65 @@ use Rattle.play.proofs.Buckets.{each-weaker, each-both}
 use Rattle.play.specs.Lists.{Each, Pairs}
 use Rattle.play.proofs.Texts.{text_of, asked_by}
 
+-- the account of a call: a row past `base` and no later than `top`
+pub record IsCallPast (base top : ℕ) (a : Account) : Type 0 where
+  pub past : base < a.done.number
+  pub few : a.done.number ≤ top
+  pub none : a.found ≡ None
+
 -- what one worker did in a round
-pub record Part (w l : ℕ) (rows : List Row) (round top : ℕ) (acts : List Act) (who base low : ℕ) (mine : List Call) (turns : List Turn) : Type 0 where
+pub record Part (w l workers : ℕ) (rows : List Row) (round top : ℕ) (acts : List Act) (who base low : ℕ) (mine : List Call) (turns : List Turn) : Type 0 where
   pub accounts : List Account
   pub dones : dones_in accounts ≡ noted (map (λ (c : Call). c.number) mine) (map (λ (t : Turn). t.reply) turns)
-  pub right : Each (IsAccount w rows) accounts
+  pub numbers : numbers_in (dones_in accounts) ≡ map (λ (c : Call). c.number) mine
+  pub right : Each (IsAccount w workers rows) accounts
+  pub are_calls : Each (IsCallPast base top) accounts
   pub places : own_places (steps_in accounts) ≡ places_of who turns
   pub stand : Each (Stands w l acts) (steps_in accounts)
   pub are_of : Each (IsOf rows round top who base low) (steps_in accounts)
   pub order : Pairs IsBefore (steps_in accounts)
 
-module _ (w l : ℕ) (rows : List Row) (round top : ℕ) (acts : List Act) (who : ℕ) where
+module _ (w l workers : ℕ) (rows : List Row) (round top : ℕ) (acts : List Act) (who : ℕ) where
   pub part : (base low : ℕ) (mine : List Call) (turns : List Turn) → map (λ (t : Turn). t.ask) turns ≡ map (λ (c : Call). c.ask) mine → AreServed w l acts who low turns
-      → Each (λ (c : Call). IsCallOf rows round top c × (c.worker ≡ who)) mine → RiseFrom base mine → Part w l rows round top acts who base low mine turns
-  part base low [] [] same served calls rise = record { accounts = []; dones = refl; right = tt; places = refl; stand = tt; are_of = tt; order = tt }
+      → Each (λ (c : Call). IsCallOf workers rows round top c × (c.worker ≡ who)) mine → RiseFrom base mine → Part w l workers rows round top acts who base low mine turns
+  part base low [] [] same served calls rise = record { accounts = []; dones = refl; numbers = refl; right = tt; are_calls = tt; places = refl; stand = tt; are_of = tt; order = tt }
   part base low [] (t ∷ turns) same served calls rise = absurd (cc (same))
   part base low (c ∷ mine) [] same served calls rise = absurd (cc (same))
   part base low (c ∷ mine) (t ∷ turns) same served calls rise =
       let s : IsServed w l acts who t = served.1 in
-      let call : IsCallOf rows round top c = calls.0.0 in
+      let call : IsCallOf workers rows round top c = calls.0.0 in
       let ask : t.ask ≡ c.ask = cc (same) in
       let act : act_in who t ≡ act_of who s.deed = ap (act_if who) s.told in
       let rest = part c.number (t.place + length (act_in who t)) mine turns (cc (same)) served.2 calls.1 rise.1 in
       let p : Placed = record { before = s.before; step = record { row = c.number; who = who; deed = s.deed } } in
-      let one : Account = record { done = record { number = c.number; outcome = Replied t.reply }; steps = p ∷ [] } in
+      let one : Account = record { done = record { number = c.number; outcome = Replied t.reply }; steps = p ∷ []; found = None } in
       let at : length s.before ≡ t.place = s.place_is in
       let first : low ≤ t.place = served.0 in
       let low_row : base < c.number = rise.0 in
       record {
         accounts = one ∷ rest.accounts;
         dones = ap (λ (l : List Done). one.done ∷ l) rest.dones;
+        numbers = ap (λ (l : List ℕ). c.number ∷ l) rest.numbers;
         right = (
           record {
             before = call.before;
             row = call.row;
             number = call.number;
             there = call.there;
-            settles = subst (λ task. Settles w call.row task (Replied t.reply) (p ∷ [])) (sym call.task) (
+            settles = subst (λ task. Settles w workers call.row task one) (sym call.task) (
               p,
               refl,
               sym (call.worker ∙ calls.0.1),
               subst (λ (a : Ask). IsAsked a s.deed) ask (asked_by t.ask t.reply s.deed s.told),
               λ reply is. text_of w l who t.ask t.reply s.deed s.before reply s.told s.does s.granted is,
             );
+            of_row = (refl, tt);
           },
           rest.right,
+        );
+        are_calls = (
+          record { past = low_row; few = call.few; none = refl },
+          each-weaker (IsCallPast c.number top) (IsCallPast base top) (λ a is. let past : c.number < a.done.number = is.past in record { past = omega arith; few = is.few; none = is.none }) rest.accounts rest.are_calls,
         );
         places = (λ i. number_if (at i) (sym act i) ++ rest.places i);
         stand = (record { does = s.does; stands = s.stands }, rest.stand);
@@ -87,10 +101,11 @@ pub record MendPart (w l : ℕ) (rows : List Row) (round top : ℕ) (acts : List
   pub are_of : Each (IsOf rows round top who base low) steps
   pub order : Pairs IsBefore steps
   pub of_row : Each (λ (p : Placed). p.step.row ≡ number) steps
+  pub told : map Some (map (λ (p : Placed). p.step.deed) steps) ≡ map (λ (t : Turn). deed_told t.ask t.reply) turns
 
 module _ (w l : ℕ) (rows : List Row) (round top : ℕ) (acts : List Act) (who base number : ℕ) (past : base < number) (few : number ≤ top) (here : round_in rows number ≡ round) where
   pub mend_part : (low : ℕ) (turns : List Turn) → AreServed w l acts who low turns → MendPart w l rows round top acts who base low number turns
-  mend_part low [] served = record { steps = []; places = refl; stand = tt; are_of = tt; order = tt; of_row = tt }
+  mend_part low [] served = record { steps = []; places = refl; stand = tt; are_of = tt; order = tt; of_row = tt; told = refl }
   mend_part low (t ∷ turns) served =
       let s : IsServed w l acts who t = served.1 in
       let act : act_in who t ≡ act_of who s.deed = ap (act_if who) s.told in
@@ -116,4 +131,5 @@ module _ (w l : ℕ) (rows : List Row) (round top : ℕ) (acts : List Act) (who 
           rest.order,
         );
         of_row = (refl, rest.of_row);
+        told = (λ i. sym s.told i ∷ rest.told i);
       }

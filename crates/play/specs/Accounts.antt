@@ -1,17 +1,19 @@
 -- What is told of each row, beside the steps that it took.
-use Rattle.std.specs.Prelude.{◌≡◌, ◌⊎◌, ℕ, ◌+◌, ◌<◌, ◌≤◌, List, [], ◌∷◌, ◌++◌, map, length, Some, slice_get}
-use Rattle.std.specs.List.{flat_map}
+use Rattle.std.specs.Prelude.{◌≡◌, ◌⊎◌, ℕ, ◌+◌, ◌<◌, ◌≤◌, nat_lt, List, [], ◌∷◌, ◌++◌, map, length, Option, Some, slice_get}
+use Rattle.std.specs.List.{filter, flat_map}
 use mathlib.Core.List.{IsPrefix}
 use Rattle.gate.specs.Events.{number_if}
+use Rattle.gate.specs.Places.{times}
+use Rattle.book.specs.Plan.{plan_of}
 use Rattle.book.specs.Serial.{Does, Act, act_of, standing_of}
 use Rattle.script.specs.declared.rows.Row.{Row}
 use Rattle.script.specs.declared.rows.Task.{Task}
 use Rattle.script.specs.declared.rows.Task.TheVariants.{Make, Mend}
-use Rattle.play.specs.Steps.{Step}
+use Rattle.play.specs.Steps.{Step, Found}
 use Rattle.play.specs.Lists.{Each, Pairs}
-use Rattle.play.specs.Runs.{IsAsked, MayPrecede, round_in}
+use Rattle.play.specs.Runs.{IsAsked, MayPrecede, Mends, round_in}
 use Rattle.play.specs.Lines.{IsReplyTo, reply_text}
-use Rattle.play.specs.Printed.{deed_text}
+use Rattle.play.specs.Printed.{deed_text, mend_text}
 use Rattle.play.specs.declared.calls.Call.{Call}
 use Rattle.play.specs.declared.outcome.Done.{Done}
 use Rattle.play.specs.declared.outcome.RowOutcome.{RowOutcome}
@@ -35,10 +37,11 @@ pub record Stands (w limit : ℕ) (acts : List Act) (p : Placed) : Type 0 where
 abbrev pub own_places : List Placed → List ℕ
 own_places steps = flat_map (λ p. number_if (length p.before) (act_at p)) steps
 
--- what is told of a row, and its steps
+-- what is told of a row, its steps, and for a mend the acts that were done before it
 pub record Account : Type 0 where
   pub done : Done
   pub steps : List Placed
+  pub found : Option (List Act)
 
 abbrev pub dones_in : List Account → List Done
 dones_in accounts = map (λ a. a.done) accounts
@@ -50,27 +53,51 @@ steps_in accounts = flat_map (λ a. a.steps) accounts
 abbrev pub IsTextOf : ℕ → Placed → RowOutcome → Type 0
 IsTextOf w p outcome = (reply : Reply) → IsReplyTo outcome reply → reply_text reply ≡ deed_text w (standing_of p.before) p.step.deed
 
--- the row's steps are what it asks for, and the reply tells them
-abbrev pub Settles : ℕ → Row → Task → RowOutcome → List Placed → Type 0
-Settles w row (Make ask) outcome steps = (p : Placed) × (steps ≡ p ∷ []) × (p.step.who ≡ row.worker) × IsAsked ask p.step.deed × IsTextOf w p outcome
-Settles w row Mend outcome steps = Unit {0}
+-- the step, beside the standing that it finds
+abbrev pub found_of : Placed → Found
+found_of p = (standing_of p.before, p.step)
+
+-- the reply is the text of a mend's steps
+abbrev pub IsMendTextOf : List Found → RowOutcome → Type 0
+IsMendTextOf steps outcome = (reply : Reply) → IsReplyTo outcome reply → reply_text reply ≡ mend_text steps
+
+-- the row's steps are what it asks for, and the reply tells them. A mend's plan is that of the standing after the acts that it found
+abbrev pub Settles : ℕ → ℕ → Row → Task → Account → Type 0
+Settles w workers row (Make ask) a = (p : Placed) × (a.steps ≡ p ∷ []) × (p.step.who ≡ row.worker) × IsAsked ask p.step.deed × IsTextOf w p a.done.outcome
+Settles w workers row Mend a =
+    (acts : List Act) × (a.found ≡ Some acts) × Mends workers (plan_of (standing_of acts).state) (map found_of a.steps) × IsMendTextOf (map found_of a.steps) a.done.outcome
 
 -- the account of a row of the script
-pub record IsAccount (w : ℕ) (rows : List Row) (a : Account) : Type 0 where
+pub record IsAccount (w workers : ℕ) (rows : List Row) (a : Account) : Type 0 where
   pub before : ℕ
   pub row : Row
   pub number : a.done.number ≡ before + 1
   pub there : slice_get rows before ≡ Some row
-  pub settles : Settles w row row.task a.done.outcome a.steps
+  pub settles : Settles w workers row row.task a
+  pub of_row : Each (λ (p : Placed). p.step.row ≡ a.done.number) a.steps
+
+-- the numbers of the rows that are told of
+abbrev pub numbers_in : List Done → List ℕ
+numbers_in done = map (λ d. d.number) done
+
+-- the steps of the rows before the one with this number
+abbrev pub earlier : ℕ → List Placed → List Placed
+earlier number steps = filter (λ p. nat_lt p.step.row number) steps
+
+-- the steps are all that was done, each act by one of them
+pub record HasDone (w limit : ℕ) (acts : List Act) (steps : List Placed) : Type 0 where
+  pub stand : Each (Stands w limit acts) steps
+  pub all : (k : ℕ) → k < length acts → times k (own_places steps) ≡ 1
 
 -- ---- a round
--- the call is that of a row of the script, of this round, and no later one than `top`
-pub record IsCallOf (rows : List Row) (round top : ℕ) (call : Call) : Type 0 where
+-- the call is that of a row of the script, by one of so many workers, of this round, and no later one than `top`
+pub record IsCallOf (workers : ℕ) (rows : List Row) (round top : ℕ) (call : Call) : Type 0 where
   pub before : ℕ
   pub row : Row
   pub number : call.number ≡ before + 1
   pub there : slice_get rows before ≡ Some row
   pub worker : row.worker ≡ call.worker
+  pub worker_is : (1 ≤ call.worker) × (call.worker ≤ workers)
   pub task : row.task ≡ Make call.ask
   pub few : call.number ≤ top
   pub in_round : round_in rows call.number ≡ round
@@ -114,23 +141,44 @@ pub record IsLater (rows : List Row) (round top base low : ℕ) (p : Placed) : T
   pub place : low ≤ length p.before
   pub in_round : round_in rows p.step.row ≡ round
 
--- what a round did, between these acts and places: it is told of its rows behind what was told before
-pub record IsRound (w limit : ℕ) (rows : List Row) (round top base : ℕ) (before acts : List Act) (old_did new_did : List ℕ) (old new : List Done) : Type 0 where
+-- what a mend finds in a round: all that was done before it, at these places and no others, and no step of the round is of an earlier row
+pub record FindsAll (before acts found : List Act) (did : List ℕ) (number : ℕ) (steps : List Placed) : Type 0 where
+  pub after : IsPrefix before found
+  pub within : IsPrefix found acts
+  pub all : (k : ℕ) → k < length found → times k did ≡ 1
+  pub first : Each (λ (p : Placed). number ≤ p.step.row) steps
+
+-- a row past `base` and no later than `top`
+pub record IsNext (base top : ℕ) (before acts : List Act) (did : List ℕ) (steps : List Placed) (a : Account) : Type 0 where
+  pub past : base < a.done.number
+  pub few : a.done.number ≤ top
+  pub finds : (found : List Act) → a.found ≡ Some found → FindsAll before acts found did a.done.number steps
+
+-- what a round did of the rows with these numbers, between these acts and places: it is told of them behind what was told before
+pub record IsRound (w limit workers : ℕ) (rows : List Row) (round top base : ℕ) (numbers : List ℕ) (before acts : List Act) (old_did new_did : List ℕ) (old new : List Done) : Type 0 where
   pub accounts : List Account
   pub dones : new ≡ old ++ dones_in accounts
-  pub right : Each (IsAccount w rows) accounts
+  pub right : Each (IsAccount w workers rows) accounts
   pub places : new_did ≡ old_did ++ own_places (steps_in accounts)
   pub stand : Each (Stands w limit acts) (steps_in accounts)
   pub are_later : Each (IsLater rows round top base (length before)) (steps_in accounts)
   pub order : Pairs (IsGood (round_in rows)) (steps_in accounts)
+  pub are_next : Each (IsNext base top before acts old_did (steps_in accounts)) accounts
+  pub once : (k : ℕ) → times k (numbers_in (dones_in accounts)) ≡ times k numbers
 
 -- ---- the whole
+-- a row no later than `top`. If it is a mend's, what it finds is what the rows before it did
+pub record IsDone (w limit top : ℕ) (acts : List Act) (steps : List Placed) (a : Account) : Type 0 where
+  pub few : a.done.number ≤ top
+  pub finds : (found : List Act) → a.found ≡ Some found → IsPrefix found acts × HasDone w limit found (earlier a.done.number steps)
+
 -- What the first rows did, up to this one, as far as it is told of: each account is that of a row, and the steps of all accounts are the acts that the crew has for its own
-pub record IsPlayed (w limit : ℕ) (rows : List Row) (top : ℕ) (acts : List Act) (did : List ℕ) (done : List Done) : Type 0 where
+pub record IsPlayed (w limit workers : ℕ) (rows : List Row) (top : ℕ) (acts : List Act) (did : List ℕ) (done : List Done) : Type 0 where
   pub accounts : List Account
   pub dones : done ≡ dones_in accounts
-  pub right : Each (IsAccount w rows) accounts
+  pub right : Each (IsAccount w workers rows) accounts
   pub places : did ≡ own_places (steps_in accounts)
   pub stand : Each (Stands w limit acts) (steps_in accounts)
   pub few : Each (λ (p : Placed). p.step.row ≤ top) (steps_in accounts)
   pub order : Pairs (IsGood (round_in rows)) (steps_in accounts)
+  pub are_done : Each (IsDone w limit top acts (steps_in accounts)) accounts

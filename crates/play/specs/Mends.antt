@@ -1,12 +1,13 @@
 -- The parts of a mend's workers.
-use Rattle.std.specs.Prelude.{◌≡◌, ℕ, ◌+◌, List, [], ◌∷◌, length, Ok, Err}
-use Rattle.std.specs.List.{flat_map, sum_by}
+use Rattle.std.specs.Prelude.{◌≡◌, ℕ, ◌+◌, Bool, true, false, List, [], ◌∷◌, length, Ok, Err}
+use Rattle.std.specs.List.{flat_map, list_any, sum_by}
 use Rattle.gate.specs.Places.{TableId}
 use Rattle.sealed.specs.declared.fault.Fault.TheVariants.{JournalFull}
 use Rattle.book.specs.declared.plan.Item.{Item}
 use Rattle.mender.specs.declared.done.Done.{Done}
-use Rattle.mender.specs.Drawn.{Hand}
-use Rattle.mender.specs.Mended.{Left, HasFinished}
+use Rattle.mender.specs.Drawn.{Hand, AreFirst}
+use Rattle.mender.specs.Gathered.{IsComplete, report_of}
+use Rattle.mender.specs.Mended.{Left, HasFinished, results_of}
 use Rattle.rounds.specs.declared.work.Errand.{Errand}
 use Rattle.rounds.specs.declared.work.Errand.TheVariants.{Calls, Mend}
 use Rattle.rounds.specs.declared.work.Mended.{Mended}
@@ -15,6 +16,8 @@ use Rattle.rounds.specs.declared.work.Mending.{Mending}
 use Rattle.rounds.specs.declared.work.Outcome.{Outcome}
 use Rattle.rounds.specs.declared.work.Outcome.TheVariants as outcome
 use Rattle.rounds.specs.declared.work.Work.{Work}
+use Rattle.play.specs.declared.outcome.RowOutcome.{RowOutcome}
+use Rattle.play.specs.declared.outcome.RowOutcome.TheVariants as row
 
 -- ---- before the round
 -- a part in mending this plan, with a drawer of these tickets that has drawn nothing
@@ -89,3 +92,31 @@ IsEnded (outcome.Mended drawer m) = HasEnded m
 abbrev pub AreEnded : List Outcome → Type 0
 AreEnded [] = Unit {0}
 AreEnded (o ∷ os) = IsEnded o × AreEnded os
+
+-- it stopped
+abbrev pub has_stopped : Mended → Bool
+has_stopped (Worked (Ok done)) = false
+has_stopped m = true
+
+abbrev pub is_stopped : Outcome → Bool
+is_stopped (outcome.Called r) = false
+is_stopped (outcome.Mended drawer m) = has_stopped m
+
+-- the tickets that were drawn
+abbrev pub drawn_in : Outcome → List ℕ
+drawn_in (outcome.Called r) = []
+drawn_in (outcome.Mended drawer m) = drawer.drawn
+
+abbrev pub drawn_by : List Outcome → List ℕ
+drawn_by outcomes = flat_map drawn_in outcomes
+
+-- all tickets that were drawn are the first ones, each once
+abbrev pub AreDrawnOnce : List Outcome → Type 0
+AreDrawnOnce outcomes = AreFirst (drawn_by outcomes) (length (drawn_by outcomes))
+
+-- What is told of a mend: that no worker stopped, so that each item has one result, and the counts of all results; or that one did
+abbrev pub TellsMend : List Item → List Outcome → RowOutcome → Type 0
+TellsMend plan outcomes (row.Replied reply) = ⊥
+TellsMend plan outcomes (row.Mended report) =
+    (list_any is_stopped outcomes ≡ false) × IsComplete plan (results_of (crew_of outcomes)) × (report ≡ report_of (results_of (crew_of outcomes)))
+TellsMend plan outcomes row.Full = list_any is_stopped outcomes ≡ true

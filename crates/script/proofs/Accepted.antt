@@ -1,5 +1,5 @@
 -- What is known of rows that no test refused.
-use Rattle.std.proofs.Common.{◌≡◌, ◌≤◌, ◌<◌, ◌+◌, ◌-◌, ℕ, List, [], ◌∷◌, ◌++◌, length, true, false, Bool, not, ◌&&◌, ◌||◌, Some, None, arith, refl, ◌∙◌, length-append, nat_le, below_more, map}
+use Rattle.std.proofs.Common.{◌≡◌, ◌≤◌, ◌<◌, ◌+◌, ◌-◌, ℕ, List, [], ◌∷◌, ◌++◌, length, true, false, Bool, not, ◌&&◌, ◌||◌, Option, Some, None, arith, refl, ◌∙◌, length-append, nat_le, below_more, map}
 use Rattle.std.specs.Prelude.{◌==◌, slice_get}
 use Rattle.std.specs.List.{list_any}
 use Rattle.std.proofs.lemmas.Bool.Decides.{nat_tests}
@@ -9,9 +9,11 @@ use Rattle.std.proofs.lemmas.List.Folds.{list_any-append}
 use Rattle.std.proofs.lemmas.List.Elements.{All-push}
 use Rattle.script.specs.declared.rows.Row.{Row}
 use Rattle.script.specs.declared.rows.Word.{Word}
-use Rattle.script.specs.Numbers.{value}
-use Rattle.script.specs.Fields.{Record, is_number_in, round_field, row_of}
-use Rattle.script.specs.Script.{IsTidy, breaks_mend, first_word, is_in_round, is_mend, is_mend_in_round, refused_at, AcceptedBefore, last_round, last_row, refusal, tests}
+use Rattle.script.specs.Numbers.{is_number, value}
+use Rattle.script.specs.declared.rows.Operation.{Operation}
+use Rattle.script.specs.declared.rows.Operation.TheVariants.{Put, PutSmall, Read, Lose, Repair, Delete, Stat, Trim, Mend}
+use Rattle.script.specs.Fields.{Record, a_field, b_field, is_number_in, is_worker, name_field, operation_field, operation_of, round_field, row_of, task_of, worker_field}
+use Rattle.script.specs.Script.{IsTidy, IsWorkerOf, HasWorker, breaks_mend, first_word, is_in_round, is_mend, is_mend_in_round, refused_at, AcceptedBefore, last_round, last_row, refusal, tests}
 
 -- each test passes
 abbrev AllPassed : List (Bool × Word) → Type 0
@@ -28,6 +30,30 @@ pub record Passed (workers : ℕ) (earlier : List Row) (r : Record) : Type 0 whe
   pub room : (length earlier == 65536) ≡ false
   pub rises : last_round earlier ≤ value (round_field r)
   pub alone : breaks_mend earlier (row_of r) ≡ false
+  pub worker : HasWorker workers (row_of r)
+
+last-two : (a b c : Bool) → not (a && b && c) ≡ false → (b ≡ true) × (c ≡ true)
+last-two true true true h = (refl, refl)
+last-two true true false h = cc h
+last-two true false c h = cc h
+last-two false b c h = cc h
+
+in-range : (workers : ℕ) (text : List ℕ) → not (is_number_in 1 workers text) ≡ false → (1 ≤ value text) × (value text ≤ workers)
+in-range workers text h =
+    let both = last-two (is_number text) (nat_le 1 (value text)) (nat_le (value text) workers) h in
+    (grind (arith, nat_tests, both.0), grind (arith, nat_tests, both.1))
+
+worker-of : (workers : ℕ) (o : Option Operation) (text name a b : List ℕ) → not (is_worker workers o text) ≡ false → IsWorkerOf workers (value text) (task_of o name a b)
+worker-of workers None text name a b h = tt
+worker-of workers (Some Put) text name a b h = in-range workers text h
+worker-of workers (Some PutSmall) text name a b h = in-range workers text h
+worker-of workers (Some Read) text name a b h = in-range workers text h
+worker-of workers (Some Lose) text name a b h = in-range workers text h
+worker-of workers (Some Repair) text name a b h = in-range workers text h
+worker-of workers (Some Delete) text name a b h = in-range workers text h
+worker-of workers (Some Stat) text name a b h = in-range workers text h
+worker-of workers (Some Trim) text name a b h = in-range workers text h
+worker-of workers (Some Mend) text name a b h = tt
 
 last-both : (p q : Bool) → not (p && q) ≡ false → q ≡ true
 last-both true true h = refl
@@ -40,7 +66,7 @@ passed-all workers earlier r h =
     let passed = all-passed (tests workers earlier r) h in
     let rounds = passed.1.1.0 in
     let up = last-both (is_number_in 1 4294967295 (round_field r)) (nat_le (last_round earlier) (value (round_field r))) rounds in
-    record { room = passed.0; rises = grind (arith, nat_tests); alone = passed.1.1.1.1.1.1.1.0 }
+    record { room = passed.0; rises = grind (arith, nat_tests); alone = passed.1.1.1.1.1.1.1.0; worker = worker-of workers (operation_of (operation_field r)) (worker_field r) (name_field r) (a_field r) (b_field r) passed.1.1.1.0 }
 
 last-place : {X : Type 0} (xs : List X) (x : X) → slice_get (xs ++ (x ∷ [])) (length xs) ≡ Some x
 last-place [] x = refl

@@ -1,7 +1,8 @@
 -- How far the reading of a script has come.
-use Rattle.std.proofs.Common.{Bor, ◌≡◌, ◌≤◌, ◌+◌, ℕ, List, [], ◌∷◌, ◌++◌, length, map, true, false, Option, Some, None, inl, arith, refl, ap, ◌∙◌, append_assoc, length-append}
+use Rattle.std.proofs.Common.{Bor, ◌≡◌, ◌≤◌, ◌+◌, ℕ, List, [], ◌∷◌, ◌++◌, length, map, All, true, false, Option, Some, None, inl, arith, refl, ap, ◌∙◌, append_assoc, length-append}
 use Rattle.std.specs.Prelude.{◌==◌}
 use Rattle.std.proofs.lemmas.Bool.Decides.{nat_tests}
+use Rattle.std.proofs.lemmas.List.Elements.{All-nil, All-push}
 use Rattle.std.proofs.lemmas.List.{length-map, map-append}
 use Rattle.csv.specs.Reading.{ReadRecord, Ready, default_config, reader_config, reader_state, reader_trim, records_from, source_of, strip_bom, took_first}
 use Rattle.csv.specs.declared.parser.State.TheVariants as st
@@ -13,7 +14,7 @@ use Rattle.script.specs.declared.rows.Refusal.TheVariants as refusal_is
 use Rattle.script.specs.declared.rows.Row.{Row}
 use Rattle.script.specs.declared.rows.Word.{Word}
 use Rattle.script.specs.Fields.{Record, row_of}
-use Rattle.script.specs.Script.{AcceptedBefore, Explains, Tells, IsTidy, at_row, refusal, script_records}
+use Rattle.script.specs.Script.{AcceptedBefore, Explains, HasWorker, Tells, IsTidy, at_row, refusal, script_records}
 use Rattle.script.proofs.Accepted.{accepted-among, accepted-more, passed-all, refused-next, tidy-more, tidy-none}
 use Rattle.script.proofs.NextRecords.{Rest, read-end, read-more}
 
@@ -28,6 +29,7 @@ pub record Progress (text : List ℕ) (workers : ℕ) (rows : List Row) (rdr : R
   pub config : reader_config rdr ≡ default_config
   pub few : length rows ≤ 65536
   pub tidy : IsTidy rows
+  pub workers_are : All (HasWorker workers) rows
   pub done : List Record
   pub are : rows ≡ map row_of done
   pub accepted : AcceptedBefore workers done (length done)
@@ -47,6 +49,7 @@ progress-start text workers a t ready config source state =
       config = config;
       few = omega arith;
       tidy = tidy-none;
+      workers_are = All-nil (HasWorker workers);
       done = [];
       are = refl;
       accepted = λ i l. absurd (omega arith);
@@ -68,6 +71,7 @@ progress-more text workers rows a b r p read first none =
       config = read.2 ∙ p.config;
       few = omega (arith, length-append rows (row_of r ∷ []));
       tidy = tidy-more workers rows r p.tidy passed;
+      workers_are = All-push (HasWorker workers) rows (row_of r) p.workers_are passed.worker;
       done = p.done ++ (r ∷ []);
       are = rw (map-append row_of p.done (r ∷ [])) (ap (λ (x : List Row). x ++ (row_of r ∷ [])) p.are);
       accepted = accepted-more workers p.done r p.accepted next;

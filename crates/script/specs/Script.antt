@@ -107,6 +107,15 @@ pub record Heads (workers : ℕ) (earlier : List Row) (r : Record) (head : Head)
   pub worker : head.worker ≡ value (worker_field r)
   pub operation : operation_of (operation_field r) ≡ Some head.operation
 
+-- a call is by one of so many workers
+abbrev pub IsWorkerOf : ℕ → ℕ → Task → Type 0
+IsWorkerOf workers who (task.Make a) = (1 ≤ who) × (who ≤ workers)
+IsWorkerOf workers who task.Mend = Unit {0}
+
+-- the row's worker is one of so many, but where it is a `mend`
+abbrev pub HasWorker : ℕ → Row → Type 0
+HasWorker workers row = IsWorkerOf workers row.worker row.task
+
 -- the records of a script's bytes
 abbrev pub script_records : List ℕ → List Record
 script_records text = records default_config (strip_bom text)

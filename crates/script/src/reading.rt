@@ -1,8 +1,8 @@
 //! Reading a script.
 
-ghost use Rattle.std.specs.Prelude.{◌≡◌, ◌<◌, ◌≤◌, length, map, MatchResult, IfOk};
+ghost use Rattle.std.specs.Prelude.{◌≡◌, ◌<◌, ◌≤◌, All, length, map, MatchResult, IfOk};
 ghost use Rattle.script.specs.Fields.{row_of};
-ghost use Rattle.script.specs.Script.{AcceptedBefore, at_row, Explains, script_records};
+ghost use Rattle.script.specs.Script.{AcceptedBefore, at_row, Explains, HasWorker, script_records};
 
 use crate::records::row;
 use crate::rows::{BadScript, Refusal, Row};
@@ -27,6 +27,7 @@ pub fn script(alloc: Global, text: &[u8], workers: u32) -> Result<Vec<Row>, BadS
         (λ rows. AcceptedBefore workers (script_records text.now) (length (script_records text.now)) × (rows.items ≡ map row_of (script_records text.now)))
         (λ error. Explains workers (script_records text.now) error) }
     ensures few { IfOk result (λ rows. length rows.items ≤ 65536) }
+    ensures workers { IfOk result (λ rows. All (HasWorker workers) rows.items) }
 {
     let reader = ReaderBuilder::new()
         .has_headers(false)

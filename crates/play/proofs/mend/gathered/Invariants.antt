@@ -1,6 +1,7 @@
 use Rattle.std.proofs.Common.{◌≡◌, ◌++◌, Ok, false}
 use Rattle.std.specs.Vec.Iter.{into_iter_items}
-use Rattle.play.specs.Mends.{AreBack, AreEnded}
+use Rattle.std.specs.List.{list_any}
+use Rattle.play.specs.Mends.{AreBack, AreEnded, is_stopped}
 use Rattle.play.proofs.Mending.{HasJoined, AreAll}
 use Rattle.play.proofs.mend.gathered.Given as goal
 
@@ -11,5 +12,6 @@ invariant-loop-outcome l = record {
   hand : HasJoined l.fn.drawer l.yielded l.drawer;
   all : l.told ≡ Ok tt → l.is_full ≡ false → AreAll l.plan.items.items l.yielded l.all.items;
   ended : l.told ≡ Ok tt → AreEnded l.yielded;
+  stopped : l.told ≡ Ok tt → l.is_full ≡ list_any is_stopped l.yielded;
   outcomes : l.fn.outcomes.items ≡ l.yielded ++ into_iter_items l.outcome-iterator;
 }

@@ -40,6 +40,9 @@ returns-clause-read c =
 pub returns-clause-few : goal.returns-clause-few
 returns-clause-few c = let (left, p) = c.loop-record.invariant in p.few
 
+pub returns-clause-workers : goal.returns-clause-workers
+returns-clause-workers c = let (left, p) = c.loop-record.invariant in p.workers_are
+
 pub returns-in-Err-clause-read : goal.returns-in-Err-clause-read
 returns-in-Err-clause-read c =
     let (left, p) = c.loop-record.invariant in

@@ -1,0 +1,200 @@
+-- What the workers of a mend took of its plan, and what they did with it.
+use Rattle.std.proofs.Common.{◌≡◌, ◌≢◌, ◌∙◌, ℕ, zero, suc, ◌+◌, ◌<◌, ◌≤◌, ◌==◌, ◌||◌, nat_lt, Bool, true, false, cond, List, [], ◌∷◌, ◌++◌, length, map, take, drop, Option, None, Some, Ok, Err, All, IsPermutation, refl, ap, sym, subst, ⊎_elim, arith, append-nil, append_assoc, length-append, true≢false}
+use Rattle.std.specs.Prelude.{slice_get, count_by}
+use Rattle.std.specs.List.{filter, flat_map, list_any}
+use Rattle.std.specs.Option.{option_map}
+use Rattle.std.proofs.lemmas.Bool.Decides.{nat_tests}
+use Rattle.std.proofs.lemmas.Grind.{flat_map-append}
+use Rattle.std.proofs.lemmas.List.{length-map, map-append}
+use Rattle.std.proofs.lemmas.List.Elements.{All-head, All-tail}
+use Rattle.std.proofs.lemmas.List.Folds.{list_any-append}
+use Rattle.std.proofs.lemmas.List.Sums.{sum_by-cons}
+use mathlib.Core.Logic.{dite}
+use native.Mathlib.Decide.{dec_lt}
+use Rattle.gate.specs.Places.{times}
+use Rattle.gate.proofs.Lists.{times-append, times-one}
+use Rattle.history.specs.Step.{Operation}
+use Rattle.book.specs.Serial.{Deed, called, full, too_long, trimmed}
+use Rattle.book.specs.Notes.{note_of}
+use Rattle.book.specs.declared.answer.Answer.{Answer}
+use Rattle.book.specs.declared.plan.Item.{Item}
+use Rattle.sealed.specs.declared.fault.Fault.TheVariants.{JournalFull}
+use Rattle.shared.specs.declared.jobs.Ask.{Ask}
+use Rattle.shared.specs.declared.jobs.Reply.{Reply}
+use Rattle.shared.specs.declared.jobs.Reply.TheVariants.{Made, Refused}
+use Rattle.shared.specs.Serving.{Turn, deed_told}
+use Rattle.mender.specs.declared.done.Done.{Done}
+use Rattle.mender.specs.Drawn.{Hand, once_below, AreFirst}
+use Rattle.mender.specs.Gathered.{tickets_of, IsOfPlan}
+use Rattle.mender.specs.Mended.{Left, results_of}
+use Rattle.mender.specs.Worked.{repair_of, ask_of, asks_of, replies_of, Draws, Worked, Finished, StoppedFull}
+use Rattle.rounds.specs.declared.work.Mended.{Mended}
+use Rattle.rounds.specs.declared.work.Mended.TheVariants as mended
+use Rattle.rounds.specs.declared.work.Outcome.{Outcome}
+use Rattle.rounds.specs.declared.work.Outcome.TheVariants as outcome
+use Rattle.play.specs.Lists.{Each}
+use Rattle.play.specs.Mends.{left_of, crew_of, is_stopped, drawn_in, drawn_by}
+use Rattle.play.specs.Runs.{operation_in, is_full}
+use Rattle.play.proofs.Buckets.{each-append}
+
+-- a ticket with its item
+abbrev pub Taken : Type 0
+Taken = ℕ × Item
+
+abbrev pub tickets_in : List Taken → List ℕ
+tickets_in taken = map (λ (t : Taken). t.0) taken
+
+abbrev pub items_in : List Taken → List Item
+items_in taken = map (λ (t : Taken). t.1) taken
+
+-- a result as a deed
+abbrev pub deed_in : Done → Deed
+deed_in d = called (repair_of d.item) (note_of d.answer)
+
+abbrev pub operations_by : List Deed → List Operation
+operations_by deeds = flat_map operation_in deeds
+
+-- What these workers took of the plan, each with its repair. Of the plan's tickets they took just those that were drawn. If none met a full journal, the deeds are the results
+pub record Took (plan : List Item) (os : List Outcome) (deeds : List Deed) : Type 0 where
+  pub taken : List Taken
+  pub operations : operations_by deeds ≡ map repair_of (items_in taken)
+  pub many : length deeds ≡ length taken
+  pub of_plan : Each (λ (t : Taken). slice_get plan t.0 ≡ Some t.1) taken
+  pub tickets : (n : ℕ) → n < length plan → times n (tickets_in taken) ≡ times n (drawn_by os)
+  pub full : list_any is_full deeds ≡ list_any is_stopped os
+  pub results : list_any is_stopped os ≡ false → (deeds ≡ map deed_in (results_of (crew_of os))) × (tickets_in taken ≡ tickets_of (results_of (crew_of os)))
+
+pub took_none : (plan : List Item) → Took plan [] []
+took_none plan = record { taken = []; operations = refl; many = refl; of_plan = tt; tickets = λ n below. refl; full = refl; results = λ none. (refl, refl) }
+
+neither : (a b : Bool) → (a || b) ≡ false → (a ≡ false) × (b ≡ false)
+neither true b h = absurd (true≢false h)
+neither false b h = (refl, h)
+
+pub took_more : (plan : List Item) (xs ys : List Outcome) (one two : List Deed) → Took plan xs one → Took plan ys two → Took plan (xs ++ ys) (one ++ two)
+took_more plan xs ys one two a b =
+    let any_full = list_any-append is_full one two in
+    let any_stopped = list_any-append is_stopped xs ys in
+    let tickets_all = map-append (λ (t : Taken). t.0) a.taken b.taken in
+    let results_all : results_of (crew_of (xs ++ ys)) ≡ results_of (crew_of xs) ++ results_of (crew_of ys) = ap results_of (flat_map-append left_of xs ys) ∙ flat_map-append (λ (left : Left). left.done) (crew_of xs) (crew_of ys) in
+    record {
+      taken = a.taken ++ b.taken;
+      operations = flat_map-append operation_in one two ∙ (λ i. a.operations i ++ b.operations i)
+          ∙ sym (ap (map repair_of) (map-append (λ (t : Taken). t.1) a.taken b.taken) ∙ map-append repair_of (items_in a.taken) (items_in b.taken));
+      many = omega (arith, length-append one two, length-append a.taken b.taken, a.many, b.many);
+      of_plan = each-append (λ (t : Taken). slice_get plan t.0 ≡ Some t.1) a.taken b.taken a.of_plan b.of_plan;
+      tickets = λ n below. ap (times n) tickets_all ∙ times-append n (tickets_in a.taken) (tickets_in b.taken) ∙ (λ i. a.tickets n below i + b.tickets n below i)
+          ∙ sym (ap (times n) (flat_map-append drawn_in xs ys) ∙ times-append n (drawn_by xs) (drawn_by ys));
+      full = any_full ∙ (λ i. a.full i || b.full i) ∙ sym any_stopped;
+      results = λ none.
+          let each = neither (list_any is_stopped xs) (list_any is_stopped ys) (sym any_stopped ∙ none) in
+          let mine = a.results each.0 in
+          let theirs = b.results each.1 in (
+            (λ i. mine.0 i ++ theirs.0 i) ∙ sym (ap (map deed_in) results_all ∙ map-append deed_in (results_of (crew_of xs)) (results_of (crew_of ys))),
+            tickets_all ∙ (λ i. mine.1 i ++ theirs.1 i) ∙ sym (ap tickets_of results_all ∙ map-append (λ (d : Done). d.ticket) (results_of (crew_of xs)) (results_of (crew_of ys))),
+          );
+    }
+
+-- ---- one worker
+-- what the replies tell, one after the other
+abbrev told_all : List Ask → List Reply → List (Option Deed)
+told_all [] replies = []
+told_all (a ∷ asks) [] = []
+told_all (a ∷ asks) (r ∷ replies) = deed_told a r ∷ told_all asks replies
+
+told_by : (turns : List Turn) → map (λ (t : Turn). deed_told t.ask t.reply) turns ≡ told_all (map (λ (t : Turn). t.ask) turns) (map (λ (t : Turn). t.reply) turns)
+told_by [] = refl
+told_by (t ∷ turns) = ap (λ l. deed_told t.ask t.reply ∷ l) (told_by turns)
+
+told_results : (done : List Done) (asks : List Ask) (replies : List Reply) → told_all (asks_of done ++ asks) (replies_of done ++ replies) ≡ map Some (map deed_in done) ++ told_all asks replies
+told_results [] asks replies = refl
+told_results (d ∷ done) asks replies = ap (λ l. Some (deed_in d) ∷ l) (told_results done asks replies)
+
+some_same : (xs ys : List Deed) → map Some xs ≡ map Some ys → xs ≡ ys
+some_same [] [] e = refl
+some_same [] (y ∷ ys) e = absurd (cc e)
+some_same (x ∷ xs) [] e = absurd (cc e)
+some_same (x ∷ xs) (y ∷ ys) e =
+    let heads : x ≡ y = cc e in
+    let rest = some_same xs ys (cc e) in
+    cc (heads, rest)
+
+-- the deeds of a worker that finished, and of one that met a full journal
+pub deeds_finished : (deeds : List Deed) (turns : List Turn) (done : List Done) → map Some deeds ≡ map (λ (t : Turn). deed_told t.ask t.reply) turns → map (λ (t : Turn). t.ask) turns ≡ asks_of done
+    → map (λ (t : Turn). t.reply) turns ≡ replies_of done → deeds ≡ map deed_in done
+deeds_finished deeds turns done told asks replies = some_same deeds (map deed_in done)
+    (told ∙ told_by turns ∙ (λ i. told_all (asks i) (replies i)) ∙ sym (λ i. told_all (append-nil (asks_of done) i) (append-nil (replies_of done) i)) ∙ told_results done [] [] ∙ append-nil (map Some (map deed_in done)))
+
+pub deeds_full : (deeds : List Deed) (turns : List Turn) (done : List Done) (item : Item) → map Some deeds ≡ map (λ (t : Turn). deed_told t.ask t.reply) turns
+    → map (λ (t : Turn). t.ask) turns ≡ asks_of done ++ ask_of item ∷ [] → map (λ (t : Turn). t.reply) turns ≡ replies_of done ++ Refused JournalFull ∷ [] → deeds ≡ map deed_in done ++ full (repair_of item) ∷ []
+deeds_full deeds turns done item told asks replies = some_same deeds (map deed_in done ++ full (repair_of item) ∷ [])
+    (told ∙ told_by turns ∙ (λ i. told_all (asks i) (replies i)) ∙ told_results done (ask_of item ∷ []) (Refused JournalFull ∷ []) ∙ sym (map-append Some (map deed_in done) (full (repair_of item) ∷ [])))
+
+-- a result as what was taken
+abbrev taken_in : Done → Taken
+taken_in d = (d.ticket, d.item)
+
+operations_done : (done : List Done) → operations_by (map deed_in done) ≡ map repair_of (items_in (map taken_in done))
+operations_done [] = refl
+operations_done (d ∷ done) = ap (λ l. repair_of d.item ∷ l) (operations_done done)
+
+tickets_done : (done : List Done) → tickets_in (map taken_in done) ≡ tickets_of done
+tickets_done [] = refl
+tickets_done (d ∷ done) = ap (λ l. d.ticket ∷ l) (tickets_done done)
+
+many_done : (done : List Done) → length (map deed_in done) ≡ length (map taken_in done)
+many_done [] = refl
+many_done (d ∷ done) = ap suc (many_done done)
+
+none_full : (done : List Done) → list_any is_full (map deed_in done) ≡ false
+none_full [] = refl
+none_full (d ∷ done) = none_full done
+
+each_of_plan : (plan : List Item) (done : List Done) → All (IsOfPlan plan) done → Each (λ (t : Taken). slice_get plan t.0 ≡ Some t.1) (map taken_in done)
+each_of_plan plan [] all = tt
+each_of_plan plan (d ∷ done) all = (All-head (IsOfPlan plan) d done all, each_of_plan plan done (All-tail (IsOfPlan plan) d done all))
+
+-- no number past the plan's end is one below it
+past_none : (n m count : ℕ) → n < count → count ≤ m → times n (m ∷ []) ≡ 0
+past_none n m count below past = let other : (m == n) ≡ false = grind (arith, nat_tests, below, past) in times-one n m ∙ ap (λ b. cond {A = ℕ} b 1 0) other
+
+drawn_finished : (plan : List Item) (old new : Hand) (done : List Done) (others : List ℕ) → Worked plan old new done others → old.drawn ≡ [] → (n : ℕ) → times n others ≡ 0 → times n (tickets_of done) ≡ times n (new.drawn ++ [])
+drawn_finished plan old new done others w none n past =
+    let drawn : new.drawn ≡ tickets_of done ++ others = w.draws.drawn ∙ ap (λ l. l ++ (tickets_of done ++ others)) none in
+    let both = ap (times n) (append-nil new.drawn ∙ drawn) ∙ times-append n (tickets_of done) others in
+    omega (arith, both, past)
+
+-- a worker that finished
+took_finished : (plan : List Item) (old new : Hand) (done : List Done) (m : Mended) (others : List ℕ) (deeds : List Deed) → Worked plan old new done others → old.drawn ≡ [] → ((n : ℕ) → n < length plan → times n others ≡ 0)
+    → is_stopped (outcome.Mended new m) ≡ false → results_of (crew_of (outcome.Mended new m ∷ [])) ≡ done → deeds ≡ map deed_in done → Took plan (outcome.Mended new m ∷ []) deeds
+took_finished plan old new done m others deeds w none past not_stopped results are = subst (Took plan (outcome.Mended new m ∷ [])) (sym are) (record {
+  taken = map taken_in done;
+  operations = operations_done done;
+  many = many_done done;
+  of_plan = each_of_plan plan done w.of_plan;
+  tickets = λ n below. ap (times n) (tickets_done done) ∙ drawn_finished plan old new done others w none n (past n below);
+  full = none_full done ∙ sym (ap (λ b. b || false) not_stopped);
+  results = λ no. (ap (map deed_in) (sym results), tickets_done done ∙ ap tickets_of (sym results));
+})
+
+pub took_ok : (plan : List Item) (old new : Hand) (done : List Done) (m : Mended) (deeds : List Deed) → Finished plan old new done → old.drawn ≡ [] → is_stopped (outcome.Mended new m) ≡ false
+    → results_of (crew_of (outcome.Mended new m ∷ [])) ≡ done → deeds ≡ map deed_in done → Took plan (outcome.Mended new m ∷ []) deeds
+took_ok plan old new done m deeds finished none not_stopped results are = ⊎_elim
+    (λ t. took_finished plan old new done m [] deeds t.0 none (λ n below. refl) not_stopped results are)
+    (λ t. took_finished plan old new done m (t.0 ∷ []) deeds t.2 none (λ n below. past_none n t.0 (length plan) below t.1) not_stopped results are)
+    finished
+
+-- and one that met a full journal
+pub took_full : (plan : List Item) (old new : Hand) (done : List Done) (m : Mended) (ticket : ℕ) (item : Item) (deeds : List Deed) → Worked plan old new done (ticket ∷ []) → slice_get plan ticket ≡ Some item → old.drawn ≡ []
+    → is_stopped (outcome.Mended new m) ≡ true → deeds ≡ map deed_in done ++ full (repair_of item) ∷ [] → Took plan (outcome.Mended new m ∷ []) deeds
+took_full plan old new done m ticket item deeds w there none stopped are = subst (Took plan (outcome.Mended new m ∷ [])) (sym are) (record {
+  taken = map taken_in done ++ (ticket, item) ∷ [];
+  operations = flat_map-append operation_in (map deed_in done) (full (repair_of item) ∷ []) ∙ ap (λ l. l ++ repair_of item ∷ []) (operations_done done)
+      ∙ sym (ap (map repair_of) (map-append (λ (t : Taken). t.1) (map taken_in done) ((ticket, item) ∷ [])) ∙ map-append repair_of (items_in (map taken_in done)) (item ∷ []));
+  many = omega (arith, length-append (map deed_in done) (full (repair_of item) ∷ []), length-append (map taken_in done) ((ticket, item) ∷ []), many_done done);
+  of_plan = each-append (λ (t : Taken). slice_get plan t.0 ≡ Some t.1) (map taken_in done) ((ticket, item) ∷ []) (each_of_plan plan done w.of_plan) (there, tt);
+  tickets = λ n below. ap (times n) (map-append (λ (t : Taken). t.0) (map taken_in done) ((ticket, item) ∷ []) ∙ ap (λ l. l ++ ticket ∷ []) (tickets_done done))
+      ∙ ap (times n) (sym (append-nil new.drawn ∙ w.draws.drawn ∙ ap (λ l. l ++ (tickets_of done ++ ticket ∷ [])) none));
+  full = list_any-append is_full (map deed_in done) (full (repair_of item) ∷ []) ∙ ap (λ b. b || true) (none_full done) ∙ sym (ap (λ b. b || false) stopped);
+  results = λ no. absurd (true≢false (sym (ap (λ b. b || false) stopped) ∙ no));
+})
