@@ -155,7 +155,7 @@ looked_alone v w t all = (
 pub own_still : (v w : Shows) → (w.acts ≡ v.acts) × (w.did ≡ v.did) → IsAllOwn v → IsAllOwn w
 own_still v w same own = subst (λ (u : List Act × List ℕ). (k : ℕ) → k < length u.0 → times k u.1 ≡ 1) (λ i. (sym same.0 i, sym same.1 i)) own
 
-did_none : (acts : List Act) (who : ℕ) (ps : List Shows) → AreNew acts who ps → did_by ps ≡ []
+pub did_none : (acts : List Act) (who : ℕ) (ps : List Shows) → AreNew acts who ps → did_by ps ≡ []
 did_none acts who [] fresh = refl
 did_none acts who (p ∷ ps) fresh = (λ i. fresh.0.2 i ++ did_none acts (who + 1) ps fresh.1 i)
 

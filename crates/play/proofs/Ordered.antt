@@ -1,7 +1,6 @@
 -- All steps in the order in which they were done: each is what one thread does after those before it.
-use Rattle.std.proofs.Common.{◌≡◌, ◌≢◌, ◌∙◌, ℕ, zero, suc, ◌+◌, ◌-◌, ◌<◌, ◌≤◌, ◌==◌, nat_lt, Bool, true, false, cond, List, [], ◌∷◌, ◌++◌, length, map, take, fold, All, IsPermutation, refl, ap, sym, subst, inl, inr, ⊎_elim, arith, true≢false, eq-eqb, append-nil, append_assoc, length-append, ne_eqb}
+use Rattle.std.proofs.Common.{◌≡◌, ◌≢◌, ◌∙◌, ℕ, zero, suc, ◌+◌, ◌-◌, ◌<◌, ◌≤◌, ◌==◌, Bool, true, false, cond, List, [], ◌∷◌, ◌++◌, length, map, take, fold, All, refl, ap, sym, subst, ⊎_elim, arith, true≢false, eq-eqb, append-nil, append_assoc, length-append, ne_eqb}
 use Rattle.std.specs.List.{filter, AllPairs}
-use Rattle.std.proofs.lemmas.Bool.Decides.{nat_tests}
 use Rattle.std.proofs.lemmas.List.{take_all}
 use Rattle.std.proofs.lemmas.List.Elements.{All-nil, All-cons}
 use Rattle.std.proofs.lemmas.List.Kept.{AllPairs-cons}
@@ -13,12 +12,12 @@ use Rattle.history.proofs.Beginnings.{after_all-append}
 use Rattle.history.specs.State.{empty_state}
 use Rattle.history.specs.History.{state_of}
 use Rattle.shared.proofs.Between.{events-append, given-append}
-use Rattle.book.specs.Serial.{Standing, opening, Deed, called, full, too_long, trimmed, Does, next, Act, trim_acts, act_of, events_in, given_in, standing_of}
+use Rattle.book.specs.Serial.{Deed, called, full, too_long, trimmed, Does, next, Act, trim_acts, act_of, events_in, given_in, standing_of}
 use Rattle.play.specs.Runs.{MayPrecede}
-use Rattle.play.specs.Steps.{Step, Found, found_from, found, standing_after, AreDone, calls_in}
+use Rattle.play.specs.Steps.{Step, Found, found_from, AreDone, calls_in}
 use Rattle.play.specs.Lists.{Each, Pairs}
 use Rattle.play.specs.Accounts.{Placed, act_at, Stands, own_places, found_of, HasDone, IsGood}
-use Rattle.play.proofs.Buckets.{each-both, each-filter, each-passes, each-weaker, pairs-weaker, pairs_by_key, each-by_key, has_key, by_key, by_key-enough, by_key-all, Goes, after, twice, twice_is, turn, IsIdle, IsChanged, goes_all}
+use Rattle.play.proofs.Buckets.{each-both, each-filter, each-passes, each-weaker, pairs-weaker, pairs_by_key, has_key, by_key, by_key-enough, Goes, after, twice, twice_is, turn, IsIdle, IsChanged, goes_all}
 
 -- ---- lists
 pub take_prefix : {A : Type 0} (xs ys : List A) → IsPrefix xs ys → take (length xs) ys ≡ xs

@@ -1,5 +1,5 @@
 -- Rounds, one after the other.
-use Rattle.std.proofs.Common.{◌≡◌, ◌∙◌, ℕ, ◌+◌, ◌-◌, ◌<◌, ◌≤◌, Some, map, List, [], ◌∷◌, ◌++◌, length, All, nat_lt, cond, ◌==◌, Bool, true, false, refl, ap, sym, subst, length-append, append-nil, arith, inl, inr}
+use Rattle.std.proofs.Common.{◌≡◌, ◌∙◌, ℕ, ◌+◌, ◌-◌, ◌<◌, ◌≤◌, Some, map, List, [], ◌∷◌, ◌++◌, length, All, nat_lt, cond, ◌==◌, true, false, refl, ap, sym, subst, length-append, append-nil, arith, inl, inr}
 use Rattle.std.proofs.lemmas.Grind.{flat_map-append}
 use Rattle.std.specs.Prelude.{slice_get, slice_index_or}
 use Rattle.std.proofs.lemmas.List.{map-append}
@@ -28,7 +28,7 @@ pub played_none : (w l workers : ℕ) (rows : List Row) (acts : List Act) → Is
 played_none w l workers rows acts = record { accounts = []; dones = refl; right = tt; places = refl; stand = tt; few = tt; order = tt; are_done = tt }
 
 -- it stands in more acts
-stands_longer : (w l : ℕ) (acts later : List Act) → IsPrefix acts later → (p : Placed) → Stands w l acts p → Stands w l later p
+pub stands_longer : (w l : ℕ) (acts later : List Act) → IsPrefix acts later → (p : Placed) → Stands w l acts p → Stands w l later p
 stands_longer w l acts later more p is = record { does = is.does; stands = prefix_trans (p.before ++ act_at p) acts later is.stands more }
 
 -- of steps of later rows none is earlier, and of those of earlier rows each is
@@ -65,7 +65,7 @@ done_now w l base top before acts did xs ys places stand early a is =
       finds = λ found e.
           let f = is.finds found e in
           let same : earlier a.done.number (xs ++ ys) ≡ xs = earlier_old a.done.number xs ys f.first
-              ∙ all_earlier a.done.number xs (each-weaker (λ (p : Placed). p.step.row ≤ base) (λ (p : Placed). p.step.row < a.done.number) (λ p few. omega (arith, few, past)) xs early) in
+          ∙ all_earlier a.done.number xs (each-weaker (λ (p : Placed). p.step.row ≤ base) (λ (p : Placed). p.step.row < a.done.number) (λ p few. omega (arith, few, past)) xs early) in
           let has : HasDone w l found xs = record {
             stand = each-weaker (Stands w l before) (Stands w l found) (stands_longer w l before found f.after) xs stand;
             all = λ k below. ap (times k) (sym places) ∙ f.all k below;
@@ -146,10 +146,10 @@ made_all w l workers rows round number before acts old_did new_did old new calls
     let r = ran rows round number waits.base waits.are waits.rise in (
       played_more w l workers rows round waits.base number (numbers_of calls) before acts old_did new_did old new waits.le more waits.played r,
       λ k.
-      let both = ap (times k) (ap numbers_in r.dones ∙ map-append (λ (d : Done). d.number) old (dones_in r.accounts)) ∙ times-append k (numbers_in old) (numbers_in (dones_in r.accounts)) in
-      let mine = r.once k in
-      let all = waits.once k in
-      omega (arith, both, mine, all),
+          let both = ap (times k) (ap numbers_in r.dones ∙ map-append (λ (d : Done). d.number) old (dones_in r.accounts)) ∙ times-append k (numbers_in old) (numbers_in (dones_in r.accounts)) in
+          let mine = r.once k in
+          let all = waits.once k in
+          omega (arith, both, mine, all),
     )
 
 -- the same, by a crew of so many

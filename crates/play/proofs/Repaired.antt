@@ -1,19 +1,17 @@
 -- A mend's steps are repairs of its plan, and its reply tells them.
-use Rattle.std.proofs.Common.{◌≡◌, ◌∙◌, ℕ, zero, suc, ◌+◌, ◌<◌, ◌≤◌, ◌==◌, ◌||◌, Bool, true, false, cond, List, [], ◌∷◌, ◌++◌, length, map, take, drop, Some, IsPermutation, refl, ap, sym, subst, arith, append-nil, length-append, true≢false}
+use Rattle.std.proofs.Common.{◌≡◌, ◌∙◌, ℕ, zero, suc, ◌<◌, ◌≤◌, ◌==◌, ◌||◌, Bool, true, false, cond, List, [], ◌∷◌, ◌++◌, length, map, take, drop, Some, IsPermutation, refl, ap, sym, subst, arith, true≢false}
 use Rattle.std.specs.Prelude.{slice_get, count_by, codes, decimal, if◌then◌else◌}
-use Rattle.std.specs.List.{filter, flat_map, list_any}
+use Rattle.std.specs.List.{filter, list_any}
 use Rattle.std.proofs.lemmas.Bool.Decides.{nat_tests}
-use Rattle.std.proofs.lemmas.List.{length-map, map-append, drop_all, take_all, take-append-drop}
+use Rattle.std.proofs.lemmas.List.{length-map, map-append, drop_all, take-append-drop}
 use Rattle.std.proofs.lemmas.List.Sums.{length-filter, sum_by-cons}
 use Rattle.std.proofs.lemmas.List.Sorted.{IsPermutation-append_left, IsPermutation-map, IsPermutation-sym}
 use Rattle.std.proofs.lemmas.Option.{slice_get_within}
 use mathlib.Core.Logic.{dite}
 use native.Mathlib.Decide.{dec_lt}
 use Rattle.gate.specs.Places.{times}
-use Rattle.gate.proofs.Lists.{times-one}
-use Rattle.history.specs.Step.{Operation}
 use Rattle.history.specs.declared.note.Note.{Note}
-use Rattle.book.specs.Serial.{Deed, called}
+use Rattle.book.specs.Serial.{Deed}
 use Rattle.book.specs.Notes.{note_of}
 use Rattle.book.specs.declared.answer.Answer.{Answer}
 use Rattle.book.specs.declared.answer.Answer.TheVariants as answer
@@ -25,15 +23,13 @@ use Rattle.mender.specs.Line.{report_line}
 use Rattle.mender.specs.Mended.{results_of}
 use Rattle.mender.specs.Worked.{repair_of}
 use Rattle.mender.specs.declared.done.Done.{Done}
-use Rattle.mender.specs.declared.report.Report.{Report}
 use Rattle.mender.proofs.Counts.{once_below-in, once_below-out}
 use Rattle.rounds.specs.declared.work.Outcome.{Outcome}
 use Rattle.play.specs.declared.outcome.RowOutcome.{RowOutcome}
 use Rattle.play.specs.declared.outcome.RowOutcome.TheVariants as row
-use Rattle.play.specs.declared.reply.Reply.{Reply}
 use Rattle.play.specs.Lines.{reply_text}
 use Rattle.play.specs.Lists.{Each}
-use Rattle.play.specs.Mends.{crew_of, is_stopped, drawn_by, TellsMend, AreDrawnOnce}
+use Rattle.play.specs.Mends.{crew_of, drawn_by, TellsMend, AreDrawnOnce}
 use Rattle.play.specs.Printed.{is_noted, noted, is_repaired, is_not_lost, is_gone, is_unrecoverable, mend_text}
 use Rattle.play.specs.Runs.{operation_in, operations_in, is_full, meets_full, IsByWorker, Mends}
 use Rattle.play.specs.Steps.{Found}
@@ -58,11 +54,11 @@ tickets_below : (c : ℕ) (taken : List Taken) → ((n : ℕ) → c ≤ n → ti
 tickets_below c [] none = tt
 tickets_below c (t ∷ taken) none = (
   dite (dec_lt t.0 c) (λ less. less) (λ not_less.
-  let here : (t.0 == t.0) ≡ true = grind (arith, nat_tests) in
-  let one = sum_by-cons (λ m. cond {A = ℕ} (m == t.0) 1 0) t.0 (tickets_in taken) in
-  let some = ap (λ b. cond {A = ℕ} b 1 0) here in
-  let no = none t.0 (omega (arith, not_less)) in
-  absurd (omega (arith, one, some, no))),
+      let here : (t.0 == t.0) ≡ true = grind (arith, nat_tests) in
+      let one = sum_by-cons (λ m. cond {A = ℕ} (m == t.0) 1 0) t.0 (tickets_in taken) in
+      let some = ap (λ b. cond {A = ℕ} b 1 0) here in
+      let no = none t.0 (omega (arith, not_less)) in
+      absurd (omega (arith, one, some, no))),
   tickets_below c taken (λ n le. let one = sum_by-cons (λ m. cond {A = ℕ} (m == n) 1 0) t.0 (tickets_in taken) in let no = none n le in omega (arith, one, no)),
 )
 
@@ -182,8 +178,7 @@ mends_told workers plan os steps row.Full took tells drawn are_by =
     let some : list_any is_full (deeds_in steps) ≡ true = took.full ∙ tells in
     let m = length (drawn_by os) in
     let impossible : (c : ℕ) → list_any is_full (deeds_in steps) ≡ false → drop c plan ≡ [] = λ c no. absurd (true≢false (sym some ∙ no)) in
-    let none_past : (n : ℕ) → length plan ≤ n → times n (tickets_in took.taken) ≡ 0 = past_plan plan took.taken took.of_plan in
-    (
+    let none_past : (n : ℕ) → length plan ≤ n → times n (tickets_in took.taken) ≡ 0 = past_plan plan took.taken took.of_plan in (
       dite (dec_lt m (length plan))
           (λ less. mends_first workers plan os steps m took
           (λ n. dite (dec_lt n (length plan)) (λ below. took.tickets n below ∙ drawn n) (λ past. none_past n (omega (arith, past)) ∙ sym (once_below-out n m (omega (arith, past, less))))) are_by (impossible m))

@@ -1,35 +1,29 @@
 -- What the workers of a mend took of its plan, and what they did with it.
-use Rattle.std.proofs.Common.{◌≡◌, ◌≢◌, ◌∙◌, ℕ, zero, suc, ◌+◌, ◌<◌, ◌≤◌, ◌==◌, ◌||◌, nat_lt, Bool, true, false, cond, List, [], ◌∷◌, ◌++◌, length, map, take, drop, Option, None, Some, Ok, Err, All, IsPermutation, refl, ap, sym, subst, ⊎_elim, arith, append-nil, append_assoc, length-append, true≢false}
-use Rattle.std.specs.Prelude.{slice_get, count_by}
-use Rattle.std.specs.List.{filter, flat_map, list_any}
-use Rattle.std.specs.Option.{option_map}
+use Rattle.std.proofs.Common.{◌≡◌, ◌∙◌, ℕ, suc, ◌+◌, ◌<◌, ◌≤◌, ◌==◌, ◌||◌, Bool, true, false, cond, List, [], ◌∷◌, ◌++◌, length, map, Option, Some, All, refl, ap, sym, subst, ⊎_elim, arith, append-nil, length-append, true≢false}
+use Rattle.std.specs.Prelude.{slice_get}
+use Rattle.std.specs.List.{flat_map, list_any}
 use Rattle.std.proofs.lemmas.Bool.Decides.{nat_tests}
 use Rattle.std.proofs.lemmas.Grind.{flat_map-append}
-use Rattle.std.proofs.lemmas.List.{length-map, map-append}
+use Rattle.std.proofs.lemmas.List.{map-append}
 use Rattle.std.proofs.lemmas.List.Elements.{All-head, All-tail}
 use Rattle.std.proofs.lemmas.List.Folds.{list_any-append}
-use Rattle.std.proofs.lemmas.List.Sums.{sum_by-cons}
-use mathlib.Core.Logic.{dite}
-use native.Mathlib.Decide.{dec_lt}
 use Rattle.gate.specs.Places.{times}
 use Rattle.gate.proofs.Lists.{times-append, times-one}
 use Rattle.history.specs.Step.{Operation}
-use Rattle.book.specs.Serial.{Deed, called, full, too_long, trimmed}
+use Rattle.book.specs.Serial.{Deed, called, full}
 use Rattle.book.specs.Notes.{note_of}
-use Rattle.book.specs.declared.answer.Answer.{Answer}
 use Rattle.book.specs.declared.plan.Item.{Item}
 use Rattle.sealed.specs.declared.fault.Fault.TheVariants.{JournalFull}
 use Rattle.shared.specs.declared.jobs.Ask.{Ask}
 use Rattle.shared.specs.declared.jobs.Reply.{Reply}
-use Rattle.shared.specs.declared.jobs.Reply.TheVariants.{Made, Refused}
+use Rattle.shared.specs.declared.jobs.Reply.TheVariants.{Refused}
 use Rattle.shared.specs.Serving.{Turn, deed_told}
 use Rattle.mender.specs.declared.done.Done.{Done}
-use Rattle.mender.specs.Drawn.{Hand, once_below, AreFirst}
+use Rattle.mender.specs.Drawn.{Hand}
 use Rattle.mender.specs.Gathered.{tickets_of, IsOfPlan}
 use Rattle.mender.specs.Mended.{Left, results_of}
-use Rattle.mender.specs.Worked.{repair_of, ask_of, asks_of, replies_of, Draws, Worked, Finished, StoppedFull}
+use Rattle.mender.specs.Worked.{repair_of, ask_of, asks_of, replies_of, Worked, Finished}
 use Rattle.rounds.specs.declared.work.Mended.{Mended}
-use Rattle.rounds.specs.declared.work.Mended.TheVariants as mended
 use Rattle.rounds.specs.declared.work.Outcome.{Outcome}
 use Rattle.rounds.specs.declared.work.Outcome.TheVariants as outcome
 use Rattle.play.specs.Lists.{Each}

@@ -1,12 +1,10 @@
 -- Each row's steps among all, and its line.
-use Rattle.std.proofs.Common.{◌≡◌, ◌≢◌, ◌∙◌, ℕ, zero, suc, ◌+◌, ◌<◌, ◌≤◌, ◌==◌, nat_lt, Bool, true, false, cond, List, [], ◌∷◌, ◌++◌, length, map, Some, All, IsPermutation, refl, ap, sym, subst, arith, append-nil, append_assoc, length-append, sum_by, ne_eqb}
+use Rattle.std.proofs.Common.{◌≡◌, ◌≢◌, ◌∙◌, ℕ, suc, ◌+◌, ◌<◌, ◌≤◌, ◌==◌, nat_lt, Bool, true, false, cond, List, [], ◌∷◌, ◌++◌, length, map, Some, All, IsPermutation, refl, ap, sym, subst, arith, append-nil, append_assoc, length-append, sum_by, ne_eqb}
 use Rattle.std.specs.Prelude.{slice_get, count_by, codes, decimal, if◌then◌else◌}
-use Rattle.std.specs.List.{filter, flat_map, list_any, range_with_len}
+use Rattle.std.specs.List.{filter, range_with_len}
 use Rattle.std.proofs.lemmas.Bool.Decides.{nat_tests}
-use Rattle.std.proofs.lemmas.Grind.{flat_map-append}
-use Rattle.std.proofs.lemmas.List.{length-map, map-append}
-use Rattle.std.proofs.lemmas.List.Elements.{All-nil, All-cons, All-head, All-tail, filter-append}
-use Rattle.std.proofs.lemmas.List.Sorted.{All-permutation, IsPermutation-map, IsPermutation-sym, IsPermutation-trans, list_any-IsPermutation, length_permutation, sum_by-IsPermutation, IsPermutation-append_left}
+use Rattle.std.proofs.lemmas.List.Elements.{All-head, All-tail, filter-append}
+use Rattle.std.proofs.lemmas.List.Sorted.{All-permutation, IsPermutation-map, IsPermutation-trans, list_any-IsPermutation, length_permutation, sum_by-IsPermutation, IsPermutation-append_left}
 use Rattle.std.proofs.lemmas.List.Sums.{sum_by-cons}
 use Rattle.std.proofs.lemmas.Option.{slice_get_within}
 use mathlib.Core.List.{IsPrefix}
@@ -14,24 +12,22 @@ use Rattle.gate.specs.Places.{times, once_later}
 use Rattle.gate.proofs.Lists.{prefix_length, once_later-here, once_later-le}
 use Rattle.book.specs.Plan.{plan_of}
 use Rattle.book.specs.declared.plan.Item.{Item}
-use Rattle.book.specs.Serial.{opening, Act, Deed, called, full, too_long, trimmed, Standing, standing_of}
+use Rattle.book.specs.Serial.{Act, Deed, called, full, too_long, trimmed, Standing, standing_of}
 use Rattle.history.specs.Step.{Operation, stat}
 use Rattle.history.specs.declared.note.Note.{Note}
 use Rattle.mender.specs.Worked.{repair_of}
 use Rattle.script.specs.declared.rows.Row.{Row}
 use Rattle.script.specs.declared.rows.Task.{Task}
 use Rattle.script.specs.declared.rows.Task.TheVariants.{Make, Mend}
-use Rattle.shared.specs.declared.jobs.Ask.{Ask}
 use Rattle.play.specs.Lists.{Each, Pairs}
 use Rattle.play.specs.Steps.{Step, Found, found, standing_after}
-use Rattle.play.specs.Runs.{steps_of, IsOne, IsRow, Mends, IsByWorker, is_full, meets_full, operation_in, operations_in, round_in}
+use Rattle.play.specs.Runs.{steps_of, IsOne, IsRow, Mends, IsByWorker, is_full, operation_in, operations_in}
 use Rattle.play.specs.Printed.{deed_text, is_noted, is_repaired, is_not_lost, is_gone, is_unrecoverable, mend_text, row_text, row_lines}
 use Rattle.play.specs.Lines.{AreLines, IsReplyTo, reply_text}
-use Rattle.play.specs.Accounts.{Placed, Stands, found_of, Account, dones_in, numbers_in, steps_in, earlier, HasDone, Settles, IsAccount, IsDone, IsMendTextOf}
+use Rattle.play.specs.Accounts.{Placed, found_of, Account, dones_in, numbers_in, steps_in, earlier, HasDone, Settles, IsAccount, IsDone}
 use Rattle.play.specs.declared.outcome.Done.{Done}
-use Rattle.play.specs.declared.outcome.RowOutcome.{RowOutcome}
 use Rattle.play.specs.declared.reply.Reply.{Reply}
-use Rattle.play.proofs.Buckets.{after, each-append, each-both, each-by_key, each-filter, each-weaker, by_key, by_key-all, by_key-one, filter-by_key, twice}
+use Rattle.play.proofs.Buckets.{after, each-append, each-both, each-by_key, each-filter, each-weaker, by_key-all, by_key-one, filter-by_key, twice}
 use Rattle.play.proofs.Ordered.{key, keys_below, in_order_below, steps_at, Follow, follow, found_are, standing_is, goes_on, begins_at, each-map, all_each}
 use Rattle.play.proofs.Sorting.{in_order}
 
@@ -57,7 +53,7 @@ all_of number [] same = refl
 all_of number (p ∷ steps) same = let yes : (p.step.row == number) ≡ true = grind (arith, nat_tests, same.0) in ap (λ b. cond b (p ∷ of_row number steps) (of_row number steps)) yes ∙ ap (λ l. p ∷ l) (all_of number steps same.1)
 
 -- ---- one account for a row
-abbrev numbers : List Account → List ℕ
+abbrev pub numbers : List Account → List ℕ
 numbers accounts = numbers_in (dones_in accounts)
 
 abbrev HasOwn : Account → Type 0
@@ -93,7 +89,7 @@ are_alone (a ∷ accounts) own once =
     let others = others_are a.done.number accounts none in
     let rest = are_alone accounts own.1 (λ k. omega (arith, times-first k a accounts, once k)) in (
       filter-append (λ (p : Placed). p.step.row == a.done.number) a.steps (steps_in accounts)
-      ∙ (λ i. all_of a.done.number a.steps own.0 i ++ none_theirs a.done.number accounts own.1 others i) ∙ append-nil a.steps,
+          ∙ (λ i. all_of a.done.number a.steps own.0 i ++ none_theirs a.done.number accounts own.1 others i) ∙ append-nil a.steps,
       each-weaker (λ (b : Account). (b.done.number ≢ a.done.number) × IsAlone (steps_in accounts) b) (IsAlone (steps_in (a ∷ accounts)))
           (λ b h. filter-append (λ (p : Placed). p.step.row == b.done.number) a.steps (steps_in accounts)
           ∙ (λ i. none_of b.done.number a.steps (each-weaker (λ (p : Placed). p.step.row ≡ a.done.number) (λ (p : Placed). p.step.row ≢ b.done.number) (λ p is same. h.0 (sym same ∙ is)) a.steps own.0) i ++ h.1 i))
@@ -310,7 +306,7 @@ lines_are w rows steps front (row ∷ rest) number (d ∷ ds) text all at same k
     text_is ∙ (λ i. (decimal (here i) ++ (codes " " ++ (told i ++ codes "\n"))) ++ next i)
 
 -- put in the order of their numbers
-each_all : {A : Type 0} (P : A → Type 0) (xs : List A) → All P xs → Each P xs
+pub each_all : {A : Type 0} (P : A → Type 0) (xs : List A) → All P xs → Each P xs
 each_all P [] all = tt
 each_all P (x ∷ xs) all = (All-head P x xs all, each_all P xs (All-tail P x xs all))
 
