@@ -31,6 +31,7 @@ outlined_after w base later r t es names puts follows rise later_names later_put
     }
 
 -- ---- the replay of a part that is laid over the other names
+-- a name's view as the replay begins, over all the others and over none
 module _ (changed : Bool) (old part : Option Kept) where
   begun : part ≡ cond changed old None → option_map seen_as old ≡ cond changed (option_map seen_as part) (option_map seen_as old)
   begun = by changed
@@ -46,6 +47,7 @@ module _ (changed : Bool) (old part : Option Kept) where
       by true e = refl
       by false e = ap (option_map seen_as) e
 
+-- and after what the replay left is laid over them
 laid : (changed : Bool) (done old : Option Kept) (now : Option View) → option_map seen_as done ≡ cond changed now None
     → option_map seen_as (option_or done (cond changed None old)) ≡ cond changed (option_map seen_as done) (option_map seen_as old)
 laid true None old now e = refl
@@ -53,6 +55,7 @@ laid true (Some k) old now e = refl
 laid false None old now e = refl
 laid false (Some k) old now e = absurd (let no : ⊥ = cc in no)
 
+-- so the names then show what the replay of all entries on all names does
 pub follows_laid : (w : ℕ) (es : List Entry) (all part done : Replay) (names : BTreeMap (List ℕ) Kept)
     → ((q : List ℕ) → get name_cmp part.names q ≡ cond (is_changed es q) (get name_cmp all.names q) None) → part.puts ≡ all.puts
     → (AreNoted w (views_of part) (changes_of es) → views_of done ≡ all_next (views_of part) (changes_of es))

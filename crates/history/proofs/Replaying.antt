@@ -28,13 +28,17 @@ use Rattle.history.proofs.Replies.{pairs_total}
 abbrev pub seen_in : List (List ℕ × Kept) → List ℕ → Option View
 seen_in names n = option_map seen_as (lookup (is_at (name_cmp n)) names)
 
+-- a map's test of a key is the order's
+pub at_is : (n q : List ℕ) → is_at (name_cmp n) q ≡ eq_by_cmp name_cmp q n
+at_is n q = sym ((eq_by_cmp_equiv nat_list_cmp_total).symm q n)
+
 -- what names show after one has another blob
 pub shown : (old new : List (List ℕ × Kept)) (n : List ℕ) (kept : Kept) (x : View)
     → ((q : List ℕ) → lookup (is_at (name_cmp q)) new ≡ cond (is_at (name_cmp n) q) (Some kept) (lookup (is_at (name_cmp q)) old)) → seen_as kept ≡ x
     → (q : List ℕ) → seen_in new q ≡ cond (eq_by_cmp name_cmp q n) (Some x) (seen_in old q)
 shown old new n kept x updates same q =
     option_map_put seen_as (is_at (name_cmp n) q) kept x (lookup (is_at (name_cmp q)) old) (lookup (is_at (name_cmp q)) new) (seen_in old q) (updates q) same refl
-    ∙ ap (λ t. cond t (Some x) (seen_in old q)) (sym ((eq_by_cmp_equiv nat_list_cmp_total).symm q n))
+    ∙ ap (λ t. cond t (Some x) (seen_in old q)) (at_is n q)
 
 map_none : (b : Bool) (found : Option Kept) → option_map seen_as (cond b None found) ≡ cond b None (option_map seen_as found)
 map_none true found = refl
@@ -46,7 +50,7 @@ pub hidden : (old new : List (List ℕ × Kept)) (n : List ℕ)
     → (q : List ℕ) → seen_in new q ≡ cond (eq_by_cmp name_cmp q n) None (seen_in old q)
 hidden old new n updates q =
     ap (option_map seen_as) (updates q) ∙ map_none (is_at (name_cmp n) q) (lookup (is_at (name_cmp q)) old)
-    ∙ ap (λ t. cond t None (seen_in old q)) (sym ((eq_by_cmp_equiv nat_list_cmp_total).symm q n))
+    ∙ ap (λ t. cond t None (seen_in old q)) (at_is n q)
 
 pub is_there : (found : Option Kept) (k : Kept) → Some k ≡ found → IsSome found
 is_there found k e = search rules

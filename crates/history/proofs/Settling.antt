@@ -23,9 +23,7 @@ use Rattle.history.specs.Kept.{outline_kept, PairsRise}
 use Rattle.history.specs.Parts.{has_name, is_changed, can_change, name_of}
 use Rattle.history.specs.declared.note.Entry.{Entry}
 use Rattle.history.specs.declared.kept.Kept.{Kept}
-
-pub at_is : (n q : List ℕ) → is_at (name_cmp n) q ≡ eq_by_cmp name_cmp q n
-at_is n q = sym ((eq_by_cmp_equiv nat_list_cmp_total).symm q n)
+use Rattle.history.proofs.Replaying.{at_is}
 
 none_more : (a b : Bool) (x : Option Kept) → cond b None (cond a None x) ≡ cond (a || b) None x
 none_more true true x = refl
@@ -44,6 +42,7 @@ out_more gone i n q old was now l is before step =
 pub tied : (n q : List ℕ) → is_at (name_cmp n) q ≡ true → n ≡ q
 tied n q t = tells_apart exact_bytes n q t
 
+-- one entry more
 pub changed_more : (es : List Entry) (i : ℕ) (e : Entry) (q : List ℕ) → i < length es → e ≡ get_or es i e
     → is_changed (take (i + 1) es) q ≡ (is_changed (take i es) q || (can_change e.call && eq_by_cmp name_cmp q (name_of e.call)))
 changed_more es i e q l is =
@@ -178,12 +177,13 @@ and_not : (b : Bool) → true ≡ (b && false) → ⊥
 and_not true e = false≢true (sym e)
 and_not false e = false≢true (sym e)
 
+-- a name is as it was once the places are taken back
 pub back : (f : Bool) (p o was now : Option Kept) → f ≡ (is_some p && not (is_some o)) → (f ≡ false → was ≡ o) → now ≡ cond f None was → now ≡ o
 back true p None was now is same e = e
 back true p (Some k) was now is same e = absurd (and_not (is_some p) is)
 back false p o was now is same e = e ∙ same refl
 
--- ---- the part
+-- ---- the part: one entry more adds no name, one that there is none of, or one
 pub part_stay : (A c here : Bool) (x was : Option Kept) → was ≡ cond A x None → (here ≡ true → (not c || is_some was) ≡ true) → was ≡ cond (A || (c && here)) x None
 part_stay true c here x was e t = e
 part_stay false false here x was e t = e
@@ -210,6 +210,7 @@ settled false None old room left now same out filled = filled ∙ out ∙ same r
 settled true (Some k) old room left now same out filled = filled
 settled false (Some k) old room left now same out filled = filled
 
+-- what holds of what it can have holds of what it has
 rises_or : (p old : Option Kept) (changed : Bool) (P : Kept → Type 0) → IfSome p P → IfSome old P → IfSome (option_or p (cond changed None old)) P
 rises_or None old true P a b = tt
 rises_or None old false P a b = b

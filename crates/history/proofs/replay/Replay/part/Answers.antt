@@ -5,8 +5,8 @@ use Rattle.std.specs.Ordering.{eq_by_cmp}
 use Rattle.std.proofs.lemmas.Bool.{or_right}
 use Rattle.history.specs.Names.{name_cmp}
 use Rattle.history.specs.Parts.{can_change, name_of, is_changed}
-use Rattle.history.proofs.Replaying.{rise_with}
-use Rattle.history.proofs.Settling.{tied, at_is, changed_more, part_stay, part_none, part_put}
+use Rattle.history.proofs.Replaying.{at_is, rise_with}
+use Rattle.history.proofs.Settling.{tied, changed_more, part_stay, part_none, part_put}
 use Rattle.history.proofs.replay.Replay.part.Goals as goal
 use Rattle.history.proofs.replay.Replay.part.Goals.{then-not-can_change-via-then-not-can_change, then-not-can_change-via-else-not-can_change+then-contains_key}
 
