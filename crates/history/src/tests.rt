@@ -153,11 +153,21 @@ fn a_base_knows_what_was_lost(rt: HostRuntime) -> Result<(), Fail> {
 fn a_base_forgets_a_deleted_name(rt: HostRuntime) -> Result<(), Fail> {
     let alloc = rt.alloc();
     let (width, name) = (Width::new(1).expect(&rt, "a width"), Name::new("a")?);
-    let entries = losses(alloc, &name)?;
-    let mut base = Base::empty(alloc);
-    base.advance(alloc, &entries[..6], width)?;
-    assert_eq!(rt; (base.trimmed, base.puts, base.names.len()), (6, 1, 1));
-    base.advance(alloc, &entries[6..], width)?;
-    assert_eq!(rt; (base.trimmed, base.puts, base.names.len()), (11, 1, 0));
+    let (mut base, mut stored, mut deleted) = (
+        Base::empty(alloc),
+        Vec::new(alloc),
+        Vec::new(alloc),
+    );
+    let put = Call::Put {
+        name: name.duplicate(),
+        code: Code::Wide,
+        len: 12,
+    };
+    note(&mut stored, put, Note::Stored(1))?;
+    base.advance(alloc, &stored, width)?;
+    assert_eq!(rt; (base.trimmed, base.puts, base.names.len()), (1, 1, 1));
+    note(&mut deleted, Call::Delete { name }, Note::Deleted(1))?;
+    base.advance(alloc, &deleted, width)?;
+    assert_eq!(rt; (base.trimmed, base.puts, base.names.len()), (2, 1, 0));
     Ok(())
 }
