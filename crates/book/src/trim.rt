@@ -15,7 +15,7 @@ impl Book {
     /// Nothing is given up, and the answer is 0, where there are no more entries than `keep`, or where more than 2^63 calls would have been given up;
     /// then no memory is asked for. It is no call of the history: what the book tells stays told.
     ///
-    /// `NoMemory` where memory for the new base is refused, and then the book is as it was.
+    /// `NoMemory` where memory to carry the base on is refused, and then the book is as it was.
     pub fn trim(&mut self, alloc: Global, keep: u64) -> Result<u64, Fault>
         ensures told { (h : History) → Tells self.old h → Tells self.new h }
         ensures answer { IfOk result (λ n. n ≡ given_up self.old.base.trimmed (length self.old.entries) keep) }
@@ -31,12 +31,12 @@ impl Book {
             return Ok(0);
         }
         let n = count - keep;
-        let given_up = &self.entries()[..n as usize];
-        let Ok(base) = self.base.after(alloc, given_up, self.width) else {
+        let journal = &self.journal;
+        let given_up = &journal.entries[..n as usize];
+        let Ok(()) = self.base.advance(alloc, given_up, self.width) else {
             return Err(Fault::NoMemory);
         };
         self.journal.give_up(n as usize);
-        self.base = base;
         Ok(n)
     }
 }

@@ -10,4 +10,6 @@ pub mod Replaying
 pub mod Shapes
 pub mod Rising
 pub mod Outlining
+pub mod Framing
 pub mod Following
+pub mod Settling

@@ -1,5 +1,5 @@
 -- What outlines tell: of what is kept, and of a state.
-use Rattle.std.proofs.Common.{◌≡◌, ℕ, ◌+◌, ◌<◌, Bool, true, false, List, [], ◌∷◌, ◌++◌, map, length, take, get_or, replicate, Option, None, Some, cond, refl, sym, ap, ◌∙◌, subst, arith}
+use Rattle.std.proofs.Common.{◌≡◌, ℕ, ◌<◌, Bool, true, false, List, [], ◌∷◌, ◌++◌, map, length, take, get_or, append_assoc, length-append, replicate, Option, None, Some, cond, refl, sym, ap, ◌∙◌, subst, arith}
 use Rattle.std.specs.Prelude.{All, IfSome}
 use Rattle.std.specs.FinMap as finite
 use Rattle.std.specs.FinSet as set
@@ -9,7 +9,8 @@ use Rattle.std.specs.List.Sorted.{IsStrictlySortedBy}
 use Rattle.std.specs.Map.{keys_of, lookup}
 use Rattle.std.specs.BTreeMap.{insert_entry, is_at}
 use Rattle.std.specs.Cmp.Lexicographic.{nat_list_cmp_total}
-use Rattle.std.proofs.lemmas.List.{length-map, length-replicate, map-append, map-id, take-map, take_more, get_or-map}
+use Rattle.std.proofs.Math.Seq.{take-append_seam, get_or-append_seam}
+use Rattle.std.proofs.lemmas.List.{length-replicate, map-append, map-id}
 use Rattle.std.proofs.lemmas.List.Elements.{All-head, All-tail, All-map}
 use Rattle.std.proofs.lemmas.Simd.{map-map}
 use Rattle.std.proofs.lemmas.Map.Lookups.{exact_bytes}
@@ -19,26 +20,24 @@ use Rattle.history.specs.Names.{name_cmp}
 use Rattle.history.specs.State.{Blob, State}
 use Rattle.history.specs.Base.{Outline, Checkpoint, Outlines, IsRising, outline_of, pairs_of}
 use Rattle.history.specs.Views.{View, view, view_of}
-use Rattle.history.specs.Kept.{outline_kept, outline_seen, outlines_of, seen_as, views_of}
-use Rattle.history.specs.declared.base.Outline.{Outline as Sketch}
+use Rattle.history.specs.Kept.{outline_kept, outlines_of, seen_as, views_of}
 use Rattle.history.specs.declared.kept.Kept.{Kept}
 use Rattle.history.specs.declared.replay.Replay.{Replay}
 use Rattle.history.proofs.Catalogue.{option_map-cond}
 use Rattle.history.proofs.Replies.{pairs_total}
 use Rattle.history.proofs.Rising.{insert_next, keys_rise, same_found, entries_back, same_pairs, pairs_of-has, pairs_of-length, pairs_rise}
 
-pub seen_at : (items : List Sketch) (i : ℕ) (o : Sketch) → i < length items → o ≡ get_or items i o → outline_seen o ≡ get_or (map outline_seen items) i (outline_seen o)
-seen_at items i o l is = ap outline_seen is ∙ sym (get_or-map outline_seen items i o (outline_seen o) l)
-
--- one outline more is kept
-pub kept_next : (os : List Outline) → IsStrictlySortedBy name_cmp (map (λ o. o.name) os) → (i : ℕ) (o : Outline) → i < length os → o ≡ get_or os i o
-    → (es : List (List ℕ × Kept)) → map outline_kept es ≡ take i os → (k : Kept) → outline_kept (o.name, k) ≡ o → map outline_kept (insert_entry name_cmp es o.name k) ≡ take (i + 1) os
-kept_next os s i o l is es before k same =
-    let names = map (λ (p : Outline). p.name) os in
-    let keys : keys_of es ≡ take i names = sym (map-map (λ (p : Outline). p.name) outline_kept es) ∙ ap (map (λ (p : Outline). p.name)) before ∙ sym (take-map (λ (p : Outline). p.name) i os) in
-    let at : o.name ≡ get_or names i o.name = ap (λ (p : Outline). p.name) is ∙ sym (get_or-map (λ (p : Outline). p.name) os i o o.name l) in
-    let last = insert_next nat_list_cmp_total names s i o.name k (omega (arith, length-map os (λ (p : Outline). p.name))) at es keys in
-    ap (map outline_kept) last ∙ map-append outline_kept es ((o.name, k) ∷ []) ∙ (λ t. before t ++ (same ∙ is) t ∷ []) ∙ sym (take_more os i o l)
+-- the entry after those that are in goes to the end
+pub kept_next : (all es rest : List (List ℕ × Kept)) (n : List ℕ) (k : Kept) → IsStrictlySortedBy name_cmp (keys_of all) → es ++ (n, k) ∷ rest ≡ all
+    → insert_entry name_cmp es n k ++ rest ≡ all
+kept_next all es rest n k s whole =
+    let ks = keys_of all in
+    let i = length (keys_of es) in
+    let parts : ks ≡ keys_of es ++ n ∷ keys_of rest = sym (ap keys_of whole) ∙ map-append (λ (e : List ℕ × Kept). e.0) es ((n, k) ∷ rest) in
+    let before : keys_of es ≡ take i ks = sym (ap (take i) parts ∙ take-append_seam (keys_of es) (n ∷ keys_of rest)) in
+    let inside : i < length ks = omega (arith, ap length parts, length-append (keys_of es) (n ∷ keys_of rest)) in
+    let at : n ≡ get_or ks i n = sym (ap (λ (l : List (List ℕ)). get_or l i n) parts ∙ get_or-append_seam (keys_of es) n (keys_of rest) n) in
+    ap (λ (l : List (List ℕ × Kept)). l ++ rest) (insert_next nat_list_cmp_total ks s i n k inside at es before) ∙ append_assoc es ((n, k) ∷ []) rest ∙ whole
 
 -- ---- what outlines show
 abbrev shown_by : Outline → View

@@ -1,10 +1,10 @@
 -- What is kept after a call.
 use Rattle.std.proofs.Common.{◌≡◌, ℕ, ◌+◌, ◌-◌, Bool, true, false, not, ◌&&◌, ◌||◌, List, [], Option, None, Some, cond, length, replicate, refl, sym, ap, ◌∙◌, subst, arith, rules}
-use Rattle.std.specs.Prelude.{IsSome}
+use Rattle.std.specs.Prelude.{IfSome, IsSome}
 use Rattle.std.specs.Option.{option_map}
 use Rattle.std.specs.List.{list_any}
 use Rattle.std.specs.Map.{lookup}
-use Rattle.std.specs.BTreeMap.{is_at}
+use Rattle.std.specs.BTreeMap.{BTreeMap, get, is_at}
 use Rattle.std.specs.BTreeSet as tree
 use Rattle.std.specs.Ordering.{eq_by_cmp}
 use Rattle.std.specs.Cmp.Lexicographic.{nat_list_cmp_total}
@@ -13,7 +13,7 @@ use Rattle.std.proofs.lemmas.List.{length-replicate}
 use Rattle.sealed.specs.Blob.{pair_cmp}
 use Rattle.history.specs.Names.{name_cmp}
 use Rattle.history.specs.Views.{View, Views, added, taken, changed, view_after, operation_of, next}
-use Rattle.history.specs.Kept.{lost_of, seen_as}
+use Rattle.history.specs.Kept.{lost_of, seen_as, PairsRise}
 use Rattle.history.specs.Step.{Operation}
 use Rattle.history.specs.declared.note.Call.{Call}
 use Rattle.history.specs.declared.note.Call.TheVariants.{Delete}
@@ -28,13 +28,17 @@ use Rattle.history.proofs.Replies.{pairs_total}
 abbrev pub seen_in : List (List ℕ × Kept) → List ℕ → Option View
 seen_in names n = option_map seen_as (lookup (is_at (name_cmp n)) names)
 
+-- a map's test of a key is the order's
+pub at_is : (n q : List ℕ) → is_at (name_cmp n) q ≡ eq_by_cmp name_cmp q n
+at_is n q = sym ((eq_by_cmp_equiv nat_list_cmp_total).symm q n)
+
 -- what names show after one has another blob
 pub shown : (old new : List (List ℕ × Kept)) (n : List ℕ) (kept : Kept) (x : View)
     → ((q : List ℕ) → lookup (is_at (name_cmp q)) new ≡ cond (is_at (name_cmp n) q) (Some kept) (lookup (is_at (name_cmp q)) old)) → seen_as kept ≡ x
     → (q : List ℕ) → seen_in new q ≡ cond (eq_by_cmp name_cmp q n) (Some x) (seen_in old q)
 shown old new n kept x updates same q =
     option_map_put seen_as (is_at (name_cmp n) q) kept x (lookup (is_at (name_cmp q)) old) (lookup (is_at (name_cmp q)) new) (seen_in old q) (updates q) same refl
-    ∙ ap (λ t. cond t (Some x) (seen_in old q)) (sym ((eq_by_cmp_equiv nat_list_cmp_total).symm q n))
+    ∙ ap (λ t. cond t (Some x) (seen_in old q)) (at_is n q)
 
 map_none : (b : Bool) (found : Option Kept) → option_map seen_as (cond b None found) ≡ cond b None (option_map seen_as found)
 map_none true found = refl
@@ -46,7 +50,7 @@ pub hidden : (old new : List (List ℕ × Kept)) (n : List ℕ)
     → (q : List ℕ) → seen_in new q ≡ cond (eq_by_cmp name_cmp q n) None (seen_in old q)
 hidden old new n updates q =
     ap (option_map seen_as) (updates q) ∙ map_none (is_at (name_cmp n) q) (lookup (is_at (name_cmp q)) old)
-    ∙ ap (λ t. cond t None (seen_in old q)) (sym ((eq_by_cmp_equiv nat_list_cmp_total).symm q n))
+    ∙ ap (λ t. cond t None (seen_in old q)) (at_is n q)
 
 pub is_there : (found : Option Kept) (k : Kept) → Some k ≡ found → IsSome found
 is_there found k e = search rules
@@ -123,3 +127,25 @@ pub deleted_at : (e : Entry) (v : Views) (n : List ℕ) (y : ℕ) (names : List 
 deleted_at e v n y names call is gone =
     let P : Operation → Note → Type 0 = λ o m. record { names = names; puts = v.puts } ≡ view_after v o m in
     subst (λ (m : Note). P (operation_of e.call) m) (sym is) (subst (λ (k : Call). P (operation_of k) (note.Deleted y)) (sym call) (λ i. record { names = λ q. gone q i; puts = v.puts }))
+
+-- ---- the lost pairs of each name's blob still rise
+abbrev PairsOfRise : Kept → Type 0
+PairsOfRise k = tree.IsOrdered pair_cmp k.lost
+
+-- after one has another blob whose pairs rise
+pub rise_with : (old new : BTreeMap (List ℕ) Kept) (n : List ℕ) (k : Kept)
+    → ((q : List ℕ) → get name_cmp new q ≡ cond (is_at (name_cmp n) q) (Some k) (get name_cmp old q)) → PairsOfRise k → PairsRise old → PairsRise new
+rise_with old new n k updates up rise q = by (is_at (name_cmp n) q) (updates q)
+  where
+    by : (b : Bool) → get name_cmp new q ≡ cond b (Some k) (get name_cmp old q) → IfSome (get name_cmp new q) PairsOfRise
+    by true e = subst (λ found. IfSome found PairsOfRise) (sym e) up
+    by false e = subst (λ found. IfSome found PairsOfRise) (sym e) (rise q)
+
+-- and after one is gone
+pub rise_without : (old new : BTreeMap (List ℕ) Kept) (n : List ℕ)
+    → ((q : List ℕ) → get name_cmp new q ≡ cond (is_at (name_cmp n) q) None (get name_cmp old q)) → PairsRise old → PairsRise new
+rise_without old new n updates rise q = by (is_at (name_cmp n) q) (updates q)
+  where
+    by : (b : Bool) → get name_cmp new q ≡ cond b None (get name_cmp old q) → IfSome (get name_cmp new q) PairsOfRise
+    by true e = subst (λ found. IfSome found PairsOfRise) (sym e) tt
+    by false e = subst (λ found. IfSome found PairsOfRise) (sym e) (rise q)

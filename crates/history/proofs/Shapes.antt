@@ -108,7 +108,7 @@ view_all s (e ∷ h) =
     ∙ ap (λ (v : Views). all_next v (map entry_of h)) (view_is s e.operation e.note ∙ after_zero (view s) e.operation e.note)
 
 -- one entry more
-split_at : (es : List Entry) (i : ℕ) (e : Entry) → i < length es → e ≡ get_or es i e → drop i es ≡ e ∷ drop (i + 1) es
+pub split_at : (es : List Entry) (i : ℕ) (e : Entry) → i < length es → e ≡ get_or es i e → drop i es ≡ e ∷ drop (i + 1) es
 split_at es i e l is = rw (add-one, drop-cons es i e) (ap (λ (x : Entry). x ∷ drop (suc i) es) (sym is))
 
 pub noted_at : (w : ℕ) (v : Views) (es : List Entry) (i : ℕ) (e : Entry) → i < length es → e ≡ get_or es i e → AreNoted w v (drop i es) ↔ (IsNoted w v e × AreNoted w (next v e) (drop (i + 1) es))

@@ -1,15 +1,14 @@
 -- What is kept of a blob and of a state, to know the replies: all but the bytes.
-use Rattle.std.specs.Prelude.{ℕ, ◌+◌, ◌*◌, Bool, ◌&&◌, List, map, nat_le, nat_lt}
+use Rattle.std.specs.Prelude.{ℕ, ◌+◌, ◌*◌, Bool, ◌&&◌, List, map, nat_le, nat_lt, IfSome}
 use Rattle.std.specs.Option.{option_map}
 use Rattle.std.specs.Map.{lookup}
-use Rattle.std.specs.BTreeMap.{is_at}
+use Rattle.std.specs.BTreeMap.{BTreeMap, get, is_at}
 use Rattle.std.specs.BTreeSet as tree
 use Rattle.lrc_code.specs.Code.{data_count}
 use Rattle.sealed.specs.Blob.{pair_cmp}
 use Rattle.history.specs.Names.{name_cmp}
 use Rattle.history.specs.Views.{View, Views, open_test}
 use Rattle.history.specs.Base.{Outline}
-use Rattle.history.specs.declared.base.Outline.{Outline as Sketch}
 use Rattle.history.specs.declared.kept.Kept.{Kept}
 use Rattle.history.specs.declared.replay.Replay.{Replay}
 
@@ -30,13 +29,13 @@ is_open_between k first last pair =
 abbrev pub views_of : Replay → Views
 views_of r = record { names = λ n. option_map seen_as (lookup (is_at (name_cmp n)) r.names.entries); puts = r.puts }
 
--- what contracts see of an outline
-abbrev pub outline_seen : Sketch → Outline
-outline_seen o = record { name = o.name; version = o.version; len = o.len; code = o.code; lost = o.lost.items }
-
 -- the outline of a name with what is kept of its blob
 abbrev pub outline_kept : List ℕ × Kept → Outline
 outline_kept e = record { name = e.0; version = e.1.version; len = e.1.len; code = e.1.code; lost = e.1.lost.keys }
 
 abbrev pub outlines_of : Replay → List Outline
 outlines_of r = map outline_kept r.names.entries
+
+-- the lost pairs of each name's blob rise
+abbrev pub PairsRise : BTreeMap (List ℕ) Kept → Type 0
+PairsRise names = (q : List ℕ) → IfSome (get name_cmp names q) (λ k. tree.IsOrdered pair_cmp k.lost)

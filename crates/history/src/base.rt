@@ -1,31 +1,17 @@
 //! What is kept of the calls that were given up.
-ghost use Rattle.std.specs.Prelude.{◌≡◌, ◌≤◌, ◌+◌, ◌^◌, map, length, count_by, IfOk};
+ghost use Rattle.std.specs.Prelude.{◌≡◌, ◌≤◌, ◌+◌, ◌^◌, map, length, count_by, OnOk, OnErr};
 ghost use Rattle.history.specs.Base.{Outlines, empty_base};
 ghost use Rattle.history.specs.History.{History, IsLegalFrom, after_all, entry_of, is_put};
 ghost use Rattle.history.specs.State.{State};
 
 use crate::note::count_puts;
 use crate::replay::Replay;
-use crate::{Entry, Name};
-use lrc_code::Code;
+use crate::settle::{fill, make_room, take_out};
+use crate::{Entry, Kept, Name};
 use sealed::Width;
 use std::alloc::{AllocError, Global};
+use std::collections::BTreeMap;
 use std::marker::Model;
-
-/// A blob of a name, without its bytes.
-#[derive(Drop)]
-pub struct Outline {
-    /// The name.
-    pub name: Name,
-    /// The number of its put.
-    pub version: u64,
-    /// How many bytes it has.
-    pub len: u64,
-    /// The code that it is kept in.
-    pub code: Code,
-    /// The lost fragments: pairs of a stripe and a fragment, rising.
-    pub lost: Vec<(u64, u8)>,
-}
 
 /// How many calls were given up, at most 2^63, and an outline of the state after them.
 #[derive(Drop)]
@@ -34,8 +20,8 @@ pub struct Base {
     pub trimmed: u64,
     /// How many puts were among them.
     pub puts: u64,
-    /// The names with their blobs, rising.
-    pub names: Vec<Outline>,
+    /// The names with their blobs.
+    pub names: BTreeMap<Name, Kept>,
 }
 
 impl Model for Base {
@@ -49,22 +35,22 @@ impl Model for Base {
     ghost view = { λ b. record {
       trimmed = b.trimmed;
       puts = b.puts;
-      names = map (λ o. record {
-        name = o.name;
-        version = o.version;
-        len = o.len;
-        code = o.code;
-        lost = o.lost.items;
-      }) b.names.items;
+      names = map (λ e. record {
+        name = e.0;
+        version = e.1.version;
+        len = e.1.len;
+        code = e.1.code;
+        lost = e.1.lost.keys;
+      }) b.names.entries;
     } };
 
-    ghost invariant = { λ b. (b.trimmed ≤ 2 ^ 63) × IsRising (map (λ o. record {
-      name = o.name;
-      version = o.version;
-      len = o.len;
-      code = o.code;
-      lost = o.lost.items;
-    }) b.names.items) };
+    ghost invariant = { λ b. (b.trimmed ≤ 2 ^ 63) × IsRising (map (λ e. record {
+      name = e.0;
+      version = e.1.version;
+      len = e.1.len;
+      code = e.1.code;
+      lost = e.1.lost.keys;
+    }) b.names.entries) };
 }
 
 impl Base {
@@ -75,28 +61,34 @@ impl Base {
         Base {
             trimmed: 0,
             puts: 0,
-            names: Vec::new(alloc),
+            names: BTreeMap::new(alloc),
         }
     }
 
-    /// The base after these calls more, which were made on a book of this width: it outlines the state after them, from each state that this base outlines
-    /// and from which they are legal.
+    /// Takes in these calls more, which were made on a book of this width: the base then outlines the state after them, from each state that it outlined
+    /// and from which they are legal. It looks at no name but theirs, and copies the lost pairs of no blob that they can't change.
     ///
-    /// `AllocError` where memory is refused.
-    pub fn after(&self, alloc: Global, entries: &[Entry], width: Width) -> Result<Base, AllocError>
-        requires room { self.now.trimmed + length entries.now ≤ 2 ^ 63 }
-        requires puts { self.now.puts ≤ self.now.trimmed }
-        ensures trimmed { IfOk result (λ b. b.trimmed ≡ self.now.trimmed + length entries.now) }
-        ensures puts { IfOk result (λ b. b.puts ≡ self.now.puts + count_by is_put entries.now) }
-        ensures outlines { IfOk result (λ b. (s : State) (h : History) → Outlines self.now s → IsLegalFrom width s h → map entry_of h ≡ entries.now → Outlines b (after_all s h)) }
+    /// `AllocError` where memory is refused, and then the base is as it was.
+    pub fn advance(
+        &mut self,
+        alloc: Global,
+        entries: &[Entry],
+        width: Width,
+    ) -> Result<(), AllocError>
+        requires room { self.old.trimmed + length entries.now ≤ 2 ^ 63 }
+        requires puts { self.old.puts ≤ self.old.trimmed }
+        ensures trimmed { OnOk result (self.new.trimmed ≡ self.old.trimmed + length entries.now) }
+        ensures puts { OnOk result (self.new.puts ≡ self.old.puts + count_by is_put entries.now) }
+        ensures outlines { OnOk result ((s : State) (h : History) → Outlines self.old s → IsLegalFrom width s h → map entry_of h ≡ entries.now → Outlines self.new (after_all s h)) }
+        ensures err { OnErr result (self.new ≡ self.old) }
     {
-        let mut replay = Replay::from_base(alloc, self, width)?;
-        replay.follow(alloc, entries)?;
-        let names = replay.outlines(alloc)?;
-        Ok(Base {
-            trimmed: self.trimmed + entries.len() as u64,
-            puts: self.puts + count_puts(entries),
-            names,
-        })
+        let mut part = Replay::part(alloc, &self.names, self.puts, entries, width)?;
+        part.take_in(alloc, entries)?;
+        make_room(alloc, &mut self.names, &part.names)?;
+        take_out(&mut self.names, &part.names, entries);
+        fill(&mut self.names, part.names);
+        self.trimmed += entries.len() as u64;
+        self.puts += count_puts(entries);
+        Ok(())
     }
 }

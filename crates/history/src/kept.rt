@@ -1,13 +1,13 @@
 //! What is kept of a blob, to know the replies.
 ghost use Rattle.std.specs.Prelude.{◌≡◌, ℕ, ◌+◌, ◌<◌, ◌≤◌, Some, IsTrue, IfOk};
 ghost use Rattle.std.specs.List.{list_any};
-ghost use Rattle.std.specs.List.Sorted.{IsStrictlySortedBy};
+ghost use Rattle.std.specs.BTreeSet.{IsOrdered};
 ghost use Rattle.lrc_code.specs.Code.{fragment_count, is_lost};
 ghost use Rattle.sealed.specs.Blob.{pair_cmp};
-ghost use Rattle.history.specs.Kept.{lost_of, seen_as, is_open_between, outline_kept, outline_seen};
+ghost use Rattle.history.specs.Kept.{lost_of, seen_as, is_open_between};
 ghost use Rattle.history.specs.Views.{no_such, open_test, open_in_range, read_reply, lose_reply, repair_reply, stat_reply};
 
-use crate::{Name, Note, Outline};
+use crate::Note;
 use lrc_code::{Code, LostSet, is_open_in};
 use sealed::{Width, count_stripes};
 use std::alloc::{AllocError, Global};
@@ -16,34 +16,23 @@ use std::collections::BTreeSet;
 /// A blob of a name, without its bytes.
 #[derive(Drop)]
 pub struct Kept {
+    /// The number of its put.
     pub version: u64,
+    /// How many bytes it has.
     pub len: u64,
+    /// The code that it is kept in.
     pub code: Code,
     /// The lost fragments: pairs of a stripe and a fragment.
     pub lost: BTreeSet<(u64, u8)>,
 }
 
 impl Kept {
-    /// What is kept of a blob that is outlined.
-    pub fn from_outline(alloc: Global, outline: &Outline) -> Result<Kept, AllocError>
-        requires { IsStrictlySortedBy pair_cmp outline.now.lost.items }
-        ensures { IfOk result (λ kept. outline_kept (outline.now.name, kept) ≡ outline_seen outline.now) }
+    /// A copy. Its lost pairs rise, as those of each set do.
+    pub(crate) fn duplicate(&self, alloc: Global) -> Result<Kept, AllocError>
+        ensures copy { IfOk result (λ kept. kept ≡ self.now) }
+        ensures rising { IsOrdered pair_cmp self.now.lost }
     {
         Ok(Kept {
-            version: outline.version,
-            len: outline.len,
-            code: outline.code,
-            lost: outline.lost.iter().copied().collect(alloc)?,
-        })
-    }
-
-    /// The outline of the blob under its name.
-    pub fn outline(&self, alloc: Global, name: &Name) -> Result<Outline, AllocError>
-        ensures outline { IfOk result (λ outline. outline_seen outline ≡ outline_kept (name.now, self.now)) }
-        ensures rising { IsStrictlySortedBy pair_cmp self.now.lost.keys }
-    {
-        Ok(Outline {
-            name: name.duplicate(),
             version: self.version,
             len: self.len,
             code: self.code,
@@ -116,7 +105,7 @@ impl Kept {
     }
 
     /// The reply to a read.
-    pub fn read(&self, width: Width, start: u64, len: u64) -> Note
+    pub(crate) fn read(&self, width: Width, start: u64, len: u64) -> Note
         ensures { result ≡ read_reply width (Some (seen_as self.now)) start len }
     {
         if start > self.len || len > self.len - start {
@@ -129,7 +118,7 @@ impl Kept {
     }
 
     /// The reply to a loss.
-    pub fn lose(&self, width: Width, stripe: u64, fragment: u64) -> Note
+    pub(crate) fn lose(&self, width: Width, stripe: u64, fragment: u64) -> Note
         ensures { result ≡ lose_reply width (Some (seen_as self.now)) stripe fragment }
     {
         if self.is_no_fragment(width, stripe, fragment) {
@@ -142,7 +131,7 @@ impl Kept {
     }
 
     /// The reply to a repair.
-    pub fn repair(&self, width: Width, stripe: u64, fragment: u64) -> Note
+    pub(crate) fn repair(&self, width: Width, stripe: u64, fragment: u64) -> Note
         ensures { result ≡ repair_reply width (Some (seen_as self.now)) stripe fragment }
     {
         if self.is_no_fragment(width, stripe, fragment) {
@@ -157,7 +146,7 @@ impl Kept {
     }
 
     /// The reply to a question for its shape.
-    pub fn stat(&self, width: Width) -> Note
+    pub(crate) fn stat(&self, width: Width) -> Note
         ensures { result ≡ stat_reply width (Some (seen_as self.now)) }
     {
         Note::Shape {

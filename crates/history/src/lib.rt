@@ -7,9 +7,11 @@ mod lawful;
 mod name;
 mod note;
 mod replay;
+mod settle;
 mod text;
 
-pub use base::{Base, Outline};
+pub use base::Base;
+pub use kept::Kept;
 pub use lawful::{is_lawful, is_lawful_from};
 pub use name::Name;
 pub use note::{Call, Entry, Note};

@@ -1,14 +1,17 @@
 //! The object of one thread without its bytes: what it replies to each call, and what is kept after it.
-ghost use Rattle.std.specs.Prelude.{◌≡◌, ◌≤◌, ◌+◌, ◌↔◌, IsTrue, IfOk, OnOk, map, replicate};
+ghost use Rattle.std.specs.Prelude.{◌≡◌, ◌≤◌, ◌+◌, ◌↔◌, IsTrue, IfOk, OnOk, None, cond, replicate};
 ghost use Rattle.std.specs.Option.{option_map};
+ghost use Rattle.std.specs.BTreeMap.{get};
 ghost use Rattle.sealed.specs.Layout.{stripe_count};
-ghost use Rattle.history.specs.Kept.{seen_as, views_of, outlines_of, outline_seen};
+ghost use Rattle.history.specs.Kept.{seen_as, views_of, outlines_of, PairsRise};
 ghost use Rattle.history.specs.Base.{IsRising};
+ghost use Rattle.history.specs.Names.{name_cmp};
+ghost use Rattle.history.specs.Parts.{changes_of, is_changed};
 ghost use Rattle.history.specs.Views.{read_reply, lose_reply, repair_reply, delete_reply, stat_reply, view_after, added, taken, changed, IsNoted, AreNoted, next, all_next};
 ghost use Rattle.history.specs.Step.{put};
 
 use crate::kept::Kept;
-use crate::{Base, Call, Entry, Name, Note, Outline};
+use crate::{Base, Call, Entry, Name, Note};
 use lrc_code::Code;
 use sealed::{Width, count_stripes};
 use std::alloc::{AllocError, Global};
@@ -31,9 +34,9 @@ impl Replay {
         ensures width { IfOk result (λ replay. replay.width ≡ width) }
     {
         let mut names = BTreeMap::new(alloc);
-        for outline in &base.names {
-            let kept = Kept::from_outline(alloc, outline)?;
-            let Ok(_) = names.insert(outline.name.duplicate(), kept) else {
+        for (name, kept) in &base.names {
+            let kept = kept.duplicate(alloc)?;
+            let Ok(_) = names.insert(name.duplicate(), kept) else {
                 return Err(AllocError);
             };
         }
@@ -44,16 +47,51 @@ impl Replay {
         })
     }
 
-    /// The outlines of the names, in order.
-    pub fn outlines(&self, alloc: Global) -> Result<Vec<Outline>, AllocError>
-        ensures names { IfOk result (λ outlines. map outline_seen outlines.items ≡ outlines_of self.now) }
-        ensures rising { IfOk result (λ outlines. IsRising (outlines_of self.now)) }
+    /// Of these names those that the entries can change, after so many puts. It copies no other name's blob.
+    pub fn part(
+        alloc: Global,
+        all: &BTreeMap<Name, Kept>,
+        puts: u64,
+        entries: &[Entry],
+        width: Width,
+    ) -> Result<Replay, AllocError>
+        ensures names { IfOk result (λ replay. (q : _) → get name_cmp replay.names q ≡ cond (is_changed entries.now q) (get name_cmp all.now q) None) }
+        ensures rising { IfOk result (λ replay. PairsRise replay.names) }
+        ensures puts { IfOk result (λ replay. replay.puts ≡ puts) }
+        ensures width { IfOk result (λ replay. replay.width ≡ width) }
     {
-        let mut outlines = Vec::new(alloc);
-        for (name, kept) in &self.names {
-            outlines.push(kept.outline(alloc, name)?)?;
+        let mut names = BTreeMap::new(alloc);
+        for entry in entries {
+            let name = entry.call.name();
+            if !entry.call.can_change() || names.contains_key(name) {
+                continue;
+            }
+            let Some(kept) = all.get(name) else {
+                continue;
+            };
+            let kept = kept.duplicate(alloc)?;
+            let Ok(_) = names.insert(name.duplicate(), kept) else {
+                return Err(AllocError);
+            };
         }
-        Ok(outlines)
+        Ok(Replay { names, puts, width })
+    }
+
+    /// Takes in those of the entries that can change something, up to the first of them whose note isn't the reply to its call. It looks at no other
+    /// entry.
+    pub fn take_in(&mut self, alloc: Global, entries: &[Entry]) -> Result<(), AllocError>
+        ensures views { OnOk result (AreNoted self.old.width (views_of self.old) (changes_of entries.now) → views_of self.new ≡ all_next (views_of self.old) (changes_of entries.now)) }
+        ensures rising { OnOk result (PairsRise self.old.names → PairsRise self.new.names) }
+    {
+        for entry in entries {
+            if entry.call.can_change() {
+                if !self.expects(entry) {
+                    return Ok(());
+                }
+                self.apply(alloc, entry)?;
+            }
+        }
+        Ok(())
     }
 
     /// Takes in entries, up to the first whose note isn't the reply to its call. Whether there was none such.
@@ -167,6 +205,7 @@ impl Replay {
     pub fn apply(&mut self, alloc: Global, entry: &Entry) -> Result<(), AllocError>
         requires { IsNoted self.old.width (views_of self.old) entry.now }
         ensures views { OnOk result (views_of self.new ≡ next (views_of self.old) entry.now) }
+        ensures rising { OnOk result (PairsRise self.old.names → PairsRise self.new.names) }
         ensures width { self.new.width ≡ self.old.width }
     {
         match &entry.call {
@@ -213,6 +252,7 @@ impl Replay {
     ) -> Result<(), AllocError>
         requires { version ≡ self.old.puts + 1 }
         ensures views { OnOk result (views_of self.new ≡ view_after (views_of self.old) (put name.now code (replicate len 0)) (Note.Stored version)) }
+        ensures rising { OnOk result (PairsRise self.old.names → PairsRise self.new.names) }
         ensures width { self.new.width ≡ self.old.width }
     {
         let kept = Kept {
@@ -231,6 +271,7 @@ impl Replay {
     /// A fragment of the name's blob is lost.
     fn add_lost(&mut self, name: &Name, stripe: u64, f: u8) -> Result<(), AllocError>
         ensures views { OnOk result (views_of self.new ≡ changed (views_of self.old) name.now ((views_of self.old).names name.now) (added stripe f)) }
+        ensures rising { OnOk result (PairsRise self.old.names → PairsRise self.new.names) }
         ensures width { self.new.width ≡ self.old.width }
     {
         let Some(kept) = self.names.get_mut(name) else {
@@ -245,6 +286,7 @@ impl Replay {
     /// A fragment of the name's blob is there again.
     fn take_lost(&mut self, name: &Name, stripe: u64, f: u8)
         ensures views { views_of self.new ≡ changed (views_of self.old) name.now ((views_of self.old).names name.now) (taken stripe f) }
+        ensures rising { PairsRise self.old.names → PairsRise self.new.names }
         ensures width { self.new.width ≡ self.old.width }
     {
         if let Some(kept) = self.names.get_mut(name) {

@@ -133,8 +133,10 @@ fn a_base_knows_what_was_lost(rt: HostRuntime) -> Result<(), Fail> {
         len: 12,
     };
     note(&mut entries, put, Note::Stored(1))?;
-    let stored = Base::empty(alloc).after(alloc, &entries, width)?;
-    let lost = stored.after(alloc, &first_loss(alloc, &name, Note::Lost(1))?, width)?;
+    let (mut stored, mut lost) = (Base::empty(alloc), Base::empty(alloc));
+    stored.advance(alloc, &entries, width)?;
+    lost.advance(alloc, &entries, width)?;
+    lost.advance(alloc, &first_loss(alloc, &name, Note::Lost(1))?, width)?;
     assert_eq!(rt; (lost.trimmed, lost.puts, lost.names.len()), (2, 1, 1));
     for (noted, first, again) in [
         (Note::Lost(1), true, false),
@@ -144,5 +146,28 @@ fn a_base_knows_what_was_lost(rt: HostRuntime) -> Result<(), Fail> {
         assert_eq!(rt; is_lawful_from(alloc, &stored, &entries, width)?, first);
         assert_eq!(rt; is_lawful_from(alloc, &lost, &entries, width)?, again);
     }
+    Ok(())
+}
+
+#[test]
+fn a_base_forgets_a_deleted_name(rt: HostRuntime) -> Result<(), Fail> {
+    let alloc = rt.alloc();
+    let (width, name) = (Width::new(1).expect(&rt, "a width"), Name::new("a")?);
+    let (mut base, mut stored, mut deleted) = (
+        Base::empty(alloc),
+        Vec::new(alloc),
+        Vec::new(alloc),
+    );
+    let put = Call::Put {
+        name: name.duplicate(),
+        code: Code::Wide,
+        len: 12,
+    };
+    note(&mut stored, put, Note::Stored(1))?;
+    base.advance(alloc, &stored, width)?;
+    assert_eq!(rt; (base.trimmed, base.puts, base.names.len()), (1, 1, 1));
+    note(&mut deleted, Call::Delete { name }, Note::Deleted(1))?;
+    base.advance(alloc, &deleted, width)?;
+    assert_eq!(rt; (base.trimmed, base.puts, base.names.len()), (2, 1, 0));
     Ok(())
 }

@@ -10,29 +10,32 @@ use Rattle.book.specs.Contents.{Contents}
 use Rattle.book.proofs.Trimming.{tells_trimmed}
 use Rattle.book.proofs.book.Book.trim.Goals as goal
 
-pub invariant_of-self : goal.invariant_of-self
-invariant_of-self c =
+pub invariant_of-self-2 : goal.invariant_of-self-2
+invariant_of-self-2 c =
     let n : ℕ = length c.entries.result.now - c.args.keep in
-    let entries : c.entries-2.result.now ≡ c.self.inside.journal.entries.items = c.entries-2.ensures ∙ sym (ap (λ (s : Contents). s.entries) c.self.view_is) in
-    let all = sum_by-take-drop (λ (e : Entry). cond (is_put e) 1 0) c.self.inside.journal.entries.items n in
+    let items = c.self-2.inside.journal.entries.items in
+    let entries : c.deref.result.now ≡ items = c.deref.ensures.value in
+    let all = sum_by-take-drop (λ (e : Entry). cond (is_put e) 1 0) items n in
     let first = ap (λ (es : List Entry). count_by is_put (take n es)) entries in
     let rest = ap (count_by is_put) c.give_up.ensures.entries in
-    let few = count_by-le-length is_put (take n c.entries-2.result.now) in
-    let taken = length-take n c.entries-2.result.now in (
-      omega (arith, c.self.invariant.0, c.in-Ok.ensures.puts, all, first, rest),
-      omega (arith, c.self.invariant.1, c.in-Ok.ensures.puts, c.in-Ok.ensures.trimmed, few),
-      omega (arith, c.in-Ok.ensures.trimmed, taken, c.if-self-count.false, ap (λ (b : Inside). b.base.trimmed) c.self-inside.view_is),
+    let few = count_by-le-length is_put (take n c.deref.result.now) in
+    let taken = length-take n c.deref.result.now in (
+      omega (arith, c.self-2.invariant.0, c.in-Ok.ensures.puts, all, first, rest),
+      omega (arith, c.self-2.invariant.1, c.in-Ok.ensures.puts, c.in-Ok.ensures.trimmed, few),
+      omega (arith, c.in-Ok.ensures.trimmed, taken, c.if-self-count.false, ap (λ (b : Inside). b.base.trimmed) c.self-inside.view_is, ap (λ (s : Contents). s.base.trimmed) c.self.view_is, ap (λ (s : Contents). s.base.trimmed) c.self-2.view_is),
     )
 
 pub returns-clause-told : goal.returns-clause-told
 returns-clause-told c =
     let n : ℕ = length c.entries.result.now - c.args.keep in
     let old : Contents = c.args.self.now in
-    let base : c.self.inside.base ≡ old.base = ap (λ (s : Contents). s.base) c.self.view_is in
-    let width : c.self.inside.width ≡ old.width = ap (λ (s : Contents). s.width) c.self.view_is in
-    let entries : c.self.inside.journal.entries.items ≡ old.entries = ap (λ (s : Contents). s.entries) c.self.view_is in
+    let base : c.self-2.inside.base ≡ old.base = ap (λ (s : Contents). s.base) c.self-2.view_is in
+    let width : c.self-2.inside.width ≡ old.width = ap (λ (s : Contents). s.width) c.self-2.view_is in
+    let entries : c.self-2.inside.journal.entries.items ≡ old.entries = ap (λ (s : Contents). s.entries) c.self-2.view_is in
     let few : n ≤ length old.entries = omega (arith, ap (λ (es : List Entry). length es) c.entries.ensures) in
-    let all : n ≤ length c.entries-2.result.now = omega (arith, few, ap (λ (es : List Entry). length es) c.entries-2.ensures) in
+    let given : c.deref.result.now ≡ old.entries = c.deref.ensures.value ∙ entries in
+    let all : n ≤ length c.deref.result.now = omega (arith, few, ap (λ (es : List Entry). length es) given) in
     tells_trimmed old _ n few
-    (λ s g outlined legal is. c.in-Ok.ensures.outlines s g (subst (λ (b : Checkpoint). Outlines b s) (sym base) outlined) (subst (λ w. IsLegalFrom w s g) (sym width) legal) (is ∙ ap (take n) (sym c.entries-2.ensures)))
-    (omega (arith, c.in-Ok.ensures.trimmed, ap (λ (b : Checkpoint). b.trimmed) base, length-take-le n c.entries-2.result.now all)) (c.give_up.ensures.entries ∙ ap (drop n) entries) width (ap (λ (s : Contents). s.catalogue) c.self.view_is)
+    (λ s g outlined legal is. c.in-Ok.ensures.outlines s g (subst (λ (b : Checkpoint). Outlines b s) (sym base) outlined) (subst (λ w. IsLegalFrom w s g) (sym width) legal) (is ∙ ap (take n) (sym given)))
+    (omega (arith, c.in-Ok.ensures.trimmed, ap (λ (b : Checkpoint). b.trimmed) base, length-take-le n c.deref.result.now all)) (c.give_up.ensures.entries ∙ ap (drop n) entries) width
+    (ap (λ (s : Contents). s.catalogue) c.self-2.view_is)

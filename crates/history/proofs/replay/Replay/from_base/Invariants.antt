@@ -1,6 +1,5 @@
-use Rattle.std.proofs.Common.{◌≡◌, map, take}
-use Rattle.history.specs.Kept.{outline_kept, outline_seen}
+use Rattle.std.proofs.Common.{◌≡◌, ◌++◌}
 use Rattle.history.proofs.replay.Replay.from_base.Given as goal
 
-abbrev pub invariant-loop-outline : goal.invariant-loop-outline
-invariant-loop-outline l = map outline_kept l.names.entries ≡ take l.outline-index (map outline_seen l.base-inside.names.items)
+abbrev pub invariant-loop-name : goal.invariant-loop-name
+invariant-loop-name l = l.names.entries ++ l.name-iterator ≡ l.base-inside.names.entries

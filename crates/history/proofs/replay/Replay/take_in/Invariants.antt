@@ -1,0 +1,14 @@
+use Rattle.std.proofs.Common.{◌≡◌, drop}
+use Rattle.history.specs.Kept.{views_of, PairsRise}
+use Rattle.history.specs.Parts.{changes_of}
+use Rattle.history.specs.Views.{AreNoted, all_next}
+use Rattle.history.proofs.replay.Replay.take_in.Given as goal
+
+-- where the changes are noted rightly, those that are left are, from what is kept on, and both leave the same
+abbrev pub invariant-loop-entry : goal.invariant-loop-entry
+invariant-loop-entry l = record {
+  width : l.self.width ≡ l.fn.self.width;
+  noted : AreNoted l.fn.self.width (views_of l.fn.self) (changes_of l.entries) → AreNoted l.fn.self.width (views_of l.self) (changes_of (drop l.entry-index l.entries));
+  views : all_next (views_of l.fn.self) (changes_of l.entries) ≡ all_next (views_of l.self) (changes_of (drop l.entry-index l.entries));
+  rising : PairsRise l.fn.self.names → PairsRise l.self.names;
+}

@@ -1,0 +1,95 @@
+//! Carrying what a replay of part of a base's names left into the base. Only making room can fail, and then the names are as they were.
+ghost use Rattle.std.specs.Prelude.{◌≡◌, ◌&&◌, not, true, None, Some, cond, OnOk, OnErr, IfOk, IsSome};
+ghost use Rattle.std.specs.Option.{is_some, option_or};
+ghost use Rattle.std.specs.BTreeMap.{get, IsOrdered};
+ghost use Rattle.history.specs.Names.{name_cmp};
+ghost use Rattle.history.specs.Parts.{has_name, is_changed};
+
+use crate::{Entry, Kept, Name};
+use lrc_code::Code;
+use std::alloc::{AllocError, Global};
+use std::collections::{BTreeMap, BTreeSet};
+
+/// The names of the part that aren't there.
+fn absent(
+    alloc: Global,
+    names: &BTreeMap<Name, Kept>,
+    part: &BTreeMap<Name, Kept>,
+) -> Result<Vec<Name>, AllocError>
+    ensures { IfOk result (λ fresh. (q : _) → has_name fresh.items q ≡ (is_some (get name_cmp part.now q) && not (is_some (get name_cmp names.now q)))) }
+{
+    let mut fresh = Vec::new(alloc);
+    for (name, _) in part {
+        if !names.contains_key(name) {
+            fresh.push(name.duplicate())?;
+        }
+    }
+    Ok(fresh)
+}
+
+/// Takes these names out.
+fn withdraw(names: &mut BTreeMap<Name, Kept>, gone: &[Name])
+    ensures names { (q : _) → get name_cmp names.new q ≡ cond (has_name gone.now q) None (get name_cmp names.old q) }
+    ensures ordered { IsOrdered name_cmp names.old → IsOrdered name_cmp names.new }
+{
+    for name in gone {
+        names.remove(name);
+    }
+}
+
+/// Makes a place for each name of the part that isn't there. What the other names have stays.
+///
+/// `AllocError` where memory is refused, and then the names are as they were.
+pub fn make_room(
+    alloc: Global,
+    names: &mut BTreeMap<Name, Kept>,
+    part: &BTreeMap<Name, Kept>,
+) -> Result<(), AllocError>
+    requires { IsOrdered name_cmp names.old }
+    ensures placed { OnOk result ((q : _) → IsSome (get name_cmp part.now q) → IsSome (get name_cmp names.new q)) }
+    ensures others { OnOk result ((q : _) → get name_cmp part.now q ≡ None → get name_cmp names.new q ≡ get name_cmp names.old q) }
+    ensures ordered { IsOrdered name_cmp names.new }
+    ensures err { OnErr result (names.new.entries ≡ names.old.entries) }
+{
+    let fresh = absent(alloc, names, part)?;
+    for name in &fresh {
+        let place = Kept {
+            version: 0,
+            len: 0,
+            code: Code::Wide,
+            lost: BTreeSet::new(alloc),
+        };
+        let Ok(_) = names.insert(name.duplicate(), place) else {
+            withdraw(names, &fresh);
+            return Err(AllocError);
+        };
+    }
+    Ok(())
+}
+
+/// Takes out the names that the entries can have changed and that the part doesn't have.
+pub fn take_out(names: &mut BTreeMap<Name, Kept>, part: &BTreeMap<Name, Kept>, entries: &[Entry])
+    ensures names { (q : _) → get name_cmp names.new q ≡ cond (is_changed entries.now q && not (is_some (get name_cmp part.now q))) None (get name_cmp names.old q) }
+    ensures ordered { IsOrdered name_cmp names.old → IsOrdered name_cmp names.new }
+{
+    for entry in entries {
+        let name = entry.call.name();
+        if !entry.call.can_change() || part.contains_key(name) {
+            continue;
+        }
+        names.remove(name);
+    }
+}
+
+/// Gives each name of the part what it has there. It has its place already, so no memory is asked for.
+pub fn fill(names: &mut BTreeMap<Name, Kept>, mut part: BTreeMap<Name, Kept>)
+    requires { (q : _) → IsSome (get name_cmp part q) → IsSome (get name_cmp names.old q) }
+    ensures names { (q : _) → get name_cmp names.new q ≡ option_or (get name_cmp part q) (get name_cmp names.old q) }
+    ensures ordered { IsOrdered name_cmp names.old → IsOrdered name_cmp names.new }
+{
+    while let Some((name, kept)) = part.pop_first() {
+        let Ok(_) = names.insert(name, kept) else {
+            unreachable!()
+        };
+    }
+}
