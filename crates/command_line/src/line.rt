@@ -1,4 +1,6 @@
 //! What the command line says.
+ghost use Rattle.std.specs.Prelude.{◌≡◌};
+ghost use Rattle.command_line.specs.declared.line.BadLine.TheVariants.{NoMemory};
 
 use clap::Error;
 use std::alloc::AllocError;
@@ -28,6 +30,8 @@ pub enum BadLine {
 }
 
 impl From<AllocError> for BadLine {
+    ghost from_gives = { λ _ refusal. refusal ≡ NoMemory };
+
     fn from(_error: AllocError) -> BadLine {
         BadLine::NoMemory
     }

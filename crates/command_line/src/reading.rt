@@ -1,6 +1,9 @@
 //! Reading the command line.
 
-ghost use Rattle.std.specs.Prelude.{◌≡◌, ◌≤◌, IfOk, MatchOption};
+ghost use Rattle.std.specs.Prelude.{◌≡◌, IfErr, IfOk, MatchOption, Some, false, map};
+ghost use Rattle.clap.specs.Words.{app_of, found_of, rows_of, rule_of};
+ghost use Rattle.command_line.specs.Line.{Says, Refuses, number_of, refusal_of};
+ghost use Rattle.command_line.specs.Program.{history_rule, number_rule, program, script_rule};
 ghost use Rattle.command_line.specs.Ranges.{InRange};
 
 use crate::help::{ABOUT, MORE};
@@ -23,11 +26,34 @@ const MAX_LIMIT: u32 = 1_048_576;
 const VERSION: &str = "0.1.0";
 
 /// An error of `clap`, from which want of memory is told apart.
-fn refused(error: Error) -> BadLine {
+fn refused(error: Error) -> BadLine
+    ensures { result ≡ refusal_of error }
+{
     match error.kind() {
         ErrorKind::OutOfMemory => BadLine::NoMemory,
         _ => BadLine::Clap(error),
     }
+}
+
+/// The script, which has to be there.
+fn script_argument<'a>(alloc: Global) -> Arg<'a>
+    ensures rule { rule_of result ≡ script_rule }
+    ensures local { result.global ≡ false }
+{
+    Arg::new(alloc, "SCRIPT")
+        .required(true)
+        .help("the script's file, or /dev/stdin")
+}
+
+/// Whether the history is printed.
+fn history_option<'a>(alloc: Global) -> Arg<'a>
+    ensures rule { rule_of result ≡ history_rule }
+    ensures local { result.global ≡ false }
+{
+    Arg::new(alloc, "history")
+        .long("history")
+        .action(ArgAction::SetTrue)
+        .help("print the journal: each call and its reply")
 }
 
 /// An option with a number from 1 to `most`.
@@ -38,7 +64,10 @@ fn number_option<'a>(
     most: u32,
     default: &'a str,
     help: &'a str,
-) -> Arg<'a> {
+) -> Arg<'a>
+    ensures rule { rule_of result ≡ number_rule id.entry.now most default.entry.now }
+    ensures local { result.global ≡ false }
+{
     Arg::new(alloc, id)
         .long(id)
         .value_name(value_name)
@@ -48,10 +77,9 @@ fn number_option<'a>(
 }
 
 /// The program's command.
-fn command<'a>(alloc: Global) -> Result<Command<'a>, AllocError> {
-    let script = Arg::new(alloc, "SCRIPT")
-        .required(true)
-        .help("the script's file, or /dev/stdin");
+fn command<'a>(alloc: Global) -> Result<Command<'a>, AllocError>
+    ensures { IfOk result (λ command. app_of command ≡ program) }
+{
     let width = number_option(
         alloc,
         "width",
@@ -76,26 +104,23 @@ fn command<'a>(alloc: Global) -> Result<Command<'a>, AllocError> {
         "4096",
         "most entries of the journal, 1 to 1048576",
     );
-    let history = Arg::new(alloc, "history")
-        .long("history")
-        .action(ArgAction::SetTrue)
-        .help("print the journal: each call and its reply");
     let command = Command::new(alloc, "lrcstore")
         .no_binary_name(true)
         .version(VERSION)
         .about(ABOUT)
         .after_help(MORE)
-        .arg(script)?
+        .arg(script_argument(alloc))?
         .arg(width)?
         .arg(workers)?
         .arg(limit)?
-        .arg(history)?;
+        .arg(history_option(alloc))?;
     Ok(command)
 }
 
 /// The number of an option, where it is from 1 to `most`.
 fn number(matches: &ArgMatches, id: &str, most: u32) -> Option<u32>
-    ensures { MatchOption result (Unit {0}) (λ n. InRange n most) }
+    ensures range { MatchOption result (Unit {0}) (λ n. InRange n most) }
+    ensures value { MatchOption result (Unit {0}) (λ n. number_of id.now (rows_of (found_of matches.now)) ≡ Some n) }
 {
     let n = matches.get_one::<u32>(id)?;
     if 1 <= n && n <= most { Some(n) } else { None }
@@ -105,9 +130,12 @@ fn number(matches: &ArgMatches, id: &str, most: u32) -> Option<u32>
 /// J from 1 to 1,048,576; without them 1, 1 and 4,096. The parser has tested that the numbers lie in their ranges; they are tested once more here, so
 /// that what a caller gets is proved to.
 ///
-/// `BadLine::Clap` has the text that `clap` prints for a line that it refuses, or for `--help` or `--version`.
+/// `BadLine::Clap` has the text that `clap` prints, and comes only for a line that it refuses, or for `--help` or `--version`. Any line can be answered by
+/// `NoMemory`, where memory is refused.
 pub fn options<'a>(alloc: Global, words: &'a [&'a str]) -> Result<Options, BadLine>
-    ensures { IfOk result (λ options. InRange options.width 65536 × InRange options.workers 16 × InRange options.limit 1048576) }
+    ensures ranges { IfOk result (λ options. InRange options.width 65536 × InRange options.workers 16 × InRange options.limit 1048576) }
+    ensures said { IfOk result (Says (map (λ w. w.now) words.entry.now)) }
+    ensures refused { IfErr result (Refuses (map (λ w. w.now) words.entry.now)) }
 {
     let matches = match command(alloc)?.try_get_matches_from(words) {
         Ok(matches) => matches,
@@ -119,6 +147,7 @@ pub fn options<'a>(alloc: Global, words: &'a [&'a str]) -> Result<Options, BadLi
         number(&matches, "workers", MAX_WORKERS),
         number(&matches, "limit", MAX_LIMIT),
     ) else {
+        // A line that the parser takes has all four.
         return Err(BadLine::NoMemory);
     };
     Ok(Options {

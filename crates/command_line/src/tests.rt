@@ -1,7 +1,7 @@
 use crate::{BadLine, Options, options};
 use std::test::Fail;
 
-/// The script and the number of workers, and nothing for a line that is refused.
+/// What a line says, and nothing for one that is refused.
 fn said(rt: &HostRuntime, words: &[&str]) -> Option<Options> {
     match options(rt.alloc(), words) {
         Ok(options) => Some(options),
@@ -30,7 +30,20 @@ fn lines(rt: HostRuntime) -> Result<(), Fail> {
     assert_eq!(rt; all.limit, 3);
     assert!(rt; all.history);
     assert!(rt; !plain.history);
-    assert_eq!(rt; plain.limit, 4096);
+    assert_eq!(rt; (plain.width, plain.limit), (1, 4096));
+    let greatest = said(
+        &rt,
+        &[
+            "script.csv",
+            "--width=65536",
+            "--workers=16",
+            "--limit=1048576",
+        ],
+    )
+    .expect(&rt, "the greatest numbers");
+    assert_eq!(rt; greatest.width, 65_536);
+    assert_eq!(rt; greatest.workers, 16);
+    assert_eq!(rt; greatest.limit, 1_048_576);
     assert!(rt; is_refused(&rt, &[]));
     assert!(rt; is_refused(&rt, &["script.csv", "--workers", "0"]));
     assert!(rt; is_refused(&rt, &["script.csv", "--workers", "17"]));

@@ -1,13 +1,14 @@
 -- Pieces that a walk gave so far.
-use Rattle.std.proofs.Common.{◌≡◌, ℕ, ◌<◌, List, [], ◌∷◌, ◌++◌, Option, None, Some, length, refl, sym, ap, ◌∙◌, subst, arith, append_assoc, append-nil}
+use Rattle.std.proofs.Common.{◌≡◌, ℕ, ◌<◌, ◌||◌, Bool, true, false, List, [], ◌∷◌, ◌++◌, Option, None, Some, Result, Ok, Err, length, refl, sym, ap, ◌∙◌, subst, arith, append_assoc, append-nil, length-append}
+use Rattle.std.specs.Prelude.{OnErr}
 use Rattle.sealed.specs.declared.value.Sealed.{Sealed}
 use Rattle.sealed.specs.Blob.{Lost}
-use Rattle.sealed.specs.Sealed.{StandsFor}
+use Rattle.sealed.specs.Sealed.{StandsFor, absent_in}
 use Rattle.lent.specs.declared.part.Part.{Part}
 use Rattle.lent.specs.declared.piece.Piece.{Piece}
 use Rattle.lent.specs.Ahead.{Ahead}
 use Rattle.lent.specs.Pieces.{IsPieceOf, bytes_of, joined}
-use Rattle.lent.specs.Walk.{Gives, IsStep, Joins, ArePieces, bytes_ahead}
+use Rattle.lent.specs.Walk.{Gives, IsStep, IsAbsent, HasAbsent, Joins, ArePieces, bytes_ahead}
 
 are_more : (s : Sealed) (done : List Part) (pieces : List Piece) (part : Part) (piece : Piece) → ArePieces s done pieces → IsPieceOf s part piece → ArePieces s (done ++ part ∷ []) (pieces ++ piece ∷ [])
 are_more s [] [] part piece are is = (is, tt)
@@ -62,3 +63,36 @@ all_pieces first now pieces collects none =
 pub all_bytes : (first now : Ahead) (pieces : List Piece) → Collects first now pieces → now.parts ≡ [] → (b : List ℕ) (lost : Lost) → StandsFor first.sealed b lost → joined pieces ≡ bytes_ahead first b
 all_bytes first now pieces collects none b lost stands =
     sym (append-nil (joined pieces)) ∙ ap (λ xs. joined pieces ++ xs) (sym (nothing_ahead now none b)) ∙ collects.bytes b lost stands
+
+-- ---- why there was no memory
+pub on_err : {A E : Type 0} (r : Result A E) {P : Type 0} → P → OnErr r P
+on_err (Ok a) p = tt
+on_err (Err e) p = p
+
+or_right : (a b : Bool) → b ≡ true → (a || b) ≡ true
+or_right true b e = refl
+or_right false b e = e
+
+first_absent : (s : Sealed) (parts : List Part) → IsAbsent s parts → HasAbsent s parts
+first_absent s [] absent = absurd absent
+first_absent s (part ∷ parts) absent = rw absent refl
+
+absent_behind : (s : Sealed) (done rest : List Part) → HasAbsent s rest → HasAbsent s (done ++ rest)
+absent_behind s [] rest has = has
+absent_behind s (part ∷ done) rest has = or_right (absent_in s part.stripe part.fragment) _ (absent_behind s done rest has)
+
+-- what is absent ahead is absent in the range
+pub absent_ahead : (first now : Ahead) (pieces : List Piece) → Collects first now pieces → IsAbsent now.sealed now.parts → HasAbsent first.sealed first.parts
+absent_ahead first now pieces collects absent =
+    subst (HasAbsent first.sealed) collects.rest (absent_behind first.sealed collects.done now.parts (first_absent first.sealed now.parts (subst (λ s. IsAbsent s now.parts) collects.same absent)))
+
+length_of_pieces : (s : Sealed) (parts : List Part) (pieces : List Piece) → ArePieces s parts pieces → length pieces ≡ length parts
+length_of_pieces s [] [] are = refl
+length_of_pieces s [] (piece ∷ pieces) are = absurd are
+length_of_pieces s (part ∷ parts) [] are = absurd are
+length_of_pieces s (part ∷ parts) (piece ∷ pieces) are = let same = length_of_pieces s parts pieces are.1 in omega arith
+
+-- a piece more than there were is of a part more
+pub one_part_more : (first old new : Ahead) (pieces : List Piece) (piece : Piece) → Collects first old pieces → Gives old new piece → length pieces < length first.parts
+one_part_more first old new pieces piece collects gives =
+    omega (arith, length_of_pieces first.sealed collects.done pieces collects.are, ap length collects.rest, ap length gives.next, length-append collects.done old.parts)

@@ -1,9 +1,10 @@
 -- Walks: what lies ahead, and what a step gives.
-use Rattle.std.specs.Prelude.{◌≡◌, ℕ, List, [], ◌∷◌, ◌++◌, map, Option, None, Some, slice_index_or}
+use Rattle.std.specs.Prelude.{◌≡◌, ℕ, true, List, [], ◌∷◌, ◌++◌, map, Option, None, Some, slice_index_or}
+use Rattle.std.specs.List.{list_any}
 use Rattle.sealed.specs.declared.value.Sealed.{Sealed}
 use Rattle.sealed.specs.Stripes.{fragment_at}
 use Rattle.sealed.specs.Blob.{Lost}
-use Rattle.sealed.specs.Sealed.{StandsFor}
+use Rattle.sealed.specs.Sealed.{StandsFor, absent_in}
 use Rattle.lent.specs.declared.part.Part.{Part}
 use Rattle.lent.specs.declared.piece.Piece.{Piece}
 use Rattle.lent.specs.Cut.{all_numbers}
@@ -26,6 +27,10 @@ IsStep old new (Some piece) = Gives old new piece
 abbrev pub IsAbsent : Sealed → List Part → Type 0
 IsAbsent s [] = ⊥
 IsAbsent s (part ∷ parts) = fragment_at s.stripes part.stripe part.fragment ≡ None
+
+-- the fragment of some part is absent
+abbrev pub HasAbsent : Sealed → List Part → Type 0
+HasAbsent s parts = list_any (λ part. absent_in s part.stripe part.fragment) parts ≡ true
 
 -- the bytes of b that lie ahead
 abbrev pub bytes_ahead : Ahead → List ℕ → List ℕ

@@ -2,3 +2,4 @@ pub mod Numbers
 pub mod Names
 pub mod Fields
 pub mod Script
+pub mod Text

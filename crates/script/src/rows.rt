@@ -1,8 +1,8 @@
 //! The rows of a script, and why one is refused.
 
 use shared::Ask;
+use std::error::Error;
 use std::fmt;
-use thiserror::Error;
 
 /// What a row asks for.
 #[derive(Drop)]
@@ -45,7 +45,13 @@ pub enum Word {
     Mend,
 }
 
+/// The word, in small letters.
 impl fmt::Display for Word {
+    ghost use Rattle.std.specs.Prelude.{Some};
+    ghost use Rattle.script.specs.Text.{word_text};
+
+    ghost output = { λ word. Some (word_text word) };
+
     fn fmt<W: fmt::Write>(&self, f: &mut fmt::Formatter<W>) -> fmt::Result {
         f.write_str(match self {
             Word::Rows => "rows",
@@ -61,10 +67,9 @@ impl fmt::Display for Word {
 }
 
 /// Why a script is refused.
-#[derive(Clone, Copy, PartialEq, Eq, Debug, Error)]
+#[derive(Clone, Copy, PartialEq, Eq, Debug)]
 pub enum BadScript {
     /// A row is refused.
-    #[error("row {row}: {word}")]
     Refused {
         /// Its number, from 1.
         row: u32,
@@ -72,9 +77,25 @@ pub enum BadScript {
         word: Word,
     },
     /// A request for memory was refused.
-    #[error("out of memory")]
     NoMemory,
 }
+
+/// The number of the row and its word, as `row 2: fields`, or `out of memory`.
+impl fmt::Display for BadScript {
+    ghost use Rattle.std.specs.Prelude.{Some};
+    ghost use Rattle.script.specs.Text.{refusal_text};
+
+    ghost output = { λ error. Some (refusal_text error) };
+
+    fn fmt<W: fmt::Write>(&self, f: &mut fmt::Formatter<W>) -> fmt::Result {
+        match self {
+            BadScript::Refused { row, word } => write!(f, "row {row}: {word}"),
+            BadScript::NoMemory => f.write_str("out of memory"),
+        }
+    }
+}
+
+impl Error for BadScript {}
 
 /// The operations of a script.
 #[derive(Clone, Copy, PartialEq, Eq, Debug)]

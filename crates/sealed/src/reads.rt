@@ -1,5 +1,5 @@
 //! What is read of a sealed blob.
-ghost use Rattle.std.specs.Prelude.{◌≡◌, ◌<◌, ℕ};
+ghost use Rattle.std.specs.Prelude.{◌≡◌, ◌<◌, ◌≤◌, ℕ, false};
 ghost use Rattle.std.specs.Option.{option_map};
 ghost use Rattle.lrc_code.specs.Code.{fragment_count, is_lost};
 ghost use Rattle.lrc_code.specs.Stripe.{slot};
@@ -59,14 +59,15 @@ impl Sealed {
         }
     }
 
-    /// The fragments that are absent in a stripe.
+    /// The fragments that are absent in a stripe. The set has no number past those of the code.
     pub fn lost(&self, stripe: u64) -> LostSet
         requires { stripe < stripe_count self.now.code self.now.width self.now.len }
-        ensures { (f : ℕ) → f < fragment_count self.now.code → is_lost result f ≡ absent_in self.now stripe f }
+        ensures absent { (f : ℕ) → f < fragment_count self.now.code → is_lost result f ≡ absent_in self.now stripe f }
+        ensures inside { (f : ℕ) → fragment_count self.now.code ≤ f → is_lost result f ≡ false }
     {
         let kept = self.stripes.at(stripe as usize);
         let mut lost = LostSet::empty();
-        for f in 0..16u8 {
+        for f in 0..self.code.fragments() {
             if kept.fragments[usize::from(f)].is_none() {
                 lost = lost.with(f);
             }

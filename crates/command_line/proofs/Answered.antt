@@ -1,0 +1,40 @@
+-- What the parser's answer says of the words.
+use Rattle.std.proofs.Common.{◌≡◌, ◌⊎◌, ◌∙◌, ℕ, List, Option, Some, None, Result, Ok, true, inl, inr, refl, sym, ap, subst}
+use Rattle.std.specs.Prelude.{option_map}
+use Rattle.std.specs.Str.Parse.{ParsesUnsigned, digits_value, without_leading_plus}
+use Rattle.clap.specs.Words.{HasKind, IsAmong, ReadsOne, Text, fault_of, is_simple, is_simple_and_free, kind_of, one_text, rows_of}
+use Rattle.clap.specs.declared.error.Error.{Error}
+use Rattle.clap.specs.declared.error.kind.ErrorKind.{ErrorKind}
+use Rattle.clap.specs.declared.error.kind.ErrorKind.TheVariants as kind
+use Rattle.clap.specs.declared.parser.matches.Found.{Found}
+use Rattle.clap.proofs.OnLiterals.{clap_on_literals}
+use Rattle.clap.proofs.WalkLemmas.{one_text-rows}
+use Rattle.command_line.specs.Line.{Refuses, number_of, refusal_by, refusal_of}
+use Rattle.command_line.specs.Program.{program}
+
+-- `clap` says exactly what it finds in the words of this command, and for what it refuses them
+pub program_is_simple : is_simple program ≡ true
+unfolding program clap_on_literals
+program_is_simple = refl
+
+pub program_is_free : is_simple_and_free program ≡ true
+unfolding program clap_on_literals
+program_is_free = refl
+
+-- a number that was read is that of its text
+pub number_read : {E : Type 0} (G : List ℕ → Result ℕ E → Type 0) (k : ℕ) (found : Found) (id : Text) (n : ℕ) → ((t : List ℕ) (r : Result ℕ E) → G t r → ParsesUnsigned k 10 t r)
+    → (one_text found id ≡ None → Some n ≡ None) → ((t : List ℕ) → one_text found id ≡ Some t → ReadsOne G t (Some n)) → number_of id (rows_of found) ≡ Some n
+number_read {E} G k found id n parses none value = ap (option_map (λ text. digits_value 10 (without_leading_plus text))) (sym (one_text-rows found id)) ∙ go (one_text found id) refl
+  where
+    go : (o : Option Text) → one_text found id ≡ o → option_map (λ text. digits_value 10 (without_leading_plus text)) o ≡ Some n
+    go None is = cc (none is)
+    go (Some t) is = ap Some (sym ((parses t (Ok n) (value t is)).1))
+
+-- what is refused by `clap` is refused for what `clap` refuses it for
+pub refuses : (words : List Text) (error : Error) → HasKind (fault_of program words) error → Refuses words (refusal_of error)
+refuses words error has = go (kind_of error) refl has
+  where
+    go : (k : ErrorKind) → kind_of error ≡ k → (k ≡ kind.OutOfMemory) ⊎ IsAmong k (fault_of program words) → Refuses words (refusal_by k error)
+    go kind.OutOfMemory is h = tt
+    go k is (inl memory) = cc
+    go k is (inr among) = subst (λ j. IsAmong j (fault_of program words)) (sym is) among

@@ -1,0 +1,42 @@
+-- What the words after the program's name say.
+use Rattle.std.specs.Prelude.{◌≡◌, ℕ, List, [], Option, Some, true, false, codes, option_map, string_bytes}
+use Rattle.std.specs.Str.Parse.{digits_value, without_leading_plus}
+use Rattle.clap.specs.Words.{IsAmong, Row, Text, fault_of, first_of, kind_of, matches_of, one_of}
+use Rattle.clap.specs.declared.error.Error.{Error}
+use Rattle.clap.specs.declared.error.kind.ErrorKind.{ErrorKind}
+use Rattle.clap.specs.declared.error.kind.ErrorKind.TheVariants as kind
+use Rattle.command_line.specs.declared.line.BadLine.{BadLine}
+use Rattle.command_line.specs.declared.line.BadLine.TheVariants.{Clap, NoMemory}
+use Rattle.command_line.specs.declared.line.Options.{Options}
+use Rattle.command_line.specs.Program.{program}
+
+-- the number that an option was given, or has by default
+abbrev pub number_of : Text → List Row → Option ℕ
+number_of id found = option_map (λ text. digits_value 10 (without_leading_plus text)) (one_of id found)
+
+-- the options are those that were found
+pub record AreFound (found : List Row) (options : Options) : Type 0 where
+  pub script : first_of (codes "SCRIPT") found ≡ Some (string_bytes options.script)
+  pub width : number_of (codes "width") found ≡ Some options.width
+  pub workers : number_of (codes "workers") found ≡ Some options.workers
+  pub limit : number_of (codes "limit") found ≡ Some options.limit
+  pub history : one_of (codes "history") found ≡ Some (codes "true") → options.history ≡ true
+  pub no_history : one_of (codes "history") found ≡ Some (codes "false") → options.history ≡ false
+
+-- the words are taken, and say this
+pub record Says (words : List Text) (options : Options) : Type 0 where
+  pub taken : fault_of program words ≡ []
+  pub found : AreFound (matches_of program words) options
+
+-- an error of `clap`, from which want of memory is told apart
+abbrev pub refusal_by : ErrorKind → Error → BadLine
+refusal_by kind.OutOfMemory error = NoMemory
+refusal_by _ error = Clap error
+
+abbrev pub refusal_of : Error → BadLine
+refusal_of error = refusal_by (kind_of error) error
+
+-- what the words are refused for is what `clap` refuses them for; or memory ran out
+abbrev pub Refuses : List Text → BadLine → Type 0
+Refuses words (Clap error) = IsAmong (kind_of error) (fault_of program words)
+Refuses words NoMemory = Unit {0}
