@@ -163,6 +163,15 @@ static void isal_global(long n) {
     static void v##_encode_to(long n) {                                                                                   \
         v##_timed_encode_to(stripe, DATA, made[0], width, made[1], width, made[2], width, made[3], width, n);             \
     }                                                                                                                     \
+    static void v##_encode_malloc(long n) {                                                                               \
+        for (long j = 0; j < n; j++) {                                                                                    \
+            uint8_t *p[4];                                                                                                \
+            for (int i = 0; i < 4; i++) p[i] = malloc(width);                                                             \
+            v##_timed_encode_to(stripe, DATA, p[0], width, p[1], width, p[2], width, p[3], width, 1);                     \
+            use(p);                                                                                                       \
+            for (int i = 0; i < 4; i++) free(p[i]);                                                                       \
+        }                                                                                                                 \
+    }                                                                                                                     \
     static void v##_encode(long n) { seen = v##_timed_encode(stripe, DATA, width, n); }                                   \
     static void v##_encode_joined(long n) { seen = v##_timed_encode_joined(stripe, DATA, width, n); }                     \
     static void v##_local_kernel(long n) { v##_timed_combine(made[0], width, ones, 6, group, 6, n); }                     \
@@ -186,7 +195,8 @@ typedef struct {
 
 #define ROW(name, call, base) {name, call, base, 0, {0}}
 #define ENCODE(v)                                                                                                         \
-    ROW(#v " encode_to", v##_encode_to, 1), ROW(#v " encode", v##_encode, 2), ROW(#v " encode_joined", v##_encode_joined, 2)
+    ROW(#v " encode_to", v##_encode_to, 1), ROW(#v " encode_to, malloc", v##_encode_malloc, 2),                            \
+        ROW(#v " encode", v##_encode, 2), ROW(#v " encode_joined", v##_encode_joined, 2)
 #define REBUILD(v, work)                                                                                                  \
     ROW(#v " combine_lists", v##_##work##_kernel, 1), ROW(#v " rebuild_to", v##_##work##_to, 1),                          \
         ROW(#v " rebuild", v##_##work, 2), ROW(#v " Plans::rebuild", v##_##work##_kept, 2)
@@ -205,13 +215,13 @@ static double now(void) {
     return t.tv_sec + 1e-9 * t.tv_nsec;
 }
 
-// The time of one call. ISA-L's AVX-512 code leaves the upper halves of registers in use, which slows down what follows.
+// The time of `reps` calls. ISA-L's AVX-512 code leaves the upper halves of registers in use, which slows down what follows.
 static double time_of(Row *row, long reps) {
     double start = now();
     row->call(reps);
     double taken = now() - start;
     __asm__ volatile("vzeroupper");
-    return taken / reps;
+    return taken;
 }
 
 static const double SLOT = 0.0004;
@@ -219,13 +229,13 @@ static const double SLOT = 0.0004;
 static void run(Row *rows, int count, int w, int rounds) {
     for (int i = 0; i < count; i++) {
         double once = time_of(&rows[i], 1);
-        for (long reps = 1; once * reps < SLOT / 4; reps *= 2) once = time_of(&rows[i], reps);
+        for (long reps = 1; once * reps < SLOT / 4; reps *= 2) once = time_of(&rows[i], reps) / reps;
         rows[i].reps = (long)(SLOT / once) + 1;
         rows[i].best[w] = once;
     }
     for (int round = 0; round < rounds; round++)
         for (int i = 0; i < count; i++) {
-            double taken = time_of(&rows[i], rows[i].reps);
+            double taken = time_of(&rows[i], rows[i].reps) / rows[i].reps;
             if (taken < rows[i].best[w]) rows[i].best[w] = taken;
         }
 }
@@ -259,44 +269,59 @@ static void check(const Row *rows, int count, int lists, const int *wanted) {
     }
 }
 
-// ---- a blob of 48 MB, in stripes of fragments of 65,536 bytes: its parities go into memory that the system has just given
-enum { STRIPES = 61, BLOB = STRIPES * DATA * WIDEST };
+// ---- blobs of at most 4,096 stripes and 48 MB: their parities go into memory that the system has just given
+enum { MOST_STRIPES = 4096, BLOB = 61 * DATA * WIDEST };
 static uint8_t *blob;
+static size_t stripes;
 
-static void isal_blob(long n) {
-    static uint8_t *parities[STRIPES][4];
-    for (long s = 0; s < n * STRIPES; s++) {
+static void set_blob(size_t w) {
+    set_width(w);
+    stripes = BLOB / (DATA * w) < MOST_STRIPES ? BLOB / (DATA * w) : MOST_STRIPES;
+}
+
+static void isal_seal(void) {
+    static uint8_t *parities[MOST_STRIPES][4];
+    for (size_t s = 0; s < stripes; s++) {
         uint8_t *sources[DATA];
-        for (int i = 0; i < DATA; i++) sources[i] = blob + (s * DATA + i) * WIDEST;
-        for (int k = 0; k < 4; k++) parities[s][k] = malloc(WIDEST);
-        ec_encode_data(WIDEST, DATA, 4, encode_tables, sources, parities[s]);
+        for (int i = 0; i < DATA; i++) sources[i] = blob + (s * DATA + i) * width;
+        for (int k = 0; k < 4; k++) parities[s][k] = malloc(width);
+        ec_encode_data(width, DATA, 4, encode_tables, sources, parities[s]);
     }
-    for (long s = 0; s < n * STRIPES; s++)
+    for (size_t s = 0; s < stripes; s++)
         for (int k = 0; k < 4; k++) free(parities[s][k]);
 }
-static void v2_blob(long n) { seen = v2_timed_seal(blob, BLOB, WIDEST, n); }
-static void v3_blob(long n) { seen = v3_timed_seal(blob, BLOB, WIDEST, n); }
+static void isal_blob(long n) {
+    for (long j = 0; j < n; j++) isal_seal();
+}
+static void v2_blob(long n) { seen = v2_timed_seal(blob, stripes * DATA * width, width, n); }
+static void v3_blob(long n) { seen = v3_timed_seal(blob, stripes * DATA * width, width, n); }
 
-// The time of a call, less that of what it does beside: the coder's calls copy the blob first.
-static double blob_time(void (*call)(long), int rounds) {
-    double best[2] = {1e9, 1e9};
+static Row blob_rows[] = {ROW("ISA-L, malloc", isal_blob, 0), ROW("v2 seal", v2_blob, 0), ROW("v3 seal", v3_blob, 0)};
+enum { BLOB_ROWS = sizeof blob_rows / sizeof(Row) };
+
+// The time of two calls in one, less that of one, so that what is made but once is left out: the coder copies the blob first.
+// Each is timed after the same call, since what was given back before changes how fast memory comes.
+static void run_blob(int w, int rounds) {
+    double best[BLOB_ROWS][2];
     for (int round = 0; round < rounds; round++)
-        for (long n = 0; n < 2; n++) {
-            malloc_trim(0);
-            double start = now();
-            call(n);
-            double taken = now() - start;
-            __asm__ volatile("vzeroupper");
-            if (taken < best[n]) best[n] = taken;
-        }
-    return best[1] - best[0];
+        for (int i = 0; i < BLOB_ROWS; i++)
+            for (long n = 0; n < 3; n++) {
+                malloc_trim(0);
+                double taken = time_of(&blob_rows[i], n < 2 ? 1 : 2);
+                if (n > 0 && (round == 0 || taken < best[i][n - 1])) best[i][n - 1] = taken;
+            }
+    for (int i = 0; i < BLOB_ROWS; i++) blob_rows[i].best[w] = best[i][1] - best[i][0];
 }
 
-static void print_blob(int rounds) {
-    double isal = blob_time(isal_blob, rounds), v2 = blob_time(v2_blob, rounds), v3 = blob_time(v3_blob, rounds);
-    printf("\n| a blob of 48 MB | ms (of ISA-L's time) |\n|---|---|\n");
-    printf("| ISA-L, malloc | %.2f (1.00) |\n| v2 seal | %.2f (%.2f) |\n| v3 seal | %.2f (%.2f) |\n", isal * 1e3, v2 * 1e3, v2 / isal,
-           v3 * 1e3, v3 / isal);
+static void print_blob(void) {
+    printf("\n| a blob, ms (of ISA-L's time), by width |");
+    for (int w = 0; w < WIDTHS; w++) printf(" %zu |", widths[w]);
+    printf("\n|---|---|---|---|---|\n");
+    for (int i = 0; i < BLOB_ROWS; i++) {
+        printf("| %s |", blob_rows[i].name);
+        for (int w = 0; w < WIDTHS; w++) printf(" %.3g (%.2f) |", blob_rows[i].best[w] * 1e3, blob_rows[i].best[w] / blob_rows[0].best[w]);
+        printf("\n");
+    }
 }
 
 int main(int argc, char **argv) {
@@ -329,5 +354,6 @@ int main(int argc, char **argv) {
     blob = malloc(BLOB);
     if (!blob) return fputs("bench: no memory\n", stderr), 1;
     for (size_t i = 0; i < BLOB; i++) blob[i] = i * 2654435761u >> 24;
-    print_blob(rounds < 50 ? rounds : 50);
+    for (int w = 0; w < WIDTHS; w++) set_blob(widths[w]), run_blob(w, rounds < 50 ? rounds : 50);
+    print_blob();
 }

@@ -1,5 +1,5 @@
 -- What sealing makes: stripes with nothing lost.
-use Rattle.std.proofs.Common.{◌≡◌, ℕ, zero, suc, ◌+◌, ◌-◌, ◌*◌, ◌<◌, ◌≤◌, ◌++◌, ◌∷◌, [], List, length, get_or, map, take, Option, None, Some, Bor, Vec, Global, cond, refl, sym, ap, ◌∙◌, subst, arith, inl, inr}
+use Rattle.std.proofs.Common.{◌≡◌, ℕ, zero, suc, ◌+◌, ◌-◌, ◌*◌, ◌<◌, ◌≤◌, ◌++◌, ◌∷◌, [], List, length, get_or, map, take, Option, None, Some, Bor, cond, refl, sym, ap, ap₂, ◌∙◌, subst, arith, inl, inr}
 use Rattle.std.specs.Prelude.{All, slice_index, slice_index_or, slice_range, slice_set}
 use Rattle.std.specs.FinSet as set
 use Rattle.std.proofs.Math.Nat.{mul-le-mul_right}
@@ -12,7 +12,7 @@ use Rattle.lrc_code.specs.declared.Code.{Code}
 use Rattle.lrc_code.specs.declared.Code.TheVariants.{Wide, Small}
 use Rattle.lrc_code.specs.Code.{data_count, fragment_count}
 use Rattle.lrc_code.specs.Column.{column}
-use Rattle.lrc_code.specs.Stripe.{IsStripe, list_at}
+use Rattle.lrc_code.specs.Stripe.{IsStripe, list_at, quarters}
 use Rattle.sealed.specs.Layout.{stripe_size}
 use Rattle.sealed.specs.Stripes.{Stripes, fragment_at}
 use Rattle.sealed.specs.Blob.{data_at, fragment, nothing, lost_in, pair_cmp}
@@ -88,27 +88,16 @@ module _ (code : Code) (d w : ℕ) (count : d ≡ data_count code) (held : List 
       ]
 
 -- ---- the parities, one after the other
-pub all_yielded : {X : Type 0} (yielded rest all : List X) → yielded ++ rest ≡ all → length rest ≡ 0 → length yielded ≡ length all
-all_yielded yielded rest all is none = grind (arith, common_steps, is)
+pub quarter_at : (w : ℕ) (bytes : List ℕ) (k : ℕ) → k < 4 → list_at (quarters w bytes) k ≡ slice_range bytes (w * k) (w * k + w)
+quarter_at w bytes zero l = ap₂ (slice_range bytes) (let e : 0 ≡ w * 0 = omega arith in e) (let e : w ≡ w * 0 + w = omega arith in e)
+quarter_at w bytes (suc zero) l = ap₂ (slice_range bytes) (let e : w ≡ w * 1 = omega arith in e) (let e : 2 * w ≡ w * 1 + w = omega arith in e)
+quarter_at w bytes (suc (suc zero)) l = ap₂ (slice_range bytes) (let e : 2 * w ≡ w * 2 = omega arith in e) (let e : 3 * w ≡ w * 2 + w = omega arith in e)
+quarter_at w bytes (suc (suc (suc zero))) l = ap₂ (slice_range bytes) (let e : 3 * w ≡ w * 3 = omega arith in e) (let e : 4 * w ≡ w * 3 + w = omega arith in e)
+quarter_at w bytes (suc (suc (suc (suc k)))) l = absurd (omega arith)
 
-pub more_yielded : {X : Type 0} (yielded rest next : List X) (x : X) (all : List X) → yielded ++ rest ≡ all → rest ≡ x ∷ next → length yielded < length all
-more_yielded yielded rest next x all is more = grind (arith, common_steps, is, more)
-
-pub rest_behind : {X : Type 0} (yielded rest next : List X) (x : X) (all : List X) → yielded ++ rest ≡ all → rest ≡ x ∷ next → (yielded ++ x ∷ []) ++ next ≡ all
-rest_behind yielded rest next x all is more = grind (arith, common_steps, is, more)
-
-pub one_longer : {X : Type 0} (yielded : List X) (x : X) → length (yielded ++ x ∷ []) ≡ length yielded + 1
-one_longer yielded x = grind (arith, common_steps)
-
-pub item_behind : (yielded rest : List (Vec ℕ Global)) (parity : Vec ℕ Global) (all : List (Vec ℕ Global)) → yielded ++ (parity ∷ rest) ≡ all
-    → length yielded < length all → list_at (map (λ v. v.items) all) (length yielded) ≡ parity.items
-item_behind yielded rest parity all is inside =
-    get_or-map (λ (v : Vec ℕ Global). v.items) all (length yielded) parity [] inside
-    ∙ ap (λ (v : Vec ℕ Global). v.items) (ap (λ xs. get_or xs (length yielded) parity) (sym is) ∙ get_or-append_seam yielded parity rest parity)
-
-pub one_more : (made : List (Option (List ℕ))) (f d n : ℕ) (x : List ℕ) (parities : List (List ℕ)) → f ≡ d + n → f < length made → x ≡ list_at parities n
-    → ((k : ℕ) → k < n → get_or made (d + k) None ≡ Some (list_at parities k)) → (k : ℕ) → k < n + 1 → get_or (slice_set made f (Some x)) (d + k) None ≡ Some (list_at parities k)
-one_more made f d n x parities at inside is before k l = grind (arith, common_steps, is, before)
+pub one_more : (made : List (Option (List ℕ))) (d n : ℕ) (x : Option (List ℕ)) (part : ℕ → Option (List ℕ)) → d + n < length made → x ≡ part n
+    → ((k : ℕ) → k < n → get_or made (d + k) None ≡ part k) → (k : ℕ) → k < n + 1 → get_or (slice_set made (d + n) x) (d + k) None ≡ part k
+one_more made d n x part inside is before k l = grind (arith, common_steps, is, before)
 
 -- ---- all stripes
 -- the bytes that a stripe holds are a blob of one stripe, which is the same

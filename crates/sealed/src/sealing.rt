@@ -10,12 +10,12 @@ ghost use Rattle.sealed.specs.Sealed.{StandsFor};
 
 use crate::{Fault, Sealed, Stripe, Stripes, Width, count_stripes};
 use bytes::Bytes;
-use lrc_code::{Code, NoMemory, encode_in};
+use lrc_code::{Code, NoMemory, encode_joined};
 use std::alloc::Global;
 use std::sync::Arc;
 
 /// Cuts a blob into stripes of LRC(12,2,2) with fragments of this width. Every fragment is present, and the version is 0. A blob of more than 4,096
-/// stripes is `TooLong`, which asks for no memory. The fragments share the memory of `bytes`, but for the parities and the last stripe where it is filled up.
+/// stripes is `TooLong`, which asks for no memory. The fragments share the memory of `bytes`, but for the last stripe where it is filled up, and for the parities. Those of a stripe share one list.
 pub fn seal(alloc: Global, bytes: Bytes, width: Width) -> Result<Sealed, Fault>
     ensures too_long { (result ≡ Err Fault.TooLong) ↔ (4096 < stripe_count Code.Wide width (length bytes)) }
     ensures ok { IfOk result (λ s. StandsFor s bytes nothing) }
@@ -112,7 +112,7 @@ fn one_stripe(alloc: Global, code: Code, w: usize, held: &Bytes) -> Result<Strip
 {
     let data = usize::from(code.data_fragments());
     let slices = data_slices(code, w, held.as_slice());
-    let parities = encode_in(alloc, code, &slices[..data], w)?;
+    let parities = Bytes::from_vec(encode_joined(alloc, code, &slices[..data], w)?)?;
     let mut fragments: [Option<Bytes>; 16] = [
         None, None, None, None, None, None, None, None, None, None, None, None, None, None, None,
         None,
@@ -120,10 +120,8 @@ fn one_stripe(alloc: Global, code: Code, w: usize, held: &Bytes) -> Result<Strip
     for f in 0..data {
         fragments[f] = Some(held.slice(w * f..w * f + w)?);
     }
-    let mut f = data;
-    for parity in parities {
-        fragments[f] = Some(Bytes::from_vec(parity)?);
-        f += 1;
+    for k in 0..4usize {
+        fragments[data + k] = Some(parities.slice(w * k..w * k + w)?);
     }
     Ok(Stripe { fragments })
 }
