@@ -1,7 +1,8 @@
 """The Local Reconstruction Codes LRC(12,2,2) and LRC(6,2,2), by ctypes over liblrc_coder.so, which is libcoder_c.a as a shared library. It is looked for
 beside this file, or where the environment's LRC_CODER_SO says. include/lrc_coder.h describes the functions.
 
-A code is named by its number of data fragments, 12 or 6; `lost` is any iterable of fragment numbers. Every call lets other threads of Python run.
+A code is named by its number of data fragments, 12 or 6; `lost` is any iterable of fragment numbers. A call raises Open where nothing that is left tells
+the fragment, and ValueError where an argument is none that it takes. Every call lets other threads of Python run.
 """
 
 import ctypes
@@ -95,7 +96,10 @@ def is_open(data_fragments, lost, fragment):
 
 
 def rebuild(data_fragments, left, fragment, start=0, length=None):
-    """The bytes of a lost fragment from `start` on; `left` has the bytes of the fragments left, by their numbers."""
+    """The bytes of a lost fragment from `start` on, as many as `length`, or to the end of the shortest fragment left.
+
+    `left` has the bytes of the fragments left, by their numbers.
+    """
     slices, _kept = _slices(left.get(i, b"") for i in range(16))
     if length is None:
         length = max(0, min(map(len, left.values()), default=0) - start)

@@ -1,5 +1,6 @@
 //! The Local Reconstruction Codes LRC(12,2,2) and LRC(6,2,2), by `libcoder_c.a`: safe calls over the functions that
-//! `include/lrc_coder.h` describes. A set of lost fragments is a number: bit i is set where fragment i is lost.
+//! `include/lrc_coder.h` describes: it says which arguments each of them refuses. After an error every target is as it was. A set of lost
+//! fragments is a number: bit i is set where fragment i is lost.
 #![warn(missing_docs)]
 
 use std::fmt;

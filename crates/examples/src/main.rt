@@ -17,7 +17,7 @@ struct Run {
     texts: &'static [&'static str],
 }
 
-const RUNS: [Run; 7] = [
+const RUNS: [Run; 9] = [
     Run {
         words: &["first_path.csv", "--workers", "2"],
         texts: &["first_path.txt"],
@@ -41,6 +41,14 @@ const RUNS: [Run; 7] = [
     Run {
         words: &["two_workers.csv", "--workers", "2"],
         texts: &["two_workers_first.txt", "two_workers_second.txt"],
+    },
+    Run {
+        words: &["full_journal.csv", "--limit", "4", "--history"],
+        texts: &["full_journal.txt"],
+    },
+    Run {
+        words: &["history_of_two.csv", "--workers", "2", "--history"],
+        texts: &["history_of_two_first.txt", "history_of_two_second.txt"],
     },
     Run {
         words: &["mend.csv", "--workers", "4"],

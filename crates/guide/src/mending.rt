@@ -3,7 +3,7 @@
 use anyhow::{Context, Result, bail};
 use book::{Answer, Limit, Name};
 use bytes::Bytes;
-use mender::{Report, gather, scrub, work};
+use mender::{Gather, Report, gather, scrub, work};
 use shared::Store;
 use std::alloc::Global;
 use std::sync::Wait;
@@ -28,7 +28,8 @@ pub(crate) fn mend<R: Print + Wait>(rt: &R, alloc: Global) -> Result<()> {
     };
     match gather(alloc, &plan, done) {
         Ok(Report { repaired, .. }) => println!(rt; "{repaired} mended")?,
-        Err(_) => bail!("an item has no result, or two"),
+        Err(Gather::NoMemory) => bail!("want of memory"),
+        Err(_) => bail!("the results are not one for each item of the plan"),
     }
     Ok(())
 }
