@@ -10,6 +10,9 @@ TOP = os.path.dirname(os.path.dirname(os.path.abspath(__file__)))
 PROGRAM = os.path.join(TOP, "crates", "lrcstore", "out", "lrcstore")
 FIRST_PATH = b"1,1,put,a,text,HELLO\n2,1,read,a,1,3\n"
 PRINTED = b"1 stored 1\n2 granted 1 3 0 454c4c\ncalls 2\nlawful yes\n"
+# The greatest numbers that are taken. In fragments so wide the read is one piece.
+GREATEST = ["--width", "65536", "--workers", "16", "--limit", "1048576"]
+PRINTED_BY_GREATEST = b"1 stored 1\n2 granted 1 1 0 454c4c\ncalls 2\nlawful yes\n"
 # Command lines that are refused: the parser's own text stands on standard error.
 REFUSED = [
     [],
@@ -23,8 +26,6 @@ REFUSED = [
     ["script.csv", "--limit", "1048577"],
     ["script.csv", "--limit", "x"],
 ]
-
-
 # What the help has to name: the operations, the statuses and where the rest is told.
 HELPS = ["put", "put6", "read", "lose", "repair", "delete", "stat", "trim", "mend", "/dev/stdin", "--history", "Exit status", "docs/script.md"]
 MOST_ROWS = 65536
@@ -52,6 +53,7 @@ def main():
         too_many = b"1,1,stat,a,,\n" * (MOST_ROWS + 1)
         results = [
             ended("a script", run(folder, ["script.csv"]), 0, PRINTED, b""),
+            ended("the greatest numbers", run(folder, ["script.csv", *GREATEST]), 0, PRINTED_BY_GREATEST, b""),
             ended("standard input", run(folder, ["/dev/stdin"], given=FIRST_PATH), 0, PRINTED, b""),
             ended("help", helped, 0, None, b""),
             all(word.encode() in helped.stdout for word in HELPS),
