@@ -1,24 +1,41 @@
 //! The journal's limit, and what to do at it.
+ghost use Rattle.std.specs.Prelude.{◌≡◌};
+ghost use Rattle.shared.specs.Passes.{Stays};
 
 use anyhow::{Context, Result, ensure};
 use book::{Fault, Limit, Name, is_lawful_from};
 use bytes::Bytes;
-use shared::Store;
+use shared::{Pass, Store};
 use std::alloc::Global;
 use std::sync::Wait;
+
+/// Makes two calls and tries a third. Where the journal is full, it gives up all entries but the last.
+fn fill_and_trim<R: Print + Wait>(
+    rt: &R,
+    alloc: Global,
+    store: &Store,
+    pass: &mut Pass,
+    name: &Name,
+) -> Result<()>
+    requires { pass.old.store ≡ store.now }
+    ensures { Stays pass.old pass.new }
+{
+    let blob = Bytes::from_static(b"ABC");
+    store.put(rt, alloc, pass, name.duplicate(), blob)?;
+    store.stat(rt, pass, name.duplicate())?;
+    if let Err(Fault::JournalFull) = store.stat(rt, pass, name.duplicate()) {
+        let given_up = store.trim(rt, alloc, pass, 1)?;
+        println!(rt; "full: {given_up} given up")?;
+    }
+    Ok(())
+}
 
 /// Fills a journal of two entries, gives up the older, goes on, and closes the store.
 pub(crate) fn trim_and_close<R: Print + Wait>(rt: &R, alloc: Global) -> Result<()> {
     let name = Name::new("a")?;
     let limit = Limit::new(2).context("a limit")?;
     let (store, mut pass) = Store::open(alloc, 1, limit)?;
-    let blob = Bytes::from_static(b"ABC");
-    store.put(rt, alloc, &mut pass, name.duplicate(), blob)?;
-    store.stat(rt, &mut pass, name.duplicate())?;
-    if let Err(Fault::JournalFull) = store.stat(rt, &mut pass, name.duplicate()) {
-        let given_up = store.trim(rt, alloc, &mut pass, 1)?;
-        println!(rt; "full: {given_up} given up")?;
-    }
+    fill_and_trim(rt, alloc, &store, &mut pass, &name)?;
     store.stat(rt, &mut pass, name)?;
     let book = store.close(pass);
     let (base, entries) = (book.base(), book.entries());

@@ -24,6 +24,23 @@ fn show<R: Print>(rt: &R, alloc: Global, grant: &Grant) -> Result<()> {
     Ok(())
 }
 
+/// Stores a blob, and loses the second of its fragments.
+fn put_and_lose<R: Wait>(
+    rt: &R,
+    alloc: Global,
+    store: &Store,
+    pass: &mut Pass,
+    name: &Name,
+) -> Result<()>
+    requires { pass.old.store ≡ store.now }
+    ensures { Stays pass.old pass.new }
+{
+    let blob = Bytes::from_static(b"ABCDEFGHIJKL");
+    store.put(rt, alloc, pass, name.duplicate(), blob)?;
+    store.lose(rt, alloc, pass, name.duplicate(), 0, 1)?;
+    Ok(())
+}
+
 /// Four bytes of the beginning of the blob, by a call of the store.
 fn beginning<R: Wait>(rt: &R, store: &Store, pass: &mut Pass, name: Name) -> Result<Grant>
     requires { pass.old.store ≡ store.now }
@@ -57,21 +74,24 @@ fn count_built(alloc: Global, grant: &Grant, plans: &mut Plans) -> Result<u64> {
     Ok(built)
 }
 
+/// Prints what a grant has, more of the same version, and what its walks built.
+fn show_version<R: Print>(rt: &R, alloc: Global, grant: &Grant) -> Result<()> {
+    show(rt, alloc, grant)?;
+    show(rt, alloc, &more(grant)?)?;
+    let mut plans = Plans::new(alloc);
+    let first = count_built(alloc, grant, &mut plans)?;
+    let second = count_built(alloc, grant, &mut plans)?;
+    println!(rt; "{first} and {second} built by one recipe")?;
+    Ok(())
+}
+
 /// Reads a blob in parts. The second part is of the version of the first, though the name has none by then.
 pub(crate) fn read_on<R: Print + Wait>(rt: &R, alloc: Global) -> Result<()> {
     let name = Name::new("a")?;
     let limit = Limit::new(1_000).context("a limit")?;
     let (store, mut pass) = Store::open(alloc, 2, limit)?;
-    let blob = Bytes::from_static(b"ABCDEFGHIJKL");
-    store.put(rt, alloc, &mut pass, name.duplicate(), blob)?;
-    store.lose(rt, alloc, &mut pass, name.duplicate(), 0, 1)?;
+    put_and_lose(rt, alloc, &store, &mut pass, &name)?;
     let grant = beginning(rt, &store, &mut pass, name.duplicate())?;
     store.delete(rt, &mut pass, name)?;
-    show(rt, alloc, &grant)?;
-    show(rt, alloc, &more(&grant)?)?;
-    let mut plans = Plans::new(alloc);
-    let first = count_built(alloc, &grant, &mut plans)?;
-    let second = count_built(alloc, &grant, &mut plans)?;
-    println!(rt; "{first} and {second} built by one recipe")?;
-    Ok(())
+    show_version(rt, alloc, &grant)
 }
