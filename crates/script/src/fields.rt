@@ -73,7 +73,7 @@ fn hex_digit(byte: u8) -> u8
 fn hex_bytes(alloc: Global, text: &[u8]) -> Result<Option<Vec<u8>>, AllocError>
     ensures { IfOk result (λ o. MatchOption o (are_hex_bytes text.now ≡ false) (λ v. (are_hex_bytes text.now ≡ true) × (v.items ≡ hex_bytes text.now))) }
 {
-    let mut bytes = Vec::new(alloc);
+    let mut bytes = Vec::with_capacity(alloc, text.len() / 2)?;
     let mut rest = text;
     while let [high, low, more @ ..] = rest {
         if !is_hex_digit(*high) || !is_hex_digit(*low) {
