@@ -92,9 +92,6 @@ few_lacked s =
     omega arith
 
 -- ---- the value with its number
-pub moved : (s v u t : Sealed) (j f : ℕ) (x : Option (List ℕ)) → v ≡ s → t ≡ u → IsChanged v j f x u → IsChanged s j f x t
-moved s v u t j f x e d changed = let P : Sealed → Type 0 = λ r. IsChanged r j f x u in subst (IsChanged s j f x) (sym d) (subst P e changed)
-
 pub with_one_more : (s t : Sealed) (j f n : ℕ) → n ≡ lacked_count s → IsChanged s j f None t → j < stripe_count s.code s.width s.len → f < fragment_count s.code → absent_in s j f ≡ false
     → n + 1 ≡ lacked_count t
 with_one_more s t j f n count changed below inside present = omega (arith, count, one_more s t j f None changed below inside present refl)

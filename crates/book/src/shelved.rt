@@ -4,6 +4,7 @@ ghost use Rattle.std.specs.FinSet as set;
 ghost use Rattle.lrc_code.specs.Code.{fragment_count};
 ghost use Rattle.sealed.specs.Layout.{stripe_count};
 ghost use Rattle.sealed.specs.Blob.{nothing};
+ghost use Rattle.sealed.specs.Change.{IsChanged};
 ghost use Rattle.sealed.specs.Sealed.{StandsFor, absent_in};
 ghost use Rattle.book.specs.Known.{Serves, is_mendable};
 ghost use Rattle.book.specs.Lacking.{reply_for, lacks, seen_of};
@@ -140,15 +141,13 @@ impl Shelved {
         ensures faults { IfErr result (λ e. e ≡ Fault.NoMemory) }
         ensures err { OnErr result (self.new ≡ self.old) }
     {
-        let Ok(sealed) = self.sealed.without(alloc, stripe, f) else {
-            return Err(Fault::NoMemory);
-        };
-        let Ok(sealed) = Arc::new(alloc, sealed) else {
-            return Err(Fault::NoMemory);
-        };
-        let lost = self.lost + 1;
-        *self = Shelved { sealed, lost };
-        Ok(())
+        match take_out_of(&mut self.sealed, alloc, stripe, f) {
+            Ok(()) => {
+                self.lost += 1;
+                Ok(())
+            }
+            Err(_) => Err(Fault::NoMemory),
+        }
     }
 
     /// Rebuilds a lost fragment. The only fault is `NoMemory`. After it the blob is as it was.
@@ -220,16 +219,63 @@ impl Shelved {
         ensures faults { IfErr result (λ e. e ≡ Fault.NoMemory) }
         ensures err { OnErr result (self.new ≡ self.old) }
     {
-        let Ok(sealed) = self.sealed.with(alloc, stripe, f, bytes) else {
-            return Err(Fault::NoMemory);
-        };
-        let Ok(sealed) = Arc::new(alloc, sealed) else {
-            return Err(Fault::NoMemory);
-        };
-        let lost = self.lost - 1;
-        *self = Shelved { sealed, lost };
-        Ok(())
+        match put_back_in(&mut self.sealed, alloc, stripe, f, bytes) {
+            Ok(()) => {
+                self.lost -= 1;
+                Ok(())
+            }
+            Err(_) => Err(Fault::NoMemory),
+        }
     }
+}
+
+/// Takes a fragment out of a value: in place where it has no other owner, and else out of a value of its own, which shares its stripes.
+fn take_out_of(sealed: &mut Arc<Sealed>, alloc: Global, stripe: u64, f: u8) -> Result<(), Fault>
+    requires stripe_below { stripe < stripe_count sealed.old.value.code sealed.old.value.width sealed.old.value.len }
+    requires f_below { f < fragment_count sealed.old.value.code }
+    ensures ok { OnOk result (IsChanged sealed.old.value stripe f None sealed.new.value) }
+    ensures faults { IfErr result (λ e. e ≡ Fault.NoMemory) }
+    ensures err { OnErr result (sealed.new.value ≡ sealed.old.value) }
+{
+    if let Some(own) = Arc::get_mut(sealed) {
+        return own.take_out(alloc, stripe, f);
+    }
+    let Ok(changed) = sealed.without(alloc, stripe, f) else {
+        return Err(Fault::NoMemory);
+    };
+    let Ok(changed) = Arc::new(alloc, changed) else {
+        return Err(Fault::NoMemory);
+    };
+    *sealed = changed;
+    Ok(())
+}
+
+/// Puts a fragment in, in the same way.
+fn put_back_in(
+    sealed: &mut Arc<Sealed>,
+    alloc: Global,
+    stripe: u64,
+    f: u8,
+    bytes: Bytes,
+) -> Result<(), Fault>
+    requires stripe_below { stripe < stripe_count sealed.old.value.code sealed.old.value.width sealed.old.value.len }
+    requires f_below { f < fragment_count sealed.old.value.code }
+    requires long { length bytes ≡ sealed.old.value.width }
+    ensures ok { OnOk result (IsChanged sealed.old.value stripe f (Some bytes) sealed.new.value) }
+    ensures faults { IfErr result (λ e. e ≡ Fault.NoMemory) }
+    ensures err { OnErr result (sealed.new.value ≡ sealed.old.value) }
+{
+    if let Some(own) = Arc::get_mut(sealed) {
+        return own.put_back(alloc, stripe, f, bytes);
+    }
+    let Ok(changed) = sealed.with(alloc, stripe, f, bytes) else {
+        return Err(Fault::NoMemory);
+    };
+    let Ok(changed) = Arc::new(alloc, changed) else {
+        return Err(Fault::NoMemory);
+    };
+    *sealed = changed;
+    Ok(())
 }
 
 /// The bytes of an absent fragment, or why there are none.

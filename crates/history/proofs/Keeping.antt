@@ -1,7 +1,7 @@
 -- What is kept of a blob tells which fragments are open.
-use Rattle.std.proofs.Common.{◌≡◌, ℕ, ◌+◌, ◌-◌, ◌*◌, ◌/◌, ◌%◌, ◌<◌, ◌≤◌, Bool, true, false, ◌&&◌, List, [], ◌∷◌, refl, sym, ap, ◌∙◌, subst, arith, inl, inr}
-use Rattle.std.specs.Prelude.{nat_le, nat_lt, IsTrue, ◌↔◌}
-use Rattle.std.specs.List.{list_any}
+use Rattle.std.proofs.Common.{◌≡◌, ℕ, ◌+◌, ◌-◌, ◌*◌, ◌/◌, ◌%◌, ◌<◌, ◌≤◌, Bool, true, false, ◌&&◌, List, [], ◌∷◌, cond, refl, sym, ap, ◌∙◌, subst, arith, inl, inr}
+use Rattle.std.specs.Prelude.{nat_le, nat_lt, IsTrue, ◌↔◌, ◌||◌, ◌==◌}
+use Rattle.std.specs.List.{list_any, list_all, filter}
 use Rattle.std.specs.BTreeMap.{is_at}
 use Rattle.std.specs.BTreeMap.Range.{IsLeBy, range_contains}
 use Rattle.std.specs.BTreeSet.{keys_between}
@@ -10,7 +10,7 @@ use Rattle.std.proofs.Math.Nat.{div-mul-le_self}
 use Rattle.std.proofs.lemmas.Nat.{le-div, div-mul-add}
 use Rattle.std.proofs.lemmas.Bool.{or_cases, or_left, or_right, and_parts, cases_Bool, false≢true}
 use Rattle.std.proofs.lemmas.Grind.{common_steps}
-use Rattle.std.proofs.lemmas.Map.Views.{any-filter_same, range_contains-from_IsInRange}
+use Rattle.std.proofs.lemmas.Map.Views.{any-filter_same, range_contains-from_IsInRange, IsInRange-from_range_contains}
 use Rattle.lrc_code.specs.declared.Code.{Code}
 use Rattle.lrc_code.specs.declared.Code.TheVariants.{Wide, Small}
 use Rattle.lrc_code.specs.Code.{fragment_count, data_count, Open}
@@ -140,10 +140,56 @@ module _ (k : Kept) (w start len : ℕ) (some : 1 ≤ w) (bytes : 0 < len) where
       let range = open_found k.code w (lost_of k) start len in
       same_truth _ _ (λ t. range.1 (has_one t)) (λ t. is_one (range.0 t))
 
--- ---- the pairs of the stripes that the fragments from first to last are in
+-- ---- the pairs of one stripe
+either : (seen other here : Bool) → (seen || (here || other)) ≡ ((here || seen) || other)
+either true other true = refl
+either true other false = refl
+either false other true = refl
+either false other false = refl
+
+one_kept : {A : Type 0} (test : A → Bool) (x : A) (xs : List A) (b : Bool) → test x ≡ b → list_all test xs ≡ true → list_all test (cond b (x ∷ xs) xs) ≡ true
+one_kept test x xs true e all = both (test x) (list_all test xs) e all
+one_kept test x xs false e all = all
+
+all_kept : {A : Type 0} (test : A → Bool) (xs : List A) → list_all test (filter test xs) ≡ true
+all_kept test [] = refl
+all_kept test (x ∷ xs) = one_kept test x (filter test xs) (test x) refl (all_kept test xs)
+
 le_pair : (a b f g : ℕ) → a ≤ b → f ≤ g → IsLeBy pair_cmp (a, f) (b, g)
 le_pair a b f g l m = grind (arith, common_steps)
 
+module _ (j : ℕ) where
+  abbrev pub is_of : ℕ × ℕ → Bool
+  is_of = range_contains pair_cmp (Included (j, 0)) (Included (j, 15))
+
+  pub of_stripe : (p : ℕ × ℕ) → is_of p ≡ true → (p.0 ≡ j) × (p.1 < 16)
+  of_stripe (i, f) e =
+      let h = IsInRange-from_range_contains pairs_total (Included (j, 0)) (Included (j, 15)) (i, f) e in
+      (grind (arith, common_steps, h), grind (arith, common_steps, h))
+
+  is_own : (g : ℕ) → g < 16 → (p : ℕ × ℕ) → is_at (pair_cmp (j, g)) p ≡ true → is_of p ≡ true
+  is_own g few (i, f) e =
+      let same = same_pair j g i f e in
+      range_contains-from_IsInRange pairs_total (Included (j, 0)) (Included (j, 15)) (i, f) (le_pair j i 0 f (omega (arith, same.0)) (omega arith), le_pair i j f 15 (omega (arith, same.0)) (omega (arith, same.1)))
+
+  pub any_own : (g : ℕ) → g < 16 → (pairs : List (ℕ × ℕ)) → list_any (is_at (pair_cmp (j, g))) (filter is_of pairs) ≡ list_any (is_at (pair_cmp (j, g))) pairs
+  any_own g few pairs = any-filter_same (is_at (pair_cmp (j, g))) is_of true (is_own g few) pairs
+
+  pub all_own : (pairs : List (ℕ × ℕ)) → list_all is_of (filter is_of pairs) ≡ true
+  all_own pairs = all_kept is_of pairs
+
+  at_own : (g i f : ℕ) → i ≡ j → is_at (pair_cmp (j, g)) (i, f) ≡ (g == f)
+  at_own g i f e = grind (arith, common_steps)
+
+  -- one pair more is seen
+  pub one_seen : (g i f : ℕ) (rest : List (ℕ × ℕ)) (seen now : Bool) → is_of (i, f) ≡ true → now ≡ ((g == f) || seen)
+      → (seen || list_any (is_at (pair_cmp (j, g))) ((i, f) ∷ rest)) ≡ (now || list_any (is_at (pair_cmp (j, g))) rest)
+  one_seen g i f rest seen now e is =
+      ap (λ (here : Bool). seen || (here || list_any (is_at (pair_cmp (j, g))) rest)) (at_own g i f (of_stripe (i, f) e).0)
+      ∙ either seen (list_any (is_at (pair_cmp (j, g))) rest) (g == f)
+      ∙ ap (λ (b : Bool). b || list_any (is_at (pair_cmp (j, g))) rest) (sym is)
+
+-- ---- the pairs of the stripes that the fragments from first to last are in
 module _ (k : Kept) (first last : ℕ) where
   abbrev pub low_pair : ℕ × ℕ
   low_pair = (first / data_count k.code, 0)

@@ -45,10 +45,8 @@ impl Kept {
         ensures { (f : ℕ) → f < 16 → is_lost result f ≡ lost_of self.now stripe f }
     {
         let mut lost = LostSet::empty();
-        for f in 0..16u8 {
-            if self.lost.contains(&(stripe, f)) {
-                lost = lost.with(f);
-            }
+        for &(_, f) in self.lost.range((stripe, 0u8)..=(stripe, 15u8)) {
+            lost = lost.with(f);
         }
         lost
     }

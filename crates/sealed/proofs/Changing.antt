@@ -1,16 +1,16 @@
 -- Values that differ at one place.
-use Rattle.std.proofs.Common.{◌≡◌, ◌≢◌, ℕ, ◌<◌, ◌≤◌, Bool, true, false, List, [], length, get_or, Option, None, Some, cond, refl, sym, ap, ◌∙◌, subst, arith}
+use Rattle.std.proofs.Common.{◌≡◌, ◌≢◌, ℕ, ◌<◌, ◌≤◌, Bool, true, false, List, [], length, map, get_or, Option, None, Some, Result, Ok, Err, OnOk, OnErr, cond, refl, sym, ap, ◌∙◌, subst, arith}
 use Rattle.std.specs.Prelude.{slice_set, ◌&&◌, ◌||◌, ◌==◌, not}
 use Rattle.std.specs.FinSet as set
 use Rattle.std.specs.Cmp.{IsTotalOrder, nat_cmp_total}
 use Rattle.std.specs.Ordering.{eq_by_cmp}
+use Rattle.std.proofs.Props.{props}
 use Rattle.std.proofs.lemmas.Cmp.{then_total, on_total}
 use Rattle.std.proofs.lemmas.Grind.{common_steps}
-use Rattle.std.proofs.lemmas.List.{ext_get_or, length-set}
+use Rattle.std.proofs.lemmas.List.{ext_get_or, length-set, length-map, map-set, get_or-map, set-get_or}
 use Rattle.lrc_code.specs.declared.Code.{Code}
 use Rattle.lrc_code.specs.declared.Code.TheVariants.{Wide, Small}
 use Rattle.lrc_code.specs.Code.{fragment_count}
-use Rattle.sealed.specs.declared.stripes.Stripe.{Stripe}
 use Rattle.sealed.specs.declared.value.Sealed.{Sealed}
 use Rattle.sealed.specs.Layout.{stripe_count}
 use Rattle.sealed.specs.Stripes.{Stripes, fragment_at, IsShaped}
@@ -44,7 +44,7 @@ pick_row false new row g f x h = refl
 same_number : (i j : ℕ) → (i == j) ≡ true → j ≡ i
 same_number i j e = grind (arith, common_steps)
 
-pub set_at : (stripes : Stripes) (j f i g : ℕ) (x : Option (List ℕ)) → j < length stripes → f < length (get_or stripes j [])
+set_at : (stripes : Stripes) (j f i g : ℕ) (x : Option (List ℕ)) → j < length stripes → f < length (get_or stripes j [])
     → fragment_at (slice_set stripes j (slice_set (get_or stripes j []) f x)) i g ≡ cond ((i == j) && (g == f)) x (fragment_at stripes i g)
 set_at stripes j f i g x hj hf =
     ap (λ (row : List (Option (List ℕ))). get_or row g None) (in_rows stripes (slice_set (get_or stripes j []) f x) j i hj)
@@ -55,21 +55,22 @@ few_fragments : (code : Code) → fragment_count code ≤ 16
 few_fragments Wide = omega arith
 few_fragments Small = omega arith
 
+-- ---- one element that is seen as a row
+module _ {A : Type 0} (items : List A) (row : A → List (Option (List ℕ))) (j : ℕ) (old new : A) (there : j < length items) (at : old ≡ get_or items j old) where
+  row_at : get_or (map row items) j [] ≡ row old
+  row_at = get_or-map row items j old [] there ∙ ap row (sym at)
+
+  pub slot_changed : (f : ℕ) (x : Option (List ℕ)) → f < length (row old) → row new ≡ slice_set (row old) f x
+      → (i g : ℕ) → fragment_at (map row (slice_set items j new)) i g ≡ cond ((i == j) && (g == f)) x (fragment_at (map row items) i g)
+  slot_changed f x inside changed i g =
+      ap (λ (t : Stripes). fragment_at t i g)
+      (map-set row items j new ∙ ap (slice_set (map row items) j) (changed ∙ ap (λ (r : List (Option (List ℕ))). slice_set r f x) (sym row_at)))
+      ∙ set_at (map row items) j f i g x (omega (arith, length-map items row)) (omega (arith, ap length row_at))
+
+  pub row_kept : row new ≡ row old → map row (slice_set items j new) ≡ map row items
+  row_kept same = map-set row items j new ∙ ap (slice_set (map row items) j) (same ∙ sym row_at) ∙ set-get_or (map row items) j []
+
 -- ---- the value
--- the stripes with `new` for the stripe `old`, which has another slot
-pub row_changed : (s : Sealed) (j f : ℕ) (x : Option (List ℕ)) (stripes : Stripes) (old new kept : Stripe) (g : ℕ) → stripes ≡ slice_set s.stripes j kept.fragments → kept ≡ new
-    → new.fragments ≡ slice_set old.fragments g x → g ≡ f → old.fragments ≡ get_or s.stripes j [] → stripes ≡ slice_set s.stripes j (slice_set (get_or s.stripes j []) f x)
-row_changed s j f x stripes old new kept g all same changed at row =
-    all ∙ ap (λ (r : List (Option (List ℕ))). slice_set s.stripes j r)
-    (ap (λ (t : Stripe). t.fragments) same ∙ changed ∙ ap (λ h. slice_set old.fragments h x) at ∙ ap (λ (r : List (Option (List ℕ))). slice_set r f x) row)
-
-pub fragment_changed : (s : Sealed) (j f : ℕ) (x : Option (List ℕ)) (stripes : Stripes) (old : Stripe) → stripes ≡ slice_set s.stripes j (slice_set (get_or s.stripes j []) f x) → j < stripe_count s.code s.width s.len
-    → f < fragment_count s.code → old.fragments ≡ get_or s.stripes j [] → (i g : ℕ) → fragment_at stripes i g ≡ cond ((i == j) && (g == f)) x (fragment_at s.stripes i g)
-fragment_changed s j f x stripes old all below inside row i g =
-    let sixteen : length (get_or s.stripes j []) ≡ 16 = sym (ap length row) ∙ old.sixteen in
-    ap (λ (t : Stripes). fragment_at t i g) all
-    ∙ set_at s.stripes j f i g x (let count = s.shaped.count in omega arith) (let few = few_fragments s.code in omega arith)
-
 last_of : (a : Bool) (g f : ℕ) → (a && (g == f)) ≡ true → g ≡ f
 last_of a g f e = grind (arith, common_steps)
 
@@ -88,6 +89,19 @@ shape_kept s j f x stripes count inside long at =
       few = (let few = s.shaped.few in omega arith);
       sized = λ i g y found. sized_of s f x inside long ((i == j) && (g == f)) i g y (last_of (i == j) g f) (sym (at i g) ∙ found);
     }
+
+-- whichever way a call ends
+pub either_way : {T E P Q R : Type 0} (r : Result T E) → (P → R) → (Q → R) → OnOk r P → OnErr r Q → R
+either_way (Ok x) p q ok err = p ok
+either_way (Err x) p q ok err = q err
+
+-- the same fields are the same value
+pub same_fields : (s : Sealed) (stripes : Stripes) (shaped : IsShaped stripes s.code s.width s.len) → stripes ≡ s.stripes
+    → record { version = s.version; len = s.len; width = s.width; code = s.code; stripes = stripes; shaped = shaped } ≡ s
+same_fields s stripes shaped same =
+    let one : IsProp (IsShaped s.stripes s.code s.width s.len) = hlevel props in
+    let P : Stripes → Type 0 = λ t. (h : IsShaped t s.code s.width s.len) → record { version = s.version; len = s.len; width = s.width; code = s.code; stripes = t; shaped = h } ≡ s in
+    subst P (sym same) (λ h. λ i. record { version = s.version; len = s.len; width = s.width; code = s.code; stripes = s.stripes; shaped = one h s.shaped i }) shaped
 
 pub pairs_total : IsTotalOrder pair_cmp
 pairs_total = then_total (on_total (λ (p : ℕ × ℕ). p.0) nat_cmp_total) (on_total (λ (p : ℕ × ℕ). p.1) nat_cmp_total)

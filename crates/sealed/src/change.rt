@@ -1,5 +1,5 @@
-//! New values that differ from an old one at one place.
-ghost use Rattle.std.specs.Prelude.{◌≡◌, ◌<◌, ℕ, List, None, Some, length, map, slice_index_or, slice_set, IfOk, IfErr, IfSome};
+//! Values that differ from an old one at one place.
+ghost use Rattle.std.specs.Prelude.{◌≡◌, ◌<◌, ℕ, List, None, Some, length, map, slice_index_or, slice_set, IfOk, IfErr, IfSome, OnOk, OnErr};
 ghost use Rattle.std.specs.FinSet as set;
 ghost use Rattle.lrc_code.specs.Code.{fragment_count};
 ghost use Rattle.sealed.specs.Layout.{stripe_count};
@@ -22,8 +22,11 @@ impl Sealed {
         ensures stands { IfOk result (λ s. (b : List ℕ) (lost : Lost) → StandsFor self.now b lost → StandsFor s b (set.insert lost (stripe, f))) }
         ensures err { IfErr result (λ e. e ≡ Fault.NoMemory) }
     {
-        match self.changed(alloc, stripe, f, None) {
-            Ok(sealed) => Ok(sealed),
+        let Ok(mut sealed) = self.share(alloc) else {
+            return Err(Fault::NoMemory);
+        };
+        match sealed.take_out(alloc, stripe, f) {
+            Ok(()) => Ok(sealed),
             Err(_) => Err(Fault::NoMemory),
         }
     }
@@ -38,29 +41,70 @@ impl Sealed {
             → bytes ≡ fragment self.now.code self.now.width b stripe f → StandsFor s b (set.remove lost (stripe, f))) }
         ensures err { IfErr result (λ e. e ≡ Fault.NoMemory) }
     {
-        match self.changed(alloc, stripe, f, Some(bytes)) {
-            Ok(sealed) => Ok(sealed),
+        let Ok(mut sealed) = self.share(alloc) else {
+            return Err(Fault::NoMemory);
+        };
+        match sealed.put_back(alloc, stripe, f, bytes) {
+            Ok(()) => Ok(sealed),
             Err(_) => Err(Fault::NoMemory),
         }
     }
 
-    /// The same value with this slot for the fragment `f` of a stripe.
-    fn changed(
-        &self,
+    /// Takes out the fragment `f` of a stripe. A value that shares the stripe keeps it. The only fault is `NoMemory`. After it the value is as it was.
+    pub fn take_out(&mut self, alloc: Global, stripe: u64, f: u8) -> Result<(), Fault>
+        requires stripe_below { stripe < stripe_count self.old.code self.old.width self.old.len }
+        requires f_below { f < fragment_count self.old.code }
+        ensures ok { OnOk result (IsChanged self.old stripe f None self.new) }
+        ensures stands { OnOk result ((b : List ℕ) (lost : Lost) → StandsFor self.old b lost → StandsFor self.new b (set.insert lost (stripe, f))) }
+        ensures faults { IfErr result (λ e. e ≡ Fault.NoMemory) }
+        ensures err { OnErr result (self.new ≡ self.old) }
+    {
+        match self.change(alloc, stripe, f, None) {
+            Ok(()) => Ok(()),
+            Err(_) => Err(Fault::NoMemory),
+        }
+    }
+
+    /// Puts these bytes in for the fragment `f` of a stripe. A value that shares the stripe keeps its own. The only fault is `NoMemory`. After it the value is as it was.
+    pub fn put_back(&mut self, alloc: Global, stripe: u64, f: u8, bytes: Bytes) -> Result<(), Fault>
+        requires stripe_below { stripe < stripe_count self.old.code self.old.width self.old.len }
+        requires f_below { f < fragment_count self.old.code }
+        requires long { length bytes ≡ self.old.width }
+        ensures ok { OnOk result (IsChanged self.old stripe f (Some bytes) self.new) }
+        ensures stands { OnOk result ((b : List ℕ) (lost : Lost) → StandsFor self.old b lost
+            → bytes ≡ fragment self.old.code self.old.width b stripe f → StandsFor self.new b (set.remove lost (stripe, f))) }
+        ensures faults { IfErr result (λ e. e ≡ Fault.NoMemory) }
+        ensures err { OnErr result (self.new ≡ self.old) }
+    {
+        match self.change(alloc, stripe, f, Some(bytes)) {
+            Ok(()) => Ok(()),
+            Err(_) => Err(Fault::NoMemory),
+        }
+    }
+
+    /// Puts this slot in for the fragment `f` of a stripe.
+    fn change(
+        &mut self,
         alloc: Global,
         stripe: u64,
         f: u8,
         slot: Option<Bytes>,
-    ) -> Result<Sealed, NoMemory>
-        requires stripe_below { stripe < stripe_count self.now.code self.now.width self.now.len }
-        requires f_below { f < fragment_count self.now.code }
-        requires long { IfSome slot (λ bytes. length bytes ≡ self.now.width) }
-        ensures { IfOk result (IsChanged self.now stripe f slot) }
+    ) -> Result<(), NoMemory>
+        requires stripe_below { stripe < stripe_count self.old.code self.old.width self.old.len }
+        requires f_below { f < fragment_count self.old.code }
+        requires long { IfSome slot (λ bytes. length bytes ≡ self.old.width) }
+        ensures ok { OnOk result (IsChanged self.old stripe f slot self.new) }
+        ensures err { OnErr result (self.new ≡ self.old) }
     {
-        let at = stripe as usize;
-        let new_stripe = with_slot(self.stripes.at(at), usize::from(f), slot)?;
-        let new_stripe = Arc::new(alloc, new_stripe)?;
-        let stripes = self.stripes.with(alloc, at, new_stripe)?;
+        self.stripes
+            .set(alloc, stripe as usize, usize::from(f), slot)
+    }
+
+    /// The same value. The stripes are shared.
+    fn share(&self, alloc: Global) -> Result<Sealed, NoMemory>
+        ensures { IfOk result (λ s. s ≡ self.now) }
+    {
+        let stripes = Stripes::from_vec(self.stripes.share_all(alloc)?);
         Ok(Sealed {
             version: self.version,
             len: self.len,
@@ -72,16 +116,6 @@ impl Sealed {
 }
 
 impl Stripes {
-    /// The same stripes but for one. The others are shared.
-    fn with(&self, alloc: Global, at: usize, stripe: Arc<Stripe>) -> Result<Stripes, NoMemory>
-        requires { at < length self.now }
-        ensures { IfOk result (λ s. s ≡ slice_set self.now at stripe.value.fragments) }
-    {
-        let mut items = self.share_all(alloc)?;
-        items[at] = stripe;
-        Ok(Stripes::from_vec(items))
-    }
-
     /// One more owner of each stripe.
     fn share_all(&self, alloc: Global) -> Result<Vec<Arc<Stripe>>, NoMemory>
         ensures { IfOk result (λ v. map (λ a. a.value.fragments) v.items ≡ self.now) }
@@ -92,6 +126,26 @@ impl Stripes {
         }
         Ok(items)
     }
+}
+
+/// Puts this slot in for the fragment `f`: in place where the stripe has no other owner, and else in a stripe of its own.
+pub(crate) fn set_slot(
+    stripe: &mut Arc<Stripe>,
+    alloc: Global,
+    f: usize,
+    slot: Option<Bytes>,
+) -> Result<(), NoMemory>
+    requires { f < 16 }
+    ensures ok { OnOk result (stripe.new.value.fragments ≡ slice_set stripe.old.value.fragments f slot) }
+    ensures err { OnErr result (stripe.new.value.fragments ≡ stripe.old.value.fragments) }
+{
+    if let Some(own) = Arc::get_mut(stripe) {
+        own.fragments[f] = slot;
+        return Ok(());
+    }
+    let changed = with_slot(stripe, f, slot)?;
+    *stripe = Arc::new(alloc, changed)?;
+    Ok(())
 }
 
 /// The same stripe with this slot for the fragment `f`. The other fragments are shared.

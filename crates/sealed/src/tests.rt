@@ -91,3 +91,45 @@ fn small(rt: HostRuntime) -> Result<(), Fail> {
     assert_eq!(rt; renamed.version, 7);
     Ok(())
 }
+
+/// Takes out a fragment, which only want of memory can refuse.
+fn take_out(rt: &impl Abort, alloc: Global, sealed: &mut Sealed, stripe: u64, f: u8) {
+    assert!(rt; stripe < count_stripes(sealed.code, sealed.width, sealed.len));
+    assert!(rt; f < sealed.code.fragments());
+    sealed.take_out(alloc, stripe, f).expect(rt, "memory");
+}
+
+/// Which are there: the first two fragments of stripe 0, and the first one of stripe 1.
+fn are_there(rt: &impl Abort, sealed: &Sealed) -> [bool; 3] {
+    assert!(rt; 1 < count_stripes(sealed.code, sealed.width, sealed.len));
+    [
+        sealed.fragment(0, 0).is_some(),
+        sealed.fragment(0, 1).is_some(),
+        sealed.fragment(1, 0).is_some(),
+    ]
+}
+
+#[test]
+fn who_shares_a_stripe_keeps_it(rt: HostRuntime) -> Result<(), Fail> {
+    let alloc = rt.alloc();
+    let mut first = sealed(
+        &rt,
+        alloc,
+        Bytes::from_static(b"ABCDEFGHIJKLMNOPQRSTUVWX"),
+        1,
+    );
+    take_out(&rt, alloc, &mut first, 0, 0);
+    assert!(rt; 0 < count_stripes(first.code, first.width, first.len));
+    let mut second = first.without(alloc, 0, 1).expect(&rt, "memory");
+    take_out(&rt, alloc, &mut second, 1, 0);
+    assert!(rt; 0 < count_stripes(second.code, second.width, second.len));
+    assert!(rt; second.width.get() == 1);
+    second
+        .put_back(alloc, 0, 0, Bytes::from_static(b"A"))
+        .expect(&rt, "memory");
+    assert!(rt; are_there(&rt, &first) == [false, true, true]);
+    assert!(rt; are_there(&rt, &second) == [true, false, false]);
+    assert!(rt; fragment(&rt, &first, 0, 1) == b"B".as_slice());
+    assert!(rt; fragment(&rt, &second, 0, 0) == b"A".as_slice());
+    Ok(())
+}

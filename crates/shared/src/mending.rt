@@ -53,13 +53,16 @@ impl Store {
         let Ok(bytes) = rebuild_whole(alloc, &sealed, stripe, fragment) else {
             return Err(Fault::NoMemory);
         };
+        let version = sealed.version;
+        // So the install changes the value in place, where no grant holds it.
+        drop(sealed);
         self.make(
             rt,
             pass,
             Request::Install {
                 alloc,
                 name,
-                version: sealed.version,
+                version,
                 stripe,
                 fragment,
                 bytes,
@@ -89,12 +92,15 @@ impl Store {
         let Ok(bytes) = rebuild_whole(alloc, &sealed, stripe, fragment) else {
             return Err(Fault::NoMemory);
         };
+        let version = sealed.version;
+        // So the install changes the value in place, where no grant holds it.
+        drop(sealed);
         self.try_make(
             pass,
             Request::Install {
                 alloc,
                 name,
-                version: sealed.version,
+                version,
                 stripe,
                 fragment,
                 bytes,

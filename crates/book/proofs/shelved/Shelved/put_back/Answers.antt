@@ -1,25 +1,27 @@
-use Rattle.std.proofs.Common.{◌∙◌, Some, ap, arith}
+use Rattle.std.proofs.Common.{◌∙◌, Some, ap, subst, arith}
+use Rattle.sealed.specs.declared.value.Sealed.{Sealed}
 use Rattle.sealed.specs.Change.{IsChanged}
 use Rattle.book.specs.Lacking.{lacked_count}
-use Rattle.book.proofs.Mending.{moved, with_one_less, is_with}
+use Rattle.book.proofs.Mending.{with_one_less, is_with}
 use Rattle.book.proofs.shelved.Shelved.put_back.Goals as goal
 
-pub overflow_sub-lost : goal.overflow_sub-lost
-overflow_sub-lost c =
-    let changed : IsChanged c.args.self.now c.args.stripe c.args.f (Some c.args.bytes) c.in-Ok-new.sealed.value =
-    moved c.args.self.now c.deref.result.now c.in-Ok.sealed c.in-Ok-new.sealed.value c.args.stripe c.args.f (Some c.args.bytes) (c.deref.ensures ∙ c.self.view_is) c.in-Ok-new.ensures.ok c.in-Ok.ensures.ok in
-    let more = with_one_less c.args.self.now c.in-Ok-new.sealed.value c.args.stripe c.args.f c.self.inside.lost c.args.bytes (c.self.invariant ∙ ap lacked_count c.self.view_is) changed c.requires.stripe_below c.requires.f_below c.requires.gone in
-    omega (arith, more)
+pub overflow_sub-self : goal.overflow_sub-self
+overflow_sub-self c =
+    let s = c.args.self.now in
+    let t = c.put_back_in.new.sealed.value in
+    let changed : IsChanged s c.args.stripe c.args.f (Some c.args.bytes) t = subst (λ (v : Sealed). IsChanged v c.args.stripe c.args.f (Some c.args.bytes) t) c.self.view_is c.in-Ok.ensures.ok in
+    omega (arith, with_one_less s t c.args.stripe c.args.f c.self.inside.lost c.args.bytes (c.self.invariant ∙ ap lacked_count c.self.view_is) changed c.requires.stripe_below c.requires.f_below c.requires.gone)
 
 pub invariant_of-self : goal.invariant_of-self
 invariant_of-self c =
-    let changed : IsChanged c.args.self.now c.args.stripe c.args.f (Some c.args.bytes) c.in-Ok-new.sealed.value =
-    moved c.args.self.now c.deref.result.now c.in-Ok.sealed c.in-Ok-new.sealed.value c.args.stripe c.args.f (Some c.args.bytes) (c.deref.ensures ∙ c.self.view_is) c.in-Ok-new.ensures.ok c.in-Ok.ensures.ok in
-    let more = with_one_less c.args.self.now c.in-Ok-new.sealed.value c.args.stripe c.args.f c.self.inside.lost c.args.bytes (c.self.invariant ∙ ap lacked_count c.self.view_is) changed c.requires.stripe_below c.requires.f_below c.requires.gone in
-    omega (arith, more)
+    let s = c.args.self.now in
+    let t = c.put_back_in.new.sealed.value in
+    let changed : IsChanged s c.args.stripe c.args.f (Some c.args.bytes) t = subst (λ (v : Sealed). IsChanged v c.args.stripe c.args.f (Some c.args.bytes) t) c.self.view_is c.in-Ok.ensures.ok in
+    omega (arith, with_one_less s t c.args.stripe c.args.f c.self.inside.lost c.args.bytes (c.self.invariant ∙ ap lacked_count c.self.view_is) changed c.requires.stripe_below c.requires.f_below c.requires.gone)
 
-pub returns-clause-ok : goal.returns-clause-ok
-returns-clause-ok c =
-    is_with c.args.self.now c.in-Ok-new.sealed.value c.args.stripe c.args.f c.args.bytes
-    (moved c.args.self.now c.deref.result.now c.in-Ok.sealed c.in-Ok-new.sealed.value c.args.stripe c.args.f (Some c.args.bytes) (c.deref.ensures ∙ c.self.view_is) c.in-Ok-new.ensures.ok c.in-Ok.ensures.ok)
+pub returns-in-Ok-clause-ok : goal.returns-in-Ok-clause-ok
+returns-in-Ok-clause-ok c =
+    let t = c.put_back_in.new.sealed.value in
+    is_with c.args.self.now t c.args.stripe c.args.f c.args.bytes
+    (subst (λ (v : Sealed). IsChanged v c.args.stripe c.args.f (Some c.args.bytes) t) c.self.view_is c.in-Ok.ensures.ok)
     c.requires.own

@@ -1,5 +1,10 @@
-use Rattle.sealed.proofs.Changing.{with_stands}
+use Rattle.std.proofs.Common.{◌∙◌, sym, ap, subst}
+use Rattle.sealed.specs.declared.value.Sealed.{Sealed}
+use Rattle.sealed.specs.Blob.{fragment}
+use Rattle.sealed.specs.Sealed.{StandsFor}
 use Rattle.sealed.proofs.value.Sealed.with.Goals as goal
 
-pub returns-in-Ok-clause-stands : goal.returns-in-Ok-clause-stands
-returns-in-Ok-clause-stands c b lost stands own = with_stands c.args.self.now c.in-Ok.sealed b lost c.args.stripe c.args.f c.args.bytes c.in-Ok.ensures stands own
+pub returns-in-Ok-put_back-clause-stands : goal.returns-in-Ok-put_back-clause-stands
+returns-in-Ok-put_back-clause-stands c b lost stands own =
+    c.in-Ok-put_back.ensures.stands b lost (subst (λ (s : Sealed). StandsFor s b lost) (sym c.in-Ok.ensures) stands)
+    (own ∙ ap (λ (s : Sealed). fragment s.code s.width b c.args.stripe c.args.f) (sym c.in-Ok.ensures))
