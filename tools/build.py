@@ -46,7 +46,7 @@ def main(program):
     names, start = below(program), time.monotonic()
     if not names or names[-1] != program:
         sys.exit(f"crates.txt has no crate {program}")
-    print(f"{len(names)} crates. From nothing they take some 12 minutes on 4 cores; after that, seconds.", flush=True)
+    print(f"{len(names)} crates. From nothing they take some 15 minutes on 4 cores; after that, seconds.", flush=True)
     for number, name in enumerate(names, 1):
         print(f"{number:2} of {len(names)}  {name:14}", end="", flush=True)
         proved = build(name, name == program)

@@ -1,0 +1,106 @@
+#!/usr/bin/env python3
+"""Measures what a script's run costs, and how it grows: bench/program.py [--times N] [PROGRAM ..]
+
+Each script is run N times (5 without the option), the programs in turn, and the least processor time counts, of a mend the least
+wall time. With no PROGRAM it is the one that tools/build.py makes. Nothing is fetched, and the scripts lie in a folder that is removed.
+"""
+
+import argparse
+import os
+import subprocess
+import sys
+import tempfile
+import time
+
+TOP = os.path.dirname(os.path.dirname(os.path.abspath(__file__)))
+BUILT = os.path.join(TOP, "crates", "lrcstore", "out", "lrcstore")
+FULL = ["--limit", "1048576"]
+SMALL = "1,1,put,a,text,ABCDEFGHIJKL"
+LONG = "1,1,put,a,text," + "x" * 49152
+MIB_48 = 48 << 20
+
+
+def trims(names):
+    """A put of each name, and half as many pairs of a stat and a trim that gives up all."""
+    return [f"1,1,put,n{k},text,ABCDEFGHIJKL" for k in range(names)] + ["1,1,stat,n0,,", "1,1,trim,,0,"] * (names // 2)
+
+
+def losses(stripes):
+    """16,384 losses, four in a stripe, in as many blobs of so many stripes as it takes."""
+    put = "1,1,put,a,text," + "x" * (12 * stripes)
+    lost = [f"1,1,lose,a,{stripe},{fragment}" for fragment in (0, 1, 6, 7) for stripe in range(stripes)]
+    return ([put] + lost) * (16384 // len(lost))
+
+
+def reads(lost):
+    """65,535 reads of 12 bytes in a blob with so many losses, and a trim at the end."""
+    gone = [f"1,1,lose,a,{k % 4096},{(0, 1, 6, 7)[k // 4096]}" for k in range(lost)]
+    return [LONG] + gone + ["1,1,trim,,0,"] + ["1,1,read,a,0,12"] * (65533 - lost) + ["1,1,trim,,0,"]
+
+
+def mend(is_mended):
+    """Fifteen times 4,096 losses, four in each stripe of a blob of 48 MiB cut by the width 4,096, and all of them mended."""
+    rows = ["1,1,put,a,hex," + "5a" * MIB_48]
+    for turn in range(15):
+        rows += [f"{2 * turn + 1},1,lose,a,{k % 1024},{(0, 1, 6, 7)[k // 1024]}" for k in range(4096)]
+        rows += [f"{2 * turn + 2},0,mend,,,"] * is_mended
+    return rows
+
+
+def whole(is_read):
+    """A blob of 48 MiB in hexadecimal, and the read of all of it."""
+    return ["1,1,put,a,hex," + "5a" * MIB_48] + [f"2,1,read,a,0,{MIB_48}"] * is_read
+
+
+def run(program, script, options, folder):
+    """Processor seconds, wall seconds and peak bytes of a run."""
+    path = os.path.join(folder, "script.csv")
+    with open(path, "w", encoding="ascii") as file:
+        file.write("\n".join(script) + "\n")
+    start = time.monotonic()
+    child = subprocess.Popen([program, path, *options], stdout=subprocess.DEVNULL)
+    _, status, used = os.wait4(child.pid, 0)
+    if status != 0:
+        sys.exit(f"{program} ended with {os.waitstatus_to_exitcode(status)}")
+    return used.ru_utime + used.ru_stime, time.monotonic() - start, used.ru_maxrss * 1024
+
+
+def least(programs, script, options, times, folder):
+    """The least of each measure, for each program."""
+    runs = [[run(program, script, options, folder) for program in programs] for _ in range(times)]
+    return [[min(one[k][measure] for one in runs) for measure in range(3)] for k in range(len(programs))]
+
+
+def show(what, programs, figures):
+    for program, figure in zip(programs, figures):
+        print(f"{what}: {figure}" + (f"  ({program})" if len(programs) > 1 else ""), flush=True)
+
+
+def compare(what, programs, less, more, options, times, folder):
+    """The processor time of one script as a ratio to that of another one."""
+    small, great = (least(programs, script, options, times, folder) for script in (less, more))
+    show(what, programs, [f"{a[0]:.3f} and {b[0]:.3f} s, {b[0] / a[0]:.2f} times" for a, b in zip(small, great)])
+
+
+def main():
+    parser = argparse.ArgumentParser(description=__doc__.splitlines()[0])
+    parser.add_argument("--times", type=int, default=5)
+    parser.add_argument("programs", nargs="*", default=[BUILT])
+    given = parser.parse_args()
+    programs, times = given.programs, given.times
+    with tempfile.TemporaryDirectory() as folder:
+        compare("4,000 and 8,000 names, with trims", programs, trims(4000), trims(8000), FULL, times, folder)
+        compare("16,384 losses in blobs of 64 and of 4,096 stripes", programs, losses(64), losses(4096), FULL, times, folder)
+        compare("reads of a blob with no loss and with 16,000", programs, reads(0), reads(16000), FULL, times, folder)
+        wide = [*FULL, "--width", "65536"]
+        compare("48 MiB put, and read", programs, whole(False), whole(True), wide, times, folder)
+        peaks = least(programs, whole(True), wide, 1, folder)
+        show("the same, peak memory", programs, [f"{one[2] / MIB_48:.1f} bytes for each of the blob" for one in peaks])
+        for workers in (1, 2, 4):
+            options = [*FULL, "--width", "4096", "--workers", str(workers)]
+            base, mended = (least(programs, mend(is_mended), options, times, folder) for is_mended in (False, True))
+            show(f"61,440 fragments mended by {workers}", programs, [f"{b[1] - a[1]:.3f} s of wall time" for a, b in zip(base, mended)])
+
+
+if __name__ == "__main__":
+    main()
