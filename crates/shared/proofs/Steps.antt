@@ -25,7 +25,7 @@ use Rattle.shared.specs.Passes.{Which, Shows, between_kept, acts_between_kept, a
 use Rattle.shared.specs.Deeds.{deed_of, act_if, DoesIf, Takes}
 use Rattle.shared.specs.Calls.{event, made_by, Called, Looked, HasRoom, IsOutside}
 use Rattle.shared.proofs.Between.{GoesOn, between_is, acts_are, tells_more, told_length, events-append, events_for, below_unless, goes_follows}
-use Rattle.shared.proofs.Passes.{width_stays, limit_stays, trimmed_is, seen_is}
+use Rattle.shared.proofs.Passes.{width_stays, limit_stays, trimmed_is, seen_is, agreed}
 
 abbrev pub kept_follows : Kept → Kept → Type 0
 kept_follows a b = MayFollow a.0.value b.0.value
@@ -87,7 +87,6 @@ pub record Stepped (p q : SeatState Kept) (x : Kept) (g : History) (n : ℕ) : T
   pub seen : seen_of q.list ≡ (seen_of p.list ++ events_in others) ++ g
   pub made : made_of q.list q.own ≡ made_of p.list p.own ++ number_if (length (seen_of p.list ++ events_in others)) g
   pub legal : IsLegal (width_of q.list) (seen_of q.list)
-  pub agrees : Agrees (shows q 0)
   pub pass : IsPass q
   pub lone : p.room ≡ 64 → (others ≡ []) × (x.0.value.base.trimmed ≡ trimmed_of p.list)
 
@@ -138,7 +137,6 @@ stepped p m q x y g n pass enters leaves on =
       seen = seen ∙ ap (λ l. l ++ g) before_events;
       made = calls.1 ∙ ap (λ (l : History). made_of p.list p.own ++ number_if (length l) g) (sym (seen_is m.list) ∙ before_events);
       legal = subst P now.width now_told.tells.legal;
-      agrees = record { seen_is = refl; trimmed_is = trimmed_is q.list y here ∙ now_told.given };
       pass = record {
         outside = leaves.same.2;
         told = (y, here, now);
@@ -177,7 +175,7 @@ takes p q x g n who deed s is does = record {
   does = does;
   acts = s.acts ∙ ap (λ l. (acts_of p.list ++ s.others) ++ l) (sym is);
   did = s.did ∙ ap (λ l. did_of p.list p.own ++ number_if (length (acts_of p.list ++ s.others)) l) (sym is);
-  agrees = record { seen_is = s.agrees.seen_is; trimmed_is = s.agrees.trimmed_is };
+  agrees = agreed q who s.pass;
   lone = λ all. (s.lone all).0;
 }
 
