@@ -125,6 +125,7 @@ looks_then_called u v w n j f (Ok a) l t base c =
       full = c.full;
       no_memory = c.no_memory;
       too_long = c.too_long;
+      outside = λ is. absurd (c.too_long is);
       takes = takes_later u v w (deed_of o (Ok a)) (sym l.stays.1) (sym l.stays.2) (sym l.stays.0) t c.takes;
       lone = λ all.
           let k = c.lone (l.stays.2 ∙ all) in
@@ -138,6 +139,7 @@ looks_then_called u v w n j f (Err e) l t base c = record {
   full = c.full;
   no_memory = c.no_memory;
   too_long = c.too_long;
+  outside = λ is. absurd (c.too_long is);
   takes = takes_later u v w (deed_of (repair n j f) (Err e)) (sym l.stays.1) (sym l.stays.2) (sym l.stays.0) t c.takes;
   lone = λ all. let k = c.lone (l.stays.2 ∙ all) in (k.0 ∙ ap (λ h. h ++ []) (l.lone all), k.1 ∙ base all);
 }

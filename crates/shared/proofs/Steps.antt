@@ -319,6 +319,7 @@ called p q x who o (Ok a) s left full short not_long = record {
   full = λ is. absurd (no_fault is);
   no_memory = λ is. absurd (no_fault is);
   too_long = λ is. absurd (no_fault is);
+  outside = λ is. absurd (no_fault is);
   takes = takes p q x (event who o a ∷ []) 0 who (deed_of o (Ok a)) s (act_called who o (Ok a)) (does_call p q x who o (Ok a) s full short not_long);
   lone = λ all. (alone p q x (event who o a ∷ []) 0 s (s.lone all).0, left ∙ (s.lone all).1);
 }
@@ -330,6 +331,7 @@ called p q x who o (Err e) s left full short not_long = record {
   full = λ is. full_seen p q x s left (full.0 is);
   no_memory = λ is. inl (room_seen p q x who s left (λ there. cc (full.1 there, is)));
   too_long = λ is. absurd (not_long is);
+  outside = λ is. absurd (not_long is);
   takes = takes p q x [] 0 who (deed_of o (Err e)) s (act_called who o (Err e)) (does_call p q x who o (Err e) s full short not_long);
   lone = λ all. (alone p q x [] 0 s (s.lone all).0, left ∙ (s.lone all).1);
 }
@@ -365,6 +367,7 @@ refused v o f legal agrees full memory long = record {
   full = λ is. absurd (full (fault_is is));
   no_memory = λ is. inr (memory (fault_is is));
   too_long = λ is. long (fault_is is);
+  outside = λ is. refl;
   takes = takes_refused v o f agrees full long;
   lone = λ all. (sym (append-nil v.seen), refl);
 }

@@ -46,13 +46,13 @@ GivesUpAlone v (Err fault) w = w.trimmed ≡ v.trimmed
 abbrev pub HasRoom : Shows → Type 0
 HasRoom w = length w.seen < w.trimmed + w.store.limit
 
--- a put may be refused before the gate is entered, and then the pass is as it was. No other call is
+-- a put may be refused outside, before the gate is entered, and then the pass is as it was. No other call is
 abbrev pub IsOutside : Shows → Operation → Shows → Type 0
 IsOutside v (put n code b) w = w ≡ v
 IsOutside v operation w = ⊥
 
--- What the pass shows afterwards: with an answer the call was made, and with a fault it was not. A journal was full where it had as many entries as its limit, and memory
--- was refused inside only where it had fewer. While no other pass is out, nothing else was done
+-- What the pass shows afterwards: with an answer the call was made, and with a fault it was not. A journal was full where it had as many entries as its limit; memory was
+-- refused where it had fewer, or outside. A blob that is too long is refused outside. While no other pass is out, nothing else was done
 pub record Called (v : Shows) (operation : Operation) (r : Result Answer Fault) (w : Shows) : Type 0 where
   pub stays : Stays v w
   pub legal : IsLegal w.store.width w.seen
@@ -61,6 +61,7 @@ pub record Called (v : Shows) (operation : Operation) (r : Result Answer Fault) 
   pub full : r ≡ Err JournalFull → length w.seen ≡ w.trimmed + w.store.limit
   pub no_memory : r ≡ Err NoMemory → HasRoom w ⊎ IsOutside v operation w
   pub too_long : r ≡ Err TooLong → IsTooLong w.store.width operation
+  pub outside : r ≡ Err TooLong → w ≡ v
   pub takes : Takes v (deed_of operation r) w
   pub lone : v.room ≡ 64 → (w.seen ≡ v.seen ++ made_by v.who operation r) × (w.trimmed ≡ v.trimmed)
 

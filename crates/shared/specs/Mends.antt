@@ -45,6 +45,10 @@ pub record CanMend (v : Shows) (n : List ℕ) (j f : ℕ) (s : Sealed) (w : Show
   pub known : IsKnown w.seen w.store.width n s
   pub mendable : IsMendable s j f
 
+-- a pass that does not wait found somebody inside: it is as it was, or has looked before that and found a value to rebuild from
+abbrev pub FoundBusy : Shows → List ℕ → ℕ → ℕ → Shows → Type 0
+FoundBusy v n j f w = (w ≡ v) ⊎ ((s : Sealed) × CanMend v n j f s w)
+
 -- what a pass found
 abbrev pub Found : Shows → List ℕ → ℕ → ℕ → Look → Shows → Type 0
 Found v n j f (Done a) w = Called v (repair n j f) (Ok a) w
