@@ -29,7 +29,7 @@ use Rattle.shared.specs.Deeds.{deed_of, act_if, DoesIf, Takes}
 use Rattle.shared.specs.Calls.{event, Called, Looked}
 use Rattle.shared.specs.Mends.{IsMendable, IsKnown, FoundIn, Found}
 use Rattle.shared.proofs.Between.{GoesOn}
-use Rattle.shared.proofs.Steps.{Stepped, told_history, looked, takes, IsFullIf, call_goes_on, same_goes_on, called}
+use Rattle.shared.proofs.Steps.{Stepped, told_history, looked, takes, IsFullIf, call_goes_on, same_goes_on, room_seen, called}
 
 -- the event of a repair, where the look made it
 abbrev pub events_at_look : Look → ℕ → Operation → History
@@ -79,6 +79,7 @@ look_found p q x y who n j f (Mendable s) step left is = record {
   looked = looked p q x 0 who step;
   takes = takes p q x [] 0 who None step refl tt;
   base = λ all. left ∙ (step.lone all).1;
+  room = room_seen p q x who step left is.3;
   known = known p q x n s.value step is.1;
   mendable = is.2;
 }
@@ -108,9 +109,11 @@ takes_later u v w deed who room store first then =
       lone = λ alone. (λ i. first.lone alone i ++ then.lone (sym room ∙ alone) i);
     }
 
--- a look, and then a call
-pub looks_then_called : (u v w : Shows) (o : Operation) (r : Result Answer Fault) → Looked u v → Takes u None v → (u.room ≡ 64 → v.trimmed ≡ u.trimmed) → Called v o r w → Called u o r w
-looks_then_called u v w o (Ok a) l t base c =
+-- a look, and then the repair
+pub looks_then_called : (u v w : Shows) (n : List ℕ) (j f : ℕ) (r : Result Answer Fault) → Looked u v → Takes u None v → (u.room ≡ 64 → v.trimmed ≡ u.trimmed) → Called v (repair n j f) r w
+    → Called u (repair n j f) r w
+looks_then_called u v w n j f (Ok a) l t base c =
+    let o : Operation = repair n j f in
     let k = c.ok in
     let first = l.looks.0 in
     let all : u.seen ++ (first.0 ++ k.0) ≡ v.seen ++ k.0 = sym (append_assoc u.seen first.0 k.0) ∙ ap (λ h. h ++ k.0) first.1 in
@@ -120,19 +123,23 @@ looks_then_called u v w o (Ok a) l t base c =
       ok = subst (λ (who : ℕ). Calls u (event who o a) w) l.stays.1 (first.0 ++ k.0, k.1 ∙ ap (λ h. h ++ event v.who o a ∷ []) (sym all), k.2 ∙ (λ i. l.looks.1 i ++ length (sym all i) ∷ []));
       err = tt;
       full = c.full;
+      no_memory = c.no_memory;
       too_long = c.too_long;
+      outside = λ is. absurd (c.too_long is);
       takes = takes_later u v w (deed_of o (Ok a)) (sym l.stays.1) (sym l.stays.2) (sym l.stays.0) t c.takes;
       lone = λ all.
           let k = c.lone (l.stays.2 ∙ all) in
           (subst (λ (who : ℕ). w.seen ≡ u.seen ++ event who o a ∷ []) l.stays.1 (k.0 ∙ ap (λ h. h ++ event v.who o a ∷ []) (l.lone all)), k.1 ∙ base all);
     }
-looks_then_called u v w o (Err e) l t base c = record {
+looks_then_called u v w n j f (Err e) l t base c = record {
   stays = (c.stays.0 ∙ l.stays.0, c.stays.1 ∙ l.stays.1, c.stays.2 ∙ l.stays.2);
   legal = c.legal;
   ok = tt;
   err = (prefix_trans u.seen v.seen w.seen l.looks.0 c.err.0, c.err.1 ∙ l.looks.1);
   full = c.full;
+  no_memory = c.no_memory;
   too_long = c.too_long;
-  takes = takes_later u v w (deed_of o (Err e)) (sym l.stays.1) (sym l.stays.2) (sym l.stays.0) t c.takes;
+  outside = λ is. absurd (c.too_long is);
+  takes = takes_later u v w (deed_of (repair n j f) (Err e)) (sym l.stays.1) (sym l.stays.2) (sym l.stays.0) t c.takes;
   lone = λ all. let k = c.lone (l.stays.2 ∙ all) in (k.0 ∙ ap (λ h. h ++ []) (l.lone all), k.1 ∙ base all);
 }

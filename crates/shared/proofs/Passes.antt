@@ -36,7 +36,14 @@ trimmed_is (y ∷ z ∷ zs) x e = trimmed_is (z ∷ zs) x e
 
 -- what a pass shows agrees
 pub agreed : (p : SeatState Kept) (who : ℕ) → IsPass p → Agrees (shows p who)
-agreed p who pass = record { seen_is = refl; trimmed_is = trimmed_is p.list pass.told.0 pass.told.1 ∙ pass.told.2.told.given }
+agreed p who pass =
+    let x : Kept = pass.told.0 in
+    let is = pass.told.2 in
+    let given : trimmed_of p.list ≡ x.0.value.base.trimmed = trimmed_is p.list x pass.told.1 in
+    let count : x.0.value.base.trimmed + length x.0.value.entries ≡ length (seen_of p.list) = told_length x.0.value (seen_of p.list) is.told.tells in
+    let fits : length x.0.value.entries ≤ x.0.value.limit = is.told.room in
+    let limit : x.0.value.limit ≡ limit_of p.list = is.limit in
+    record { seen_is = refl; trimmed_is = given ∙ is.told.given; room = omega arith }
 
 pub legal_shown : (p : SeatState Kept) (who : ℕ) → IsPass p → IsLegal (shows p who).store.width (shows p who).seen
 legal_shown p who pass = let told = pass.told.2 in subst (λ (w : ℕ). IsLegal w (seen_of p.list)) told.width told.told.tells.legal

@@ -22,7 +22,7 @@ use Rattle.shared.specs.declared.run.Outcome.TheVariants as outcome
 use Rattle.shared.specs.Passes.{Which, Shows, Stays}
 use Rattle.shared.specs.Deeds.{deed_of, act_if, DoesIf, Takes}
 use Rattle.shared.specs.Runs.{operation_asked, ComesOf, reply_of}
-use Rattle.shared.specs.Serving.{keep_asked, call_deed, keep_deed, outcome_deed, deed_told, IfGrantedTo, Turn, act_in, IsServed, AreServed, places_of, Serves}
+use Rattle.shared.specs.Serving.{keep_asked, call_deed, keep_deed, outcome_deed, deed_told, IfGrantedTo, Turn, act_in, IsServed, AreServed, places_of, acts_in, Serves}
 
 -- ---- what was served stays served
 served-longer : (w l : ℕ) (acts later : List Act) (who : ℕ) (t : Turn) → IsPrefix acts later → IsServed w l acts who t → IsServed w l later who t
@@ -70,10 +70,11 @@ serves_none v w asks takes = record {
   replied = refl;
   each = tt;
   did = takes.did;
+  lone = λ all. takes.acts ∙ append-nil (v.acts ++ takes.others) ∙ ap (λ l. v.acts ++ l) (takes.lone all);
 }
 
 pub serves_nothing : (v : Shows) (asks : List Ask) → Serves v asks [] v
-serves_nothing v asks = record { acts = prefix_self v.acts; turns = []; asked = (asks, refl); replied = refl; each = tt; did = sym (append-nil v.did) }
+serves_nothing v asks = record { acts = prefix_self v.acts; turns = []; asked = (asks, refl); replied = refl; each = tt; did = sym (append-nil v.did); lone = λ all. sym (append-nil v.acts) }
 
 -- a run, and then another
 pub serves_append : (v u w : Shows) (asks more : List Ask) (replies others : List Reply) → length replies ≡ length asks → Stays v u → Serves v asks replies u → Serves u more others w
@@ -95,6 +96,9 @@ serves_append v u w asks more replies others many stays one two =
       each = are_served-append v.store.width v.store.limit u.acts w.acts v.who (length v.acts) one.turns two.turns two.acts (prefix_length v.acts u.acts one.acts) one.each served;
       did = two.did ∙ (λ i. one.did i ++ places_of (stays.1 i) two.turns) ∙ append_assoc v.did (places_of v.who one.turns) (places_of v.who two.turns)
           ∙ ap (λ l. v.did ++ l) (sym (flat_map-append (λ (t : Turn). number_if t.place (act_in v.who t)) one.turns two.turns));
+      lone = λ all.
+          two.lone (stays.2 ∙ all) ∙ (λ i. one.lone all i ++ acts_in (stays.1 i) two.turns) ∙ append_assoc v.acts (acts_in v.who one.turns) (acts_in v.who two.turns)
+          ∙ ap (λ l. v.acts ++ l) (sym (flat_map-append (act_in v.who) one.turns two.turns));
     }
   where
     turns_many : (turns : List Turn) (replies : List Reply) (n : ℕ) → map (λ (t : Turn). t.reply) turns ≡ replies → length replies ≡ n → length (map (λ (t : Turn). t.ask) turns) ≡ n
@@ -235,6 +239,9 @@ serves_one v w a x reply stays comes takes is =
         tt,
       );
       did = takes.did ∙ ap (λ l. v.did ++ l) (ap (λ l. number_if (length before) l) (ap (act_if v.who) (told_by a x reply is)) ∙ sym (append-nil (number_if (length before) (act_in v.who t))));
+      lone = λ all.
+          takes.acts ∙ (λ i. (v.acts ++ takes.lone all i) ++ act_if v.who (told_by a x reply is i)) ∙ (λ i. append-nil v.acts i ++ act_in v.who t)
+          ∙ ap (λ l. v.acts ++ l) (sym (append-nil (act_in v.who t)));
     }
 
 no_call : (o : Option Operation) (f : Fault) → reply_of (outcome.Made (Err f)) ≡ None → call_deed o (Err f) ≡ None

@@ -1,5 +1,5 @@
 -- What a call adds to what a pass shows.
-use Rattle.std.proofs.Common.{◌≡◌, ◌≢◌, ℕ, ◌+◌, ◌<◌, ◌≤◌, false, List, [], ◌∷◌, ◌++◌, length, Option, None, Some, Result, Ok, Err, IfOk, IfSome, OnErr, refl, ap, sym, subst, ◌∙◌, arith, append_assoc, length-append}
+use Rattle.std.proofs.Common.{◌≡◌, ◌≢◌, ℕ, ◌+◌, ◌<◌, ◌≤◌, inl, inr, false, List, [], ◌∷◌, ◌++◌, length, Option, None, Some, Result, Ok, Err, IfOk, IfSome, OnErr, refl, ap, sym, subst, ◌∙◌, arith, append_assoc, length-append}
 use Rattle.std.specs.Prelude.{◌↔◌}
 use Rattle.std.proofs.lemmas.List.{append-nil}
 use mathlib.Core.List.{IsPrefix}
@@ -23,9 +23,9 @@ use Rattle.shared.specs.declared.kept.Kept.{Kept}
 use Rattle.shared.specs.Between.{MayFollow, TellsActs, acts_for}
 use Rattle.shared.specs.Passes.{Which, Shows, between_kept, acts_between_kept, acts_of, did_of, seen_of, made_of, width_of, limit_of, trimmed_of, shows, TellsAs, IsPass, Agrees, Stays}
 use Rattle.shared.specs.Deeds.{deed_of, act_if, DoesIf, Takes}
-use Rattle.shared.specs.Calls.{event, made_by, Called, Looked}
+use Rattle.shared.specs.Calls.{event, made_by, Called, Looked, HasRoom, IsOutside}
 use Rattle.shared.proofs.Between.{GoesOn, between_is, acts_are, tells_more, told_length, events-append, events_for, below_unless, goes_follows}
-use Rattle.shared.proofs.Passes.{width_stays, limit_stays, trimmed_is, seen_is}
+use Rattle.shared.proofs.Passes.{width_stays, limit_stays, trimmed_is, seen_is, agreed}
 
 abbrev pub kept_follows : Kept → Kept → Type 0
 kept_follows a b = MayFollow a.0.value b.0.value
@@ -87,7 +87,6 @@ pub record Stepped (p q : SeatState Kept) (x : Kept) (g : History) (n : ℕ) : T
   pub seen : seen_of q.list ≡ (seen_of p.list ++ events_in others) ++ g
   pub made : made_of q.list q.own ≡ made_of p.list p.own ++ number_if (length (seen_of p.list ++ events_in others)) g
   pub legal : IsLegal (width_of q.list) (seen_of q.list)
-  pub agrees : Agrees (shows q 0)
   pub pass : IsPass q
   pub lone : p.room ≡ 64 → (others ≡ []) × (x.0.value.base.trimmed ≡ trimmed_of p.list)
 
@@ -138,7 +137,6 @@ stepped p m q x y g n pass enters leaves on =
       seen = seen ∙ ap (λ l. l ++ g) before_events;
       made = calls.1 ∙ ap (λ (l : History). made_of p.list p.own ++ number_if (length l) g) (sym (seen_is m.list) ∙ before_events);
       legal = subst P now.width now_told.tells.legal;
-      agrees = record { seen_is = refl; trimmed_is = trimmed_is q.list y here ∙ now_told.given };
       pass = record {
         outside = leaves.same.2;
         told = (y, here, now);
@@ -177,7 +175,7 @@ takes p q x g n who deed s is does = record {
   does = does;
   acts = s.acts ∙ ap (λ l. (acts_of p.list ++ s.others) ++ l) (sym is);
   did = s.did ∙ ap (λ l. did_of p.list p.own ++ number_if (length (acts_of p.list ++ s.others)) l) (sym is);
-  agrees = record { seen_is = s.agrees.seen_is; trimmed_is = s.agrees.trimmed_is };
+  agrees = agreed q who s.pass;
   lone = λ all. (s.lone all).0;
 }
 
@@ -247,6 +245,16 @@ full_seen p q x s left full =
     let limit : x.0.value.limit ≡ limit_of q.list = s.told.limit in
     omega arith
 
+-- and in a journal with room there are fewer
+pub room_seen : (p q : SeatState Kept) (x : Kept) (who : ℕ) → Stepped p q x [] 0 → trimmed_of q.list ≡ x.0.value.base.trimmed → length x.0.value.entries ≢ x.0.value.limit → HasRoom (shows q who)
+room_seen p q x who s left apart =
+    let h : History = seen_of p.list ++ events_in s.others in
+    let same : length (seen_of q.list) ≡ length h = ap length (s.seen ∙ append-nil h) in
+    let told : x.0.value.base.trimmed + length x.0.value.entries ≡ length h = told_length x.0.value h (told_history p q x [] 0 s) in
+    let limit : x.0.value.limit ≡ limit_of q.list = s.told.limit in
+    let free : length x.0.value.entries < x.0.value.limit = below_unless (length x.0.value.entries) x.0.value.limit s.told.told.room apart in
+    omega arith
+
 -- how many calls the standing has that was found
 pub calls_found : (p q : SeatState Kept) (x : Kept) (g : History) (n : ℕ) (s : Stepped p q x g n)
     → (standing_of (acts_of p.list ++ s.others)).calls ≡ (standing_of (acts_of p.list ++ s.others)).given + length x.0.value.entries
@@ -309,7 +317,9 @@ called p q x who o (Ok a) s left full short not_long = record {
   ok = (events_in s.others, s.seen, s.made);
   err = tt;
   full = λ is. absurd (no_fault is);
+  no_memory = λ is. absurd (no_fault is);
   too_long = λ is. absurd (no_fault is);
+  outside = λ is. absurd (no_fault is);
   takes = takes p q x (event who o a ∷ []) 0 who (deed_of o (Ok a)) s (act_called who o (Ok a)) (does_call p q x who o (Ok a) s full short not_long);
   lone = λ all. (alone p q x (event who o a ∷ []) 0 s (s.lone all).0, left ∙ (s.lone all).1);
 }
@@ -319,7 +329,9 @@ called p q x who o (Err e) s left full short not_long = record {
   ok = tt;
   err = (looked p q x 0 who s).looks;
   full = λ is. full_seen p q x s left (full.0 is);
+  no_memory = λ is. inl (room_seen p q x who s left (λ there. cc (full.1 there, is)));
   too_long = λ is. absurd (not_long is);
+  outside = λ is. absurd (not_long is);
   takes = takes p q x [] 0 who (deed_of o (Err e)) s (act_called who o (Err e)) (does_call p q x who o (Err e) s full short not_long);
   lone = λ all. (alone p q x [] 0 s (s.lone all).0, left ∙ (s.lone all).1);
 }
@@ -345,14 +357,17 @@ takes_refused v o Busy agrees full long = takes_nothing v None agrees refl tt
 takes_refused v o BadWidth agrees full long = takes_nothing v None agrees refl tt
 takes_refused v o NoPass agrees full long = takes_nothing v None agrees refl tt
 
-pub refused : (v : Shows) (o : Operation) (f : Fault) → IsLegal v.store.width v.seen → Agrees v → (f ≡ JournalFull → ⊥) → (f ≡ TooLong → IsTooLong v.store.width o) → Called v o (Err f) v
-refused v o f legal agrees full long = record {
+pub refused : (v : Shows) (o : Operation) (f : Fault) → IsLegal v.store.width v.seen → Agrees v → (f ≡ JournalFull → ⊥) → (f ≡ NoMemory → IsOutside v o v) → (f ≡ TooLong → IsTooLong v.store.width o)
+    → Called v o (Err f) v
+refused v o f legal agrees full memory long = record {
   stays = (refl, refl, refl);
   legal = legal;
   ok = tt;
   err = (prefix_self v.seen, refl);
   full = λ is. absurd (full (fault_is is));
+  no_memory = λ is. inr (memory (fault_is is));
   too_long = λ is. long (fault_is is);
+  outside = λ is. refl;
   takes = takes_refused v o f agrees full long;
   lone = λ all. (sym (append-nil v.seen), refl);
 }

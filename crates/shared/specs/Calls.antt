@@ -1,9 +1,9 @@
 -- What a call leaves of a pass.
-use Rattle.std.specs.Prelude.{◌≡◌, ℕ, ◌+◌, ◌-◌, List, [], ◌∷◌, ◌++◌, length, Some, Result, Ok, Err, IfOk, OnErr}
+use Rattle.std.specs.Prelude.{◌≡◌, ◌⊎◌, ℕ, ◌+◌, ◌-◌, ◌<◌, List, [], ◌∷◌, ◌++◌, length, Some, Result, Ok, Err, IfOk, OnErr}
 use Rattle.std.specs.FinMap as finite
 use Rattle.lrc_code.specs.declared.Code.{Code}
 use Rattle.sealed.specs.declared.fault.Fault.{Fault}
-use Rattle.sealed.specs.declared.fault.Fault.TheVariants.{JournalFull, TooLong}
+use Rattle.sealed.specs.declared.fault.Fault.TheVariants.{NoMemory, JournalFull, TooLong}
 use Rattle.lent.specs.declared.grant.Grant.{Grant}
 use Rattle.history.specs.State.{Blob}
 use Rattle.history.specs.declared.note.Note.TheVariants as noted
@@ -42,15 +42,26 @@ abbrev pub GivesUpAlone : Shows → Result ℕ Fault → Shows → Type 0
 GivesUpAlone v (Ok n) w = w.trimmed ≡ v.trimmed + n
 GivesUpAlone v (Err fault) w = w.trimmed ≡ v.trimmed
 
--- What the pass shows afterwards: with an answer the call was made, and with a fault it was not. A journal was full where it had as many entries as its limit: these are
--- the calls that were seen and not given up. While no other pass is out, nothing else was done
+-- the journal had room: fewer entries than its limit. These are the calls that were seen and not given up
+abbrev pub HasRoom : Shows → Type 0
+HasRoom w = length w.seen < w.trimmed + w.store.limit
+
+-- a put may be refused outside, before the gate is entered, and then the pass is as it was. No other call is
+abbrev pub IsOutside : Shows → Operation → Shows → Type 0
+IsOutside v (put n code b) w = w ≡ v
+IsOutside v operation w = ⊥
+
+-- What the pass shows afterwards: with an answer the call was made, and with a fault it was not. A journal was full where it had as many entries as its limit; memory was
+-- refused where it had fewer, or outside. A blob that is too long is refused outside. While no other pass is out, nothing else was done
 pub record Called (v : Shows) (operation : Operation) (r : Result Answer Fault) (w : Shows) : Type 0 where
   pub stays : Stays v w
   pub legal : IsLegal w.store.width w.seen
   pub ok : IfOk r (λ a. Calls v (event v.who operation a) w)
   pub err : OnErr r (Looks v w)
   pub full : r ≡ Err JournalFull → length w.seen ≡ w.trimmed + w.store.limit
+  pub no_memory : r ≡ Err NoMemory → HasRoom w ⊎ IsOutside v operation w
   pub too_long : r ≡ Err TooLong → IsTooLong w.store.width operation
+  pub outside : r ≡ Err TooLong → w ≡ v
   pub takes : Takes v (deed_of operation r) w
   pub lone : v.room ≡ 64 → (w.seen ≡ v.seen ++ made_by v.who operation r) × (w.trimmed ≡ v.trimmed)
 

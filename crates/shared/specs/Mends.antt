@@ -15,7 +15,7 @@ use Rattle.shared.specs.declared.mending.Look.{Look}
 use Rattle.shared.specs.declared.mending.Look.TheVariants.{Done, Refused, Mendable}
 use Rattle.shared.specs.Passes.{Shows}
 use Rattle.shared.specs.Deeds.{Takes}
-use Rattle.shared.specs.Calls.{Called, Looked}
+use Rattle.shared.specs.Calls.{Called, Looked, HasRoom}
 
 -- the value lacks the fragment, which can be told from those left
 pub record IsMendable (s : Sealed) (j f : ℕ) : Type 0 where
@@ -30,19 +30,24 @@ pub record IsKnown (h : History) (w : ℕ) (n : List ℕ) (s : Sealed) : Type 0 
   pub represents : Represents w s blob
   pub put_is : HasPut h blob.version n blob.code blob.bytes
 
--- what is found in the book: the repair was made, or was refused, or nothing was changed and the fragment can be rebuilt outside
+-- what is found in the book: the repair was made, or was refused, or nothing was changed, there is room and the fragment can be rebuilt outside
 abbrev pub FoundIn : Contents → Contents → ℕ → List ℕ → ℕ → ℕ → Look → Type 0
 FoundIn old new who n j f (Done a) = CarriesOn old new who (repair n j f) a × (length old.entries ≢ old.limit)
 FoundIn old new who n j f (Refused e) = (new ≡ old) × (((e ≡ NoMemory) × (length old.entries ≢ old.limit)) ⊎ ((e ≡ JournalFull) × (length old.entries ≡ old.limit)))
-FoundIn old new who n j f (Mendable s) = (new ≡ old) × (sealed_at old n ≡ Some s.value) × IsMendable s.value j f
+FoundIn old new who n j f (Mendable s) = (new ≡ old) × (sealed_at old n ≡ Some s.value) × IsMendable s.value j f × (length old.entries ≢ old.limit)
 
--- a pass found that the fragment can be rebuilt from this value
+-- a pass found that there is room, and that the fragment can be rebuilt from this value
 pub record CanMend (v : Shows) (n : List ℕ) (j f : ℕ) (s : Sealed) (w : Shows) : Type 0 where
   pub looked : Looked v w
   pub takes : Takes v None w
   pub base : v.room ≡ 64 → w.trimmed ≡ v.trimmed
+  pub room : HasRoom w
   pub known : IsKnown w.seen w.store.width n s
   pub mendable : IsMendable s j f
+
+-- a pass that does not wait found somebody inside: it is as it was, or has looked before that and found a value to rebuild from
+abbrev pub FoundBusy : Shows → List ℕ → ℕ → ℕ → Shows → Type 0
+FoundBusy v n j f w = (w ≡ v) ⊎ ((s : Sealed) × CanMend v n j f s w)
 
 -- what a pass found
 abbrev pub Found : Shows → List ℕ → ℕ → ℕ → Look → Shows → Type 0

@@ -1,5 +1,5 @@
 -- What a pass shows: what was done, the history that it makes, and its own places in both.
-use Rattle.std.specs.Prelude.{◌≡◌, ℕ, ◌<◌, false, List, [], ◌∷◌, ◌++◌, length, Some}
+use Rattle.std.specs.Prelude.{◌≡◌, ℕ, ◌+◌, ◌<◌, ◌≤◌, false, List, [], ◌∷◌, ◌++◌, length, Some}
 use mathlib.Core.List.{IsPrefix}
 use Rattle.gate.specs.Places.{TableId, SeatState, last_of, IsWithin, times}
 use Rattle.gate.specs.Events.{history_of, events_at}
@@ -86,10 +86,11 @@ pub record IsPass (p : SeatState Kept) : Type 0 where
   pub told : IsTold p.list
   pub within : IsWithin p.list p.own
 
--- the history and what was given up of it are those of the acts
+-- the history and what was given up of it are those of the acts, and no more calls were seen and not given up than the limit
 pub record Agrees (v : Shows) : Type 0 where
   pub seen_is : v.seen ≡ events_in v.acts
   pub trimmed_is : v.trimmed ≡ given_in v.acts
+  pub room : length v.seen ≤ v.trimmed + v.store.limit
 
 -- each call and each trim that it has seen is its own
 pub record IsWhole (v : Shows) : Type 0 where

@@ -88,7 +88,12 @@ AreServed w limit acts who low (t ∷ turns) = (low ≤ t.place) × IsServed w l
 abbrev pub places_of : ℕ → List Turn → List ℕ
 places_of who turns = flat_map (λ t. number_if t.place (act_in who t)) turns
 
--- the first jobs have these replies, in order, each in its turn, under the pass's label and after all that the pass had seen; and the pass did nothing else
+-- those that are acts, in order
+abbrev pub acts_in : ℕ → List Turn → List Act
+acts_in who turns = flat_map (act_in who) turns
+
+-- The first jobs have these replies, in order, each in its turn, under the pass's label and after all that the pass had seen; and the pass did nothing else. While no other
+-- pass is out, nothing else was done
 pub record Serves (v : Shows) (asks : List Ask) (replies : List Reply) (w : Shows) : Type 0 where
   pub acts : IsPrefix v.acts w.acts
   pub turns : List Turn
@@ -96,3 +101,4 @@ pub record Serves (v : Shows) (asks : List Ask) (replies : List Reply) (w : Show
   pub replied : map (λ t. t.reply) turns ≡ replies
   pub each : AreServed v.store.width v.store.limit w.acts v.who (length v.acts) turns
   pub did : w.did ≡ v.did ++ places_of v.who turns
+  pub lone : v.room ≡ 64 → w.acts ≡ v.acts ++ acts_in v.who turns

@@ -37,6 +37,7 @@ impl Store {
         ensures granted { IfOk result (IsGrantedTo pass.new.seen self.now.width request) }
         ensures no_memory { result ≡ Err Fault.NoMemory → WantedFor pass.new.seen self.now.width request }
         ensures faults { IfErr result (λ e. (e ≡ Fault.Busy) ⊎ IsFaultOf request e) }
+        ensures busy { result ≡ Err Fault.Busy → pass.new ≡ pass.old }
         ensures lone { pass.old.room ≡ 64 → result ≢ Err Fault.Busy }
     {
         let Some(mut inside) = self.gate.try_enter(&mut pass.seat) else {

@@ -3,7 +3,7 @@ ghost use Rattle.std.specs.Prelude.{◌≡◌, ◌≢◌, ◌⊎◌, IsTrue, IfO
 ghost use Rattle.history.specs.Step.{repair as repair_of};
 ghost use Rattle.book.specs.Losing.{IsFragmentOf};
 ghost use Rattle.shared.specs.Calls.{Called};
-ghost use Rattle.shared.specs.Mends.{IsMendable, Found, FoundIn, IfRefused};
+ghost use Rattle.shared.specs.Mends.{IsMendable, Found, FoundBusy, FoundIn, IfRefused};
 
 use crate::request::Request;
 use crate::{Kept, Pass, Store};
@@ -70,7 +70,8 @@ impl Store {
         )
     }
 
-    /// As `repair`, if nobody is inside at either time. Else `Busy`, which never comes with a room of 64.
+    /// As `repair`, if nobody is inside at either time. Else `Busy`, which never comes with a room of 64. At the second time the pass may have seen more, at the first it is as
+    /// it was.
     pub fn try_repair(
         &self,
         alloc: Global,
@@ -82,6 +83,7 @@ impl Store {
         requires { pass.old.store ≡ self.now }
         ensures called { Called pass.old (repair_of name stripe fragment) result pass.new }
         ensures faults { IfErr result (λ e. (e ≡ Fault.Busy) ⊎ (e ≡ Fault.NoMemory) ⊎ (e ≡ Fault.JournalFull)) }
+        ensures busy { result ≡ Err Fault.Busy → FoundBusy pass.old name stripe fragment pass.new }
         ensures lone { pass.old.room ≡ 64 → result ≢ Err Fault.Busy }
     {
         let sealed = match self.try_look(alloc, pass, &name, stripe, fragment) {
@@ -140,6 +142,7 @@ impl Store {
         requires { pass.old.store ≡ self.now }
         ensures found { Found pass.old name.now stripe fragment result pass.new }
         ensures faults { IfRefused result (λ e. (e ≡ Fault.Busy) ⊎ (e ≡ Fault.NoMemory) ⊎ (e ≡ Fault.JournalFull)) }
+        ensures busy { result ≡ Look.Refused Fault.Busy → pass.new ≡ pass.old }
         ensures lone { pass.old.room ≡ 64 → result ≢ Look.Refused Fault.Busy }
     {
         let Some(mut inside) = self.gate.try_enter(&mut pass.seat) else {

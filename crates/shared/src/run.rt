@@ -1,5 +1,5 @@
 //! Running jobs in order.
-ghost use Rattle.std.specs.Prelude.{◌≡◌, length, IfOk, IfErr};
+ghost use Rattle.std.specs.Prelude.{◌≡◌, ◌⊎◌, ◌<◌, [], length, IfOk, IfErr};
 ghost use Rattle.shared.specs.Deeds.{Takes};
 ghost use Rattle.shared.specs.Runs.{operation_asked, asked, ComesOf, GivesUp, reply_of, Runs, AreTrims};
 ghost use Rattle.shared.specs.Serving.{asks_of, outcome_deed, Serves};
@@ -31,6 +31,7 @@ impl Store {
     ) -> Result<Vec<Reply>, Stopped>
         requires { pass.old.store ≡ self.now }
         ensures all { IfOk result (λ replies. length replies.items ≡ length jobs.items) }
+        ensures unfinished { IfErr result (λ stopped. (stopped.done.items ≡ []) ⊎ (length stopped.done.items < length jobs.items)) }
         ensures ok { IfOk result (λ replies. Runs pass.old (asked jobs.items) replies.items pass.new) }
         ensures err { IfErr result (λ stopped. Runs pass.old (asked jobs.items) stopped.done.items pass.new) }
         ensures serves { IfOk result (λ replies. Serves pass.old (asks_of jobs.items) replies.items pass.new) }

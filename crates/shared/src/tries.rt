@@ -1,5 +1,5 @@
-//! The calls that do not wait. They are refused by `Busy` where somebody is inside, which never comes with a room of 64. After a fault the call is in no history, and the pass
-//! may have seen more.
+//! The calls that do not wait. They are refused by `Busy` where somebody is inside, which never comes with a room of 64, and then the pass is as it was. After another fault
+//! the call is in no history, and the pass may have seen more.
 ghost use Rattle.std.specs.Prelude.{◌≡◌, ◌≢◌, ◌⊎◌, ◌↔◌, ◌<◌, length, IfOk, IfErr};
 ghost use Rattle.sealed.specs.Layout.{stripe_count};
 ghost use Rattle.history.specs.Step.{put as put_of, read as read_of, lose as lose_of, delete as delete_of, stat as stat_of};
@@ -26,6 +26,7 @@ impl Store {
         ensures called { Called pass.old (put_of name Code.Wide bytes) result pass.new }
         ensures too_long { (result ≡ Err Fault.TooLong) ↔ (4096 < stripe_count Code.Wide self.now.width (length bytes)) }
         ensures faults { IfErr result (λ e. (e ≡ Fault.Busy) ⊎ (e ≡ Fault.NoMemory) ⊎ (e ≡ Fault.JournalFull) ⊎ (e ≡ Fault.TooLong)) }
+        ensures busy { result ≡ Err Fault.Busy → pass.new ≡ pass.old }
         ensures lone { pass.old.room ≡ 64 → result ≢ Err Fault.Busy }
     {
         self.try_put_as(alloc, pass, name, bytes, Code::Wide)
@@ -44,6 +45,7 @@ impl Store {
         ensures called { Called pass.old (put_of name code bytes) result pass.new }
         ensures too_long { (result ≡ Err Fault.TooLong) ↔ (4096 < stripe_count code self.now.width (length bytes)) }
         ensures faults { IfErr result (λ e. (e ≡ Fault.Busy) ⊎ (e ≡ Fault.NoMemory) ⊎ (e ≡ Fault.JournalFull) ⊎ (e ≡ Fault.TooLong)) }
+        ensures busy { result ≡ Err Fault.Busy → pass.new ≡ pass.old }
         ensures lone { pass.old.room ≡ 64 → result ≢ Err Fault.Busy }
     {
         match seal_as(alloc, bytes, self.width, code) {
@@ -72,6 +74,7 @@ impl Store {
         ensures grant { IfOk result (λ a. IfGranted a (GrantedIn pass.new.seen self.now.width name start len)) }
         ensures no_memory { result ≡ Err Fault.NoMemory → CanGrant pass.new.seen self.now.width name start len }
         ensures faults { IfErr result (λ e. (e ≡ Fault.Busy) ⊎ (e ≡ Fault.NoMemory) ⊎ (e ≡ Fault.JournalFull)) }
+        ensures busy { result ≡ Err Fault.Busy → pass.new ≡ pass.old }
         ensures lone { pass.old.room ≡ 64 → result ≢ Err Fault.Busy }
     {
         self.try_make(pass, Request::Read { name, start, len })
@@ -89,6 +92,7 @@ impl Store {
         requires { pass.old.store ≡ self.now }
         ensures called { Called pass.old (lose_of name stripe fragment) result pass.new }
         ensures faults { IfErr result (λ e. (e ≡ Fault.Busy) ⊎ (e ≡ Fault.NoMemory) ⊎ (e ≡ Fault.JournalFull)) }
+        ensures busy { result ≡ Err Fault.Busy → pass.new ≡ pass.old }
         ensures lone { pass.old.room ≡ 64 → result ≢ Err Fault.Busy }
     {
         self.try_make(
@@ -107,6 +111,7 @@ impl Store {
         requires { pass.old.store ≡ self.now }
         ensures called { Called pass.old (delete_of name) result pass.new }
         ensures faults { IfErr result (λ e. (e ≡ Fault.Busy) ⊎ (e ≡ Fault.JournalFull)) }
+        ensures busy { result ≡ Err Fault.Busy → pass.new ≡ pass.old }
         ensures lone { pass.old.room ≡ 64 → result ≢ Err Fault.Busy }
     {
         self.try_make(pass, Request::Delete { name })
@@ -117,6 +122,7 @@ impl Store {
         requires { pass.old.store ≡ self.now }
         ensures called { Called pass.old (stat_of name) result pass.new }
         ensures faults { IfErr result (λ e. (e ≡ Fault.Busy) ⊎ (e ≡ Fault.JournalFull)) }
+        ensures busy { result ≡ Err Fault.Busy → pass.new ≡ pass.old }
         ensures lone { pass.old.room ≡ 64 → result ≢ Err Fault.Busy }
     {
         self.try_make(pass, Request::Stat { name })

@@ -33,7 +33,7 @@ impl Store {
         result
     }
 
-    /// As `trim`, if nobody is inside. Else `Busy`, which never comes with a room of 64.
+    /// As `trim`, if nobody is inside. Else `Busy`, which never comes with a room of 64, and the pass is as it was.
     pub fn try_trim(&self, alloc: Global, pass: &mut Pass, keep: u64) -> Result<u64, Fault>
         requires { pass.old.store ≡ self.now }
         ensures looked { Looked pass.old pass.new }
@@ -41,6 +41,7 @@ impl Store {
         ensures takes { Takes pass.old (trim_deed keep result) pass.new }
         ensures alone { pass.old.room ≡ 64 → GivesUpAlone pass.old result pass.new }
         ensures faults { IfErr result (λ e. (e ≡ Fault.Busy) ⊎ (e ≡ Fault.NoMemory)) }
+        ensures busy { result ≡ Err Fault.Busy → pass.new ≡ pass.old }
         ensures lone { pass.old.room ≡ 64 → result ≢ Err Fault.Busy }
     {
         let Some(mut inside) = self.gate.try_enter(&mut pass.seat) else {

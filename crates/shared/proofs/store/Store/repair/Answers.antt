@@ -1,6 +1,5 @@
 use Rattle.std.proofs.Common.{ℕ, ap, sym, subst, ◌∙◌}
 use Rattle.sealed.specs.declared.value.Sealed.{Sealed}
-use Rattle.history.specs.Step.{repair}
 use Rattle.book.specs.Known.{IsFragmentIn}
 use Rattle.shared.specs.Mends.{IsKnown, IsMendable}
 use Rattle.shared.proofs.Mends.{known_fragment, looks_then_called}
@@ -19,4 +18,4 @@ make-requires-clause-can g c =
 pub returns-clause-called : goal.returns-clause-called
 returns-clause-called g c =
     let is = c.in-Mendable.ensures.found in
-    looks_then_called c.args.pass.now c.look.new.pass c.make.new.pass (repair c.args.name c.args.stripe c.args.fragment) c.make.result is.looked is.takes is.base c.make.ensures.called
+    looks_then_called c.args.pass.now c.look.new.pass c.make.new.pass c.args.name c.args.stripe c.args.fragment c.make.result is.looked is.takes is.base c.make.ensures.called

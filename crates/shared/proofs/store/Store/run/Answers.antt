@@ -1,4 +1,4 @@
-use Rattle.std.proofs.Common.{◌≡◌, ℕ, List, [], ◌∷◌, ◌++◌, ◌+◌, length, Option, sym, ap, subst, ◌∙◌, arith, append_assoc, length-append}
+use Rattle.std.proofs.Common.{◌≡◌, ℕ, ◌<◌, inr, List, [], ◌∷◌, ◌++◌, ◌+◌, length, Option, sym, ap, subst, ◌∙◌, arith, append_assoc, length-append}
 use Rattle.std.proofs.lemmas.List.{map-append, length-map}
 use Rattle.history.specs.Step.{Operation}
 use Rattle.shared.specs.declared.jobs.Ask.{Ask}
@@ -29,6 +29,22 @@ all_asks done rest jobs e = sym (map-append ask_of done rest) ∙ ap asks_of e
 
 asked_count : (replies : List Reply) (done : List Job) → length replies ≡ length done → length replies ≡ length (asks_of done)
 asked_count replies done e = e ∙ sym (length-map done ask_of)
+
+-- a job is left
+some_left : (replies : List Reply) (done rest after jobs : List Job) (job : Job) → length replies ≡ length done → done ++ rest ≡ jobs → rest ≡ job ∷ after → length replies < length jobs
+some_left replies done rest after jobs job many all next =
+    let long : length jobs ≡ length done + length (job ∷ after) = ap length (sym all) ∙ length-append done rest ∙ ap (λ (l : List Job). length done + length l) next in
+    omega arith
+
+pub returns-then-not-before-clause-unfinished : goal.returns-then-not-before-clause-unfinished
+returns-then-not-before-clause-unfinished g c =
+    let i = c.loop-job.invariant in
+    inr (some_left c.loop-job.done.items c.loop-job.yielded c.loop-job.job-iterator.rest.items c.next.new.self.rest.items c.args.jobs.items c.in-Some.job i.1 i.2 c.in-Some.ensures.steps.0)
+
+pub returns-in_default-reply_to-clause-unfinished : goal.returns-in_default-reply_to-clause-unfinished
+returns-in_default-reply_to-clause-unfinished g c =
+    let i = c.loop-job.invariant in
+    inr (some_left c.loop-job.done.items c.loop-job.yielded c.loop-job.job-iterator.rest.items c.next.new.self.rest.items c.args.jobs.items c.in-Some.job i.1 i.2 c.in-Some.ensures.steps.0)
 
 pub returns-in_default-clause-serves_by_then : goal.returns-in_default-clause-serves_by_then
 returns-in_default-clause-serves_by_then g c =

@@ -1,8 +1,8 @@
-use Rattle.std.proofs.Common.{ℕ, ap, sym, subst, ◌∙◌}
+use Rattle.std.proofs.Common.{ℕ, inr, ap, sym, subst, ◌∙◌}
 use Rattle.sealed.specs.declared.value.Sealed.{Sealed}
-use Rattle.history.specs.Step.{repair}
 use Rattle.book.specs.Known.{IsFragmentIn}
-use Rattle.shared.specs.Mends.{IsKnown, IsMendable}
+use Rattle.shared.specs.Passes.{Shows}
+use Rattle.shared.specs.Mends.{IsKnown, IsMendable, CanMend}
 use Rattle.shared.proofs.Mends.{known_fragment, looks_then_called}
 use Rattle.shared.proofs.store.Store.try_repair.Goals as goal
 
@@ -19,4 +19,8 @@ try_make-requires-clause-can c =
 pub returns-clause-called : goal.returns-clause-called
 returns-clause-called c =
     let is = c.in-Mendable.ensures.found in
-    looks_then_called c.args.pass.now c.try_look.new.pass c.try_make.new.pass (repair c.args.name c.args.stripe c.args.fragment) c.try_make.result is.looked is.takes is.base c.try_make.ensures.called
+    looks_then_called c.args.pass.now c.try_look.new.pass c.try_make.new.pass c.args.name c.args.stripe c.args.fragment c.try_make.result is.looked is.takes is.base c.try_make.ensures.called
+
+pub returns-clause-busy : goal.returns-clause-busy
+returns-clause-busy c = λ busy.
+    inr (c.in-Mendable.sealed.value, subst (λ (w : Shows). CanMend c.args.pass.now c.args.name c.args.stripe c.args.fragment c.in-Mendable.sealed.value w) (sym (c.try_make.ensures.busy busy)) c.in-Mendable.ensures.found)
