@@ -29,12 +29,13 @@ pub enum Fail {
 }
 
 impl Fail {
-    ghost use Rattle.std.specs.Prelude.{◌≡◌, ◌↔◌};
+    ghost use Rattle.std.specs.Prelude.{◌≡◌, ◌↔◌, ◌⊎◌};
     ghost use Rattle.play.specs.Fails.{IsWant};
 
     /// The exit status that the program ends with: 3 for want of memory, of a thread, or of leave to go on, else 1.
     pub fn status(&self) -> u8
-        ensures { (result ≡ 3) ↔ IsWant self.now }
+        ensures want { (result ≡ 3) ↔ IsWant self.now }
+        ensures either { (result ≡ 1) ⊎ (result ≡ 3) }
     {
         match self {
             Fail::Script(BadScript::NoMemory) | Fail::Memory | Fail::Start | Fail::Paused => 3,
