@@ -21,8 +21,8 @@ use Rattle.play.specs.declared.halt.Halt.TheVariants as halt
 
 -- why a round that could not be run ends the run
 abbrev pub halt_by : NotRun → Halt
-halt_by not_run.Memory = halt.Memory
-halt_by not_run.Start = halt.Start
+halt_by (not_run.Memory left) = halt.Memory
+halt_by (not_run.Start rans left) = halt.Start
 
 -- how the run fails then
 abbrev pub fail_by : Halt → Fail

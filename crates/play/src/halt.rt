@@ -43,8 +43,8 @@ impl From<NotRun> for Halt {
 
     fn from(error: NotRun) -> Halt {
         match error {
-            NotRun::Memory => Halt::Memory,
-            NotRun::Start => Halt::Start,
+            NotRun::Memory(_left) => Halt::Memory,
+            NotRun::Start(_rans, _left) => Halt::Start,
         }
     }
 }
