@@ -62,9 +62,11 @@ def main():
             ended("a cut script", run(folder, ["cut.csv"]), 1, b"", b"lrcstore: row 2: fields\n"),
             ended("no script", run(folder, ["none.csv"]), 1, b"", b"lrcstore: cannot read the script\n"),
             ended("a folder", run(folder, ["."]), 1, b"", b"lrcstore: cannot read the script\n"),
+            ended("no UTF-8", run(folder, [b"\xff.csv"]), 2, b"", b"lrcstore: an argument is not UTF-8\n"),
         ]
         with open("/dev/full", "wb") as full:
-            results.append(ended("a full device", run(folder, ["script.csv"], full), 1, None, b"lrcstore: cannot write\n"))
+            for words in (["script.csv"], ["--help"], ["--version"]):
+                results.append(ended(f"{words[0]} to a full device", run(folder, words, full), 1, None, b"lrcstore: cannot write\n"))
         for words in REFUSED:
             results.append(ended(" ".join(words) or "no words", run(folder, words), 2, b"", None))
         print(len(results), "runs to a status,", results.count(False), "wrong")

@@ -43,7 +43,9 @@ fn opened(rt: &HostRuntime) -> Result<(Options, File), ExitCode>
     let options = match options(alloc, texts.as_slice()) {
         Ok(options) => options,
         Err(BadLine::Clap(error)) => {
-            let _ = error.print(rt);
+            if error.print(rt).is_err() && !error.use_stderr() {
+                return Err(ended(rt, Fail::Write));
+            }
             return Err(ExitCode::from(error.exit_code() as u8));
         }
         Err(BadLine::NoMemory) => return Err(ended(rt, Fail::Memory)),

@@ -40,7 +40,7 @@ use Rattle.play.specs.declared.outcome.RowOutcome.{RowOutcome}
 use Rattle.play.proofs.Buckets.{each-append, each-across, each-both, each-weaker, pairs-append, pairs-weaker}
 use Rattle.play.proofs.Parts.{MendPart, mend_part}
 use Rattle.play.proofs.Taking.{Took, took_none, took_more, took_ok, took_full, deeds_finished, deeds_full}
-use Rattle.play.proofs.Repaired.{mends_told}
+use Rattle.play.proofs.Repaired.{deeds_in, mends_told}
 
 -- all was asked for, where each had a reply
 all_asked : (v w : Shows) (asks : List Ask) (replies : List Reply) (serves : Serves v asks replies w) → length replies ≡ length asks → map (λ (t : Turn). t.ask) serves.turns ≡ asks
@@ -49,9 +49,6 @@ all_asked v w asks replies serves many =
     let b : length (map (λ (t : Turn). t.reply) serves.turns) ≡ length serves.turns = length-map serves.turns (λ t. t.reply) in
     let c : length (map (λ (t : Turn). t.reply) serves.turns) ≡ length replies = ap length serves.replied in
     prefix_whole (map (λ (t : Turn). t.ask) serves.turns) asks serves.asked (omega (arith, a, b, c, many))
-
-abbrev deeds_in : List Placed → List Deed
-deeds_in steps = map (λ (p : Placed). p.step.deed) steps
 
 module _ (store : Which) (rows : List Row) (round top base number : ℕ) (past : base < number) (few : number ≤ top) (here : round_in rows number ≡ round) (before acts : List Act) (plan : List Item) (tickets : TableId) where
   -- a worker that mended: its turns

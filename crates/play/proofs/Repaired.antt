@@ -90,7 +90,7 @@ module _ (plan : List Item) (taken : List Taken) (of_plan : Each (λ (t : Taken)
       (IsPermutation-map (λ (t : Taken). t.1) taken (by_key (λ (t : Taken). t.0) c taken) (by_key-all (λ (t : Taken). t.0) c taken (tickets_below c taken (λ n le. once n ∙ once_below-out n c le))))
 
 -- ---- the steps
-abbrev deeds_in : List Placed → List Deed
+abbrev pub deeds_in : List Placed → List Deed
 deeds_in steps = map (λ (p : Placed). p.step.deed) steps
 
 operations_are : (steps : List Placed) → operations_in (map found_of steps) ≡ operations_by (deeds_in steps)

@@ -1,8 +1,7 @@
 //! Why a run has no output.
 
-use rounds::NotRun;
+use crate::halt::Halt;
 use script::BadScript;
-use std::alloc::{AllocError, AllocFailed};
 use thiserror::Error;
 
 /// Why a run has no output.
@@ -29,12 +28,13 @@ pub enum Fail {
 }
 
 impl Fail {
-    ghost use Rattle.std.specs.Prelude.{◌≡◌, ◌↔◌};
+    ghost use Rattle.std.specs.Prelude.{◌≡◌, ◌↔◌, ◌⊎◌};
     ghost use Rattle.play.specs.Fails.{IsWant};
 
     /// The exit status that the program ends with: 3 for want of memory, of a thread, or of leave to go on, else 1.
     pub fn status(&self) -> u8
-        ensures { (result ≡ 3) ↔ IsWant self.now }
+        ensures want { (result ≡ 3) ↔ IsWant self.now }
+        ensures either { (result ≡ 1) ⊎ (result ≡ 3) }
     {
         match self {
             Fail::Script(BadScript::NoMemory) | Fail::Memory | Fail::Start | Fail::Paused => 3,
@@ -43,54 +43,16 @@ impl Fail {
     }
 }
 
-/// Why a run stopped before its end.
-#[derive(Clone, Copy, PartialEq, Eq, Debug)]
-pub(crate) enum Halt {
-    /// A request for memory was refused.
-    Memory,
-    /// A worker's thread can't be started.
-    Start,
-    /// A row was not let through by `before`.
-    Paused,
-}
-
-impl Halt {
-    /// Of this reason and one that may have been told before, the one to be told: want of memory before a pause.
-    pub(crate) fn over(self, told: Result<(), Halt>) -> Halt {
-        match told {
-            Err(Halt::Memory) => Halt::Memory,
-            _ => self,
-        }
-    }
-}
-
-impl From<AllocError> for Halt {
-    fn from(_error: AllocError) -> Halt {
-        Halt::Memory
-    }
-}
-
-impl<T: Drop> From<AllocFailed<T>> for Halt {
-    fn from(_error: AllocFailed<T>) -> Halt {
-        Halt::Memory
-    }
-}
-
-impl From<NotRun> for Halt {
-    fn from(error: NotRun) -> Halt {
-        match error {
-            NotRun::Memory => Halt::Memory,
-            NotRun::Start => Halt::Start,
-        }
-    }
-}
-
 impl From<Halt> for Fail {
-    ghost use Rattle.std.specs.Prelude.{ℕ, List};
+    ghost use Rattle.std.specs.Prelude.{◌≡◌, ℕ, List};
     ghost use Rattle.play.specs.Fails.{Tells};
+    ghost use Rattle.play.specs.Halts.{fail_by};
+
+    ghost from_gives = { λ halt fail. fail ≡ fail_by halt };
 
     fn from(halt: Halt) -> Fail
-        ensures { (workers : ℕ) (text : List ℕ) → Tells workers text result }
+        ensures gives { result ≡ fail_by halt }
+        ensures tells { (workers : ℕ) (text : List ℕ) → Tells workers text result }
     {
         match halt {
             Halt::Memory => Fail::Memory,

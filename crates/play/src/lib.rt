@@ -4,6 +4,7 @@
 mod calls;
 mod crew;
 mod fail;
+mod halt;
 mod mend;
 mod outcome;
 mod output;

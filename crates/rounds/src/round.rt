@@ -1,6 +1,6 @@
 //! One round: a thread for each worker that has something to do, all joined at its end.
-ghost use Rattle.std.specs.Prelude.{◌≡◌, ◌≤◌, [], IfOk, map, vec_len, vec_capacity};
-ghost use Rattle.rounds.specs.Rounds.{AreOf, IsOf, AreReady, IsReady, Did, DidAll, DidMend, work_of};
+ghost use Rattle.std.specs.Prelude.{◌≡◌, ◌≤◌, ◌++◌, [], false, IfOk, IfErr, map, vec_len, vec_capacity};
+ghost use Rattle.rounds.specs.Rounds.{AreOf, IsOf, AreReady, IsReady, Did, DidAll, DidMend, AreBack, work_of};
 
 use crate::work::{DoesErrand, Errand, Mended, Mending, NotRun, Outcome, Ran, Started, Work};
 use mender::work;
@@ -9,7 +9,7 @@ use std::alloc::Global;
 use std::snapshot::Snapshot;
 use std::sync::Wait;
 use std::thread;
-use std::thread::{Scope, Threads};
+use std::thread::{Scope, SpawnError, Threads};
 
 /// Mends items of a plan, once the pace lets the row through.
 fn mend_on<R: Wait, P: Pace>(
@@ -51,7 +51,7 @@ fn work_on<R: Wait, P: Pace>(rt: &R, alloc: Global, store: &Store, work: Work, p
     Ran { pass, outcome }
 }
 
-/// Starts a worker's thread, if it has something to do.
+/// Starts a worker's thread, if it has something to do. Where no thread can be started the worker does it here.
 fn start<'s, 'e, R: Threads + Wait + Sync, P: Pace + Sync>(
     scope: &Scope<'s, &'e ()>,
     rt: &'e R,
@@ -59,19 +59,36 @@ fn start<'s, 'e, R: Threads + Wait + Sync, P: Pace + Sync>(
     store: &'e Store,
     work: Work,
     pace: &'e P,
-) -> Result<Started, NotRun>
+) -> Started
     requires { IsOf store.now work }
-    ensures work { IfOk result (λ started. work_of started ≡ work) }
-    ensures ready { IfOk result (IsReady store.now) }
+    ensures work { work_of result ≡ work }
+    ensures ready { IsReady store.now result }
 {
     if work.is_idle() {
-        return Ok(Started::Idle(work));
+        return Started::Idle(work);
     }
-    let promise = DoesErrand(Snapshot::of(&work));
+    let (promise, same) = (
+        DoesErrand(Snapshot::of(&work)),
+        DoesErrand(Snapshot::of(&work)),
+    );
     match scope.spawn_with(promise, move || work_on(rt, alloc, store, work, pace)) {
-        Ok(handle) => Ok(Started::Busy(handle)),
-        Err(_) => Err(NotRun::Start),
+        Ok(handle) => Started::Busy(handle),
+        Err(refused) => {
+            let SpawnError { value } = refused;
+            Started::Done(same, value())
+        }
     }
+}
+
+/// What the works of a round are put into, as it begins.
+#[derive(Drop)]
+struct Begun {
+    /// The workers up to one whose thread can't be started.
+    started: Vec<Started>,
+    /// The works behind it.
+    left: Vec<Work>,
+    /// Whether there is such a one.
+    is_short: bool,
 }
 
 /// Starts the workers, as long as that works.
@@ -82,19 +99,34 @@ fn start_all<'s, 'e, R: Threads + Wait + Sync, P: Pace + Sync>(
     store: &'e Store,
     works: Vec<Work>,
     pace: &'e P,
-) -> Result<Vec<Started>, NotRun>
-    requires { AreOf store.now works.items }
-    ensures works { IfOk result (λ started. map work_of started.items ≡ works.items) }
-    ensures ready { IfOk result (λ started. AreReady store.now started.items) }
+    begun: Begun,
+) -> Begun
+    requires works { AreOf store.now works.items }
+    requires none { (begun.started.items ≡ []) × (begun.left.items ≡ []) × (begun.is_short ≡ false) }
+    requires room { (vec_len works ≤ vec_capacity begun.started) × (vec_len works ≤ vec_capacity begun.left) }
+    ensures works { map work_of result.started.items ++ result.left.items ≡ works.items }
+    ensures ready { AreReady store.now result.started.items }
+    ensures all { result.is_short ≡ false → result.left.items ≡ [] }
 {
-    let Ok(mut started) = Vec::with_capacity(alloc, works.len()) else {
-        return Err(NotRun::Memory);
-    };
+    let Begun {
+        mut started,
+        mut left,
+        mut is_short,
+    } = begun;
     for work in works {
-        let one = start(scope, rt, alloc, store, work, pace)?;
-        started.push_reserved(one);
+        if is_short {
+            left.push_reserved(work);
+        } else {
+            let one = start(scope, rt, alloc, store, work, pace);
+            is_short = one.is_done();
+            started.push_reserved(one);
+        }
     }
-    Ok(started)
+    Begun {
+        started,
+        left,
+        is_short,
+    }
 }
 
 /// What a worker gives back, once its thread has ended. One with nothing to do needs none.
@@ -111,6 +143,7 @@ fn join<R: Threads + Wait, P: Pace>(
     match started {
         Started::Busy(handle) => handle.join(rt),
         Started::Idle(work) => work_on(rt, alloc, store, work, pace),
+        Started::Done(_promise, ran) => ran,
     }
 }
 
@@ -137,8 +170,8 @@ fn join_all<R: Threads + Wait, P: Pace>(
 /// Runs a round: each worker that has something to do does it on a thread of its own, and all are joined at the end. What came of them stands in the order of the
 /// workers: each did its errand with its pass, and no more.
 ///
-/// `Start` where a thread can't be started, and `Memory` where a request for memory was refused before any is; then the threads that were started are
-/// joined all the same, and the passes are gone.
+/// `Memory` where a request for memory was refused before any work was begun, and then the works are as they were. `Start` where a thread can't be started: that worker does its errand on
+/// the caller's thread, those before it are joined, and those behind it are as they were.
 pub fn run_round<R: Threads + Wait + Sync, P: Pace + Sync>(
     rt: &R,
     alloc: Global,
@@ -147,20 +180,42 @@ pub fn run_round<R: Threads + Wait + Sync, P: Pace + Sync>(
     pace: &P,
 ) -> Result<Vec<Ran>, NotRun>
     requires { AreOf store.now works.items }
-    ensures { IfOk result (λ rans. DidAll works.items rans.items) }
+    ensures did { IfOk result (λ rans. DidAll works.items rans.items) }
+    ensures back { IfErr result (AreBack works.items) }
 {
-    let Ok(rans) = Vec::with_capacity(alloc, works.len()) else {
-        return Err(NotRun::Memory);
+    let many = works.len();
+    let (Ok(rans), Ok(started), Ok(left)) = (
+        Vec::with_capacity(alloc, many),
+        Vec::with_capacity(alloc, many),
+        Vec::with_capacity(alloc, many),
+    ) else {
+        return Err(NotRun::Memory(works));
+    };
+    let begun = Begun {
+        started,
+        left,
+        is_short: false,
     };
     thread::scope(
         thread::scope_env(),
         rt,
         move |scope| -> Result<Vec<Ran>, NotRun>
-            requires { AreOf store.now works.items × (rans.items ≡ []) × (vec_len works ≤ vec_capacity rans) }
-            ensures { IfOk result (λ rans. DidAll works.items rans.items) }
+            requires { AreOf store.now works.items × (rans.items ≡ []) × (vec_len works ≤ vec_capacity rans)
+                × (begun.started.items ≡ []) × (begun.left.items ≡ []) × (begun.is_short ≡ false)
+                × (vec_len works ≤ vec_capacity begun.started) × (vec_len works ≤ vec_capacity begun.left) }
+            ensures did { IfOk result (λ rans. DidAll works.items rans.items) }
+            ensures back { IfErr result (AreBack works.items) }
         {
-            let started = start_all(scope, rt, alloc, store, works, pace)?;
-            Ok(join_all(rt, alloc, store, started, pace, rans))
+            let Begun {
+                started,
+                left,
+                is_short,
+            } = start_all(scope, rt, alloc, store, works, pace, begun);
+            let rans = join_all(rt, alloc, store, started, pace, rans);
+            if is_short {
+                return Err(NotRun::Start(rans, left));
+            }
+            Ok(rans)
         },
     )
 }

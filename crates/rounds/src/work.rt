@@ -75,13 +75,13 @@ pub enum Mended {
     Worked(Result<Vec<Done>, WorkFault>),
 }
 
-/// Why a round has no results.
-#[derive(Clone, Copy, PartialEq, Eq, Debug)]
+/// Why a round has no results, with all its works.
+#[derive(Drop)]
 pub enum NotRun {
-    /// A thread can't be started.
-    Start,
-    /// A request for memory was refused.
-    Memory,
+    /// A request for memory was refused before any work was begun: the works, as they were.
+    Memory(Vec<Work>),
+    /// A thread can't be started. What came of the works up to that one, and those behind it, which were not begun.
+    Start(Vec<Ran>, Vec<Work>),
 }
 
 /// A promise that a worker did its errand.
@@ -94,9 +94,20 @@ impl Promise<Ran> for DoesErrand {
     ghost kept_by = { λ p r. Did p.0.value r };
 }
 
-/// A worker in its round: on a thread, or with nothing to do.
+/// A worker in its round: on a thread, with nothing to do, or done already, since its thread can't be started.
 #[derive(Drop)]
 pub(crate) enum Started {
     Busy(PromisedHandle<Ran, DoesErrand>),
     Idle(Work),
+    Done(DoesErrand, Ran),
+}
+
+impl Started {
+    /// Whether its thread can't be started.
+    pub(crate) fn is_done(&self) -> bool {
+        match self {
+            Started::Done(..) => true,
+            Started::Busy(_) | Started::Idle(_) => false,
+        }
+    }
 }

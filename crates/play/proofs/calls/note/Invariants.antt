@@ -1,6 +1,8 @@
-use Rattle.std.proofs.Common.{◌≡◌, List, map, length, Ok}
+use Rattle.std.proofs.Common.{◌≡◌, List, map, length}
 use Rattle.std.specs.Prelude.{vec_items}
 use Rattle.std.specs.Vec.Iter.{into_iter_items}
+use Rattle.play.specs.Halts.{GoesOn}
+use Rattle.play.specs.Lists.{Each}
 use Rattle.play.specs.Noted.{AreNoted}
 use Rattle.play.specs.declared.outcome.Done.{Done}
 use Rattle.play.proofs.calls.note.Given as goal
@@ -8,6 +10,7 @@ use Rattle.play.proofs.calls.note.Given as goal
 abbrev pub invariant-loop-outcome : goal.invariant-loop-outcome
 invariant-loop-outcome l = record {
   many : length (into_iter_items l.numbers) ≡ length (into_iter_items l.outcome-iterator);
-  back : l.told ≡ Ok tt → (new : List Done) → AreNoted (map vec_items (into_iter_items l.numbers)) (into_iter_items l.outcome-iterator) l.done.items new
+  going : Each GoesOn (into_iter_items l.outcome-iterator);
+  back : (new : List Done) → AreNoted (map vec_items (into_iter_items l.numbers)) (into_iter_items l.outcome-iterator) l.done.items new
       → AreNoted (map vec_items l.fn.numbers.items) l.fn.outcomes.items l.initial.done.items new;
 }

@@ -5,8 +5,8 @@ use Rattle.play.specs.Noted.{noted}
 use Rattle.play.proofs.Noting.{noted-none}
 use Rattle.play.proofs.calls.note_replies.Goals as goal
 
-pub returns : goal.returns
-returns c =
+pub returns-clause-noted : goal.returns-clause-noted
+returns-clause-noted c =
     let done = c.loop-reply.done.items in
     let numbers = into_iter_items c.loop-reply.numbers in
     let none : into_iter_items c.loop-reply.reply-iterator ≡ [] = grind (arith, common_steps) in
