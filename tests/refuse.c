@@ -1,22 +1,28 @@
-// An allocator for tests, loaded before the C library's: the request of number REFUSE is refused, counted from 1 over malloc, calloc and realloc.
-// The file REFUSED is made when that happens.
+// For tests, loaded before the C library: the request for memory of number REFUSE is refused, counted from 1 over malloc, calloc and realloc, and the
+// thread of number REFUSE_THREAD is not started. The file REFUSED is made when either happens.
 #define _GNU_SOURCE
 #include <dlfcn.h>
 #include <errno.h>
 #include <fcntl.h>
+#include <pthread.h>
 #include <stdatomic.h>
 #include <stdlib.h>
 #include <unistd.h>
 
-static atomic_long count;
+// A thing that is counted, and which of them is refused: 0 for none, and -1 as long as nobody has asked.
+struct counted {
+    const char *variable;
+    atomic_long count, wanted;
+};
 
-static int refused(void) {
-    static long wanted = -1;
-    if (wanted < 0) {
-        const char *number = getenv("REFUSE");
-        wanted = number ? atol(number) : 0;
+static struct counted memory = {"REFUSE", 0, -1}, threads = {"REFUSE_THREAD", 0, -1};
+
+static int refused(struct counted *it) {
+    if (it->wanted < 0) {
+        const char *number = getenv(it->variable);
+        it->wanted = number ? atol(number) : 0;
     }
-    if (atomic_fetch_add(&count, 1) + 1 != wanted) {
+    if (atomic_fetch_add(&it->count, 1) + 1 != it->wanted) {
         return 0;
     }
     const char *path = getenv("REFUSED");
@@ -24,7 +30,6 @@ static int refused(void) {
     if (file >= 0) {
         close(file);
     }
-    errno = ENOMEM;
     return 1;
 }
 
@@ -32,6 +37,22 @@ extern void *__libc_malloc(size_t);
 extern void *__libc_calloc(size_t, size_t);
 extern void *__libc_realloc(void *, size_t);
 
-void *malloc(size_t size) { return refused() ? NULL : __libc_malloc(size); }
-void *calloc(size_t n, size_t size) { return refused() ? NULL : __libc_calloc(n, size); }
-void *realloc(void *old, size_t size) { return refused() ? NULL : __libc_realloc(old, size); }
+static void *no_memory(void) {
+    errno = ENOMEM;
+    return NULL;
+}
+
+void *malloc(size_t size) { return refused(&memory) ? no_memory() : __libc_malloc(size); }
+void *calloc(size_t n, size_t size) { return refused(&memory) ? no_memory() : __libc_calloc(n, size); }
+void *realloc(void *old, size_t size) { return refused(&memory) ? no_memory() : __libc_realloc(old, size); }
+
+int pthread_create(pthread_t *thread, const pthread_attr_t *attributes, void *(*start)(void *), void *argument) {
+    static int (*_Atomic create)(pthread_t *, const pthread_attr_t *, void *(*)(void *), void *);
+    if (refused(&threads)) {
+        return EAGAIN;
+    }
+    if (!create) {
+        create = dlsym(RTLD_NEXT, "pthread_create");
+    }
+    return create ? create(thread, attributes, start, argument) : EAGAIN;
+}

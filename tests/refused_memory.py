@@ -1,8 +1,8 @@
 #!/usr/bin/env python3
-"""Refuses each request for memory in turn, over the programs that the gate has built.
+"""Refuses each request for memory in turn, and then each thread, over the programs that the gate has built.
 
 The program refuse_each must print the same whichever request is refused. The program lrcstore must end with status 3 and nothing on standard output, or print
-what it prints with ample memory, and never that it was stopped. `tests/programs.sh` runs it.
+what it prints with ample memory, and never that it was stopped. Where a thread is refused it must end so, with the line for that. `tests/programs.sh` runs it.
 """
 
 import os
@@ -20,17 +20,19 @@ RUNS = [
     ["mend.csv"],
     ["mend.csv", "--workers", "4"],
 ]
+THREADED = [["first_path.csv", "--workers", "2"], ["mend.csv", "--workers", "4"]]
+NO_THREAD = b"lrcstore: cannot start a worker\n"
 # So many numbers in a row at which nothing was refused end a range: with several threads the count of requests differs between runs.
 BEHIND = 8
 
 
-def refusals(command, library, folder):
-    """The runs of a command in which a request was refused, each with its number."""
+def refusals(command, library, folder, what="REFUSE"):
+    """The runs of a command in which a request was refused, or a thread, each with its number."""
     number, behind = 0, 0
     while behind < BEHIND:
         number += 1
         mark = os.path.join(folder, "refused")
-        variables = {"LD_PRELOAD": library, "REFUSE": str(number), "REFUSED": mark}
+        variables = {"LD_PRELOAD": library, what: str(number), "REFUSED": mark}
         run = subprocess.run(command, cwd=DATA, env=variables, capture_output=True, timeout=60)
         if os.path.exists(mark):
             os.remove(mark)
@@ -59,6 +61,12 @@ def main():
                 if not (same or ended and command != commands[0]):
                     wrong += 1
                     print(*command[1:] or ["refuse_each"], "request", number, "refused: status", run.returncode, run.stdout, run.stderr)
+        for words in THREADED:
+            for number, run in refusals([program("lrcstore")] + words, library, folder, "REFUSE_THREAD"):
+                seen += 1
+                if (run.returncode, run.stdout, run.stderr) != (3, b"", NO_THREAD):
+                    wrong += 1
+                    print(*words, "thread", number, "refused: status", run.returncode, run.stdout, run.stderr)
     print(seen, "requests refused,", wrong, "runs wrong")
     return 1 if wrong or not seen else 0
 
