@@ -38,11 +38,11 @@ def reads(lost):
     return [LONG] + gone + ["1,1,trim,,0,"] + ["1,1,read,a,0,12"] * (65533 - lost) + ["1,1,trim,,0,"]
 
 
-def mend(is_mended):
-    """Fifteen times 4,096 losses, four in each stripe of a blob of 48 MiB cut by the width 4,096, and all of them mended."""
-    rows = ["1,1,put,a,hex," + "5a" * MIB_48]
-    for turn in range(15):
-        rows += [f"{2 * turn + 1},1,lose,a,{k % 1024},{(0, 1, 6, 7)[k // 1024]}" for k in range(4096)]
+def mend(width, is_mended):
+    """4,096 losses, so many at a time as make four in each stripe of a blob of 48 MiB, and all of them mended each time."""
+    stripes, rows = MIB_48 // (12 * width), ["1,1,put,a,hex," + "5a" * MIB_48]
+    for turn in range(1024 // stripes):
+        rows += [f"{2 * turn + 1},1,lose,a,{k % stripes},{(0, 1, 6, 7)[k // stripes]}" for k in range(4 * stripes)]
         rows += [f"{2 * turn + 2},0,mend,,,"] * is_mended
     return rows
 
@@ -96,10 +96,12 @@ def main():
         compare("48 MiB put, and read", programs, whole(False), whole(True), wide, times, folder)
         peaks = least(programs, whole(True), wide, 1, folder)
         show("the same, peak memory", programs, [f"{one[2] / MIB_48:.1f} bytes for each of the blob" for one in peaks])
-        for workers in (1, 2, 4):
-            options = [*FULL, "--width", "4096", "--workers", str(workers)]
-            base, mended = (least(programs, mend(is_mended), options, times, folder) for is_mended in (False, True))
-            show(f"61,440 fragments mended by {workers}", programs, [f"{b[1] - a[1]:.3f} s of wall time" for a, b in zip(base, mended)])
+        for width in (4096, 65536):
+            for workers in (1, 2, 4):
+                options = [*FULL, "--width", str(width), "--workers", str(workers)]
+                base, mended = (least(programs, mend(width, is_mended), options, times, folder) for is_mended in (False, True))
+                walls = [f"{b[1] - a[1]:.3f} s of wall time" for a, b in zip(base, mended)]
+                show(f"4,096 fragments of {width} bytes mended by {workers}", programs, walls)
 
 
 if __name__ == "__main__":
