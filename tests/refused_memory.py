@@ -42,6 +42,13 @@ def refusals(command, library, folder, what="REFUSE"):
             behind += 1
 
 
+def is_short(words, seen, least):
+    """Whether fewer refusals were seen than there must be, as where the library was not loaded."""
+    if seen < least:
+        print(*words, "only", seen, "refused, of", least, "at least")
+    return seen < least
+
+
 def program(name):
     return os.path.join(TOP, "crates", name, "out", name)
 
@@ -54,6 +61,7 @@ def main():
         commands = [[program("refuse_each")]] + [[program("lrcstore")] + words for words in RUNS]
         for command in commands:
             ample = subprocess.run(command, cwd=DATA, capture_output=True, check=True).stdout
+            before = seen
             for number, run in refusals(command, library, folder):
                 seen += 1
                 same = run.returncode == 0 and run.stdout == ample
@@ -61,14 +69,17 @@ def main():
                 if not (same or ended and command != commands[0]):
                     wrong += 1
                     print(*command[1:] or ["refuse_each"], "request", number, "refused: status", run.returncode, run.stdout, run.stderr)
+            wrong += is_short(command[1:] or ["refuse_each"], seen - before, 1)
         for words in THREADED:
+            before = seen
             for number, run in refusals([program("lrcstore")] + words, library, folder, "REFUSE_THREAD"):
                 seen += 1
                 if (run.returncode, run.stdout, run.stderr) != (3, b"", NO_THREAD):
                     wrong += 1
                     print(*words, "thread", number, "refused: status", run.returncode, run.stdout, run.stderr)
+            wrong += is_short(words, seen - before, int(words[-1]))
     print(seen, "requests refused,", wrong, "runs wrong")
-    return 1 if wrong or not seen else 0
+    return 1 if wrong else 0
 
 
 if __name__ == "__main__":
