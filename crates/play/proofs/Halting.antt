@@ -7,10 +7,10 @@ use Rattle.sealed.specs.declared.fault.Fault.TheVariants.{NoMemory, JournalFull,
 use Rattle.rounds.specs.declared.work.Mended.TheVariants.{Worked, Paused}
 use Rattle.rounds.specs.declared.work.Outcome.{Outcome}
 use Rattle.rounds.specs.declared.work.Outcome.TheVariants.{Called, Mended}
-use Rattle.play.specs.Halts.{is_journal_full, lacks_memory, is_paused, halt_after, GoesOn}
+use Rattle.rounds.specs.Halts.{is_journal_full, lacks_memory, is_paused, halt_after, GoesOn}
 use Rattle.play.specs.Lists.{Each}
 use Rattle.play.specs.Mends.{IsEnded, AreEnded}
-use Rattle.play.specs.declared.halt.Halt.TheVariants as halt
+use Rattle.rounds.specs.declared.halt.Halt.TheVariants as halt
 use Rattle.play.proofs.Buckets.{each-both}
 
 -- ---- each goes on

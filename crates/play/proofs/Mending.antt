@@ -25,8 +25,8 @@ use Rattle.rounds.specs.declared.work.Outcome.{Outcome}
 use Rattle.rounds.specs.declared.work.Outcome.TheVariants as outcome
 use Rattle.rounds.specs.declared.work.Ran.{Ran}
 use Rattle.rounds.specs.declared.work.Work.{Work}
-use Rattle.play.specs.Crews.{AreWorkers, passes_of, outcomes_of}
-use Rattle.play.specs.Mends.{IsPart, IsMender, AreMenders, IsBack, AreBack, IsEnded, AreEnded, given_to, given_to_all, given_before, results_in, left_with, left_of, crew_of, is_stopped, drawn_by, AreDrawnOnce}
+use Rattle.rounds.specs.Pools.{AreWorkers, passes_of, outcomes_of}
+use Rattle.play.specs.Mends.{IsPart, IsMender, AreMenders, IsBack, AreBack, IsEnded, AreEnded, given_to, given_to_all, given_before, results_in, left_with, left_of, all_left, is_stopped, drawn_by, AreDrawnOnce}
 
 -- ---- the parts are given out
 -- one worker more
@@ -121,19 +121,19 @@ menders-back plan tickets (w ∷ works) [] all did = absurd did
 menders-back plan tickets (w ∷ works) (r ∷ rans) all did =
     let one = errand-back plan tickets w.pass w.errand r.outcome r.pass did.0 all.0 in
     let rest = menders-back plan tickets works rans all.1 did.1 in
-    let before = sum_by-append (λ (left : Left). left.given) (left_of r.outcome) (crew_of (outcomes_of rans)) in
+    let before = sum_by-append (λ (left : Left). left.given) (left_of r.outcome) (all_left (outcomes_of rans)) in
     let own = one.shares in
     let others = rest.1 in
     let given = sum_by-cons (λ (x : Work). given_to x.errand) w works in
     ((one.back, rest.0), omega arith)
 
 -- ---- the drawers are joined
-crew-more : (outcomes : List Outcome) (o : Outcome) → crew_of (outcomes ++ o ∷ []) ≡ crew_of outcomes ++ left_of o
-crew-more outcomes o = sym (flat_map_more left_of [] outcomes o)
+pool-more : (outcomes : List Outcome) (o : Outcome) → all_left (outcomes ++ o ∷ []) ≡ all_left outcomes ++ left_of o
+pool-more outcomes o = sym (flat_map_more left_of [] outcomes o)
 
 -- a drawer that took in the drawers of these outcomes, and knows of its draws
 pub record HasJoined (first : Hand) (outcomes : List Outcome) (drawer : Hand) : Type 0 where
-  pub joins : drawer ≡ joined first (crew_of outcomes)
+  pub joins : drawer ≡ joined first (all_left outcomes)
   pub whole : IsWhole drawer
 
 pub joined-none : (first : Hand) → first.drawn ≡ [] → HasJoined first [] first
@@ -146,14 +146,14 @@ pub joined-more : (first : Hand) (outcomes : List Outcome) (old new other : Hand
 joined-more first outcomes old new other m has is whole =
     let left : Left = left_with other (results_in m) in
     record {
-      joins = is ∙ ap (λ (hand : Hand). with_hand hand other) has.joins ∙ sym (joined-snoc first (crew_of outcomes) left) ∙ sym (ap (joined first) (crew-more outcomes (outcome.Mended other m)));
+      joins = is ∙ ap (λ (hand : Hand). with_hand hand other) has.joins ∙ sym (joined-snoc first (all_left outcomes) left) ∙ sym (ap (joined first) (pool-more outcomes (outcome.Mended other m)));
       whole = whole;
     }
 
 -- these are the results of all, and none stopped
 pub record AreAll (plan : List Item) (outcomes : List Outcome) (all : List Done) : Type 0 where
-  pub finished : All (HasFinished plan) (crew_of outcomes)
-  pub results : all ≡ results_of (crew_of outcomes)
+  pub finished : All (HasFinished plan) (all_left outcomes)
+  pub results : all ≡ results_of (all_left outcomes)
 
 pub all-none : (plan : List Item) → AreAll plan [] []
 all-none plan = record { finished = All-nil (HasFinished plan); results = refl }
@@ -163,31 +163,31 @@ pub all-more : (plan : List Item) (outcomes : List Outcome) (all more : List Don
     → HasFinished plan (left_with other (results_in m)) → more ≡ all ++ results_in m → AreAll plan (outcomes ++ outcome.Mended other m ∷ []) more
 all-more plan outcomes all more other m are one is =
     let left : Left = left_with other (results_in m) in
-    let crew = crew-more outcomes (outcome.Mended other m) in
+    let pool = pool-more outcomes (outcome.Mended other m) in
     record {
-      finished = subst (All (HasFinished plan)) (sym crew) (All-append (HasFinished plan) (crew_of outcomes) (left ∷ []) are.finished (All-cons (HasFinished plan) left [] one (All-nil (HasFinished plan))));
-      results = is ∙ ap (λ (xs : List Done). xs ++ left.done) are.results ∙ sym (results_of-snoc (crew_of outcomes) left) ∙ sym (ap results_of crew);
+      finished = subst (All (HasFinished plan)) (sym pool) (All-append (HasFinished plan) (all_left outcomes) (left ∷ []) are.finished (All-cons (HasFinished plan) left [] one (All-nil (HasFinished plan))));
+      results = is ∙ ap (λ (xs : List Done). xs ++ left.done) are.results ∙ sym (results_of-snoc (all_left outcomes) left) ∙ sym (ap results_of pool);
     }
 
 -- Their results are complete
 pub mend-complete : (plan : List Item) (first drawer : Hand) (outcomes : List Outcome) (all : List Done) → first.drawn ≡ [] → first.allowance + given_before outcomes ≡ 2 ^ 40
     → first.allowance + length plan ≤ 2 ^ 40 → HasJoined first outcomes drawer → AreAll plan outcomes all → IsComplete plan all
 mend-complete plan first drawer outcomes all none shares room has are = subst (IsComplete plan) (sym are.results)
-    (complete_joined plan first (crew_of outcomes) none shares room are.finished (subst IsWhole has.joins has.whole))
+    (complete_joined plan first (all_left outcomes) none shares room are.finished (subst IsWhole has.joins has.whole))
 
 -- ---- all draws
-joined-drawn : (first : Hand) (os : List Outcome) → (joined first (crew_of os)).drawn ≡ first.drawn ++ drawn_by os
+joined-drawn : (first : Hand) (os : List Outcome) → (joined first (all_left os)).drawn ≡ first.drawn ++ drawn_by os
 joined-drawn first [] = sym (append-nil first.drawn)
 joined-drawn first (outcome.Called r ∷ os) = joined-drawn first os
 joined-drawn first (outcome.Mended drawer m ∷ os) = joined-drawn (with_hand first drawer) os ∙ append_assoc first.drawn drawer.drawn (drawn_by os)
 
-joined-shares : (first : Hand) (os : List Outcome) → (joined first (crew_of os)).allowance + length (joined first (crew_of os)).drawn ≡ first.allowance + length first.drawn + given_before os
+joined-shares : (first : Hand) (os : List Outcome) → (joined first (all_left os)).allowance + length (joined first (all_left os)).drawn ≡ first.allowance + length first.drawn + given_before os
 joined-shares first [] = omega arith
 joined-shares first (outcome.Called r ∷ os) = joined-shares first os
 joined-shares first (outcome.Mended drawer m ∷ os) =
     let rest = joined-shares (with_hand first drawer) os in
     let both = length-append first.drawn drawer.drawn in
-    let sum = sum_by-cons (λ (left : Left). left.given) (left_with drawer (results_in m)) (crew_of os) in
+    let sum = sum_by-cons (λ (left : Left). left.given) (left_with drawer (results_in m)) (all_left os) in
     omega (arith, rest, both, sum)
 
 -- the tickets that were drawn are the first ones, each once

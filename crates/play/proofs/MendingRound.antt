@@ -30,13 +30,13 @@ use Rattle.rounds.specs.declared.work.Ran.{Ran}
 use Rattle.rounds.specs.declared.work.Work.{Work}
 use Rattle.script.specs.declared.rows.Row.{Row}
 use Rattle.script.specs.declared.rows.Task.TheVariants as task
-use Rattle.play.specs.Crews.{IsAllOwn, AreWorkers, AreNew, HaveSeen, did_by, passes_of, passes_back, outcomes_of}
+use Rattle.rounds.specs.Pools.{IsAllOwn, AreWorkers, AreNew, HaveSeen, did_by, passes_of, passes_back, outcomes_of}
 use Rattle.play.specs.Mends.{IsMender, AreMenders, IsEnded, AreEnded, TellsMend, AreDrawnOnce}
 use Rattle.play.specs.Runs.{Mends, round_in}
 use Rattle.play.specs.Lists.{Each, Pairs}
 use Rattle.play.specs.Accounts.{Placed, act_at, Stands, own_places, Account, steps_in, found_of, Settles, IsMendOf, FindsAll, IsRound, IsOf, IsBefore, IsGood, IsLater}
-use Rattle.play.specs.declared.outcome.Done.{Done}
-use Rattle.play.specs.declared.outcome.RowOutcome.{RowOutcome}
+use Rattle.transcript.specs.declared.outcome.Done.{Done}
+use Rattle.transcript.specs.declared.outcome.RowOutcome.{RowOutcome}
 use Rattle.play.proofs.Buckets.{each-append, each-across, each-both, each-weaker, pairs-append, pairs-weaker}
 use Rattle.play.proofs.Parts.{MendPart, mend_part}
 use Rattle.play.proofs.Taking.{Took, took_none, took_more, took_ok, took_full, deeds_finished, deeds_full}

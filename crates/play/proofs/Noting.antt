@@ -6,7 +6,7 @@ use Rattle.rounds.specs.Rounds.{DidAll}
 use Rattle.rounds.specs.declared.work.Outcome.{Outcome}
 use Rattle.rounds.specs.declared.work.Ran.{Ran}
 use Rattle.rounds.specs.declared.work.Work.{Work}
-use Rattle.play.specs.Crews.{passes_of, outcomes_of}
+use Rattle.rounds.specs.Pools.{passes_of, outcomes_of}
 use Rattle.play.specs.Jobs.{rows_for, HaveRows}
 use Rattle.play.specs.Noted.{noted}
 use Rattle.play.specs.declared.calls.Call.{Call}

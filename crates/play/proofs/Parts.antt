@@ -10,8 +10,8 @@ use Rattle.play.specs.Runs.{IsAsked, round_in}
 use Rattle.play.specs.Accounts.{Placed, Stands, own_places, Account, dones_in, numbers_in, steps_in, Settles, IsAccount, IsCallOf, RiseFrom, IsBefore, IsOf}
 use Rattle.play.specs.Noted.{noted}
 use Rattle.play.specs.declared.calls.Call.{Call}
-use Rattle.play.specs.declared.outcome.Done.{Done}
-use Rattle.play.specs.declared.outcome.RowOutcome.TheVariants.{Replied}
+use Rattle.transcript.specs.declared.outcome.Done.{Done}
+use Rattle.transcript.specs.declared.outcome.RowOutcome.TheVariants.{Replied}
 use Rattle.play.proofs.Buckets.{each-weaker, each-both}
 use Rattle.play.specs.Lists.{Each, Pairs}
 use Rattle.play.proofs.Texts.{text_of, asked_by}

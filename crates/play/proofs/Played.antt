@@ -15,13 +15,13 @@ use Rattle.script.specs.Script.{IsWorkerOf, HasWorker}
 use Rattle.script.specs.declared.rows.Task.TheVariants.{Make, Mend}
 use Rattle.shared.specs.Passes.{Which}
 use Rattle.shared.specs.declared.jobs.Ask.{Ask}
-use Rattle.play.specs.Crews.{IsReady}
-use Rattle.play.specs.declared.crew.Crew.{Crew}
+use Rattle.rounds.specs.Pools.{IsFresh}
+use Rattle.rounds.specs.declared.pool.Pool.{Pool}
 use Rattle.play.specs.Runs.{round_in}
 use Rattle.play.specs.Lists.{Each, Pairs}
 use Rattle.play.specs.Accounts.{Placed, act_at, Stands, own_places, Account, dones_in, numbers_in, steps_in, earlier, HasDone, IsAccount, IsCallOf, IsMendOf, RiseFrom, IsGood, IsLater, IsNext, IsDone, IsRound, IsPlayed}
 use Rattle.play.specs.declared.calls.Call.{Call}
-use Rattle.play.specs.declared.outcome.Done.{Done}
+use Rattle.transcript.specs.declared.outcome.Done.{Done}
 use Rattle.play.proofs.Buckets.{each-append, each-across, each-both, each-weaker, pairs-append}
 
 pub played_none : (w l workers : ℕ) (rows : List Row) (acts : List Act) → IsPlayed w l workers rows 0 acts [] []
@@ -152,11 +152,11 @@ made_all w l workers rows round number before acts old_did new_did old new calls
           omega (arith, both, mine, all),
     )
 
--- the same, by a crew of so many
-pub made_last : (w l workers : ℕ) (rows : List Row) (round number : ℕ) (before acts : List Act) (old_did new_did : List ℕ) (old new : List Done) (crew : ℕ) (calls : List Call)
-    → Waits w l workers rows round number before old_did old calls → IsPrefix before acts → crew ≡ workers → MakesRound w l crew calls before acts old_did new_did old new
+-- the same, by a pool of so many
+pub made_last : (w l workers : ℕ) (rows : List Row) (round number : ℕ) (before acts : List Act) (old_did new_did : List ℕ) (old new : List Done) (pool : ℕ) (calls : List Call)
+    → Waits w l workers rows round number before old_did old calls → IsPrefix before acts → pool ≡ workers → MakesRound w l pool calls before acts old_did new_did old new
     → IsPlayed w l workers rows number acts new_did new × AreTold number (numbers_in new) []
-made_last w l workers rows round number before acts old_did new_did old new crew calls waits more same ran =
+made_last w l workers rows round number before acts old_did new_did old new pool calls waits more same ran =
     made_all w l workers rows round number before acts old_did new_did old new calls waits more (subst (λ n. MakesRound w l n calls before acts old_did new_did old new) same ran)
 
 -- none wait
@@ -207,55 +207,55 @@ round_there done rest row rows number all is =
     at (x ∷ done) = at done
 
 -- what a row finds, once the calls of an earlier round are made
-pub record Finds (store : Which) (workers : ℕ) (rows : List Row) (row : Row) (number : ℕ) (round : ℕ) (crew : Crew) (done : List Done) (calls : List Call) : Type 0 where
-  pub ready : IsReady store crew
-  pub many : length crew.passes.items ≡ workers
-  pub waits : Waits store.width store.limit workers rows row.round number crew.first.acts crew.first.did done calls
+pub record Finds (store : Which) (workers : ℕ) (rows : List Row) (row : Row) (number : ℕ) (round : ℕ) (pool : Pool) (done : List Done) (calls : List Call) : Type 0 where
+  pub ready : IsFresh store pool
+  pub many : length pool.passes.items ≡ workers
+  pub waits : Waits store.width store.limit workers rows row.round number pool.first.acts pool.first.did done calls
   pub current : round ≡ row.round
   pub mends : row.task ≡ Mend → calls ≡ []
 
 -- the calls of the round before are made
-pub finds_made : (store : Which) (workers : ℕ) (rows : List Row) (row : Row) (number round current : ℕ) (old crew joined : Crew) (before done joined_done : List Done) (calls ready now : List Call)
-    → Waits store.width store.limit workers rows round number old.first.acts old.first.did before calls → ready ≡ calls → IsReady store crew → length old.passes.items ≡ workers
-    → length crew.passes.items ≡ length old.passes.items → IsPrefix old.first.acts crew.first.acts
-    → MakesRound store.width store.limit (length old.passes.items) ready old.first.acts crew.first.acts old.first.did crew.first.did before done
-    → joined ≡ crew → joined_done ≡ done → now ≡ [] → current ≡ row.round → Finds store workers rows row number current joined joined_done now
-finds_made store workers rows row number round current old crew joined before done joined_done calls ready now waits same is_ready old_many new_many more ran crew_is done_is none current_is =
-    let made = made_all store.width store.limit workers rows round number old.first.acts crew.first.acts old.first.did crew.first.did before done calls waits more
-    (subst (λ (u : ℕ × List Call). MakesRound store.width store.limit u.0 u.1 old.first.acts crew.first.acts old.first.did crew.first.did before done) (λ i. (old_many i, same i)) ran) in
+pub finds_made : (store : Which) (workers : ℕ) (rows : List Row) (row : Row) (number round current : ℕ) (old pool joined : Pool) (before done joined_done : List Done) (calls ready now : List Call)
+    → Waits store.width store.limit workers rows round number old.first.acts old.first.did before calls → ready ≡ calls → IsFresh store pool → length old.passes.items ≡ workers
+    → length pool.passes.items ≡ length old.passes.items → IsPrefix old.first.acts pool.first.acts
+    → MakesRound store.width store.limit (length old.passes.items) ready old.first.acts pool.first.acts old.first.did pool.first.did before done
+    → joined ≡ pool → joined_done ≡ done → now ≡ [] → current ≡ row.round → Finds store workers rows row number current joined joined_done now
+finds_made store workers rows row number round current old pool joined before done joined_done calls ready now waits same is_ready old_many new_many more ran pool_is done_is none current_is =
+    let made = made_all store.width store.limit workers rows round number old.first.acts pool.first.acts old.first.did pool.first.did before done calls waits more
+    (subst (λ (u : ℕ × List Call). MakesRound store.width store.limit u.0 u.1 old.first.acts pool.first.acts old.first.did pool.first.did before done) (λ i. (old_many i, same i)) ran) in
     record {
-      ready = subst (IsReady store) (sym crew_is) is_ready;
-      many = ap (λ (c : Crew). length c.passes.items) crew_is ∙ new_many ∙ old_many;
-      waits = subst (λ (u : Crew × (List Done × List Call)). Waits store.width store.limit workers rows row.round number u.0.first.acts u.0.first.did u.1.0 u.1.1) (λ i. (sym crew_is i, (sym done_is i, sym none i)))
-          (waits_none store.width store.limit workers rows row.round number number crew.first.acts crew.first.did done (omega arith) made.0 made.1);
+      ready = subst (IsFresh store) (sym pool_is) is_ready;
+      many = ap (λ (c : Pool). length c.passes.items) pool_is ∙ new_many ∙ old_many;
+      waits = subst (λ (u : Pool × (List Done × List Call)). Waits store.width store.limit workers rows row.round number u.0.first.acts u.0.first.did u.1.0 u.1.1) (λ i. (sym pool_is i, (sym done_is i, sym none i)))
+          (waits_none store.width store.limit workers rows row.round number number pool.first.acts pool.first.did done (omega arith) made.0 made.1);
       current = current_is;
       mends = λ task. none;
     }
 
 -- the round goes on
-pub finds_same : (store : Which) (workers : ℕ) (rows : List Row) (row : Row) (number round current : ℕ) (crew joined : Crew) (done joined_done : List Done) (calls now : List Call)
-    → Waits store.width store.limit workers rows round number crew.first.acts crew.first.did done calls → IsReady store crew → length crew.passes.items ≡ workers → joined ≡ crew → joined_done ≡ done → now ≡ calls
+pub finds_same : (store : Which) (workers : ℕ) (rows : List Row) (row : Row) (number round current : ℕ) (pool joined : Pool) (done joined_done : List Done) (calls now : List Call)
+    → Waits store.width store.limit workers rows round number pool.first.acts pool.first.did done calls → IsFresh store pool → length pool.passes.items ≡ workers → joined ≡ pool → joined_done ≡ done → now ≡ calls
     → current ≡ round → round ≡ row.round → (row.task ≡ Mend → ⊥) → Finds store workers rows row number current joined joined_done now
-finds_same store workers rows row number round current crew joined done joined_done calls now waits is_ready many crew_is done_is calls_is current_is same no_mend = record {
-  ready = subst (IsReady store) (sym crew_is) is_ready;
-  many = ap (λ (c : Crew). length c.passes.items) crew_is ∙ many;
-  waits = subst (λ (u : Crew × (List Done × (List Call × ℕ))). Waits store.width store.limit workers rows u.1.1.1 number u.0.first.acts u.0.first.did u.1.0 u.1.1.0) (λ i. (sym crew_is i, (sym done_is i, (sym calls_is i, same i)))) waits;
+finds_same store workers rows row number round current pool joined done joined_done calls now waits is_ready many pool_is done_is calls_is current_is same no_mend = record {
+  ready = subst (IsFresh store) (sym pool_is) is_ready;
+  many = ap (λ (c : Pool). length c.passes.items) pool_is ∙ many;
+  waits = subst (λ (u : Pool × (List Done × (List Call × ℕ))). Waits store.width store.limit workers rows u.1.1.1 number u.0.first.acts u.0.first.did u.1.0 u.1.1.0) (λ i. (sym pool_is i, (sym done_is i, (sym calls_is i, same i)))) waits;
   current = current_is ∙ same;
   mends = λ task. absurd (no_mend task);
 }
 
 -- a call's row
-pub makes_call : (store : Which) (workers : ℕ) (rows done_rows rest : List Row) (row : Row) (ask : Ask) (number next round : ℕ) (crew : Crew) (done : List Done) (calls pushed : List Call)
-    → Finds store workers rows row number round crew done calls → number ≡ length done_rows → next ≡ number + 1 → rows ≡ done_rows ++ row ∷ rest → row.task ≡ Make ask → HasWorker workers row
-    → pushed ≡ calls ++ record { number = next; worker = row.worker; ask = ask } ∷ [] → Waits store.width store.limit workers rows round next crew.first.acts crew.first.did done pushed
-makes_call store workers rows done_rows rest row ask number next round crew done calls pushed f at next_is all task one is =
+pub makes_call : (store : Which) (workers : ℕ) (rows done_rows rest : List Row) (row : Row) (ask : Ask) (number next round : ℕ) (pool : Pool) (done : List Done) (calls pushed : List Call)
+    → Finds store workers rows row number round pool done calls → number ≡ length done_rows → next ≡ number + 1 → rows ≡ done_rows ++ row ∷ rest → row.task ≡ Make ask → HasWorker workers row
+    → pushed ≡ calls ++ record { number = next; worker = row.worker; ask = ask } ∷ [] → Waits store.width store.limit workers rows round next pool.first.acts pool.first.did done pushed
+makes_call store workers rows done_rows rest row ask number next round pool done calls pushed f at next_is all task one is =
     let c : Call = record { number = next; worker = row.worker; ask = ask } in
     let here : round_in rows next ≡ row.round = round_there done_rows rest row rows next all (omega arith) in
     let by_one = subst (IsWorkerOf workers row.worker) task one in
     let call : IsCallOf workers rows row.round (number + 1) c =
     record { before = length done_rows; row = row; number = omega arith; there = row_there done_rows rest row rows all; worker = refl; worker_is = by_one; task = task; few = omega arith; in_round = here } in
-    let more = waits_more store.width store.limit workers rows row.round number crew.first.acts crew.first.did done calls c f.waits call next_is in
-    subst (λ (u : ℕ × (ℕ × List Call)). Waits store.width store.limit workers rows u.0 u.1.0 crew.first.acts crew.first.did done u.1.1) (λ i. (sym f.current i, (sym next_is i, sym is i))) more
+    let more = waits_more store.width store.limit workers rows row.round number pool.first.acts pool.first.did done calls c f.waits call next_is in
+    subst (λ (u : ℕ × (ℕ × List Call)). Waits store.width store.limit workers rows u.0 u.1.0 pool.first.acts pool.first.did done u.1.1) (λ i. (sym f.current i, (sym next_is i, sym is i))) more
 
 -- what is promised of a mend
 abbrev pub MakesMend : ℕ → ℕ → ℕ → ℕ → List Act → List Act → List ℕ → List ℕ → List Done → List Done → Type 0
@@ -263,19 +263,19 @@ MakesMend w l workers number before acts old_did new_did old new =
     (rows : List Row) (round top base : ℕ) → IsMendOf rows round top base number → IsRound w l workers rows round top base (number ∷ []) before acts old_did new_did old new
 
 -- a mend's row
-pub makes_mend : (store : Which) (workers : ℕ) (rows done_rows rest : List Row) (row : Row) (number next round : ℕ) (crew mended : Crew) (done new : List Done) (calls : List Call)
-    → Finds store workers rows row number round crew done calls → number ≡ length done_rows → next ≡ number + 1 → rows ≡ done_rows ++ row ∷ rest → row.task ≡ Mend → IsPrefix crew.first.acts mended.first.acts
-    → MakesMend store.width store.limit (length crew.passes.items) next crew.first.acts mended.first.acts crew.first.did mended.first.did done new
+pub makes_mend : (store : Which) (workers : ℕ) (rows done_rows rest : List Row) (row : Row) (number next round : ℕ) (pool mended : Pool) (done new : List Done) (calls : List Call)
+    → Finds store workers rows row number round pool done calls → number ≡ length done_rows → next ≡ number + 1 → rows ≡ done_rows ++ row ∷ rest → row.task ≡ Mend → IsPrefix pool.first.acts mended.first.acts
+    → MakesMend store.width store.limit (length pool.passes.items) next pool.first.acts mended.first.acts pool.first.did mended.first.did done new
     → Waits store.width store.limit workers rows round next mended.first.acts mended.first.did new calls
-makes_mend store workers rows done_rows rest row number next round crew mended done new calls f at next_is all task more ran =
+makes_mend store workers rows done_rows rest row number next round pool mended done new calls f at next_is all task more ran =
     let w = f.waits in
     let none : calls ≡ [] = f.mends task in
     let le : w.base ≤ number = w.le in
     let here : round_in rows next ≡ row.round = round_there done_rows rest row rows next all (omega arith) in
     let mend : IsMendOf rows row.round next w.base next =
     record { before = length done_rows; row = row; number_is = omega arith; there = row_there done_rows rest row rows all; task = task; past = omega arith; few = omega arith; in_round = here } in
-    let r = subst (λ n. IsRound store.width store.limit n rows row.round next w.base (next ∷ []) crew.first.acts mended.first.acts crew.first.did mended.first.did done new) f.many (ran rows row.round next w.base mend) in
-    let played = played_more store.width store.limit workers rows row.round w.base next (next ∷ []) crew.first.acts mended.first.acts crew.first.did mended.first.did done new (omega arith) more w.played r in
+    let r = subst (λ n. IsRound store.width store.limit n rows row.round next w.base (next ∷ []) pool.first.acts mended.first.acts pool.first.did mended.first.did done new) f.many (ran rows row.round next w.base mend) in
+    let played = played_more store.width store.limit workers rows row.round w.base next (next ∷ []) pool.first.acts mended.first.acts pool.first.did mended.first.did done new (omega arith) more w.played r in
     let once : AreTold next (numbers_in new) [] = λ k.
     let both = ap (times k) (ap numbers_in r.dones ∙ map-append (λ (d : Done). d.number) done (dones_in r.accounts)) ∙ times-append k (numbers_in done) (numbers_in (dones_in r.accounts)) in
     let mine = r.once k ∙ times-one k next in

@@ -25,11 +25,11 @@ use Rattle.mender.specs.Worked.{repair_of}
 use Rattle.mender.specs.declared.done.Done.{Done}
 use Rattle.mender.proofs.Counts.{once_below-in, once_below-out}
 use Rattle.rounds.specs.declared.work.Outcome.{Outcome}
-use Rattle.play.specs.declared.outcome.RowOutcome.{RowOutcome}
-use Rattle.play.specs.declared.outcome.RowOutcome.TheVariants as row
-use Rattle.play.specs.Lines.{reply_text}
+use Rattle.transcript.specs.declared.outcome.RowOutcome.{RowOutcome}
+use Rattle.transcript.specs.declared.outcome.RowOutcome.TheVariants as row
+use Rattle.transcript.specs.Lines.{line_text}
 use Rattle.play.specs.Lists.{Each}
-use Rattle.play.specs.Mends.{crew_of, drawn_by, TellsMend, AreDrawnOnce}
+use Rattle.play.specs.Mends.{all_left, drawn_by, TellsMend, AreDrawnOnce}
 use Rattle.play.specs.Printed.{is_noted, noted, is_repaired, is_not_lost, is_gone, is_unrecoverable, mend_text}
 use Rattle.play.specs.Runs.{operation_in, operations_in, is_full, meets_full, IsByWorker, Mends}
 use Rattle.play.specs.Steps.{Found}
@@ -168,11 +168,11 @@ pub mends_told : (workers : ℕ) (plan : List Item) (os : List Outcome) (steps :
     → Each (λ (p : Placed). (1 ≤ p.step.who) × (p.step.who ≤ workers)) steps → Mends workers plan (map found_of steps) × IsMendTextOf (map found_of steps) outcome
 mends_told workers plan os steps (row.Replied reply) took tells drawn are_by = absurd tells
 mends_told workers plan os steps (row.Mended report) took tells drawn are_by =
-    let results = results_of (crew_of os) in
+    let results = results_of (all_left os) in
     let r = took.results tells.0 in
     let none : list_any is_full (deeds_in steps) ≡ false = took.full ∙ tells.0 in (
       mends_first workers plan os steps (length plan) took (λ n. ap (times n) r.1 ∙ tells.1.1 n) are_by (λ no. drop_all (length plan) plan (omega arith)),
-      λ reply is. ap reply_text is ∙ ap report_line tells.2 ∙ text_is steps results r.0 (meets_are steps ∙ none),
+      λ reply is. ap line_text is ∙ ap report_line tells.2 ∙ text_is steps results r.0 (meets_are steps ∙ none),
     )
 mends_told workers plan os steps row.Full took tells drawn are_by =
     let some : list_any is_full (deeds_in steps) ≡ true = took.full ∙ tells in
@@ -185,5 +185,5 @@ mends_told workers plan os steps row.Full took tells drawn are_by =
           (λ many. mends_first workers plan os steps (length plan) took
           (λ n. dite (dec_lt n (length plan)) (λ below. took.tickets n below ∙ drawn n ∙ once_below-in n m (omega (arith, below, many)) ∙ sym (once_below-in n (length plan) below)) (λ past. none_past n (omega (arith, past)) ∙ sym (once_below-out n (length plan) (omega (arith, past)))))
           are_by (impossible (length plan))),
-      λ reply is. ap reply_text is ∙ (λ i. if sym (meets_are steps ∙ some) i then codes "full" else numbers_text (map found_of steps)),
+      λ reply is. ap line_text is ∙ (λ i. if sym (meets_are steps ∙ some) i then codes "full" else numbers_text (map found_of steps)),
     )

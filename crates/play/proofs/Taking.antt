@@ -27,7 +27,7 @@ use Rattle.rounds.specs.declared.work.Mended.{Mended}
 use Rattle.rounds.specs.declared.work.Outcome.{Outcome}
 use Rattle.rounds.specs.declared.work.Outcome.TheVariants as outcome
 use Rattle.play.specs.Lists.{Each}
-use Rattle.play.specs.Mends.{left_of, crew_of, is_stopped, drawn_in, drawn_by}
+use Rattle.play.specs.Mends.{left_of, all_left, is_stopped, drawn_in, drawn_by}
 use Rattle.play.specs.Runs.{operation_in, is_full}
 use Rattle.play.proofs.Buckets.{each-append}
 
@@ -56,7 +56,7 @@ pub record Took (plan : List Item) (os : List Outcome) (deeds : List Deed) : Typ
   pub of_plan : Each (λ (t : Taken). slice_get plan t.0 ≡ Some t.1) taken
   pub tickets : (n : ℕ) → n < length plan → times n (tickets_in taken) ≡ times n (drawn_by os)
   pub full : list_any is_full deeds ≡ list_any is_stopped os
-  pub results : list_any is_stopped os ≡ false → (deeds ≡ map deed_in (results_of (crew_of os))) × (tickets_in taken ≡ tickets_of (results_of (crew_of os)))
+  pub results : list_any is_stopped os ≡ false → (deeds ≡ map deed_in (results_of (all_left os))) × (tickets_in taken ≡ tickets_of (results_of (all_left os)))
 
 pub took_none : (plan : List Item) → Took plan [] []
 took_none plan = record { taken = []; operations = refl; many = refl; of_plan = tt; tickets = λ n below. refl; full = refl; results = λ none. (refl, refl) }
@@ -70,7 +70,7 @@ took_more plan xs ys one two a b =
     let any_full = list_any-append is_full one two in
     let any_stopped = list_any-append is_stopped xs ys in
     let tickets_all = map-append (λ (t : Taken). t.0) a.taken b.taken in
-    let results_all : results_of (crew_of (xs ++ ys)) ≡ results_of (crew_of xs) ++ results_of (crew_of ys) = ap results_of (flat_map-append left_of xs ys) ∙ flat_map-append (λ (left : Left). left.done) (crew_of xs) (crew_of ys) in
+    let results_all : results_of (all_left (xs ++ ys)) ≡ results_of (all_left xs) ++ results_of (all_left ys) = ap results_of (flat_map-append left_of xs ys) ∙ flat_map-append (λ (left : Left). left.done) (all_left xs) (all_left ys) in
     record {
       taken = a.taken ++ b.taken;
       operations = flat_map-append operation_in one two ∙ (λ i. a.operations i ++ b.operations i)
@@ -84,8 +84,8 @@ took_more plan xs ys one two a b =
           let each = neither (list_any is_stopped xs) (list_any is_stopped ys) (sym any_stopped ∙ none) in
           let mine = a.results each.0 in
           let theirs = b.results each.1 in (
-            (λ i. mine.0 i ++ theirs.0 i) ∙ sym (ap (map deed_in) results_all ∙ map-append deed_in (results_of (crew_of xs)) (results_of (crew_of ys))),
-            tickets_all ∙ (λ i. mine.1 i ++ theirs.1 i) ∙ sym (ap tickets_of results_all ∙ map-append (λ (d : Done). d.ticket) (results_of (crew_of xs)) (results_of (crew_of ys))),
+            (λ i. mine.0 i ++ theirs.0 i) ∙ sym (ap (map deed_in) results_all ∙ map-append deed_in (results_of (all_left xs)) (results_of (all_left ys))),
+            tickets_all ∙ (λ i. mine.1 i ++ theirs.1 i) ∙ sym (ap tickets_of results_all ∙ map-append (λ (d : Done). d.ticket) (results_of (all_left xs)) (results_of (all_left ys))),
           );
     }
 
@@ -160,7 +160,7 @@ drawn_finished plan old new done others w none n past =
 
 -- a worker that finished
 took_finished : (plan : List Item) (old new : Hand) (done : List Done) (m : Mended) (others : List ℕ) (deeds : List Deed) → Worked plan old new done others → old.drawn ≡ [] → ((n : ℕ) → n < length plan → times n others ≡ 0)
-    → is_stopped (outcome.Mended new m) ≡ false → results_of (crew_of (outcome.Mended new m ∷ [])) ≡ done → deeds ≡ map deed_in done → Took plan (outcome.Mended new m ∷ []) deeds
+    → is_stopped (outcome.Mended new m) ≡ false → results_of (all_left (outcome.Mended new m ∷ [])) ≡ done → deeds ≡ map deed_in done → Took plan (outcome.Mended new m ∷ []) deeds
 took_finished plan old new done m others deeds w none past not_stopped results are = subst (Took plan (outcome.Mended new m ∷ [])) (sym are) (record {
   taken = map taken_in done;
   operations = operations_done done;
@@ -172,7 +172,7 @@ took_finished plan old new done m others deeds w none past not_stopped results a
 })
 
 pub took_ok : (plan : List Item) (old new : Hand) (done : List Done) (m : Mended) (deeds : List Deed) → Finished plan old new done → old.drawn ≡ [] → is_stopped (outcome.Mended new m) ≡ false
-    → results_of (crew_of (outcome.Mended new m ∷ [])) ≡ done → deeds ≡ map deed_in done → Took plan (outcome.Mended new m ∷ []) deeds
+    → results_of (all_left (outcome.Mended new m ∷ [])) ≡ done → deeds ≡ map deed_in done → Took plan (outcome.Mended new m ∷ []) deeds
 took_ok plan old new done m deeds finished none not_stopped results are = ⊎_elim
     (λ t. took_finished plan old new done m [] deeds t.0 none (λ n below. refl) not_stopped results are)
     (λ t. took_finished plan old new done m (t.0 ∷ []) deeds t.2 none (λ n below. past_none n t.0 (length plan) below t.1) not_stopped results are)

@@ -23,10 +23,10 @@ use Rattle.play.specs.Lists.{Each, Pairs}
 use Rattle.play.specs.Steps.{Step, Found, found, standing_after}
 use Rattle.play.specs.Runs.{steps_of, IsOne, IsRow, Mends, IsByWorker, is_full, operation_in, operations_in}
 use Rattle.play.specs.Printed.{deed_text, is_noted, is_repaired, is_not_lost, is_gone, is_unrecoverable, mend_text, row_text, row_lines}
-use Rattle.play.specs.Lines.{AreLines, IsReplyTo, reply_text}
+use Rattle.transcript.specs.Lines.{AreLines, IsLineFor, line_text}
 use Rattle.play.specs.Accounts.{Placed, found_of, Account, dones_in, numbers_in, steps_in, earlier, HasDone, Settles, IsAccount, IsDone}
-use Rattle.play.specs.declared.outcome.Done.{Done}
-use Rattle.play.specs.declared.reply.Reply.{Reply}
+use Rattle.transcript.specs.declared.outcome.Done.{Done}
+use Rattle.transcript.specs.declared.line.Line.{Line}
 use Rattle.play.proofs.Buckets.{after, each-append, each-both, each-by_key, each-filter, each-weaker, by_key-all, by_key-one, filter-by_key, twice}
 use Rattle.play.proofs.Ordered.{key, keys_below, in_order_below, steps_at, Follow, follow, found_are, standing_is, goes_on, begins_at, each-map, all_each}
 use Rattle.play.proofs.Sorting.{in_order}
@@ -188,7 +188,7 @@ pub record IsLineOf (w : ℕ) (rows : List Row) (steps : List Step) (d : Done) :
   pub row : Row
   pub number : d.number ≡ before + 1
   pub there : slice_get rows before ≡ Some row
-  pub text : (reply : Reply) → IsReplyTo d.outcome reply → reply_text reply ≡ row_text w row.task (steps_of d.number steps)
+  pub text : (reply : Line) → IsLineFor d.outcome reply → line_text reply ≡ row_text w row.task (steps_of d.number steps)
 
 module _ (w l workers : ℕ) (rows : List Row) (acts : List Act) (accounts : List Account) (has : HasDone w l acts (steps_in accounts)) where
   goes : Follow [] (ordered acts accounts) × (after begins_at goes_on [] (ordered acts accounts) ≡ acts)
@@ -220,7 +220,7 @@ module _ (w l workers : ℕ) (rows : List Row) (acts : List Act) (accounts : Lis
   abbrev IsTold : Account → Row → Task → Type 0
   IsTold a row task =
       IsRow workers (run_of acts accounts) a.done.number row task
-      × ((reply : Reply) → IsReplyTo a.done.outcome reply → reply_text reply ≡ row_text w task (steps_of a.done.number (run_of acts accounts)))
+      × ((reply : Line) → IsLineFor a.done.outcome reply → line_text reply ≡ row_text w task (steps_of a.done.number (run_of acts accounts)))
 
   is_told : (a : Account) → IsAlone (steps_in accounts) a → IsDone w l (length rows) acts (steps_in accounts) a → (row : Row) (task : Task) → Settles w workers row task a → IsTold a row task
   is_told a alone done row (Make ask) (p, only, who, asked, text) =
@@ -301,7 +301,7 @@ lines_are w rows steps front (row ∷ rest) number (d ∷ ds) text all at same k
     let here : d.number ≡ number = cc same in
     let place : line.before ≡ length front = omega (arith, line.number, here, at) in
     let row_is : line.row ≡ row = cc (sym line.there ∙ (λ i. slice_get (all i) (place i)) ∙ row_at front rest row) in
-    let told : reply_text reply ≡ row_text w row.task (steps_of number steps) = line.text reply is ∙ (λ i. row_text w (row_is i).task (steps_of (here i) steps)) in
+    let told : line_text reply ≡ row_text w row.task (steps_of number steps) = line.text reply is ∙ (λ i. row_text w (row_is i).task (steps_of (here i) steps)) in
     let next = lines_are w rows steps (front ++ row ∷ []) rest (number + 1) ds rest_text (all ∙ sym (append_assoc front (row ∷ []) rest)) (omega (arith, at, length-append front (row ∷ []))) (cc same) known.1 are in
     text_is ∙ (λ i. (decimal (here i) ++ (codes " " ++ (told i ++ codes "\n"))) ++ next i)
 

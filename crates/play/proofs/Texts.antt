@@ -23,13 +23,13 @@ use Rattle.shared.specs.declared.jobs.Reply.{Reply}
 use Rattle.shared.specs.declared.jobs.Reply.TheVariants.{Made, Refused, Trimmed}
 use Rattle.shared.specs.Runs.{operation_asked, IfReadGranted}
 use Rattle.shared.specs.Serving.{keep_asked, deed_told, IfGrantedTo}
-use Rattle.play.specs.Lines.{IsReplyTo, IsAnswerText, reply_text}
+use Rattle.transcript.specs.Lines.{IsLineFor, IsAnswerLine, line_text}
 use Rattle.play.specs.Runs.{IsAsked}
 use Rattle.play.specs.Printed as printed
 use Rattle.play.specs.Printed.{deed_text}
-use Rattle.play.specs.declared.outcome.RowOutcome.TheVariants.{Replied}
-use Rattle.play.specs.declared.reply.Reply as lines
-use Rattle.play.specs.declared.reply.Reply.TheVariants as line
+use Rattle.transcript.specs.declared.outcome.RowOutcome.TheVariants.{Replied}
+use Rattle.transcript.specs.declared.line.Line as lines
+use Rattle.transcript.specs.declared.line.Line.TheVariants as line
 use Rattle.play.proofs.Reading.{reading_is}
 
 neither_way : (b : Bool) (P Q : Type 0) → (P → ⊥) → (Q → ⊥) → MatchBool b P Q → ⊥
@@ -78,12 +78,12 @@ plain w before (read n start len) note.NotLost none = refl
 plain w before (read n start len) (note.Deleted v) none = refl
 plain w before (read n start len) (note.Shape v len' stripes lost) none = refl
 
-noted_text : (w : ℕ) (before : List Act) (o : Operation) (m : Note) (reply : lines.Reply) → ((v : ℕ) → m ≡ note.Granted v → ⊥) → reply ≡ line.Noted m → reply_text reply ≡ printed.reply_text w (standing_of before) o m
-noted_text w before o m reply none is = ap reply_text is ∙ sym (plain w before o m none)
+noted_text : (w : ℕ) (before : List Act) (o : Operation) (m : Note) (reply : lines.Line) → ((v : ℕ) → m ≡ note.Granted v → ⊥) → reply ≡ line.Noted m → line_text reply ≡ printed.reply_text w (standing_of before) o m
+noted_text w before o m reply none is = ap line_text is ∙ sym (plain w before o m none)
 
-granted_text : (w l : ℕ) (who : ℕ) (before : List Act) (o : Operation) (g : Grant) (reply : lines.Reply) → Does w l (standing_of before) (called o (note_of (answer.Granted g)))
-    → IfReadGranted (events_in (before ++ act_of who (called o (note_of (answer.Granted g))))) w o (answer.Granted g) → IsAnswerText (answer.Granted g) reply
-    → reply_text reply ≡ printed.reply_text w (standing_of before) o (note_of (answer.Granted g))
+granted_text : (w l : ℕ) (who : ℕ) (before : List Act) (o : Operation) (g : Grant) (reply : lines.Line) → Does w l (standing_of before) (called o (note_of (answer.Granted g)))
+    → IfReadGranted (events_in (before ++ act_of who (called o (note_of (answer.Granted g))))) w o (answer.Granted g) → IsAnswerLine (answer.Granted g) reply
+    → line_text reply ≡ printed.reply_text w (standing_of before) o (note_of (answer.Granted g))
 granted_text w l who before (put n code b) g reply does there is = absurd (cc (does.1.1))
 granted_text w l who before (lose n j f) g reply does there is = absurd (not_lose w _ _ j f does.1)
 granted_text w l who before (repair n j f) g reply does there is = absurd (not_repair w _ _ j f does.1)
@@ -102,8 +102,8 @@ granted_text w l who before (read n start len) g (line.Mended m) does there is =
 granted_text w l who before (read n start len) g line.Full does there is = absurd is
 granted_text w l who before (read n start len) g line.TooLong does there is = absurd is
 
-answer_text : (w l : ℕ) (who : ℕ) (before : List Act) (o : Operation) (a : Answer) (reply : lines.Reply) → Does w l (standing_of before) (called o (note_of a))
-    → IfReadGranted (events_in (before ++ act_of who (called o (note_of a)))) w o a → IsAnswerText a reply → reply_text reply ≡ printed.reply_text w (standing_of before) o (note_of a)
+answer_text : (w l : ℕ) (who : ℕ) (before : List Act) (o : Operation) (a : Answer) (reply : lines.Line) → Does w l (standing_of before) (called o (note_of a))
+    → IfReadGranted (events_in (before ++ act_of who (called o (note_of a)))) w o a → IsAnswerLine a reply → line_text reply ≡ printed.reply_text w (standing_of before) o (note_of a)
 answer_text w l who before o (answer.Granted g) reply does there is = granted_text w l who before o g reply does there is
 answer_text w l who before o (answer.Stored v) reply does there is = noted_text w before o (note.Stored v) reply (λ v e. cc (e)) is
 answer_text w l who before o answer.NoName reply does there is = noted_text w before o note.NoName reply (λ v e. cc (e)) is
@@ -124,17 +124,17 @@ no_deed : {a : Deed} → ◌≡◌ {A = Option Deed} None (Some a) → ⊥
 no_deed e = cc (e)
 
 -- the reply is the text of the deed
-pub text_of : (w l who : ℕ) (a : Ask) (r : Reply) (deed : Deed) (before : List Act) (reply : lines.Reply) → deed_told a r ≡ Some deed → Does w l (standing_of before) deed
-    → IfGrantedTo (events_in (before ++ act_of who deed)) w (operation_asked a) r → IsReplyTo (Replied r) reply → reply_text reply ≡ deed_text w (standing_of before) deed
+pub text_of : (w l who : ℕ) (a : Ask) (r : Reply) (deed : Deed) (before : List Act) (reply : lines.Line) → deed_told a r ≡ Some deed → Does w l (standing_of before) deed
+    → IfGrantedTo (events_in (before ++ act_of who deed)) w (operation_asked a) r → IsLineFor (Replied r) reply → line_text reply ≡ deed_text w (standing_of before) deed
 text_of w l who a r deed before reply told does there is = by r (operation_asked a) (keep_asked a) told there is
   where
-    made : (o : Operation) (x : Answer) → called o (note_of x) ≡ deed → IfReadGranted (events_in (before ++ act_of who deed)) w o x → IsAnswerText x reply → reply_text reply ≡ deed_text w (standing_of before) deed
+    made : (o : Operation) (x : Answer) → called o (note_of x) ≡ deed → IfReadGranted (events_in (before ++ act_of who deed)) w o x → IsAnswerLine x reply → line_text reply ≡ deed_text w (standing_of before) deed
     made o x e there is =
         answer_text w l who before o x reply (subst (Does w l (standing_of before)) (sym e) does) (subst (λ (d : Deed). IfReadGranted (events_in (before ++ act_of who d)) w o x) (sym e) there) is
         ∙ ap (λ (d : Deed). deed_text w (standing_of before) d) e
 
-    refused : (d : Deed) (s : lines.Reply) → d ≡ deed → reply ≡ s → reply_text s ≡ deed_text w (standing_of before) d → reply_text reply ≡ deed_text w (standing_of before) deed
-    refused d s e is same = ap reply_text is ∙ same ∙ ap (λ (d : Deed). deed_text w (standing_of before) d) e
+    refused : (d : Deed) (s : lines.Line) → d ≡ deed → reply ≡ s → line_text s ≡ deed_text w (standing_of before) d → line_text reply ≡ deed_text w (standing_of before) deed
+    refused d s e is same = ap line_text is ∙ same ∙ ap (λ (d : Deed). deed_text w (standing_of before) d) e
 
     told_in : Option Operation → Option ℕ → Reply → Option Deed
     told_in o k (Made x) = option_map (λ o. called o (note_of x)) o
@@ -143,7 +143,7 @@ text_of w l who a r deed before reply told does there is = by r (operation_asked
     told_in o k (Refused f) = None
     told_in o k (Trimmed n) = option_map (λ keep. trimmed keep n) k
 
-    by : (r : Reply) (o : Option Operation) (k : Option ℕ) → told_in o k r ≡ Some deed → IfGrantedTo (events_in (before ++ act_of who deed)) w o r → IsReplyTo (Replied r) reply → reply_text reply ≡ deed_text w (standing_of before) deed
+    by : (r : Reply) (o : Option Operation) (k : Option ℕ) → told_in o k r ≡ Some deed → IfGrantedTo (events_in (before ++ act_of who deed)) w o r → IsLineFor (Replied r) reply → line_text reply ≡ deed_text w (standing_of before) deed
     by (Made x) None k told there is = absurd (no_deed told)
     by (Made x) (Some o) k told there is = made o x (some_deed told) there is
     by (Refused JournalFull) None k told there is = absurd (no_deed told)

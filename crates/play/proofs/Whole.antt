@@ -13,10 +13,11 @@ use Rattle.script.specs.declared.rows.Row.{Row}
 use Rattle.play.specs.Lists.{Each, Pairs}
 use Rattle.play.specs.Steps.{Step, standing_after, calls_in}
 use Rattle.play.specs.Runs.{round_in, IsRun}
-use Rattle.play.specs.Lines.{AreLines}
-use Rattle.play.specs.Printed.{entry_lines, row_lines, printed}
+use Rattle.transcript.specs.Lines.{AreLines}
+use Rattle.transcript.specs.Lines.{entry_lines}
+use Rattle.play.specs.Printed.{row_lines, printed}
 use Rattle.play.specs.Accounts.{Stands, numbers_in, steps_in, HasDone, IsDone, IsPlayed}
-use Rattle.play.specs.declared.outcome.Done.{Done}
+use Rattle.transcript.specs.declared.outcome.Done.{Done}
 use Rattle.play.proofs.Buckets.{each-by_key, each-weaker, twice}
 use Rattle.play.proofs.Ordered.{key, follow, are_done, order_is, standing_is, calls_are}
 use Rattle.play.proofs.Played.{stands_longer}
@@ -39,7 +40,7 @@ pub record HasRun (w l workers : ℕ) (rows : List Row) (acts : List Act) (told 
   pub standing : standing_after steps ≡ standing_of acts
   pub calls : calls_in steps ≡ events_in acts
 
--- where each act is one of the crew's
+-- where each act is one of the pool's
 pub has_run : (w l workers : ℕ) (rows : List Row) (before acts : List Act) (did : List ℕ) (told : List Done) → IsPlayed w l workers rows (length rows) before did told → IsPrefix before acts
     → ((k : ℕ) → k < length acts → times k did ≡ 1) → ((k : ℕ) → times k (numbers_in told) ≡ once_later (length rows + 1) k) → HasRun w l workers rows acts told
 has_run w l workers rows before acts did told played more own once_told =

@@ -12,12 +12,12 @@ use Rattle.script.specs.declared.rows.Task.TheVariants.{Make, Mend}
 use Rattle.play.specs.Steps.{Step, Found}
 use Rattle.play.specs.Lists.{Each, Pairs}
 use Rattle.play.specs.Runs.{IsAsked, MayPrecede, Mends, round_in}
-use Rattle.play.specs.Lines.{IsReplyTo, reply_text}
+use Rattle.transcript.specs.Lines.{IsLineFor, line_text}
 use Rattle.play.specs.Printed.{deed_text, mend_text}
 use Rattle.play.specs.declared.calls.Call.{Call}
-use Rattle.play.specs.declared.outcome.Done.{Done}
-use Rattle.play.specs.declared.outcome.RowOutcome.{RowOutcome}
-use Rattle.play.specs.declared.reply.Reply.{Reply}
+use Rattle.transcript.specs.declared.outcome.Done.{Done}
+use Rattle.transcript.specs.declared.outcome.RowOutcome.{RowOutcome}
+use Rattle.transcript.specs.declared.line.Line.{Line}
 
 -- a step, and the acts that were done before it
 pub record Placed : Type 0 where
@@ -51,7 +51,7 @@ steps_in accounts = flat_map (λ a. a.steps) accounts
 
 -- the reply is the text of the step
 abbrev pub IsTextOf : ℕ → Placed → RowOutcome → Type 0
-IsTextOf w p outcome = (reply : Reply) → IsReplyTo outcome reply → reply_text reply ≡ deed_text w (standing_of p.before) p.step.deed
+IsTextOf w p outcome = (line : Line) → IsLineFor outcome line → line_text line ≡ deed_text w (standing_of p.before) p.step.deed
 
 -- the step, beside the standing that it finds
 abbrev pub found_of : Placed → Found
@@ -59,7 +59,7 @@ found_of p = (standing_of p.before, p.step)
 
 -- the reply is the text of a mend's steps
 abbrev pub IsMendTextOf : List Found → RowOutcome → Type 0
-IsMendTextOf steps outcome = (reply : Reply) → IsReplyTo outcome reply → reply_text reply ≡ mend_text steps
+IsMendTextOf steps outcome = (line : Line) → IsLineFor outcome line → line_text line ≡ mend_text steps
 
 -- the row's steps are what it asks for, and the reply tells them. A mend's plan is that of the standing after the acts that it found
 abbrev pub Settles : ℕ → ℕ → Row → Task → Account → Type 0
@@ -172,7 +172,7 @@ pub record IsDone (w limit top : ℕ) (acts : List Act) (steps : List Placed) (a
   pub few : a.done.number ≤ top
   pub finds : (found : List Act) → a.found ≡ Some found → IsPrefix found acts × HasDone w limit found (earlier a.done.number steps)
 
--- What the first rows did, up to this one, as far as it is told of: each account is that of a row, and the steps of all accounts are the acts that the crew has for its own
+-- What the first rows did, up to this one, as far as it is told of: each account is that of a row, and the steps of all accounts are the acts that the pool has for its own
 pub record IsPlayed (w limit workers : ℕ) (rows : List Row) (top : ℕ) (acts : List Act) (did : List ℕ) (done : List Done) : Type 0 where
   pub accounts : List Account
   pub dones : done ≡ dones_in accounts

@@ -2,6 +2,8 @@
 use Rattle.std.specs.Prelude.{ℕ, List, length}
 use Rattle.script.specs.declared.rows.BadScript.TheVariants as bad
 use Rattle.script.specs.Script.{AcceptedBefore, Explains, script_records}
+use Rattle.rounds.specs.declared.halt.Halt.{Halt}
+use Rattle.rounds.specs.declared.halt.Halt.TheVariants as halt
 use Rattle.play.specs.declared.fail.Fail.{Fail}
 use Rattle.play.specs.declared.fail.Fail.TheVariants.{Script, Read, Write, Memory, Start, Paused}
 
@@ -25,3 +27,9 @@ Tells workers text Write = Unit {0}
 Tells workers text Memory = Unit {0}
 Tells workers text Start = Unit {0}
 Tells workers text Paused = Unit {0}
+
+-- how a run fails that a round halted
+abbrev pub fail_by : Halt → Fail
+fail_by halt.Memory = Memory
+fail_by halt.Start = Start
+fail_by halt.Paused = Paused

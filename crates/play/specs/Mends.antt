@@ -16,8 +16,8 @@ use Rattle.rounds.specs.declared.work.Mending.{Mending}
 use Rattle.rounds.specs.declared.work.Outcome.{Outcome}
 use Rattle.rounds.specs.declared.work.Outcome.TheVariants as outcome
 use Rattle.rounds.specs.declared.work.Work.{Work}
-use Rattle.play.specs.declared.outcome.RowOutcome.{RowOutcome}
-use Rattle.play.specs.declared.outcome.RowOutcome.TheVariants as row
+use Rattle.transcript.specs.declared.outcome.RowOutcome.{RowOutcome}
+use Rattle.transcript.specs.declared.outcome.RowOutcome.TheVariants as row
 
 -- ---- before the round
 -- a part in mending this plan, with a drawer of these tickets that has drawn nothing
@@ -58,8 +58,8 @@ abbrev pub left_of : Outcome → List Left
 left_of (outcome.Called r) = []
 left_of (outcome.Mended drawer m) = left_with drawer (results_in m) ∷ []
 
-abbrev pub crew_of : List Outcome → List Left
-crew_of outcomes = flat_map left_of outcomes
+abbrev pub all_left : List Outcome → List Left
+all_left outcomes = flat_map left_of outcomes
 
 -- a worker that did not stop has finished its part
 abbrev pub FinishedIfDone : List Item → Hand → Mended → Type 0
@@ -77,7 +77,7 @@ AreBack plan tickets (o ∷ os) = IsBack plan tickets o × AreBack plan tickets 
 
 -- the allowances that they were given
 abbrev pub given_before : List Outcome → ℕ
-given_before outcomes = sum_by (λ (left : Left). left.given) (crew_of outcomes)
+given_before outcomes = sum_by (λ (left : Left). left.given) (all_left outcomes)
 
 -- the worker did what it could: it was let through, and stopped only at a full journal
 abbrev pub HasEnded : Mended → Type 0
@@ -118,5 +118,5 @@ AreDrawnOnce outcomes = AreFirst (drawn_by outcomes) (length (drawn_by outcomes)
 abbrev pub TellsMend : List Item → List Outcome → RowOutcome → Type 0
 TellsMend plan outcomes (row.Replied reply) = ⊥
 TellsMend plan outcomes (row.Mended report) =
-    (list_any is_stopped outcomes ≡ false) × IsComplete plan (results_of (crew_of outcomes)) × (report ≡ report_of (results_of (crew_of outcomes)))
+    (list_any is_stopped outcomes ≡ false) × IsComplete plan (results_of (all_left outcomes)) × (report ≡ report_of (results_of (all_left outcomes)))
 TellsMend plan outcomes row.Full = list_any is_stopped outcomes ≡ true

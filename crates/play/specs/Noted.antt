@@ -3,8 +3,8 @@ use Rattle.std.specs.Prelude.{◌≡◌, ℕ, List, [], ◌∷◌, ◌++◌, Ok,
 use Rattle.shared.specs.declared.jobs.Reply.{Reply}
 use Rattle.rounds.specs.declared.work.Outcome.{Outcome}
 use Rattle.rounds.specs.declared.work.Outcome.TheVariants.{Called, Mended}
-use Rattle.play.specs.declared.outcome.Done.{Done}
-use Rattle.play.specs.declared.outcome.RowOutcome.TheVariants.{Replied}
+use Rattle.transcript.specs.declared.outcome.Done.{Done}
+use Rattle.transcript.specs.declared.outcome.RowOutcome.TheVariants.{Replied}
 
 -- the replies of a worker that ran to its end
 abbrev pub AreRepliesOf : Outcome → List Reply → Type 0

@@ -1,6 +1,6 @@
 //! Why a run has no output.
 
-use crate::halt::Halt;
+use rounds::Halt;
 use script::BadScript;
 use thiserror::Error;
 
@@ -46,7 +46,7 @@ impl Fail {
 impl From<Halt> for Fail {
     ghost use Rattle.std.specs.Prelude.{◌≡◌, ℕ, List};
     ghost use Rattle.play.specs.Fails.{Tells};
-    ghost use Rattle.play.specs.Halts.{fail_by};
+    ghost use Rattle.play.specs.Fails.{fail_by};
 
     ghost from_gives = { λ halt fail. fail ≡ fail_by halt };
 

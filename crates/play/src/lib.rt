@@ -2,14 +2,9 @@
 #![tactic(auto)]
 
 mod calls;
-mod crew;
 mod fail;
-mod halt;
 mod mend;
-mod outcome;
-mod output;
 mod pace;
-mod reply;
 mod rows;
 mod run;
 

@@ -1,1 +1,3 @@
+pub mod Halts
+pub mod Pools
 pub mod Rounds

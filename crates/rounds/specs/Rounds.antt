@@ -71,9 +71,9 @@ DidAll (w ∷ ws) [] = ⊥
 DidAll (w ∷ ws) (r ∷ rs) = Did w r × DidAll ws rs
 
 -- the works of a round that has no results: as they were; or the first ones are done, and the others are as they were
-abbrev pub AreBack : List Work → NotRun → Type 0
-AreBack works (Memory left) = left.items ≡ works
-AreBack works (Start rans left) = (done : List Work) × (works ≡ done ++ left.items) × DidAll done rans.items
+abbrev pub AreReturned : List Work → NotRun → Type 0
+AreReturned works (Memory left) = left.items ≡ works
+AreReturned works (Start rans left) = (done : List Work) × (works ≡ done ++ left.items) × DidAll done rans.items
 
 -- ---- between the start and the end of a round
 -- the work that a worker was given

@@ -1,6 +1,6 @@
 //! One round: a thread for each worker that has something to do, all joined at its end.
 ghost use Rattle.std.specs.Prelude.{◌≡◌, ◌≤◌, ◌++◌, [], false, IfOk, IfErr, map, vec_len, vec_capacity};
-ghost use Rattle.rounds.specs.Rounds.{AreOf, IsOf, AreReady, IsReady, Did, DidAll, DidMend, AreBack, work_of};
+ghost use Rattle.rounds.specs.Rounds.{AreOf, IsOf, AreReady, IsReady, Did, DidAll, DidMend, AreReturned, work_of};
 
 use crate::work::{DoesErrand, Errand, Mended, Mending, NotRun, Outcome, Ran, Started, Work};
 use mender::work;
@@ -181,7 +181,7 @@ pub fn run_round<R: Threads + Wait + Sync, P: Pace + Sync>(
 ) -> Result<Vec<Ran>, NotRun>
     requires { AreOf store.now works.items }
     ensures did { IfOk result (λ rans. DidAll works.items rans.items) }
-    ensures back { IfErr result (AreBack works.items) }
+    ensures back { IfErr result (AreReturned works.items) }
 {
     let many = works.len();
     let (Ok(rans), Ok(started), Ok(left)) = (
@@ -204,7 +204,7 @@ pub fn run_round<R: Threads + Wait + Sync, P: Pace + Sync>(
                 × (begun.started.items ≡ []) × (begun.left.items ≡ []) × (begun.is_short ≡ false)
                 × (vec_len works ≤ vec_capacity begun.started) × (vec_len works ≤ vec_capacity begun.left) }
             ensures did { IfOk result (λ rans. DidAll works.items rans.items) }
-            ensures back { IfErr result (AreBack works.items) }
+            ensures back { IfErr result (AreReturned works.items) }
         {
             let Begun {
                 started,

@@ -1,10 +1,10 @@
 use Rattle.std.proofs.Common.{◌≡◌, List, map, length}
 use Rattle.std.specs.Prelude.{vec_items}
 use Rattle.std.specs.Vec.Iter.{into_iter_items}
-use Rattle.play.specs.Halts.{GoesOn}
+use Rattle.rounds.specs.Halts.{GoesOn}
 use Rattle.play.specs.Lists.{Each}
 use Rattle.play.specs.Noted.{AreNoted}
-use Rattle.play.specs.declared.outcome.Done.{Done}
+use Rattle.transcript.specs.declared.outcome.Done.{Done}
 use Rattle.play.proofs.calls.note.Given as goal
 
 abbrev pub invariant-loop-outcome : goal.invariant-loop-outcome

@@ -1,7 +1,7 @@
 use Rattle.std.proofs.Common.{◌≡◌, ◌≤◌, ◌<◌, ◌+◌, ◌^◌, ◌++◌, [], vec_len, length}
 use Rattle.std.specs.Prelude.{vec_capacity}
 use Rattle.std.specs.Vec.Iter.{into_iter_items, into_iter_len}
-use Rattle.play.specs.Crews.{passes_of}
+use Rattle.rounds.specs.Pools.{passes_of}
 use Rattle.play.specs.Mends.{AreMenders, given_to_all}
 use Rattle.play.proofs.mend.works_of.Given as goal
 

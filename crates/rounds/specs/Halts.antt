@@ -1,0 +1,67 @@
+-- Why a run stopped before its end.
+use Rattle.std.specs.Prelude.{◌≡◌, Bool, true, false, not, List, Option, None, Some, Ok, Err, if◌then◌else◌}
+use Rattle.std.specs.List.{list_any}
+use Rattle.sealed.specs.declared.fault.Fault.{Fault}
+use Rattle.sealed.specs.declared.fault.Fault.TheVariants.{JournalFull}
+use Rattle.shared.specs.declared.jobs.Cause.{Cause}
+use Rattle.shared.specs.declared.jobs.Cause.TheVariants as cause
+use Rattle.rounds.specs.Rounds.{DidAll}
+use Rattle.rounds.specs.declared.work.Mended.TheVariants.{Worked, Paused}
+use Rattle.rounds.specs.declared.work.NotRun.{NotRun}
+use Rattle.rounds.specs.declared.work.NotRun.TheVariants as not_run
+use Rattle.rounds.specs.declared.work.Outcome.{Outcome}
+use Rattle.rounds.specs.declared.work.Outcome.TheVariants.{Called, Mended}
+use Rattle.rounds.specs.declared.work.Ran.{Ran}
+use Rattle.rounds.specs.declared.work.Work.{Work}
+use Rattle.rounds.specs.Pools.{outcomes_of}
+use Rattle.rounds.specs.declared.halt.Halt.{Halt}
+use Rattle.rounds.specs.declared.halt.Halt.TheVariants as halt
+
+-- why a round that could not be run ends the run
+abbrev pub halt_by : NotRun → Halt
+halt_by (not_run.Memory left) = halt.Memory
+halt_by (not_run.Start rans left) = halt.Start
+
+-- ---- after a round
+-- the two kinds of a worker's fault, and of a cause
+abbrev pub is_journal_full : Fault → Bool
+is_journal_full JournalFull = true
+is_journal_full fault = false
+
+abbrev pub is_no_memory : Cause → Bool
+is_no_memory cause.NoMemory = true
+is_no_memory cause.Paused = false
+
+-- a worker was refused memory. A mend that meets a full journal comes to its end
+abbrev pub lacks_memory : Outcome → Bool
+lacks_memory (Called (Ok replies)) = false
+lacks_memory (Called (Err stopped)) = is_no_memory stopped.cause
+lacks_memory (Mended drawer (Worked (Ok done))) = false
+lacks_memory (Mended drawer (Worked (Err stop))) = not (is_journal_full stop.fault)
+lacks_memory (Mended drawer Paused) = false
+
+-- a row of a worker was not let through
+abbrev pub is_paused : Outcome → Bool
+is_paused (Called (Ok replies)) = false
+is_paused (Called (Err stopped)) = not (is_no_memory stopped.cause)
+is_paused (Mended drawer (Worked r)) = false
+is_paused (Mended drawer Paused) = true
+
+-- why a round ends the run, if it does: want of memory is told before a pause
+abbrev pub halt_after : List Outcome → Option Halt
+halt_after outcomes =
+    if list_any lacks_memory outcomes then Some halt.Memory
+    else if list_any is_paused outcomes then Some halt.Paused
+    else None
+
+-- a worker came to the end of its part
+abbrev pub GoesOn : Outcome → Type 0
+GoesOn o = (lacks_memory o ≡ false) × (is_paused o ≡ false)
+
+-- a round of such works in which a worker was paused, and none was refused memory
+pub record HasPaused (AreWorks : List Work → Type 0) : Type 0 where
+  pub works : List Work
+  pub rans : List Ran
+  pub are : AreWorks works
+  pub did : DidAll works rans
+  pub paused : halt_after (outcomes_of rans) ≡ Some halt.Paused

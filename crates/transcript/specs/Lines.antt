@@ -1,0 +1,82 @@
+-- The lines of a run, as they are printed from its replies.
+use Rattle.std.specs.Prelude.{◌≡◌, ℕ, ◌+◌, List, [], ◌∷◌, ◌++◌, Bool, is_some, not, count_by, slice_range, codes, decimal}
+use Rattle.hex.specs.Hex.{encode_lower}
+use Rattle.sealed.specs.Blob.{Lost}
+use Rattle.sealed.specs.Stripes.{fragment_at}
+use Rattle.sealed.specs.Sealed.{StandsFor}
+use Rattle.sealed.specs.declared.value.Sealed.{Sealed}
+use Rattle.sealed.specs.declared.fault.Fault.TheVariants as fault
+use Rattle.lent.specs.Cut.{cut}
+use Rattle.lent.specs.declared.grant.Grant.{Grant}
+use Rattle.lent.specs.declared.part.Part.{Part}
+use Rattle.history.specs.Text.{note_text, entry_text}
+use Rattle.history.specs.declared.note.Entry.{Entry}
+use Rattle.book.specs.Notes.{note_of}
+use Rattle.book.specs.declared.answer.Answer.{Answer}
+use Rattle.book.specs.declared.answer.Answer.TheVariants as answer
+use Rattle.shared.specs.declared.jobs.Reply.TheVariants as made
+use Rattle.mender.specs.Line.{report_line}
+use Rattle.transcript.specs.declared.outcome.Done.{Done}
+use Rattle.transcript.specs.declared.outcome.RowOutcome.{RowOutcome}
+use Rattle.transcript.specs.declared.outcome.RowOutcome.TheVariants as outcome
+use Rattle.transcript.specs.declared.line.Reading.{Reading}
+use Rattle.transcript.specs.declared.line.Line.{Line}
+use Rattle.transcript.specs.declared.line.Line.TheVariants.{Noted, Granted, Trimmed, Mended, Full, TooLong}
+
+-- two digits for each byte, or a dash where there is none
+abbrev pub hex_text : List ℕ → List ℕ
+hex_text [] = codes "-"
+hex_text (b ∷ bytes) = encode_lower (b ∷ bytes)
+
+-- a reading: the version, how many pieces were lent and how many built, and the bytes
+abbrev pub reading_text : Reading → List ℕ
+reading_text r = codes "granted " ++ (decimal r.version ++ (codes " " ++ (decimal r.lent ++ (codes " " ++ (decimal r.built ++ (codes " " ++ hex_text r.bytes.items))))))
+
+abbrev pub line_text : Line → List ℕ
+line_text (Noted note) = note_text note
+line_text (Granted reading) = reading_text reading
+line_text (Trimmed n) = codes "trimmed " ++ decimal n
+line_text (Mended report) = report_line report
+line_text Full = codes "full"
+line_text TooLong = codes "too-long"
+
+-- whether the part's fragment is there
+abbrev pub is_there : Sealed → Part → Bool
+is_there s part = is_some (fragment_at s.stripes part.stripe part.fragment)
+
+-- what is read of a grant: its version, how many parts are there and how many are not, and the range of each blob that its value stands for
+pub record IsReadingOf (g : Grant) (r : Reading) : Type 0 where
+  pub version : r.version ≡ g.sealed.value.version
+  pub lent : r.lent ≡ count_by (is_there g.sealed.value) (cut g.sealed.value.code g.sealed.value.width g.start g.len)
+  pub built : r.built ≡ count_by (λ p. not (is_there g.sealed.value p)) (cut g.sealed.value.code g.sealed.value.width g.start g.len)
+  pub bytes : (b : List ℕ) (lost : Lost) → StandsFor g.sealed.value b lost → r.bytes.items ≡ slice_range b g.start (g.start + g.len)
+
+-- the line to an answer
+abbrev pub IsReadBy : Grant → Line → Type 0
+IsReadBy g (Granted reading) = IsReadingOf g reading
+IsReadBy g line = ⊥
+
+abbrev pub IsAnswerLine : Answer → Line → Type 0
+IsAnswerLine (answer.Granted g) line = IsReadBy g line
+IsAnswerLine a line = line ≡ Noted (note_of a)
+
+-- the line to what came of a row
+abbrev pub IsLineFor : RowOutcome → Line → Type 0
+IsLineFor (outcome.Replied (made.Made a)) line = IsAnswerLine a line
+IsLineFor (outcome.Replied (made.Trimmed n)) line = line ≡ Trimmed n
+IsLineFor (outcome.Replied (made.Refused fault.TooLong)) line = line ≡ TooLong
+IsLineFor (outcome.Replied (made.Refused f)) line = line ≡ Full
+IsLineFor (outcome.Mended report) line = line ≡ Mended report
+IsLineFor outcome.Full line = line ≡ Full
+
+-- one line for each row
+abbrev pub AreLines : List Done → List ℕ → Type 0
+AreLines [] text = text ≡ []
+AreLines (d ∷ done) text =
+    (line : Line) × (rest : List ℕ) × IsLineFor d.outcome line × AreLines done rest
+    × (text ≡ (decimal d.number ++ (codes " " ++ (line_text line ++ codes "\n"))) ++ rest)
+
+-- a line for each entry, by its number among all calls
+abbrev pub entry_lines : ℕ → List Entry → List ℕ
+entry_lines number [] = []
+entry_lines number (e ∷ es) = (codes "h " ++ (decimal number ++ (codes " " ++ (entry_text e ++ codes "\n")))) ++ entry_lines (number + 1) es

@@ -1,0 +1,160 @@
+//! What is printed of a row.
+ghost use Rattle.std.specs.Prelude.{◌≡◌, ◌≤◌, IfOk, length};
+ghost use Rattle.hex.specs.Hex.{encode_lower};
+ghost use Rattle.transcript.specs.Lines.{IsReadingOf, IsLineFor};
+
+use crate::outcome::RowOutcome;
+use book::{Answer, Fault, Note};
+use lent::{Grant, Piece};
+use lrc_code::Plans;
+use mender::Report;
+use shared::Reply;
+use std::alloc::{AllocError, Global};
+use std::fmt;
+
+/// The reply to a row: what the store noted, the bytes of a read, or why the call was refused.
+#[derive(Drop)]
+pub enum Line {
+    Noted(Note),
+    Granted(Reading),
+    Trimmed(u64),
+    Mended(Report),
+    Full,
+    TooLong,
+}
+
+/// What was read: the version, how many pieces were lent and how many built, and the bytes of the pieces, joined.
+#[derive(Drop)]
+pub struct Reading {
+    pub version: u64,
+    pub lent: u64,
+    pub built: u64,
+    pub bytes: Vec<u8>,
+}
+
+/// How many bytes are turned into digits at once.
+const AT_ONCE: usize = 64;
+
+/// Bytes as two lower-case hexadecimal digits each, and as a dash where there are none.
+#[derive(Drop)]
+struct Hex<'a>(&'a [u8]);
+
+impl fmt::Display for Hex<'_> {
+    ghost use Rattle.std.specs.Prelude.{Some};
+    ghost use Rattle.transcript.specs.Lines.{hex_text};
+
+    ghost output = { λ hex. Some (hex_text hex.0.now) };
+
+    fn fmt<W: fmt::Write>(&self, f: &mut fmt::Formatter<W>) -> fmt::Result {
+        if self.0.is_empty() {
+            return f.write_str("-");
+        }
+        let mut room = [0u8; 2 * AT_ONCE];
+        let mut rest = self.0;
+        while !rest.is_empty() {
+            let (first, more) = rest.split_at(rest.len().min(AT_ONCE));
+            f.write_str(digits_of(first, &mut room))?;
+            rest = more;
+        }
+        Ok(())
+    }
+}
+
+/// The digits of some bytes, in the room that is given.
+fn digits_of<'a>(bytes: &[u8], room: &'a mut [u8; 2 * AT_ONCE]) -> &'a str
+    requires { length bytes.now ≤ AT_ONCE }
+    ensures { result.now ≡ encode_lower bytes.now }
+{
+    let digits = &mut room[..2 * bytes.len()];
+    let Ok(()) = hex::encode_to_slice(bytes, digits) else {
+        unreachable!()
+    };
+    let Ok(text) = str::from_utf8(digits) else {
+        unreachable!()
+    };
+    text
+}
+
+impl Line {
+    /// How many bytes its text has at most, so that room for it is asked for once.
+    pub(crate) fn room(&self) -> usize {
+        match self {
+            Line::Granted(reading) => reading.bytes.len().saturating_mul(2).saturating_add(80),
+            _ => 80,
+        }
+    }
+}
+
+impl fmt::Display for Reading {
+    ghost use Rattle.std.specs.Prelude.{Some};
+    ghost use Rattle.transcript.specs.Lines.{reading_text};
+
+    ghost output = { λ reading. Some (reading_text reading) };
+
+    fn fmt<W: fmt::Write>(&self, f: &mut fmt::Formatter<W>) -> fmt::Result {
+        let (version, lent, built) = (self.version, self.lent, self.built);
+        write!(f, "granted {version} {lent} {built} ")?;
+        Hex(self.bytes.as_slice()).fmt(f)
+    }
+}
+
+impl fmt::Display for Line {
+    ghost use Rattle.std.specs.Prelude.{Some};
+    ghost use Rattle.transcript.specs.Lines.{line_text};
+
+    ghost output = { λ line. Some (line_text line) };
+
+    fn fmt<W: fmt::Write>(&self, f: &mut fmt::Formatter<W>) -> fmt::Result {
+        match self {
+            Line::Noted(note) => note.fmt(f),
+            Line::Granted(reading) => reading.fmt(f),
+            Line::Trimmed(count) => write!(f, "trimmed {count}"),
+            Line::Mended(report) => report.fmt(f),
+            Line::Full => f.write_str("full"),
+            Line::TooLong => f.write_str("too-long"),
+        }
+    }
+}
+
+/// Walks a grant to its end, by the recipes that are kept in `plans`.
+fn walked(alloc: Global, grant: &Grant, plans: &mut Plans) -> Result<Reading, AllocError>
+    ensures { IfOk result (IsReadingOf grant.now) }
+{
+    let mut bytes = Vec::with_capacity(alloc, grant.len as usize)?;
+    let mut lent: u64 = 0;
+    let mut built: u64 = 0;
+    let mut walk = grant.walk_with(plans);
+    while let Some(piece) = walk.next_piece(alloc)? {
+        match &piece {
+            Piece::Lent(_) => lent = lent.saturating_add(1),
+            Piece::Built(_) => built = built.saturating_add(1),
+        }
+        bytes.extend_from_slice(piece.bytes())?;
+    }
+    Ok(Reading {
+        version: grant.version(),
+        lent,
+        built,
+        bytes,
+    })
+}
+
+/// The reply to a row. A grant is walked here, by the recipes that are kept in `plans`.
+pub fn line_for(
+    alloc: Global,
+    outcome: RowOutcome,
+    plans: &mut Plans,
+) -> Result<Line, AllocError>
+    ensures { IfOk result (IsLineFor outcome) }
+{
+    match outcome {
+        RowOutcome::Replied(Reply::Made(Answer::Granted(grant))) => {
+            Ok(Line::Granted(walked(alloc, &grant, plans)?))
+        }
+        RowOutcome::Replied(Reply::Made(answer)) => Ok(Line::Noted(answer.note())),
+        RowOutcome::Replied(Reply::Trimmed(count)) => Ok(Line::Trimmed(count)),
+        RowOutcome::Replied(Reply::Refused(Fault::TooLong)) => Ok(Line::TooLong),
+        RowOutcome::Replied(Reply::Refused(_)) | RowOutcome::Full => Ok(Line::Full),
+        RowOutcome::Mended(report) => Ok(Line::Mended(report)),
+    }
+}

@@ -1,0 +1,72 @@
+//! The printed text of a run.
+ghost use Rattle.std.specs.Prelude.{◌≡◌, ◌+◌, ◌<◌, ◌^◌, List, ℕ, ◌++◌, [], length, IfOk, if◌then◌else◌, codes, decimal, string_bytes};
+ghost use Rattle.history.specs.Lawful.{IsLawfulFrom};
+ghost use Rattle.transcript.specs.Lines.{AreLines, entry_lines};
+
+use crate::line::line_for;
+use crate::outcome::Done;
+use book::{Book, Entry, is_lawful_from};
+use lrc_code::Plans;
+use std::alloc::{AllocError, Global};
+
+/// A line for each row: its number, from 1, and its reply. Grants are walked here, with one
+/// table of recipes. Then a line for each entry: its number, which counts the calls that were
+/// given up before, its caller's label, its call and its note.
+fn lines_of(
+    alloc: Global,
+    done: Vec<Done>,
+    trimmed: u64,
+    entries: &[Entry],
+) -> Result<String, AllocError>
+    requires { trimmed + length entries.now < 2 ^ 64 }
+    ensures { IfOk result (λ text. (lines : List ℕ) × AreLines done.items lines × (string_bytes text ≡ lines ++ entry_lines (trimmed + 1) entries.now)) }
+{
+    let mut text = String::new(alloc);
+    let mut plans = Plans::new(alloc);
+    for one in done {
+        let Done { number, outcome } = one;
+        let line = line_for(alloc, outcome, &mut plans)?;
+        text.reserve(line.room())?;
+        writeln!(text, "{number} {line}")?;
+    }
+    let mut number = trimmed;
+    for entry in entries {
+        number = number.saturating_add(1);
+        writeln!(text, "h {number} {entry}")?;
+    }
+    Ok(text)
+}
+
+/// Whether the journal's entries are lawful from its base, as it is printed: they are.
+fn lawful_text(alloc: Global, book: &Book) -> Result<&'static str, AllocError>
+    requires { IsLawfulFrom book.now.base book.now.width book.now.entries }
+    ensures { IfOk result (λ text. text.now ≡ codes "yes") }
+{
+    if is_lawful_from(alloc, book.base(), book.entries(), book.width())? {
+        Ok("yes")
+    } else {
+        Ok("no")
+    }
+}
+
+/// The printed text: a line for each row, where `history` is asked for one for each entry, then the number of calls that were made, and whether the journal is lawful.
+pub fn print(
+    alloc: Global,
+    done: Vec<Done>,
+    book: &Book,
+    history: bool,
+) -> Result<String, AllocError>
+    requires { IsLawfulFrom book.now.base book.now.width book.now.entries }
+    ensures { IfOk result (λ text. (lines : List ℕ) × AreLines done.items lines × (string_bytes text
+        ≡ lines ++ ((if history then entry_lines (book.now.base.trimmed + 1) book.now.entries else [])
+        ++ (codes "calls " ++ (decimal (book.now.base.trimmed + length book.now.entries) ++ codes "\nlawful yes\n"))))) }
+{
+    let entries = book.entries();
+    let shown = if history { entries } else { &[] };
+    let trimmed = book.base().trimmed;
+    let mut text = lines_of(alloc, done, trimmed, shown)?;
+    let calls = trimmed.saturating_add(entries.len() as u64);
+    let lawful = lawful_text(alloc, book)?;
+    write!(text, "calls {calls}\nlawful {lawful}\n")?;
+    Ok(text)
+}
