@@ -7,4 +7,4 @@ use Rattle.lrc_code.proofs.tests.rebuilt_alone.Goals as goal
 pub rebuild_local-requires-clause-alone : goal.rebuild_local-requires-clause-alone
 rebuild_local-requires-clause-alone g c =
     alone_same c.args.left.now.code (is_absent c.args.left.now.fragments) (is_lost c.lost.result) c.args.f (omega arith) (λ i l. sym (c.lost.ensures.absent i l))
-    ∙ sym c.is_alone_in_group.ensures ∙ c.if-is_alone_in_group.true
+    ∙ sym c.is_alone_in.ensures ∙ c.if-is_alone_in.true
