@@ -7,8 +7,8 @@ mod reading;
 mod records;
 mod rows;
 
-pub use reading::script;
-pub use rows::{BadScript, Row, Task, Word};
+pub use reading::{read_script, script};
+pub use rows::{BadScript, NotRead, Row, Task, Word};
 
 #[cfg(test)]
 mod tests;
