@@ -5,6 +5,7 @@ mod fields;
 mod numbers;
 mod reading;
 mod records;
+mod retried;
 mod rows;
 
 pub use reading::{read_script, script};

@@ -5,6 +5,7 @@ ghost use Rattle.script.specs.Fields.{Record, row_of};
 ghost use Rattle.script.specs.Script.{AcceptedBefore, at_row, Explains, HasWorker, script_records, TellsWhy};
 
 use crate::records::row;
+use crate::retried::Retried;
 use crate::rows::{BadScript, NotRead, Refusal, Row};
 use csv::{ByteRecord, ErrorKind, ReaderBuilder};
 use std::alloc::Global;
@@ -58,7 +59,9 @@ pub fn read_script<R: Read + Drop>(
     ensures few { IfOk result (λ rows. length rows.items ≤ 65536) }
     ensures workers { IfOk result (λ rows. All (HasWorker workers) rows.items) }
 {
-    let mut reader = ReaderBuilder::new().flexible(true).from_reader(alloc, input);
+    let mut reader = ReaderBuilder::new()
+        .flexible(true)
+        .from_reader(alloc, Retried { reader: input });
     // A header row that is given, and empty, spares the copies of a first record. Each record is a row then.
     if reader.set_byte_headers(ByteRecord::new(alloc)).is_err() {
         return Err(NotRead::Bad(BadScript::NoMemory));

@@ -1,8 +1,5 @@
-use Rattle.std.proofs.Common.{◌≡◌, ◌∙◌, refl, rules, arith, List, ℕ, Option, true, false, length, ap, ◌<◌, ◌+◌}
-use Rattle.std.specs.Prelude.{IfSome, IsSome}
+use Rattle.std.proofs.Common.{◌≡◌, ◌∙◌, rules, true, length, ◌+◌}
 use Rattle.std.specs.Result.{is_ok}
-use Rattle.std.proofs.lemmas.Result.{on_ok_weaker}
-use Rattle.csv.specs.Reading.{ChangesHeaders, reader_headers}
 use Rattle.csv.specs.Records.{fields_of}
 use Rattle.script.specs.Script.{Explains, TellsWhy, at_row, script_records}
 use Rattle.script.proofs.Progress.{given, of_each, of_every, progress-end, progress-more, progress-refused, progress-start}
@@ -16,7 +13,7 @@ records-init g c =
     let same = given c.set_byte_headers.result ok c.set_byte_headers.ensures.same in
     let set = given c.set_byte_headers.result ok c.set_byte_headers.ensures.set in
     rw c.new-rows.ensures.items
-    (progress-start g.R.Read.remaining c.args.workers (g.R.Read.remaining c.args.input) c.from_reader-reader.result c.set_byte_headers.new.self same set
+    (progress-start (λ retried. g.R.Read.remaining retried.reader) c.args.workers (g.R.Read.remaining c.args.input) c.from_reader-reader.result c.set_byte_headers.new.self same set
     (rw e at fr.trim ∙ c.new.ensures.trim)
     (rw e at fr.has_headers ∙ c.new.ensures.has_headers)
     (rw e at fr.config ∙ c.new.ensures.config)
@@ -31,13 +28,13 @@ records-preserved g c =
     let good : is_ok c.push.result ≡ true = c.if-is_err-2.ensures.negation in
     let items = rw good at c.push.ensures.items in
     let t = rw c.as_slice.ensures.value at c.in-Ok.ensures in
-    rw (items, t.1) (progress-more g.R.Read.remaining c.args.workers c.records.rows.items (g.R.Read.remaining c.args.input) c.records.reader c.read_byte_record.new.self (fields_of c.read_byte_record.new.row) p read first t.0)
+    rw (items, t.1) (progress-more (λ retried. g.R.Read.remaining retried.reader) c.args.workers c.records.rows.items (g.R.Read.remaining c.args.input) c.records.reader c.read_byte_record.new.self (fields_of c.read_byte_record.new.row) p read first t.0)
 
 pub returns-in-Ok-false-clause-read : goal.returns-in-Ok-false-clause-read
 returns-in-Ok-false-clause-read g c =
     let p = c.records.invariant in
     let read = rw c.in-Ok-false.field-0-test at (c.in-Ok-false.ensures.reads p.trim p.ready) in
-    progress-end g.R.Read.remaining c.args.workers c.records.rows.items (g.R.Read.remaining c.args.input) c.records.reader c.read_byte_record.new.self (fields_of c.read_byte_record.new.row) p read
+    progress-end (λ retried. g.R.Read.remaining retried.reader) c.args.workers c.records.rows.items (g.R.Read.remaining c.args.input) c.records.reader c.read_byte_record.new.self (fields_of c.read_byte_record.new.row) p read
 
 pub returns-in-Err-clause-refused : goal.returns-in-Err-clause-refused
 returns-in-Err-clause-refused g c = of_every (λ text. TellsWhy c.args.workers (script_records text) c.not_read.result) (g.R.Read.remaining c.args.input) (λ text. c.not_read.ensures c.args.workers (script_records text))
@@ -51,4 +48,4 @@ returns-in-Err-row-clause-refused g c =
     let error : c.at_row-error.result ≡ at_row c.in-Err-row.refusal (length c.records.rows.items + 1) = rw (← count) c.at_row-error.ensures in
     of_each (λ text. Explains c.args.workers (script_records text) (at_row c.in-Err-row.refusal (length c.records.rows.items + 1))) (λ text. TellsWhy c.args.workers (script_records text) c.read_out.result) (g.R.Read.remaining c.args.input)
     (λ text why. c.read_out.ensures c.args.workers (script_records text) (rw error why))
-    (progress-refused g.R.Read.remaining c.args.workers c.records.rows.items (g.R.Read.remaining c.args.input) c.records.reader c.read_byte_record.new.self (fields_of c.read_byte_record.new.row) c.in-Err-row.refusal p read t)
+    (progress-refused (λ retried. g.R.Read.remaining retried.reader) c.args.workers c.records.rows.items (g.R.Read.remaining c.args.input) c.records.reader c.read_byte_record.new.self (fields_of c.read_byte_record.new.row) c.in-Err-row.refusal p read t)
