@@ -4,7 +4,6 @@ use Rattle.script.specs.declared.rows.BadScript.TheVariants as bad
 use Rattle.script.specs.declared.rows.NotRead.{NotRead}
 use Rattle.script.specs.declared.rows.NotRead.TheVariants as not_read
 use Rattle.script.specs.Script.{AcceptedBefore, Explains, script_records}
-use Rattle.std.specs.declared.io.ErrorKind.{ErrorKind}
 use Rattle.std.specs.declared.io.ErrorKind.TheVariants.{OutOfMemory}
 use Rattle.play.specs.declared.fail.Fail.{Fail}
 use Rattle.play.specs.declared.fail.Fail.TheVariants.{Script, Read, Write, Memory, Start, Paused}

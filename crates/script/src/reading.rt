@@ -60,6 +60,7 @@ pub fn read_script<R: Read + Drop>(
     ensures workers { IfOk result (λ rows. All (HasWorker workers) rows.items) }
 {
     let mut reader = ReaderBuilder::new()
+        .has_headers(true)
         .flexible(true)
         .from_reader(alloc, Retried { reader: input });
     // A header row that is given, and empty, spares the copies of a first record. Each record is a row then.

@@ -8,15 +8,16 @@ use Rattle.script.proofs.reading.read_script.Goals as goal
 pub records-init : goal.records-init
 records-init g c =
     let fr = c.from_reader-reader.ensures in
+    let x = c.has_headers.ensures in
     let e = c.flexible.ensures in
     let ok : is_ok c.set_byte_headers.result ≡ true = c.if-is_err.ensures.negation in
     let same = given c.set_byte_headers.result ok c.set_byte_headers.ensures.same in
     let set = given c.set_byte_headers.result ok c.set_byte_headers.ensures.set in
     rw c.new-rows.ensures.items
     (progress-start (λ retried. g.R.Read.remaining retried.reader) c.args.workers (g.R.Read.remaining c.args.input) c.from_reader-reader.result c.set_byte_headers.new.self same set
-    (rw e at fr.trim ∙ c.new.ensures.trim)
-    (rw e at fr.has_headers ∙ c.new.ensures.has_headers)
-    (rw e at fr.config ∙ c.new.ensures.config)
+    (rw (e, x) at fr.trim ∙ c.new.ensures.trim)
+    (rw (e, x) at fr.has_headers)
+    (rw (e, x) at fr.config ∙ c.new.ensures.config)
     fr.source
     fr.state)
 
