@@ -6,11 +6,11 @@ wall time. With no PROGRAM it is the one that tools/build.py makes. Nothing is f
 """
 
 import argparse
+import collections
 import os
 import subprocess
 import sys
 import tempfile
-import time
 
 TOP = os.path.dirname(os.path.dirname(os.path.abspath(__file__)))
 BUILT = os.path.join(TOP, "crates", "lrcstore", "out", "lrcstore")
@@ -18,6 +18,15 @@ FULL = ["--limit", "1048576"]
 SMALL = "1,1,put,a,text,ABCDEFGHIJKL"
 LONG = "1,1,put,a,text," + "x" * 49152
 MIB_48 = 48 << 20
+# What starts a run, and tells its status, its seconds and its peak in KiB.
+START = """
+import os, sys, time
+none = os.open(os.devnull, os.O_WRONLY)
+start = time.monotonic()
+child = os.posix_spawn(sys.argv[1], sys.argv[1:], os.environ, file_actions=[(os.POSIX_SPAWN_DUP2, none, 1), (os.POSIX_SPAWN_DUP2, none, 2)])
+_, status, used = os.wait4(child, 0)
+print(os.waitstatus_to_exitcode(status), used.ru_utime + used.ru_stime, time.monotonic() - start, used.ru_maxrss)
+"""
 
 
 def trims(names):
@@ -52,17 +61,27 @@ def whole(is_read):
     return ["1,1,put,a,hex," + "5a" * MIB_48] + [f"2,1,read,a,0,{MIB_48}"] * is_read
 
 
+Run = collections.namedtuple("Run", "status seconds wall peak")
+
+
+def measured(program, words):
+    """The status of a run, its processor seconds, its wall seconds and its peak bytes.
+
+    A process of its own starts the run, since what the system tells of a child's peak is no less than its parent had when it started it.
+    """
+    told = subprocess.run([sys.executable, "-I", "-c", START, program, *words], stdout=subprocess.PIPE, check=True, text=True).stdout.split()
+    return Run(int(told[0]), float(told[1]), float(told[2]), int(told[3]) * 1024)
+
+
 def run(program, script, options, folder):
-    """Processor seconds, wall seconds and peak bytes of a run."""
+    """Processor seconds, wall seconds and peak bytes of a run that ends well."""
     path = os.path.join(folder, "script.csv")
     with open(path, "w", encoding="ascii") as file:
         file.write("\n".join(script) + "\n")
-    start = time.monotonic()
-    child = subprocess.Popen([program, path, *options], stdout=subprocess.DEVNULL)
-    _, status, used = os.wait4(child.pid, 0)
-    if status != 0:
-        sys.exit(f"{program} ended with {os.waitstatus_to_exitcode(status)}")
-    return used.ru_utime + used.ru_stime, time.monotonic() - start, used.ru_maxrss * 1024
+    one = measured(program, [path, *options])
+    if one.status != 0:
+        sys.exit(f"{program} ended with {one.status}")
+    return one.seconds, one.wall, one.peak
 
 
 def least(programs, script, options, times, folder):
@@ -94,8 +113,9 @@ def main():
         compare("reads of a blob with no loss and with 16,000", programs, reads(0), reads(16000), FULL, times, folder)
         wide = [*FULL, "--width", "65536"]
         compare("48 MiB put, and read", programs, whole(False), whole(True), wide, times, folder)
-        peaks = least(programs, whole(True), wide, 1, folder)
-        show("the same, peak memory", programs, [f"{one[2] / MIB_48:.1f} bytes for each of the blob" for one in peaks])
+        for is_read, what in ((False, "48 MiB put, peak memory"), (True, "48 MiB put, and read, peak memory")):
+            peaks = least(programs, whole(is_read), wide, 1, folder)
+            show(what, programs, [f"{one[2] / MIB_48:.2f} bytes for each of the blob" for one in peaks])
         for width in (4096, 65536):
             for workers in (1, 2, 4):
                 options = [*FULL, "--width", str(width), "--workers", str(workers)]

@@ -1,9 +1,12 @@
 -- Why a run has no output.
 use Rattle.std.specs.Prelude.{ℕ, List, length}
 use Rattle.script.specs.declared.rows.BadScript.TheVariants as bad
+use Rattle.script.specs.declared.rows.NotRead.{NotRead}
+use Rattle.script.specs.declared.rows.NotRead.TheVariants as not_read
 use Rattle.script.specs.Script.{AcceptedBefore, Explains, script_records}
 use Rattle.rounds.specs.declared.halt.Halt.{Halt}
 use Rattle.rounds.specs.declared.halt.Halt.TheVariants as halt
+use Rattle.std.specs.declared.io.ErrorKind.TheVariants.{OutOfMemory}
 use Rattle.play.specs.declared.fail.Fail.{Fail}
 use Rattle.play.specs.declared.fail.Fail.TheVariants.{Script, Read, Write, Memory, Start, Paused}
 
@@ -33,3 +36,10 @@ abbrev pub fail_by : Halt → Fail
 fail_by halt.Memory = Memory
 fail_by halt.Start = Start
 fail_by halt.Paused = Paused
+
+-- how a script that was not read ends a run
+abbrev pub fail_of : NotRead → Fail
+fail_of (not_read.Bad bad.NoMemory) = Memory
+fail_of (not_read.Bad error) = Script error
+fail_of (not_read.Reader OutOfMemory) = Memory
+fail_of (not_read.Reader kind) = Read

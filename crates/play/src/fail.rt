@@ -1,7 +1,8 @@
 //! Why a run has no output.
 
 use rounds::Halt;
-use script::BadScript;
+use script::{BadScript, NotRead};
+use std::io::ErrorKind;
 use thiserror::Error;
 
 /// Why a run has no output.
@@ -45,8 +46,7 @@ impl Fail {
 
 impl From<Halt> for Fail {
     ghost use Rattle.std.specs.Prelude.{◌≡◌, ℕ, List};
-    ghost use Rattle.play.specs.Fails.{Tells};
-    ghost use Rattle.play.specs.Fails.{fail_by};
+    ghost use Rattle.play.specs.Fails.{Tells, fail_by};
 
     ghost from_gives = { λ halt fail. fail ≡ fail_by halt };
 
@@ -58,6 +58,27 @@ impl From<Halt> for Fail {
             Halt::Memory => Fail::Memory,
             Halt::Start => Fail::Start,
             Halt::Paused => Fail::Paused,
+        }
+    }
+}
+
+impl From<NotRead> for Fail {
+    ghost use Rattle.std.specs.Prelude.{◌≡◌, ℕ, List};
+    ghost use Rattle.play.specs.Fails.{Tells, fail_of};
+    ghost use Rattle.script.specs.Script.{TellsWhy, script_records};
+
+    ghost from_gives = { λ not_read fail. fail ≡ fail_of not_read };
+
+    fn from(not_read: NotRead) -> Fail
+        ensures gives { result ≡ fail_of not_read }
+        ensures tells { (workers : ℕ) (text : List ℕ) → TellsWhy workers (script_records text) not_read → Tells workers text result }
+    {
+        match not_read {
+            NotRead::Bad(BadScript::NoMemory) | NotRead::Reader(ErrorKind::OutOfMemory) => {
+                Fail::Memory
+            }
+            NotRead::Bad(error) => Fail::Script(error),
+            NotRead::Reader(_) => Fail::Read,
         }
     }
 }

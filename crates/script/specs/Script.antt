@@ -7,6 +7,8 @@ use Rattle.script.specs.Fields.{Record, a_field, b_field, fits_arguments, fits_n
 use Rattle.script.specs.declared.rows.BadScript.{BadScript}
 use Rattle.script.specs.declared.rows.BadScript.TheVariants as bad
 use Rattle.script.specs.declared.rows.Head.{Head}
+use Rattle.script.specs.declared.rows.NotRead.{NotRead}
+use Rattle.script.specs.declared.rows.NotRead.TheVariants as not_read
 use Rattle.script.specs.declared.rows.Operation.{Operation}
 use Rattle.script.specs.declared.rows.Refusal.{Refusal}
 use Rattle.script.specs.declared.rows.Refusal.TheVariants as refusal_is
@@ -132,3 +134,8 @@ AcceptedBefore workers all n = (i : ℕ) → i < n → refused_at workers all i 
 abbrev pub Explains : ℕ → List Record → BadScript → Type 0
 Explains workers all (bad.Refused number w) = (i : ℕ) × (number ≡ i + 1) × (i < length all) × AcceptedBefore workers all i × (refused_at workers all i ≡ Some w)
 Explains workers all bad.NoMemory = Unit {0}
+
+-- why a script was not read: the error names the first record that is refused, and its first word; or memory ran out, or the reader failed
+abbrev pub TellsWhy : ℕ → List Record → NotRead → Type 0
+TellsWhy workers all (not_read.Bad error) = Explains workers all error
+TellsWhy workers all (not_read.Reader kind) = Unit {0}

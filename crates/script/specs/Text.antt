@@ -2,6 +2,8 @@
 use Rattle.std.specs.Prelude.{ℕ, List, ◌++◌, codes, decimal}
 use Rattle.script.specs.declared.rows.BadScript.{BadScript}
 use Rattle.script.specs.declared.rows.BadScript.TheVariants as bad
+use Rattle.script.specs.declared.rows.NotRead.{NotRead}
+use Rattle.script.specs.declared.rows.NotRead.TheVariants as not_read
 use Rattle.script.specs.declared.rows.Word.{Word}
 use Rattle.script.specs.declared.rows.Word.TheVariants as word
 
@@ -20,3 +22,8 @@ word_text word.Mend = codes "mend"
 abbrev pub refusal_text : BadScript → List ℕ
 refusal_text (bad.Refused row w) = codes "row " ++ (decimal row ++ (codes ": " ++ word_text w))
 refusal_text bad.NoMemory = codes "out of memory"
+
+-- the same, or that the reader failed
+abbrev pub not_read_text : NotRead → List ℕ
+not_read_text (not_read.Bad error) = refusal_text error
+not_read_text (not_read.Reader kind) = codes "cannot read the script"

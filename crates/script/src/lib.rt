@@ -5,10 +5,11 @@ mod fields;
 mod numbers;
 mod reading;
 mod records;
+mod retried;
 mod rows;
 
-pub use reading::script;
-pub use rows::{BadScript, Row, Task, Word};
+pub use reading::{read_script, script};
+pub use rows::{BadScript, NotRead, Row, Task, Word};
 
 #[cfg(test)]
 mod tests;

@@ -1,13 +1,16 @@
 //! Reading a script.
 
-ghost use Rattle.std.specs.Prelude.{◌≡◌, ◌<◌, ◌≤◌, All, length, map, MatchResult, IfOk};
-ghost use Rattle.script.specs.Fields.{row_of};
-ghost use Rattle.script.specs.Script.{AcceptedBefore, at_row, Explains, HasWorker, script_records};
+ghost use Rattle.std.specs.Prelude.{◌≡◌, ◌<◌, ◌≤◌, All, ℕ, List, length, map, MatchResult, IfOk, IfErr, IfSome};
+ghost use Rattle.script.specs.Fields.{Record, row_of};
+ghost use Rattle.script.specs.Script.{AcceptedBefore, at_row, Explains, HasWorker, script_records, TellsWhy};
 
 use crate::records::row;
-use crate::rows::{BadScript, Refusal, Row};
-use csv::ReaderBuilder;
+use crate::retried::Retried;
+use crate::rows::{BadScript, NotRead, Refusal, Row};
+use csv::{ByteRecord, ErrorKind, ReaderBuilder};
 use std::alloc::Global;
+use std::io;
+use std::io::Read;
 
 /// A refusal of the row of this number.
 fn at_row(refusal: Refusal, row: u32) -> BadScript
@@ -16,6 +19,73 @@ fn at_row(refusal: Refusal, row: u32) -> BadScript
     match refusal {
         Refusal::Refused(word) => BadScript::Refused { row, word },
         Refusal::NoMemory => BadScript::NoMemory,
+    }
+}
+
+/// Why `csv` gave no record.
+fn not_read(error: csv::Error) -> NotRead
+    ensures { (workers : ℕ) (all : List Record) → TellsWhy workers all result }
+{
+    match error.into_kind() {
+        ErrorKind::Io(error) => NotRead::Reader(error.kind()),
+        _ => NotRead::Bad(BadScript::NoMemory),
+    }
+}
+
+/// Reads what a reader has left, and tells the error: this one, or that of the reader where it fails.
+fn read_out<R: Read + Drop>(mut input: R, error: BadScript) -> NotRead
+    ensures { (workers : ℕ) (all : List Record) → Explains workers all error → TellsWhy workers all result }
+{
+    match io::copy(&mut input, &mut io::sink()) {
+        Ok(_) => NotRead::Bad(error),
+        Err(error) => NotRead::Reader(error.kind()),
+    }
+}
+
+/// The rows of a script for so many workers, in order, as a reader gives its bytes: the records that `csv` reads from them by
+/// default, with no header row and of any lengths. Of the script no more than one record is in memory at a time, beside the rows.
+///
+/// `NotRead::Bad` where a record is refused, by the number of the first such record, from 1, and the first of its tests that
+/// refuses it; then the reader was read to its end. `NotRead::Reader` where the reader failed, before a refused record or behind
+/// it. Want of memory is answered where it is met.
+pub fn read_script<R: Read + Drop>(
+    alloc: Global,
+    input: R,
+    workers: u32,
+) -> Result<Vec<Row>, NotRead>
+    ensures read { IfOk result (λ rows. IfSome (R.remaining input) (λ text.
+        AcceptedBefore workers (script_records text) (length (script_records text)) × (rows.items ≡ map row_of (script_records text)))) }
+    ensures refused { IfErr result (λ error. IfSome (R.remaining input) (λ text. TellsWhy workers (script_records text) error)) }
+    ensures few { IfOk result (λ rows. length rows.items ≤ 65536) }
+    ensures workers { IfOk result (λ rows. All (HasWorker workers) rows.items) }
+{
+    let mut reader = ReaderBuilder::new()
+        .has_headers(true)
+        .flexible(true)
+        .from_reader(alloc, Retried { reader: input });
+    // A header row that is given, and empty, spares the copies of a first record. Each record is a row then.
+    if reader.set_byte_headers(ByteRecord::new(alloc)).is_err() {
+        return Err(NotRead::Bad(BadScript::NoMemory));
+    }
+    let mut record = ByteRecord::new(alloc);
+    let mut rows = Vec::new(alloc);
+    'records: loop {
+        match reader.read_byte_record(&mut record) {
+            Ok(true) => {}
+            Ok(false) => return Ok(rows),
+            Err(error) => return Err(not_read(error)),
+        }
+        match row(alloc, &record, rows.as_slice(), workers) {
+            Ok(row) => {
+                if rows.push(row).is_err() {
+                    return Err(NotRead::Bad(BadScript::NoMemory));
+                }
+            }
+            Err(refusal) => {
+                let error = at_row(refusal, rows.len() as u32 + 1);
+                return Err(read_out(reader.into_inner(), error));
+            }
+        }
     }
 }
 
@@ -29,23 +99,10 @@ pub fn script(alloc: Global, text: &[u8], workers: u32) -> Result<Vec<Row>, BadS
     ensures few { IfOk result (λ rows. length rows.items ≤ 65536) }
     ensures workers { IfOk result (λ rows. All (HasWorker workers) rows.items) }
 {
-    let reader = ReaderBuilder::new()
-        .has_headers(false)
-        .flexible(true)
-        .from_reader(alloc, text);
-    let mut rows = Vec::new(alloc);
-    for record in reader.into_byte_records() {
-        let Ok(fields) = record else {
-            return Err(BadScript::NoMemory);
-        };
-        match row(alloc, &fields, rows.as_slice(), workers) {
-            Ok(row) => {
-                if rows.push(row).is_err() {
-                    return Err(BadScript::NoMemory);
-                }
-            }
-            Err(refusal) => return Err(at_row(refusal, rows.len() as u32 + 1)),
-        }
+    match read_script(alloc, text, workers) {
+        Ok(rows) => Ok(rows),
+        Err(NotRead::Bad(error)) => Err(error),
+        // Reading bytes from memory has no error but want of memory.
+        Err(NotRead::Reader(_)) => Err(BadScript::NoMemory),
     }
-    Ok(rows)
 }

@@ -3,6 +3,7 @@
 use shared::Ask;
 use std::error::Error;
 use std::fmt;
+use std::io::ErrorKind;
 
 /// What a row asks for.
 #[derive(Drop)]
@@ -96,6 +97,32 @@ impl fmt::Display for BadScript {
 }
 
 impl Error for BadScript {}
+
+/// Why a script was not read.
+#[derive(Clone, Copy, PartialEq, Eq, Debug)]
+pub enum NotRead {
+    /// A row is refused, or a request for memory was.
+    Bad(BadScript),
+    /// The reader failed, with an error of this kind.
+    Reader(ErrorKind),
+}
+
+/// The line of a refusal, or that the script can't be read.
+impl fmt::Display for NotRead {
+    ghost use Rattle.std.specs.Prelude.{Some};
+    ghost use Rattle.script.specs.Text.{not_read_text};
+
+    ghost output = { λ error. Some (not_read_text error) };
+
+    fn fmt<W: fmt::Write>(&self, f: &mut fmt::Formatter<W>) -> fmt::Result {
+        match self {
+            NotRead::Bad(error) => write!(f, "{error}"),
+            NotRead::Reader(_) => f.write_str("cannot read the script"),
+        }
+    }
+}
+
+impl Error for NotRead {}
 
 /// The operations of a script.
 #[derive(Clone, Copy, PartialEq, Eq, Debug)]

@@ -1,0 +1,24 @@
+//! Reads that are tried again.
+
+use std::io;
+use std::io::Read;
+
+/// A reader of which a read is tried again where a signal interrupted it.
+#[derive(Drop)]
+pub(crate) struct Retried<R> {
+    pub reader: R,
+}
+
+impl<R: Read> Read for Retried<R> {
+    ghost remaining = { λ retried. R.remaining retried.reader };
+
+    fn read(&mut self, buf: &mut [u8]) -> io::Result<usize> {
+        for _ in 0..u64::MAX {
+            match self.reader.read(buf) {
+                Err(error) if error.kind() == io::ErrorKind::Interrupted => {}
+                read => return read,
+            }
+        }
+        Err(io::Error::from(io::ErrorKind::TimedOut))
+    }
+}
