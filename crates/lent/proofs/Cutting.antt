@@ -100,7 +100,7 @@ module _ (code : Code) (w start end : ℕ) where
       ∙ sym (range_split a m (end - (a + m)))
       ∙ same_range a a _ _ refl (let e : m + (end - (a + m)) ≡ end - a = omega arith in e)
 
-cut_end_is : (w start len : ℕ) → cut_end w start (suc len) ≡ (start + suc len - 1) / w + 1
+pub cut_end_is : (w start len : ℕ) → cut_end w start (suc len) ≡ (start + suc len - 1) / w + 1
 cut_end_is w start len = grind (arith)
 
 -- the law

@@ -1,5 +1,5 @@
 //! How pieces are made.
-ghost use Rattle.std.specs.Prelude.{◌≡◌, ◌≢◌, ◌<◌, ◌≤◌, [], None, IfOk, OnErr};
+ghost use Rattle.std.specs.Prelude.{◌≡◌, ◌≢◌, ◌+◌, ◌<◌, ◌≤◌, [], None, IfOk, OnErr};
 ghost use Rattle.lrc_code.specs.Code.{fragment_count, Open};
 ghost use Rattle.sealed.specs.Layout.{stripe_count};
 ghost use Rattle.sealed.specs.Stripes.{fragment_at};
@@ -32,13 +32,11 @@ impl Default for Piece<'_> {
     }
 }
 
-/// The piece of a part of a fragment that is not open. Only that of an absent fragment asks for memory. It is built by the recipes that `plans` keeps,
-/// where there are plans.
+/// The piece of a part of a fragment that is not open. Only that of an absent fragment asks for memory.
 pub(crate) fn piece_of<'a>(
     alloc: Global,
     sealed: &'a Sealed,
     part: Part,
-    plans: Option<&mut Plans>,
 ) -> Result<Piece<'a>, NoMemory>
     requires stripe { part.stripe < stripe_count sealed.now.code sealed.now.width sealed.now.len }
     requires fragment { part.fragment < fragment_count sealed.now.code }
@@ -49,7 +47,32 @@ pub(crate) fn piece_of<'a>(
 {
     match sealed.fragment(part.stripe, part.fragment) {
         Some(bytes) => Ok(Piece::Lent(&bytes[part.from..part.to])),
-        None => match build(alloc, sealed, part, plans) {
+        None => match build(alloc, sealed, part) {
+            Ok(bytes) => Ok(Piece::Built(bytes)),
+            Err(error) => Err(error),
+        },
+    }
+}
+
+/// The same, where an absent fragment is built by the recipes that `plans` keeps. A new one is kept, and none is taken out.
+pub(crate) fn piece_by<'a>(
+    alloc: Global,
+    sealed: &'a Sealed,
+    part: Part,
+    plans: &mut Plans,
+) -> Result<Piece<'a>, NoMemory>
+    requires stripe { part.stripe < stripe_count sealed.now.code sealed.now.width sealed.now.len }
+    requires fragment { part.fragment < fragment_count sealed.now.code }
+    requires closed { Open sealed.now.code (absent_in sealed.now part.stripe) part.fragment → ⊥ }
+    requires range { (part.from ≤ part.to) × (part.to ≤ sealed.now.width) }
+    ensures ok { IfOk result (IsPieceOf sealed.now part) }
+    ensures err { OnErr result (fragment_at sealed.now.stripes part.stripe part.fragment ≡ None) }
+    ensures more { plans.old ≤ plans.new }
+    ensures one { plans.new ≤ plans.old + 1 }
+{
+    match sealed.fragment(part.stripe, part.fragment) {
+        Some(bytes) => Ok(Piece::Lent(&bytes[part.from..part.to])),
+        None => match build_by(alloc, sealed, part, plans) {
             Ok(bytes) => Ok(Piece::Built(bytes)),
             Err(error) => Err(error),
         },
@@ -57,12 +80,7 @@ pub(crate) fn piece_of<'a>(
 }
 
 /// The bytes of a part of an absent fragment that is not open.
-fn build(
-    alloc: Global,
-    sealed: &Sealed,
-    part: Part,
-    plans: Option<&mut Plans>,
-) -> Result<Vec<u8>, NoMemory>
+fn build(alloc: Global, sealed: &Sealed, part: Part) -> Result<Vec<u8>, NoMemory>
     requires stripe { part.stripe < stripe_count sealed.now.code sealed.now.width sealed.now.len }
     requires fragment { part.fragment < fragment_count sealed.now.code }
     requires absent { fragment_at sealed.now.stripes part.stripe part.fragment ≡ None }
@@ -72,10 +90,28 @@ fn build(
 {
     let left = sealed.left(part.stripe);
     let f = usize::from(part.fragment);
-    match plans {
-        Some(plans) => closed(plans.rebuild(alloc, &left, f, part.from, part.to)),
-        None => closed(rebuild(alloc, &left, f, part.from, part.to)),
-    }
+    closed(rebuild(alloc, &left, f, part.from, part.to))
+}
+
+/// The same, by the recipes that `plans` keeps.
+fn build_by(
+    alloc: Global,
+    sealed: &Sealed,
+    part: Part,
+    plans: &mut Plans,
+) -> Result<Vec<u8>, NoMemory>
+    requires stripe { part.stripe < stripe_count sealed.now.code sealed.now.width sealed.now.len }
+    requires fragment { part.fragment < fragment_count sealed.now.code }
+    requires absent { fragment_at sealed.now.stripes part.stripe part.fragment ≡ None }
+    requires closed { Open sealed.now.code (absent_in sealed.now part.stripe) part.fragment → ⊥ }
+    requires range { (part.from ≤ part.to) × (part.to ≤ sealed.now.width) }
+    ensures ok { IfOk result (λ bytes. AreBytesOf sealed.now part bytes.items) }
+    ensures more { plans.old ≤ plans.new }
+    ensures one { plans.new ≤ plans.old + 1 }
+{
+    let left = sealed.left(part.stripe);
+    let f = usize::from(part.fragment);
+    closed(plans.rebuild(alloc, &left, f, part.from, part.to))
 }
 
 /// What was rebuilt of a fragment that is not open.

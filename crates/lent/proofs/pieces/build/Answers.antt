@@ -8,20 +8,9 @@ pub closed-requires : goal.closed-requires
 closed-requires c is_open =
     c.requires.closed (open_left c.args.sealed.now c.args.part.stripe c.args.part.fragment c.left-left.result.code c.left-left.result.fragments c.from-f.result c.left-left.ensures.code c.from-f.ensures c.left-left.ensures.fragments (c.rebuild.ensures.«open».0 is_open))
 
-pub closed-requires-in-None : goal.closed-requires-in-None
-closed-requires-in-None c is_open =
-    c.requires.closed (open_left c.args.sealed.now c.args.part.stripe c.args.part.fragment c.left-left.result.code c.left-left.result.fragments c.from-f.result c.left-left.ensures.code c.from-f.ensures c.left-left.ensures.fragments (c.rebuild-in-None.ensures.«open».0 is_open))
-
-pub returns-in-Some : goal.returns-in-Some
-returns-in-Some c =
+pub returns : goal.returns
+returns c =
     IfOk-weaker c.closed.result _ (λ bytes. AreBytesOf c.args.sealed.now c.args.part bytes.items)
     (λ bytes same. built c.args.sealed.now c.args.part c.left-left.result.code c.left-left.result.fragments c.from-f.result bytes.items c.left-left.ensures.code c.from-f.ensures c.left-left.ensures.fragments c.requires.stripe c.requires.range.1
     (IfOk-at_ok (λ v. Rebuilds c.left-left.result.code c.left-left.result.fragments c.from-f.result c.args.part.from c.args.part.to v.items) same c.rebuild.ensures.ok))
     c.closed.ensures
-
-pub returns-in-None : goal.returns-in-None
-returns-in-None c =
-    IfOk-weaker c.closed-in-None.result _ (λ bytes. AreBytesOf c.args.sealed.now c.args.part bytes.items)
-    (λ bytes same. built c.args.sealed.now c.args.part c.left-left.result.code c.left-left.result.fragments c.from-f.result bytes.items c.left-left.ensures.code c.from-f.ensures c.left-left.ensures.fragments c.requires.stripe c.requires.range.1
-    (IfOk-at_ok (λ v. Rebuilds c.left-left.result.code c.left-left.result.fragments c.from-f.result c.args.part.from c.args.part.to v.items) same c.rebuild-in-None.ensures.ok))
-    c.closed-in-None.ensures

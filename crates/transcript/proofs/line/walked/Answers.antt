@@ -2,6 +2,7 @@ use Rattle.std.proofs.Common.{rules, ◌+◌, ◌++◌, ◌≡◌, ◌<◌, ◌^
 use Rattle.std.specs.Prelude.{not, count_by}
 use Rattle.std.proofs.lemmas.Grind.{common_steps}
 use Rattle.lent.specs.Pieces.{bytes_of}
+use Rattle.lent.specs.Planned.{ahead_of}
 use Rattle.lent.specs.declared.part.Part.{Part}
 use Rattle.transcript.specs.Lines.{is_there}
 use Rattle.transcript.proofs.Walked.{split-more, counts-one, is_lent, CountsOne, Tallied}
@@ -16,7 +17,7 @@ loop-bytes-preserved c =
     let gives = rw c.in-Some.is at c.in_ok-piece.ensures.ok in
     let joins = rw c.in-Some.is at c.in_ok-piece.ensures.joins in
     let more : c.extend_from_slice.new.self.items ≡ c.loop-bytes.bytes.items ++ bytes_of c.in-Some.piece = search rules in
-    let one : CountsOne s c.loop-bytes.walk c.next_piece.new.self c.in-Some.piece = counts-one s c.loop-bytes.walk c.next_piece.new.self c.in-Some.piece inv.split.0 gives in
+    let one : CountsOne s (ahead_of c.loop-bytes.walk) (ahead_of c.next_piece.new.self) c.in-Some.piece = counts-one s (ahead_of c.loop-bytes.walk) (ahead_of c.next_piece.new.self) c.in-Some.piece inv.split.0 gives in
     let room : c.loop-bytes.lent + c.loop-bytes.built + 1 < 2 ^ 64 = omega (arith, inv.few, one.all) in
     let t : Tallied c.in-Some.piece c.loop-bytes.lent c.loop-bytes.built c.match-piece.lent c.match-piece.built = elim c.match-piece.branch [
       | in-Lent w ↦
@@ -36,7 +37,7 @@ loop-bytes-preserved c =
     ] in
     record {
       split = split-more s (λ b. slice_range b grant.start (grant.start + grant.len)) c.loop-bytes.bytes.items c.extend_from_slice.new.self.items
-          c.loop-bytes.walk c.next_piece.new.self c.in-Some.piece inv.split gives joins more;
+          (ahead_of c.loop-bytes.walk) (ahead_of c.next_piece.new.self) c.in-Some.piece inv.split gives joins more;
       lent = omega (arith, t.lent_is, one.lent, inv.lent);
       built = omega (arith, t.built_is, one.built, inv.built);
       few = omega (arith, t.both, one.all, inv.few);
@@ -50,7 +51,7 @@ loop-bytes-preserved-in_ok-extend_from_slice c =
     let gives = rw c.in-Some.is at c.in_ok-piece.ensures.ok in
     let joins = rw c.in-Some.is at c.in_ok-piece.ensures.joins in
     let more : c.extend_from_slice.new.self.items ≡ c.loop-bytes.bytes.items ++ bytes_of c.in-Some.piece = search rules in
-    let one : CountsOne s c.loop-bytes.walk c.next_piece.new.self c.in-Some.piece = counts-one s c.loop-bytes.walk c.next_piece.new.self c.in-Some.piece inv.split.0 gives in
+    let one : CountsOne s (ahead_of c.loop-bytes.walk) (ahead_of c.next_piece.new.self) c.in-Some.piece = counts-one s (ahead_of c.loop-bytes.walk) (ahead_of c.next_piece.new.self) c.in-Some.piece inv.split.0 gives in
     let room : c.loop-bytes.lent + c.loop-bytes.built + 1 < 2 ^ 64 = omega (arith, inv.few, one.all) in
     let t : Tallied c.in-Some.piece c.loop-bytes.lent c.loop-bytes.built c.match-piece.lent c.match-piece.built = elim c.match-piece.branch [
       | in-Lent w ↦
@@ -70,7 +71,7 @@ loop-bytes-preserved-in_ok-extend_from_slice c =
     ] in
     record {
       split = split-more s (λ b. slice_range b grant.start (grant.start + grant.len)) c.loop-bytes.bytes.items c.extend_from_slice.new.self.items
-          c.loop-bytes.walk c.next_piece.new.self c.in-Some.piece inv.split gives joins more;
+          (ahead_of c.loop-bytes.walk) (ahead_of c.next_piece.new.self) c.in-Some.piece inv.split gives joins more;
       lent = omega (arith, t.lent_is, one.lent, inv.lent);
       built = omega (arith, t.built_is, one.built, inv.built);
       few = omega (arith, t.both, one.all, inv.few);
@@ -84,8 +85,8 @@ returns c =
     let done = c.loop-bytes.bytes.items in
     let none = (rw c.in_default.is at c.in_ok-piece.ensures.ok).0 in
     let end = rw c.in_default.is at c.in_ok-piece.ensures.end in
-    let no_lent : count_by (is_there s) c.loop-bytes.walk.parts ≡ 0 = ap (count_by (is_there s)) none in
-    let no_built : count_by (λ p. not (is_there s p)) c.loop-bytes.walk.parts ≡ 0 = ap (count_by (λ (p : Part). not (is_there s p))) none in
+    let no_lent : count_by (is_there s) (ahead_of c.loop-bytes.walk).parts ≡ 0 = ap (count_by (is_there s)) none in
+    let no_built : count_by (λ p. not (is_there s p)) (ahead_of c.loop-bytes.walk).parts ≡ 0 = ap (count_by (λ (p : Part). not (is_there s p))) none in
     record {
       version = first_of (search rules, grind (arith, common_steps));
       lent = omega (arith, no_lent, inv.lent);

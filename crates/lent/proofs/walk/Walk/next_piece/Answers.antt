@@ -3,7 +3,7 @@ use Rattle.sealed.specs.declared.value.Sealed.{Sealed}
 use Rattle.lent.specs.declared.grant.Grant.{Grant}
 use Rattle.lent.specs.Pieces.{IsPieceOf}
 use Rattle.lent.proofs.Joining.{step_gives, step_joins}
-use Rattle.lent.proofs.walk.Walk.step.Goals as goal
+use Rattle.lent.proofs.walk.Walk.next_piece.Goals as goal
 
 pub returns-clause-ok : goal.returns-clause-ok
 returns-clause-ok c =
