@@ -1,17 +1,14 @@
 //! Repairs. What can be rebuilt is rebuilt outside the gate, while others may be inside.
-ghost use Rattle.std.specs.Prelude.{◌≡◌, ◌≢◌, ◌⊎◌, IsTrue, IfOk, IfErr};
+ghost use Rattle.std.specs.Prelude.{◌≡◌, ◌≢◌, ◌⊎◌, IfErr};
 ghost use Rattle.history.specs.Step.{repair as repair_of};
-ghost use Rattle.book.specs.Losing.{IsFragmentOf};
 ghost use Rattle.shared.specs.Calls.{Called};
-ghost use Rattle.shared.specs.Mends.{IsMendable, Found, FoundBusy, FoundIn, IfRefused};
+ghost use Rattle.shared.specs.Mends.{Found, FoundBusy, FoundIn, IfRefused};
 
 use crate::request::Request;
 use crate::{Kept, Pass, Store};
 use book::{Answer, Book, Fault, Name};
-use bytes::Bytes;
-use lrc_code::{NoMemory, Rebuild, is_open_in, rebuild};
 use sealed::Sealed;
-use std::alloc::{AllocError, Global};
+use std::alloc::Global;
 use std::sync::{Arc, Wait};
 
 /// What a look before a repair finds.
@@ -22,7 +19,7 @@ pub enum Look {
     /// It was refused.
     Refused(Fault),
     /// The fragment can be rebuilt from this value, and nothing was done.
-    Mendable(Arc<Sealed>),
+    Rebuildable(Arc<Sealed>),
 }
 
 impl Store {
@@ -48,9 +45,9 @@ impl Store {
         let sealed = match self.look(rt, alloc, pass, &name, stripe, fragment) {
             Look::Done(answer) => return Ok(answer),
             Look::Refused(fault) => return Err(fault),
-            Look::Mendable(sealed) => sealed,
+            Look::Rebuildable(sealed) => sealed,
         };
-        let Ok(bytes) = rebuild_whole(alloc, &sealed, stripe, fragment) else {
+        let Ok(bytes) = sealed.rebuild_fragment(alloc, stripe, fragment) else {
             return Err(Fault::NoMemory);
         };
         let version = sealed.version;
@@ -89,9 +86,9 @@ impl Store {
         let sealed = match self.try_look(alloc, pass, &name, stripe, fragment) {
             Look::Done(answer) => return Ok(answer),
             Look::Refused(fault) => return Err(fault),
-            Look::Mendable(sealed) => sealed,
+            Look::Rebuildable(sealed) => sealed,
         };
-        let Ok(bytes) = rebuild_whole(alloc, &sealed, stripe, fragment) else {
+        let Ok(bytes) = sealed.rebuild_fragment(alloc, stripe, fragment) else {
             return Err(Fault::NoMemory);
         };
         let version = sealed.version;
@@ -186,9 +183,9 @@ fn look_in_book(
         return Look::Refused(Fault::JournalFull);
     }
     if let Some(sealed) = book.find(name) {
-        if is_mendable(sealed, stripe, fragment) {
+        if sealed.is_rebuildable(stripe, fragment) {
             return match Arc::try_clone(sealed) {
-                Ok(sealed) => Look::Mendable(sealed),
+                Ok(sealed) => Look::Rebuildable(sealed),
                 Err(_) => Look::Refused(Fault::NoMemory),
             };
         }
@@ -196,42 +193,5 @@ fn look_in_book(
     match book.repair(alloc, who, name.duplicate(), stripe, fragment) {
         Ok(answer) => Look::Done(answer),
         Err(fault) => Look::Refused(fault),
-    }
-}
-
-/// Whether a value lacks a fragment that can be told from those left.
-fn is_mendable(sealed: &Sealed, stripe: u64, fragment: u64) -> bool
-    ensures { IsTrue result → IsMendable sealed.now stripe fragment }
-{
-    let has_stripe = stripe < sealed.stripes.len() as u64;
-    if !has_stripe || fragment >= u64::from(sealed.code.fragments()) {
-        return false;
-    }
-    let f = fragment as u8;
-    if sealed.fragment(stripe, f).is_some() {
-        return false;
-    }
-    !is_open_in(sealed.code, sealed.lost(stripe), f)
-}
-
-/// The whole of a fragment that can be rebuilt.
-fn rebuild_whole(
-    alloc: Global,
-    sealed: &Sealed,
-    stripe: u64,
-    fragment: u64,
-) -> Result<Bytes, NoMemory>
-    requires { IsMendable sealed.now stripe fragment }
-    ensures { IfOk result (IsFragmentOf sealed.now stripe fragment) }
-{
-    let left = sealed.left(stripe);
-    let width = sealed.width.get() as usize;
-    match rebuild(alloc, &left, fragment as usize, 0, width) {
-        Ok(bytes) => match Bytes::from_vec(bytes) {
-            Ok(bytes) => Ok(bytes),
-            Err(_) => Err(AllocError),
-        },
-        Err(Rebuild::NoMemory) => Err(AllocError),
-        Err(Rebuild::Open) => unreachable!(),
     }
 }
