@@ -1,5 +1,5 @@
 use crate::{BadScript, Row, Task, Word, script};
-use shared::Ask;
+use requests::Ask;
 use std::alloc::Global;
 use std::test::Fail;
 

@@ -21,14 +21,15 @@ use Rattle.book.specs.Known.{IsFragmentIn}
 use Rattle.book.specs.Serial.{Deed, Act, events_in, standing_of}
 use Rattle.book.specs.Tells.{Represents, Correspond}
 use Rattle.book.proofs.Versions.{was_put}
-use Rattle.shared.specs.declared.kept.Kept.{Kept}
-use Rattle.shared.specs.declared.mending.Look.{Look}
-use Rattle.shared.specs.declared.mending.Look.TheVariants.{Done, Refused, Rebuildable}
+use Rattle.requests.specs.declared.kept.Kept.{Kept}
+use Rattle.requests.specs.declared.look.Look.{Look}
+use Rattle.requests.specs.declared.look.Look.TheVariants.{Done, Refused, Rebuildable}
 use Rattle.shared.specs.Passes.{Which, Shows, Calls, seen_of, width_of, trimmed_of, shows}
 use Rattle.shared.specs.Deeds.{deed_of, act_if, DoesIf, Takes}
 use Rattle.shared.specs.Calls.{event, Called, Looked}
-use Rattle.shared.specs.Mends.{IsKnown, FoundIn, Found}
-use Rattle.shared.proofs.Between.{GoesOn}
+use Rattle.requests.specs.Looks.{FoundIn}
+use Rattle.shared.specs.Mends.{IsKnown, Found}
+use Rattle.requests.proofs.Between.{GoesOn}
 use Rattle.shared.proofs.Steps.{Stepped, told_history, looked, takes, IsFullIf, call_goes_on, same_goes_on, room_seen, called}
 
 -- the event of a repair, where the look made it

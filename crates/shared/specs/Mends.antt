@@ -1,16 +1,13 @@
 -- What a look before a repair finds.
-use Rattle.std.specs.Prelude.{◌≡◌, ◌≢◌, ◌⊎◌, ℕ, List, length, None, Some, Ok, Err}
+use Rattle.std.specs.Prelude.{◌≡◌, ◌⊎◌, ℕ, List, None, Ok, Err}
 use Rattle.sealed.specs.declared.value.Sealed.{Sealed}
-use Rattle.sealed.specs.declared.fault.Fault.{Fault}
-use Rattle.sealed.specs.declared.fault.Fault.TheVariants.{NoMemory, JournalFull}
 use Rattle.sealed.specs.Rebuilding.{IsRebuildable}
 use Rattle.history.specs.State.{Blob}
 use Rattle.history.specs.Step.{repair}
 use Rattle.history.specs.History.{History, HasPut}
-use Rattle.book.specs.Contents.{Contents, sealed_at}
-use Rattle.book.specs.Tells.{CarriesOn, Represents}
-use Rattle.shared.specs.declared.mending.Look.{Look}
-use Rattle.shared.specs.declared.mending.Look.TheVariants.{Done, Refused, Rebuildable}
+use Rattle.book.specs.Tells.{Represents}
+use Rattle.requests.specs.declared.look.Look.{Look}
+use Rattle.requests.specs.declared.look.Look.TheVariants.{Done, Refused, Rebuildable}
 use Rattle.shared.specs.Passes.{Shows}
 use Rattle.shared.specs.Deeds.{Takes}
 use Rattle.shared.specs.Calls.{Called, Looked, HasRoom}
@@ -20,12 +17,6 @@ pub record IsKnown (h : History) (w : ℕ) (n : List ℕ) (s : Sealed) : Type 0 
   pub blob : Blob
   pub represents : Represents w s blob
   pub put_is : HasPut h blob.version n blob.code blob.bytes
-
--- what is found in the book: the repair was made, or was refused, or nothing was changed, there is room and the fragment can be rebuilt outside
-abbrev pub FoundIn : Contents → Contents → ℕ → List ℕ → ℕ → ℕ → Look → Type 0
-FoundIn old new who n j f (Done a) = CarriesOn old new who (repair n j f) a × (length old.entries ≢ old.limit)
-FoundIn old new who n j f (Refused e) = (new ≡ old) × (((e ≡ NoMemory) × (length old.entries ≢ old.limit)) ⊎ ((e ≡ JournalFull) × (length old.entries ≡ old.limit)))
-FoundIn old new who n j f (Rebuildable s) = (new ≡ old) × (sealed_at old n ≡ Some s.value) × IsRebuildable s.value j f × (length old.entries ≢ old.limit)
 
 -- a pass found that there is room, and that the fragment can be rebuilt from this value
 pub record CanMend (v : Shows) (n : List ℕ) (j f : ℕ) (s : Sealed) (w : Shows) : Type 0 where
@@ -45,8 +36,3 @@ abbrev pub Found : Shows → List ℕ → ℕ → ℕ → Look → Shows → Typ
 Found v n j f (Done a) w = Called v (repair n j f) (Ok a) w
 Found v n j f (Refused e) w = Called v (repair n j f) (Err e) w
 Found v n j f (Rebuildable s) w = CanMend v n j f s.value w
-
--- where the look was refused
-abbrev pub IfRefused : Look → (Fault → Type 0) → Type 0
-IfRefused (Refused e) P = P e
-IfRefused look P = Unit {0}

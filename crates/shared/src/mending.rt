@@ -2,25 +2,14 @@
 ghost use Rattle.std.specs.Prelude.{◌≡◌, ◌≢◌, ◌⊎◌, IfErr};
 ghost use Rattle.history.specs.Step.{repair as repair_of};
 ghost use Rattle.shared.specs.Calls.{Called};
-ghost use Rattle.shared.specs.Mends.{Found, FoundBusy, FoundIn, IfRefused};
+ghost use Rattle.requests.specs.Looks.{IfRefused};
+ghost use Rattle.shared.specs.Mends.{Found, FoundBusy};
 
-use crate::request::Request;
-use crate::{Kept, Pass, Store};
-use book::{Answer, Book, Fault, Name};
-use sealed::Sealed;
+use crate::{Pass, Store};
+use book::{Answer, Fault, Name};
+use requests::{Look, Request, look_in};
 use std::alloc::Global;
-use std::sync::{Arc, Wait};
-
-/// What a look before a repair finds.
-#[derive(Drop)]
-pub enum Look {
-    /// The repair was made, and answered so.
-    Done(Answer),
-    /// It was refused.
-    Refused(Fault),
-    /// The fragment can be rebuilt from this value, and nothing was done.
-    Rebuildable(Arc<Sealed>),
-}
+use std::sync::Wait;
 
 impl Store {
     /// Rebuilds a lost fragment of a name's blob. It enters twice where the fragment can be rebuilt, and rebuilds in between; the answer is then that of the second time.
@@ -148,50 +137,5 @@ impl Store {
         let look = look_in(&mut inside.value, alloc, pass.who, name, stripe, fragment);
         self.gate.leave(&mut pass.seat, inside);
         look
-    }
-}
-
-/// Looks at the book in the gate, and makes the repair there if it answers anything but `Repaired`.
-fn look_in(
-    kept: &mut Kept,
-    alloc: Global,
-    who: u32,
-    name: &Name,
-    stripe: u64,
-    fragment: u64,
-) -> Look
-    ensures found { FoundIn kept.old.0.value kept.new.0.value who name.now stripe fragment result }
-    ensures kept { (kept.new.0.value.width ≡ kept.old.0.value.width) × (kept.new.0.value.limit ≡ kept.old.0.value.limit) × (kept.new.0.value.base ≡ kept.old.0.value.base) }
-{
-    let book: &mut Book = &mut kept.0;
-    look_in_book(book, alloc, who, name, stripe, fragment)
-}
-
-/// Looks at a book, and makes the repair there if it answers anything but `Repaired`.
-fn look_in_book(
-    book: &mut Book,
-    alloc: Global,
-    who: u32,
-    name: &Name,
-    stripe: u64,
-    fragment: u64,
-) -> Look
-    ensures found { FoundIn book.old book.new who name.now stripe fragment result }
-    ensures kept { (book.new.width ≡ book.old.width) × (book.new.limit ≡ book.old.limit) × (book.new.base ≡ book.old.base) }
-{
-    if book.is_full() {
-        return Look::Refused(Fault::JournalFull);
-    }
-    if let Some(sealed) = book.find(name) {
-        if sealed.is_rebuildable(stripe, fragment) {
-            return match Arc::try_clone(sealed) {
-                Ok(sealed) => Look::Rebuildable(sealed),
-                Err(_) => Look::Refused(Fault::NoMemory),
-            };
-        }
-    }
-    match book.repair(alloc, who, name.duplicate(), stripe, fragment) {
-        Ok(answer) => Look::Done(answer),
-        Err(fault) => Look::Refused(fault),
     }
 }
