@@ -1,8 +1,8 @@
 -- A fragment that was rebuilt outside the book is the fragment of each blob that the value of its version stands for.
-use Rattle.std.proofs.Common.{◌≡◌, ℕ, ◌<◌, Bool, true, false, not, ◌&&◌, List, [], ◌∷◌, ◌++◌, Option, None, Some, is_none, cond, length, refl, sym, ap, ◌∙◌, subst, inl, inr}
-use Rattle.std.specs.Prelude.{◌↔◌, IsTrue, IfSome, nat_le, nat_lt, slice_index}
+use Rattle.std.proofs.Common.{◌≡◌, ℕ, ◌<◌, Bool, true, false, List, [], ◌∷◌, ◌++◌, Option, None, Some, is_none, cond, length, refl, sym, ap, ◌∙◌, subst, inl, inr}
+use Rattle.std.specs.Prelude.{IfSome, nat_le, slice_index}
 use Rattle.std.specs.FinMap as finite
-use Rattle.std.proofs.lemmas.Bool.{cases_eq, and_parts, or_parts, not-true, false≢true, true≢false}
+use Rattle.std.proofs.lemmas.Bool.{cases_Bool, cases_eq, or_parts, false≢true, true≢false}
 use Rattle.std.proofs.lemmas.Grind.{same_number_lists}
 use Rattle.std.proofs.lemmas.List.FromFn.{length-map-range_with_len}
 use Rattle.lrc_code.specs.declared.Code.{Code}
@@ -15,53 +15,65 @@ use Rattle.sealed.specs.Layout.{stripe_count}
 use Rattle.sealed.specs.Stripes.{fragment_at}
 use Rattle.sealed.specs.Blob.{Lost, fragment, data_at, lost_in}
 use Rattle.sealed.specs.Sealed.{StandsFor, absent_in}
+use Rattle.sealed.specs.Rebuilding.{IsFragmentOf, IsRebuildable}
 use Rattle.sealed.proofs.Fragments.{fragments_are}
 use Rattle.history.specs.State.{Blob}
 use Rattle.history.specs.Step.{put}
 use Rattle.history.specs.History.{Event, History, IsLegal, HasPut, state_of}
-use Rattle.history.specs.Views.{no_such, open_test}
-use Rattle.history.proofs.Keeping.{same_truth, lt_of}
+use Rattle.history.specs.declared.note.Note.TheVariants as note
+use Rattle.history.specs.Views.{no_such, open_test, repair_reply}
+use Rattle.history.proofs.Keeping.{by_fragment}
 use Rattle.history.proofs.Replies.{below_of}
 use Rattle.book.specs.Contents.{Contents, sealed_at}
-use Rattle.book.specs.Known.{IsFragmentIn, is_mendable, Serves}
+use Rattle.book.specs.Known.{IsFragmentIn, Serves}
 use Rattle.book.specs.Lacking.{lacks, seen_of}
-use Rattle.book.specs.Losing.{IsFragmentOf}
 use Rattle.book.specs.Tells.{Tells, Represents, Correspond}
 use Rattle.book.proofs.Mending.{lacks_here}
 use Rattle.book.proofs.Versions.{was_put, put_later, only_put}
 
--- ---- what can be mended
--- the test by the fragments that the stripe lacks
-pub tested : (s : Sealed) (j f : ℕ) (code : Code) (known : ℕ → Bool) (r : Bool) → code ≡ s.code → ((g : ℕ) → g < fragment_count s.code → known g ≡ absent_in s j g)
-    → IsTrue r ↔ Open code known f → no_such s.width (seen_of s) j f ≡ false → lacks s j f ≡ true → not r ≡ is_mendable s j f
-tested s j f code known r same_code same is there gone =
+-- ---- what can be rebuilt
+-- the value has the fragment, lacks it, and the test for open ones says no
+rebuildable_so : (s : Sealed) (j f : ℕ) → IsRebuildable s j f → (no_such s.width (seen_of s) j f ≡ false) × (lacks s j f ≡ true) × (open_test s.code (lacks s j) f ≡ false)
+rebuildable_so s j f can = (there, lacks_here s j f can.has.0 can.has.1 ∙ can.lost, closed)
+  where
+    there : no_such s.width (seen_of s) j f ≡ false
+    there = sym (by_fragment s.code s.width s.len j f true ((λ _. can.has), (λ _. refl)))
+
+    closed : open_test s.code (lacks s j) f ≡ false
+    closed =
+        elim (cases_Bool (open_test s.code (lacks s j) f)) [
+          | inl opened ↦
+              absurd (can.closed (open_same s.code (lacks s j) (absent_in s j) f (λ g l. lacks_here s j g can.has.0 l) ((exact s.code (lacks s j) f can.has.1).0 opened)))
+          | inr shut ↦ shut
+        ]
+
+-- and where it can't be rebuilt though it is lacked, the test says yes
+open_so : (s : Sealed) (j f : ℕ) → no_such s.width (seen_of s) j f ≡ false → lacks s j f ≡ true → (IsRebuildable s j f → ⊥) → open_test s.code (lacks s j) f ≡ true
+open_so s j f there gone not_so =
     let parts = or_parts (nat_le (stripe_count s.code s.width s.len) j) _ there in
     let below : j < stripe_count s.code s.width s.len = below_of _ j parts.0 in
     let inside : f < fragment_count s.code = below_of _ f parts.1 in
-    let alike : (g : ℕ) → g < fragment_count s.code → known g ≡ lacks s j g = λ g l. same g l ∙ sym (lacks_here s j g below l) in
-    let own : Open code known f ≡ Open s.code known f = λ i. Open (same_code i) known f in
-    let as_tested : r ≡ open_test s.code (lacks s j) f = same_truth r _
-    (λ t. (exact s.code (lacks s j) f inside).1 (open_same s.code known (lacks s j) f alike (subst (λ X. X) own (is.0 t))))
-    (λ t. is.1 (subst (λ X. X) (sym own) (open_same s.code (lacks s j) known f (λ g l. sym (alike g l)) ((exact s.code (lacks s j) f inside).0 t)))) in
-    λ i. sym gone i && not (as_tested i)
+    elim (cases_Bool (open_test s.code (lacks s j) f)) [
+      | inl opened ↦ opened
+      | inr shut ↦
+          absurd (not_so (record {
+            has = (below, inside);
+            lost = sym (lacks_here s j f below inside) ∙ gone;
+            closed = λ o. false≢true (sym shut ∙ (exact s.code (lacks s j) f inside).1 (open_same s.code (absent_in s j) (lacks s j) f (λ g l. sym (lacks_here s j g below l)) o));
+          }))
+    ]
 
-module _ (s : Sealed) (j f : ℕ) (mendable : is_mendable s j f ≡ true) where
-  parts : (lacks s j f ≡ true) × (not (open_test s.code (lacks s j) f) ≡ true)
-  parts = and_parts (lacks s j f) _ mendable
+-- the replies to a repair
+pub replies_repaired : (s : Sealed) (j f v : ℕ) → IsRebuildable s j f → v ≡ s.version → note.Repaired v ≡ repair_reply s.width (Some (seen_of s)) j f
+replies_repaired s j f v can same =
+    let so = rebuildable_so s j f can in
+    ap note.Repaired same ∙ (λ i. cond (sym so.0 i) note.NoFragment (cond (sym so.1 i) (cond (sym so.2 i) (note.Unrecoverable s.version) (note.Repaired s.version)) note.NotLost))
 
-  closed : open_test s.code (lacks s j) f ≡ false
-  closed = not-true _ parts.1
-
-  lacking_place : (j < stripe_count s.code s.width s.len) × (f < fragment_count s.code)
-  lacking_place =
-      let first = and_parts (nat_lt j (length s.stripes)) _ parts.0 in
-      let second = and_parts (nat_lt f (fragment_count s.code)) _ first.1 in
-      (subst (λ n. j < n) s.shaped.count (lt_of j _ first.0), lt_of f _ second.0)
-
-  not_open : Open s.code (absent_in s j) f → ⊥
-  not_open o =
-      false≢true (sym closed ∙ (exact s.code (lacks s j) f lacking_place.1).1
-      (open_same s.code (absent_in s j) (lacks s j) f (λ g l. sym (lacks_here s j g lacking_place.0 l)) o))
+pub replies_open : (s : Sealed) (j f v : ℕ) → no_such s.width (seen_of s) j f ≡ false → lacks s j f ≡ true → (IsRebuildable s j f → ⊥) → v ≡ s.version
+    → note.Unrecoverable v ≡ repair_reply s.width (Some (seen_of s)) j f
+replies_open s j f v there gone not_so same =
+    let opened = open_so s j f there gone not_so in
+    ap note.Unrecoverable same ∙ (λ i. cond (sym there i) note.NoFragment (cond (sym gone i) (cond (sym opened i) (note.Unrecoverable s.version) (note.Repaired s.version)) note.NotLost))
 
 -- ---- two blobs that one value stands for
 both_there : (x : Option (List ℕ)) (gone also : Bool) (p q : List ℕ) → x ≡ cond gone None (Some p) → x ≡ cond also None (Some q) → is_none x ≡ false → p ≡ q
@@ -116,10 +128,8 @@ module _ (w : ℕ) (h : History) (n : List ℕ) (v j f : ℕ) (found : List ℕ)
         let bytes : known.bytes ≡ blob.bytes = same_bytes n n blob.code known.code blob.bytes known.bytes (same_put e) in
         known.is ∙ (λ i. fragment ((code ∙ sym is.code) i) (sym is.width i) (bytes i) j f)
 
-    of_each : v ≡ s.version → is_mendable s j f ≡ true → IsFragmentOf s j f found
-    of_each e mendable c also stands =
-        let place = lacking_place s j f mendable in
-        own_fragment e ∙ same_closed s blob.bytes c blob.lost also is.stands stands j place.0 f place.1 (not_open s j f mendable)
+    of_each : v ≡ s.version → IsRebuildable s j f → IsFragmentOf s j f found
+    of_each e can c also stands = own_fragment e ∙ same_closed s blob.bytes c blob.lost also is.stands stands j can.has.0 f can.has.1 can.closed
 
     serves : Serves v j f found s
     serves = record { long = ap length known.is ∙ length-map-range_with_len (λ p. column known.code (data_at known.code w known.bytes j p) f) 0 w ∙ sym is.width; own = of_each }

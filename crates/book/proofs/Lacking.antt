@@ -6,6 +6,7 @@ use Rattle.std.specs.Ordering.{eq_by_cmp}
 use Rattle.std.proofs.lemmas.Bool.{and_parts, cases_Bool, cases_eq, false≢true}
 use Rattle.std.proofs.lemmas.Grind.{common_steps}
 use Rattle.lrc_code.specs.Code.{fragment_count}
+use Rattle.sealed.proofs.Counting.{few_fragments}
 use Rattle.sealed.specs.declared.value.Sealed.{Sealed}
 use Rattle.sealed.specs.Layout.{stripe_count}
 use Rattle.sealed.specs.Blob.{Lost, nothing, lost_in, pair_cmp}
@@ -14,7 +15,7 @@ use Rattle.book.specs.Lacking.{count_below, lacks, lacked_count, seen_of}
 use Rattle.history.specs.State.{Blob, IsLostInside}
 use Rattle.book.specs.Tells.{Represents}
 use Rattle.history.specs.Views.{view_of}
-use Rattle.history.proofs.Keeping.{same_truth, lt_of, is_lt, both, few_fragments}
+use Rattle.history.proofs.Keeping.{same_truth, lt_of, is_lt, both}
 use Rattle.history.proofs.Replies.{pairs_total}
 use Rattle.book.proofs.Same.{same_lost}
 

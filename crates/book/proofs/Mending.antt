@@ -1,31 +1,21 @@
 -- One fragment taken out of a sealed value, or put back.
-use Rattle.std.proofs.Common.{◌≡◌, ◌≢◌, ℕ, ◌+◌, ◌*◌, ◌/◌, ◌%◌, ◌<◌, ◌≤◌, Bool, true, false, ◌&&◌, ◌==◌, List, Option, None, Some, Bor, is_none, cond, length, Result, Ok, Err, refl, sym, ap, ◌∙◌, subst, inl, inr, arith}
-use Rattle.std.specs.Prelude.{nat_lt, slice_range}
-use Rattle.std.specs.Option.{option_map}
+use Rattle.std.proofs.Common.{◌≡◌, ◌≢◌, ℕ, ◌+◌, ◌*◌, ◌/◌, ◌%◌, ◌<◌, ◌≤◌, Bool, true, false, ◌&&◌, ◌==◌, List, Option, None, Some, is_none, cond, length, refl, sym, ap, ◌∙◌, inl, inr, arith}
+use Rattle.std.specs.Prelude.{nat_lt}
 use Rattle.std.specs.FinSet as set
-use Rattle.std.proofs.lemmas.List.FromFn.{length-map-range_with_len}
 use Rattle.std.proofs.lemmas.Bool.{cases_Bool}
 use Rattle.std.proofs.lemmas.Grind.{common_steps}
-use Rattle.lrc_code.specs.declared.Code.{Code}
-use Rattle.lrc_code.specs.Code.{fragment_count, Open}
-use Rattle.lrc_code.specs.Column.{column}
-use Rattle.lrc_code.specs.declared.left.Rebuild.{Rebuild}
-use Rattle.lrc_code.specs.declared.left.Rebuild.TheVariants.{Open as OpenFound}
-use Rattle.lrc_code.specs.Stripe.{slot, is_absent, Rebuilds}
-use Rattle.lrc_code.proofs.Recoverable.{exact}
-use Rattle.lrc_code.proofs.Stripes.{open_same}
+use Rattle.lrc_code.specs.Code.{fragment_count}
 use Rattle.sealed.specs.declared.value.Sealed.{Sealed}
 use Rattle.sealed.specs.Layout.{stripe_count}
 use Rattle.sealed.specs.Stripes.{fragment_at}
-use Rattle.sealed.specs.Blob.{fragment, data_at}
 use Rattle.sealed.specs.Sealed.{absent_in}
 use Rattle.sealed.specs.Change.{IsChanged}
+use Rattle.sealed.specs.Rebuilding.{IsFragmentOf}
+use Rattle.sealed.proofs.Counting.{few_fragments}
 use Rattle.sealed.proofs.Changing.{without_stands, with_stands}
-use Rattle.lent.proofs.Building.{AreLeft, built}
 use Rattle.book.specs.Lacking.{count_below, lacks, lacked_count}
-use Rattle.book.specs.Losing.{IsFragmentOf, IsWith}
-use Rattle.history.specs.Views.{open_test}
-use Rattle.history.proofs.Keeping.{few_fragments, is_lt}
+use Rattle.book.specs.Losing.{IsWith}
+use Rattle.history.proofs.Keeping.{is_lt}
 use Rattle.book.proofs.Lacking.{count_bound, count_more}
 
 -- ---- what the changed value lacks
@@ -108,41 +98,8 @@ pub is_with : (s t : Sealed) (j f : ℕ) (x : List ℕ) → IsChanged s j f (Som
 is_with s t j f x changed own =
     record { version = changed.version; width = changed.width; code = changed.code; stands = λ b lost stands. with_stands s t b lost j f x changed stands (own b lost stands) }
 
--- ---- what is rebuilt
-whole_range : (xs : List ℕ) (n : ℕ) → length xs ≡ n → slice_range xs 0 n ≡ xs
-whole_range xs n e = grind (arith, common_steps, e)
-
+-- ---- what is absent
 pub lacks_here : (s : Sealed) (j f : ℕ) → j < stripe_count s.code s.width s.len → f < fragment_count s.code → lacks s j f ≡ absent_in s j f
 lacks_here s j f below inside =
     let c : length s.stripes ≡ stripe_count s.code s.width s.len = s.shaped.count in
     λ i. is_lt j (length s.stripes) (omega arith) i && (is_lt f (fragment_count s.code) inside i && absent_in s j f)
-
-none_kept : (found : Option (Bor (List ℕ))) → is_none found ≡ is_none (option_map (λ x. x.now) found)
-none_kept None = refl
-none_kept (Some x) = refl
-
-module _ (s : Sealed) (j f : ℕ) (code : Code) (fragments : List (Option (Bor (List ℕ)))) (g : ℕ) (same_code : code ≡ s.code) (same_f : g ≡ f) (left : AreLeft s j fragments)
-    (below : j < stripe_count s.code s.width s.len) (inside : f < fragment_count s.code) where
-  alike : (i : ℕ) → i < fragment_count s.code → is_absent fragments i ≡ lacks s j i
-  alike i l = none_kept (slot fragments i) ∙ ap is_none (left i (let few = few_fragments s.code in omega arith)) ∙ sym (lacks_here s j i below l)
-
-  own_code : Open code (is_absent fragments) g ≡ Open s.code (is_absent fragments) f
-  own_code = λ i. Open (same_code i) (is_absent fragments) (same_f i)
-
-  pub opened : Open code (is_absent fragments) g → open_test s.code (lacks s j) f ≡ true
-  opened o = (exact s.code (lacks s j) f inside).1 (open_same s.code (is_absent fragments) (lacks s j) f alike (subst (λ X. X) own_code o))
-
-  pub not_opened : (Open code (is_absent fragments) g → ⊥) → open_test s.code (lacks s j) f ≡ false
-  not_opened closed =
-      elim (cases_Bool (open_test s.code (lacks s j) f)) [
-        | inl is_open ↦ absurd (closed (subst (λ X. X) (sym own_code) (open_same s.code (lacks s j) (is_absent fragments) f (λ i l. sym (alike i l)) ((exact s.code (lacks s j) f inside).0 is_open))))
-        | inr not_open ↦ not_open
-      ]
-
-  pub whole : (to : ℕ) (bytes : List ℕ) → to ≡ s.width → Rebuilds code fragments g 0 to bytes → IsFragmentOf s j f bytes
-  whole to bytes wide rebuilt b lost stands =
-      built s (record { stripe = j; fragment = f; from = 0; to = to }) code fragments g bytes same_code same_f left below (omega (arith, wide)) rebuilt b lost stands
-      ∙ whole_range (fragment s.code s.width b j f) to (length-map-range_with_len (λ p. column s.code (data_at s.code s.width b j p) f) 0 s.width ∙ sym wide)
-
-pub no_err : {A : Type 0} (a : A) → ◌≡◌ {A = Result A Rebuild} (Ok a) (Err OpenFound) → ⊥
-no_err a e = cc

@@ -16,13 +16,14 @@ use Rattle.std.proofs.lemmas.List.Folds.{list_any-append, flat_map-map}
 use Rattle.std.proofs.lemmas.Map.Lookups.{exact_bytes}
 use Rattle.std.proofs.lemmas.Map.Made.{lookup-map_values, keys_of-map_values}
 use Rattle.lrc_code.specs.Code.{fragment_count}
+use Rattle.sealed.proofs.Counting.{few_fragments}
 use Rattle.sealed.specs.declared.value.Sealed.{Sealed}
 use Rattle.sealed.specs.Blob.{pair_cmp}
 use Rattle.history.specs.Names.{name_cmp}
 use Rattle.history.specs.State.{Blob, IsLostInside}
 use Rattle.history.specs.History.{History, state_of}
 use Rattle.history.proofs.Inside.{lost_inside}
-use Rattle.history.proofs.Keeping.{same_truth, few_fragments, lt_of}
+use Rattle.history.proofs.Keeping.{same_truth, lt_of}
 use Rattle.book.specs.Contents.{Contents, sealed_at}
 use Rattle.book.specs.Lacking.{count_below, lacks, lacked_count, lacked_below}
 use Rattle.history.specs.Base.{pairs_of}

@@ -1,14 +1,12 @@
 -- What is known of a fragment that was rebuilt outside the book.
-use Rattle.std.specs.Prelude.{◌≡◌, ℕ, ◌<◌, Bool, true, not, ◌&&◌, List, length}
+use Rattle.std.specs.Prelude.{◌≡◌, ℕ, ◌<◌, List, length}
 use Rattle.lrc_code.specs.declared.Code.{Code}
 use Rattle.lrc_code.specs.Code.{fragment_count}
 use Rattle.sealed.specs.declared.value.Sealed.{Sealed}
 use Rattle.sealed.specs.Layout.{stripe_count}
 use Rattle.sealed.specs.Blob.{fragment}
+use Rattle.sealed.specs.Rebuilding.{IsFragmentOf, IsRebuildable}
 use Rattle.history.specs.History.{History, HasPut}
-use Rattle.history.specs.Views.{open_test}
-use Rattle.book.specs.Lacking.{lacks}
-use Rattle.book.specs.Losing.{IsFragmentOf}
 
 -- the history's put of this version, under this name, has bytes whose fragment f of stripe j this is
 pub record IsFragmentIn (h : History) (w : ℕ) (name : List ℕ) (version j f : ℕ) (found : List ℕ) : Type 0 where
@@ -19,11 +17,7 @@ pub record IsFragmentIn (h : History) (w : ℕ) (name : List ℕ) (version j f :
   pub number : f < fragment_count code
   pub is : found ≡ fragment code w bytes j f
 
--- the value lacks the fragment, which can be told from those left
-abbrev pub is_mendable : Sealed → ℕ → ℕ → Bool
-is_mendable s j f = lacks s j f && not (open_test s.code (lacks s j) f)
-
--- the bytes serve to mend the value: where it has this version, and the fragment f of stripe j can be mended, they are that fragment
+-- the bytes serve to mend the value: where it has this version, and the fragment f of stripe j can be rebuilt, they are that fragment
 pub record Serves (version j f : ℕ) (bytes : List ℕ) (s : Sealed) : Type 0 where
   pub long : length bytes ≡ s.width
-  pub own : version ≡ s.version → is_mendable s j f ≡ true → IsFragmentOf s j f bytes
+  pub own : version ≡ s.version → IsRebuildable s j f → IsFragmentOf s j f bytes

@@ -4,7 +4,7 @@ use Rattle.std.specs.FinSet as set
 use Rattle.std.specs.Map.{lookup}
 use Rattle.std.specs.BTreeMap.{is_at}
 use Rattle.sealed.specs.declared.value.Sealed.{Sealed}
-use Rattle.sealed.specs.Blob.{Lost, fragment}
+use Rattle.sealed.specs.Blob.{Lost}
 use Rattle.sealed.specs.Sealed.{StandsFor}
 use Rattle.history.specs.declared.note.Note.{Note}
 use Rattle.history.specs.declared.note.Note.TheVariants as note
@@ -18,10 +18,6 @@ pub record IsWith (change : Lost → Lost) (old new : Sealed) : Type 0 where
   pub width : new.width ≡ old.width
   pub code : new.code ≡ old.code
   pub stands : (b : List ℕ) (lost : Lost) → StandsFor old b lost → StandsFor new b (change lost)
-
--- the bytes are the fragment f of stripe j, in each blob that the value stands for
-abbrev pub IsFragmentOf : Sealed → ℕ → ℕ → List ℕ → Type 0
-IsFragmentOf s j f bytes = (b : List ℕ) (lost : Lost) → StandsFor s b lost → bytes ≡ fragment s.code s.width b j f
 
 -- the value after a loss with this note
 abbrev pub Loses : ℕ → ℕ → Note → Sealed → Sealed → Type 0

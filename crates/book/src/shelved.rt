@@ -6,17 +6,17 @@ ghost use Rattle.sealed.specs.Layout.{stripe_count};
 ghost use Rattle.sealed.specs.Blob.{nothing};
 ghost use Rattle.sealed.specs.Change.{IsChanged};
 ghost use Rattle.sealed.specs.Sealed.{StandsFor, absent_in};
-ghost use Rattle.book.specs.Known.{Serves, is_mendable};
+ghost use Rattle.sealed.specs.Rebuilding.{IsFragmentOf, IsRebuildable};
+ghost use Rattle.book.specs.Known.{Serves};
 ghost use Rattle.book.specs.Lacking.{reply_for, lacks, seen_of};
-ghost use Rattle.book.specs.Losing.{IsFragmentOf, IsWith, Loses, Mends};
+ghost use Rattle.book.specs.Losing.{IsWith, Loses, Mends};
 ghost use Rattle.book.specs.Notes.{note_of};
 ghost use Rattle.book.specs.Plan.{items_lacked};
-ghost use Rattle.history.specs.Views.{no_such, open_test, lose_reply, repair_reply, stat_reply};
+ghost use Rattle.history.specs.Views.{no_such, lose_reply, repair_reply, stat_reply};
 
 use crate::plan::Item;
 use crate::{Answer, Fault, Name};
 use bytes::Bytes;
-use lrc_code::{Rebuild, is_open_in, rebuild};
 use sealed::Sealed;
 use std::alloc::{AllocError, Global};
 use std::marker::Model;
@@ -74,8 +74,7 @@ impl Shelved {
     fn is_no_fragment(&self, stripe: u64, fragment: u64) -> bool
         ensures { result ≡ no_such self.now.width (seen_of self.now) stripe fragment }
     {
-        stripe >= self.sealed.stripes.len() as u64
-            || fragment >= u64::from(self.sealed.code.fragments())
+        !self.sealed.has_fragment(stripe, fragment)
     }
 
     /// Whether a fragment is lost.
@@ -163,25 +162,13 @@ impl Shelved {
         if !self.is_lost(stripe, fragment as u8) {
             return Ok(Answer::NotLost);
         }
-        let version = self.sealed.version;
-        match rebuild_whole(alloc, &self.sealed, stripe, fragment as u8) {
-            Ok(bytes) => match self.put_back(alloc, stripe, fragment as u8, bytes) {
-                Ok(()) => Ok(Answer::Repaired(version)),
-                Err(error) => Err(error),
-            },
-            Err(Rebuild::Open) => Ok(Answer::Unrecoverable(version)),
-            Err(Rebuild::NoMemory) => Err(Fault::NoMemory),
+        if !self.sealed.is_rebuildable(stripe, fragment) {
+            return Ok(Answer::Unrecoverable(self.sealed.version));
         }
-    }
-
-    /// Whether a fragment is lost and can be told from those left.
-    fn is_mendable(&self, stripe: u64, fragment: u64) -> bool
-        ensures { result ≡ is_mendable self.now stripe fragment }
-    {
-        if self.is_no_fragment(stripe, fragment) || !self.is_lost(stripe, fragment as u8) {
-            return false;
+        match self.sealed.rebuild_fragment(alloc, stripe, fragment) {
+            Ok(bytes) => self.mend(alloc, stripe, fragment, bytes),
+            Err(_) => Err(Fault::NoMemory),
         }
-        !is_open_in(self.sealed.code, self.sealed.lost(stripe), fragment as u8)
     }
 
     /// Does as `repair` does, but puts back these bytes where the blob has this version. The only fault is `NoMemory`. After it the blob is as it was.
@@ -199,9 +186,29 @@ impl Shelved {
         ensures faults { IfErr result (λ e. e ≡ Fault.NoMemory) }
         ensures err { OnErr result (self.new ≡ self.old) }
     {
-        if self.sealed.version != version || !self.is_mendable(stripe, fragment) {
+        if self.sealed.version != version || !self.sealed.is_rebuildable(stripe, fragment) {
             return self.repair(alloc, stripe, fragment);
         }
+        self.mend(alloc, stripe, fragment, bytes)
+    }
+
+    /// Mends a fragment by these bytes. The only fault is `NoMemory`. After it the blob is as it was.
+    fn mend(
+        &mut self,
+        alloc: Global,
+        stripe: u64,
+        fragment: u64,
+        bytes: Bytes,
+    ) -> Result<Answer, Fault>
+        requires rebuildable { IsRebuildable self.old stripe fragment }
+        requires long { length bytes ≡ self.old.width }
+        requires own { IsFragmentOf self.old stripe fragment bytes }
+        ensures answer { IfOk result (λ a. note_of a ≡ reply_for (λ w x. repair_reply w x stripe fragment) (Some self.old)) }
+        ensures changed { IfOk result (λ a. Mends stripe fragment (note_of a) self.old self.new) }
+        ensures faults { IfErr result (λ e. e ≡ Fault.NoMemory) }
+        ensures err { OnErr result (self.new ≡ self.old) }
+    {
+        let version = self.sealed.version;
         match self.put_back(alloc, stripe, fragment as u8, bytes) {
             Ok(()) => Ok(Answer::Repaired(version)),
             Err(error) => Err(error),
@@ -276,24 +283,4 @@ fn put_back_in(
     };
     *sealed = changed;
     Ok(())
-}
-
-/// The bytes of an absent fragment, or why there are none.
-fn rebuild_whole(alloc: Global, sealed: &Sealed, stripe: u64, f: u8) -> Result<Bytes, Rebuild>
-    requires stripe_below { stripe < stripe_count sealed.now.code sealed.now.width sealed.now.len }
-    requires f_below { f < fragment_count sealed.now.code }
-    requires gone { absent_in sealed.now stripe f ≡ true }
-    ensures open { result ≡ Err Rebuild.Open → open_test sealed.now.code (lacks sealed.now stripe) f ≡ true }
-    ensures closed { IfOk result (λ bytes. open_test sealed.now.code (lacks sealed.now stripe) f ≡ false) }
-    ensures long { IfOk result (λ bytes. length bytes ≡ sealed.now.width) }
-    ensures own { IfOk result (λ bytes. IsFragmentOf sealed.now stripe f bytes) }
-{
-    let left = sealed.left(stripe);
-    match rebuild(alloc, &left, usize::from(f), 0, sealed.width.get() as usize) {
-        Ok(bytes) => match Bytes::from_vec(bytes) {
-            Ok(bytes) => Ok(bytes),
-            Err(_) => Err(Rebuild::NoMemory),
-        },
-        Err(error) => Err(error),
-    }
 }

@@ -3,9 +3,7 @@ ghost use Rattle.std.specs.Prelude.{◌≡◌};
 ghost use Rattle.shared.specs.Passes.{Stays};
 
 use anyhow::{Context, Result, ensure};
-use book::{Fault, Limit, Name, is_lawful_from};
-use bytes::Bytes;
-use shared::{Pass, Store};
+use shared::{Bytes, Fault, Limit, Name, Pass, Store, is_lawful_from};
 use std::alloc::Global;
 use std::sync::Wait;
 

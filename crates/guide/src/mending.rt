@@ -3,10 +3,8 @@ ghost use Rattle.std.specs.Prelude.{◌≡◌};
 ghost use Rattle.shared.specs.Passes.{Stays};
 
 use anyhow::{Context, Result, bail};
-use book::{Answer, Limit, Name};
-use bytes::Bytes;
 use mender::{Gather, Report, gather, scrub, work};
-use shared::{Pass, Store};
+use shared::{Answer, Bytes, Limit, Name, Pass, Store};
 use std::alloc::Global;
 use std::sync::Wait;
 

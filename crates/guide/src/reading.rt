@@ -3,11 +3,7 @@ ghost use Rattle.std.specs.Prelude.{◌≡◌};
 ghost use Rattle.shared.specs.Passes.{Stays};
 
 use anyhow::{Context, Result, bail};
-use book::{Answer, Limit, Name};
-use bytes::Bytes;
-use lent::{Asked, Grant, Piece};
-use lrc_code::Plans;
-use shared::{Pass, Store};
+use shared::{Answer, Asked, Bytes, Grant, Limit, Name, Pass, Piece, Plans, Store};
 use std::alloc::Global;
 use std::sync::Wait;
 

@@ -2,9 +2,7 @@
 ghost use Rattle.std.specs.Prelude.{◌≡◌};
 
 use anyhow::{Context, Result, ensure};
-use book::{Answer, Fault, Limit, Name};
-use bytes::Bytes;
-use shared::{Pass, Store};
+use shared::{Answer, Bytes, Fault, Limit, Name, Pass, Store};
 use std::alloc::Global;
 use std::sync::Wait;
 use std::thread;

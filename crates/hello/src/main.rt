@@ -2,9 +2,7 @@
 #![tactic(auto)]
 
 use anyhow::{Context, Result, bail};
-use book::{Answer, Limit, Name};
-use bytes::Bytes;
-use shared::Store;
+use shared::{Answer, Bytes, Limit, Name, Store};
 
 fn main(rt: HostRuntime) -> Result<()> {
     let (alloc, name) = (rt.alloc(), Name::new("greeting")?);

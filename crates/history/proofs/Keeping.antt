@@ -1,6 +1,6 @@
 -- What is kept of a blob tells which fragments are open.
 use Rattle.std.proofs.Common.{◌≡◌, ℕ, ◌+◌, ◌-◌, ◌*◌, ◌/◌, ◌%◌, ◌<◌, ◌≤◌, Bool, true, false, ◌&&◌, List, [], ◌∷◌, cond, refl, sym, ap, ◌∙◌, subst, arith, inl, inr}
-use Rattle.std.specs.Prelude.{nat_le, nat_lt, IsTrue, ◌↔◌, ◌||◌, ◌==◌}
+use Rattle.std.specs.Prelude.{nat_le, nat_lt, IsTrue, ◌↔◌, ◌||◌, ◌==◌, not}
 use Rattle.std.specs.List.{list_any, list_all, filter}
 use Rattle.std.specs.BTreeMap.{is_at}
 use Rattle.std.specs.BTreeMap.Range.{IsLeBy, range_contains}
@@ -8,40 +8,28 @@ use Rattle.std.specs.BTreeSet.{keys_between}
 use Rattle.std.specs.declared.ops.Bound.TheVariants.{Included}
 use Rattle.std.proofs.Math.Nat.{div-mul-le_self}
 use Rattle.std.proofs.lemmas.Nat.{le-div, div-mul-add}
-use Rattle.std.proofs.lemmas.Bool.{or_cases, or_left, or_right, and_parts, cases_Bool, false≢true}
+use Rattle.std.proofs.lemmas.Bool.{or_cases, or_left, or_right, or_parts, and_parts, cases_Bool, not-true, false≢true}
 use Rattle.std.proofs.lemmas.Grind.{common_steps}
 use Rattle.std.proofs.lemmas.Map.Views.{any-filter_same, range_contains-from_IsInRange, IsInRange-from_range_contains}
 use Rattle.lrc_code.specs.declared.Code.{Code}
-use Rattle.lrc_code.specs.declared.Code.TheVariants.{Wide, Small}
 use Rattle.lrc_code.specs.Code.{fragment_count, data_count, Open}
 use Rattle.lrc_code.proofs.Recoverable.{exact, not_open_left}
 use Rattle.lrc_code.proofs.Stripes.{open_same}
-use Rattle.sealed.specs.Layout.{stripe_of, fragment_of}
+use Rattle.sealed.specs.Layout.{HasFragment, stripe_count, stripe_of, fragment_of}
 use Rattle.sealed.specs.Blob.{pair_cmp}
+use Rattle.sealed.proofs.Counting.{some_data, data_is_counted, few_fragments}
 use Rattle.sealed.proofs.Places.{fragment_inside, stripe_by_count, fragment_by_count}
 use Rattle.lent.specs.Range.{HasOpen}
 use Rattle.lent.proofs.Readable.{Meets, has_open}
 use Rattle.history.specs.Views.{open_test, open_in_range}
 use Rattle.history.specs.Kept.{lost_of, is_open_between}
 use Rattle.history.specs.declared.kept.Kept.{Kept}
-use Rattle.history.proofs.Replies.{open_found, pairs_total}
+use Rattle.history.proofs.Replies.{below_of, open_found, pairs_total}
 
 pub same_truth : (a b : Bool) → (a ≡ true → b ≡ true) → (b ≡ true → a ≡ true) → a ≡ b
 same_truth true b forth back = sym (forth refl)
 same_truth false true forth back = back refl
 same_truth false false forth back = refl
-
-data_is_counted : (code : Code) → data_count code ≤ fragment_count code
-data_is_counted Wide = omega arith
-data_is_counted Small = omega arith
-
-some_data : (code : Code) → 1 ≤ data_count code
-some_data Wide = omega arith
-some_data Small = omega arith
-
-pub few_fragments : (code : Code) → fragment_count code ≤ 16
-few_fragments Wide = omega arith
-few_fragments Small = omega arith
 
 -- a set of lost fragments tells what is open
 pub open_known : (code : Code) (known lost : ℕ → Bool) (f : ℕ) (r : Bool) → f < fragment_count code → IsTrue r ↔ Open code known f
@@ -83,6 +71,25 @@ is_lt a b h = grind (arith, common_steps)
 
 pub both : (a b : Bool) → a ≡ true → b ≡ true → (a && b) ≡ true
 both a b h k = grind (arith, common_steps)
+
+-- what is no fragment, by the test for one
+pub by_fragment : (code : Code) (w len j f : ℕ) (r : Bool) → IsTrue r ↔ HasFragment code w len j f → not r ≡ (nat_le (stripe_count code w len) j || nat_le (fragment_count code) f)
+by_fragment code w len j f r is =
+    same_truth _ _
+    (λ no. elim (cases_Bool (nat_le (stripe_count code w len) j || nat_le (fragment_count code) f)) [
+      | inl gone ↦ gone
+      | inr there ↦
+          let parts = or_parts (nat_le (stripe_count code w len) j) _ there in
+          absurd (false≢true (sym (not-true r no) ∙ is.1 (below_of _ j parts.0, below_of _ f parts.1)))
+    ])
+    (λ gone. elim (cases_Bool r) [
+      | inl there ↦
+          elim (or_cases (nat_le (stripe_count code w len) j) (nat_le (fragment_count code) f) gone) [
+            | inl past ↦ (let a = le_of _ _ past in let b = (is.0 there).0 in absurd (omega arith))
+            | inr past ↦ (let a = le_of _ _ past in let b = (is.0 there).1 in absurd (omega arith))
+          ]
+      | inr none ↦ ap not none
+    ])
 
 div_mono : (w a b : ℕ) → 1 ≤ w → a ≤ b → a / w ≤ b / w
 div_mono w a b some le = let under : a / w * w ≤ a = div-mul-le_self a w in le-div (a / w) b w some (omega arith)

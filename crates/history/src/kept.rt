@@ -9,7 +9,7 @@ ghost use Rattle.history.specs.Views.{no_such, open_test, open_in_range, read_re
 
 use crate::Note;
 use lrc_code::{Code, LostSet, is_open_in};
-use sealed::{Width, count_stripes};
+use sealed::{Width, count_stripes, has_fragment};
 use std::alloc::{AllocError, Global};
 use std::collections::BTreeSet;
 
@@ -98,8 +98,7 @@ impl Kept {
     fn is_no_fragment(&self, width: Width, stripe: u64, fragment: u64) -> bool
         ensures { result ≡ no_such width (seen_as self.now) stripe fragment }
     {
-        stripe >= count_stripes(self.code, width, self.len)
-            || fragment >= u64::from(self.code.fragments())
+        !has_fragment(self.code, width, self.len, stripe, fragment)
     }
 
     /// The reply to a read.

@@ -18,7 +18,7 @@ use Rattle.shared.specs.Calls.{Called}
 use Rattle.shared.specs.Runs.{Runs}
 use Rattle.shared.specs.Serving.{Serves}
 use Rattle.shared.proofs.Serving.{serves_append, serves_one}
-use Rattle.shared.specs.declared.jobs.Reply.TheVariants.{Made, Refused}
+use Rattle.requests.specs.declared.jobs.Reply.TheVariants.{Made, Refused}
 use Rattle.shared.specs.declared.run.Outcome.TheVariants as outcome
 use Rattle.shared.proofs.Runs.{runs_looks, runs_longer, runs_more, served}
 use Rattle.mender.proofs.Judged.{all_one, one_more}

@@ -13,9 +13,9 @@ use Rattle.book.specs.Serial.{Act, Deed, standing_of}
 use Rattle.book.specs.declared.plan.Item.{Item}
 use Rattle.shared.specs.Passes.{Which, Shows}
 use Rattle.shared.specs.Deeds.{Takes}
-use Rattle.shared.specs.declared.jobs.Ask.{Ask}
-use Rattle.shared.specs.declared.jobs.Reply.{Reply}
-use Rattle.shared.specs.declared.jobs.Reply.TheVariants.{Made, Refused}
+use Rattle.requests.specs.declared.jobs.Ask.{Ask}
+use Rattle.requests.specs.declared.jobs.Reply.{Reply}
+use Rattle.requests.specs.declared.jobs.Reply.TheVariants.{Made, Refused}
 use Rattle.mender.specs.Worked.{Finished, ask_of, asks_of, replies_of}
 use Rattle.mender.specs.Worked as worked
 use Rattle.shared.specs.Serving.{Turn, deed_told, AreServed, places_of, Serves}

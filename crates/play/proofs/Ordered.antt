@@ -11,7 +11,7 @@ use Rattle.gate.proofs.Lists.{times-append, times-one, prefix_length}
 use Rattle.history.proofs.Beginnings.{after_all-append}
 use Rattle.history.specs.State.{empty_state}
 use Rattle.history.specs.History.{state_of}
-use Rattle.shared.proofs.Between.{events-append, given-append}
+use Rattle.requests.proofs.Between.{events-append, given-append}
 use Rattle.book.specs.Serial.{Deed, called, full, too_long, trimmed, Does, next, Act, trim_acts, act_of, events_in, given_in, standing_of}
 use Rattle.play.specs.Runs.{MayPrecede}
 use Rattle.play.specs.Steps.{Step, Found, found_from, AreDone, calls_in}

@@ -2,7 +2,7 @@
 use Rattle.std.proofs.Common.{◌≡◌, ◌∙◌, ℕ, ◌+◌, ◌<◌, ◌≤◌, List, [], ◌∷◌, ◌++◌, length, map, None, Some, refl, ap, sym, subst, arith}
 use Rattle.gate.specs.Events.{number_if}
 use Rattle.book.specs.Serial.{Act, act_of}
-use Rattle.shared.specs.declared.jobs.Ask.{Ask}
+use Rattle.requests.specs.declared.jobs.Ask.{Ask}
 use Rattle.shared.specs.Deeds.{act_if}
 use Rattle.shared.specs.Serving.{Turn, act_in, deed_told, IsServed, AreServed, places_of}
 use Rattle.script.specs.declared.rows.Row.{Row}

@@ -14,7 +14,7 @@ use Rattle.script.specs.declared.rows.Row.{Row}
 use Rattle.script.specs.Script.{IsWorkerOf, HasWorker}
 use Rattle.script.specs.declared.rows.Task.TheVariants.{Make, Mend}
 use Rattle.shared.specs.Passes.{Which}
-use Rattle.shared.specs.declared.jobs.Ask.{Ask}
+use Rattle.requests.specs.declared.jobs.Ask.{Ask}
 use Rattle.rounds.specs.Pools.{IsFresh}
 use Rattle.rounds.specs.declared.pool.Pool.{Pool}
 use Rattle.play.specs.Runs.{round_in}

@@ -14,9 +14,9 @@ use Rattle.book.specs.Serial.{Deed, called, full}
 use Rattle.book.specs.Notes.{note_of}
 use Rattle.book.specs.declared.plan.Item.{Item}
 use Rattle.sealed.specs.declared.fault.Fault.TheVariants.{JournalFull}
-use Rattle.shared.specs.declared.jobs.Ask.{Ask}
-use Rattle.shared.specs.declared.jobs.Reply.{Reply}
-use Rattle.shared.specs.declared.jobs.Reply.TheVariants.{Refused}
+use Rattle.requests.specs.declared.jobs.Ask.{Ask}
+use Rattle.requests.specs.declared.jobs.Reply.{Reply}
+use Rattle.requests.specs.declared.jobs.Reply.TheVariants.{Refused}
 use Rattle.shared.specs.Serving.{Turn, deed_told}
 use Rattle.mender.specs.declared.done.Done.{Done}
 use Rattle.mender.specs.Drawn.{Hand}

@@ -16,11 +16,11 @@ use Rattle.book.specs.declared.answer.Answer.{Answer}
 use Rattle.book.specs.declared.answer.Answer.TheVariants as answer
 use Rattle.book.specs.Notes.{note_of}
 use Rattle.book.specs.Serial.{Deed, called, full, too_long, trimmed, Does, Act, act_of, events_in, standing_of}
-use Rattle.shared.proofs.Between.{events-append}
-use Rattle.shared.specs.declared.jobs.Ask.{Ask}
-use Rattle.shared.specs.declared.jobs.Ask.TheVariants as ask
-use Rattle.shared.specs.declared.jobs.Reply.{Reply}
-use Rattle.shared.specs.declared.jobs.Reply.TheVariants.{Made, Refused, Trimmed}
+use Rattle.requests.proofs.Between.{events-append}
+use Rattle.requests.specs.declared.jobs.Ask.{Ask}
+use Rattle.requests.specs.declared.jobs.Ask.TheVariants as ask
+use Rattle.requests.specs.declared.jobs.Reply.{Reply}
+use Rattle.requests.specs.declared.jobs.Reply.TheVariants.{Made, Refused, Trimmed}
 use Rattle.shared.specs.Runs.{operation_asked, IfReadGranted}
 use Rattle.shared.specs.Serving.{keep_asked, deed_told, IfGrantedTo}
 use Rattle.transcript.specs.Lines.{IsLineFor, IsAnswerLine, line_text}

@@ -1,6 +1,6 @@
 -- What is noted of the rows of a round.
 use Rattle.std.specs.Prelude.{◌≡◌, ℕ, List, [], ◌∷◌, ◌++◌, Ok, Err}
-use Rattle.shared.specs.declared.jobs.Reply.{Reply}
+use Rattle.requests.specs.declared.jobs.Reply.{Reply}
 use Rattle.rounds.specs.declared.work.Outcome.{Outcome}
 use Rattle.rounds.specs.declared.work.Outcome.TheVariants.{Called, Mended}
 use Rattle.transcript.specs.declared.outcome.Done.{Done}

@@ -3,8 +3,8 @@ use Rattle.std.specs.Prelude.{◌≡◌, Bool, true, false, not, List, Option, N
 use Rattle.std.specs.List.{list_any}
 use Rattle.sealed.specs.declared.fault.Fault.{Fault}
 use Rattle.sealed.specs.declared.fault.Fault.TheVariants.{JournalFull}
-use Rattle.shared.specs.declared.jobs.Cause.{Cause}
-use Rattle.shared.specs.declared.jobs.Cause.TheVariants as cause
+use Rattle.requests.specs.declared.jobs.Cause.{Cause}
+use Rattle.requests.specs.declared.jobs.Cause.TheVariants as cause
 use Rattle.rounds.specs.Rounds.{DidAll}
 use Rattle.rounds.specs.declared.work.Mended.TheVariants.{Worked, Paused}
 use Rattle.rounds.specs.declared.work.NotRun.{NotRun}

@@ -4,7 +4,7 @@ use Rattle.std.specs.Char.{is_ascii_digit}
 use Rattle.lrc_code.specs.declared.Code.TheVariants.{Wide, Small}
 use Rattle.script.specs.Names.{is_name}
 use Rattle.script.specs.Numbers.{is_number, value}
-use Rattle.shared.specs.declared.jobs.Ask.TheVariants as ask
+use Rattle.requests.specs.declared.jobs.Ask.TheVariants as ask
 use Rattle.script.specs.declared.rows.Operation.{Operation}
 use Rattle.script.specs.declared.rows.Operation.TheVariants.{Put, PutSmall, Read, Lose, Repair, Delete, Stat, Trim, Mend}
 use Rattle.script.specs.declared.rows.Row.{Row}

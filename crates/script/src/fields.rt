@@ -11,7 +11,7 @@ use crate::rows::{Operation, Refusal, Task, Word};
 use book::Name;
 use bytes::Bytes;
 use lrc_code::Code;
-use shared::Ask;
+use requests::Ask;
 use std::alloc::{AllocError, Global};
 use std::str;
 

@@ -1,6 +1,6 @@
 //! The rows of a script, and why one is refused.
 
-use shared::Ask;
+use requests::Ask;
 use std::error::Error;
 use std::fmt;
 use std::io::ErrorKind;

@@ -1,5 +1,5 @@
 use crate::{BadScript, NotRead, Row, Task, Word, read_script, script};
-use shared::Ask;
+use requests::Ask;
 use std::alloc::Global;
 use std::io;
 use std::io::Read;

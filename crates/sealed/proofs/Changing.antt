@@ -1,5 +1,5 @@
 -- Values that differ at one place.
-use Rattle.std.proofs.Common.{◌≡◌, ◌≢◌, ℕ, ◌<◌, ◌≤◌, Bool, true, false, List, [], length, map, get_or, Option, None, Some, Result, Ok, Err, OnOk, OnErr, cond, refl, sym, ap, ◌∙◌, subst, arith}
+use Rattle.std.proofs.Common.{◌≡◌, ◌≢◌, ℕ, ◌<◌, Bool, true, false, List, [], length, map, get_or, Option, None, Some, Result, Ok, Err, OnOk, OnErr, cond, refl, sym, ap, ◌∙◌, subst, arith}
 use Rattle.std.specs.Prelude.{slice_set, ◌&&◌, ◌||◌, ◌==◌, not}
 use Rattle.std.specs.FinSet as set
 use Rattle.std.specs.Cmp.{IsTotalOrder, nat_cmp_total}
@@ -9,7 +9,6 @@ use Rattle.std.proofs.lemmas.Cmp.{then_total, on_total}
 use Rattle.std.proofs.lemmas.Grind.{common_steps}
 use Rattle.std.proofs.lemmas.List.{ext_get_or, length-set, length-map, map-set, get_or-map, set-get_or}
 use Rattle.lrc_code.specs.declared.Code.{Code}
-use Rattle.lrc_code.specs.declared.Code.TheVariants.{Wide, Small}
 use Rattle.lrc_code.specs.Code.{fragment_count}
 use Rattle.sealed.specs.declared.value.Sealed.{Sealed}
 use Rattle.sealed.specs.Layout.{stripe_count}
@@ -50,10 +49,6 @@ set_at stripes j f i g x hj hf =
     ap (λ (row : List (Option (List ℕ))). get_or row g None) (in_rows stripes (slice_set (get_or stripes j []) f x) j i hj)
     ∙ pick_row (i == j) (slice_set (get_or stripes j []) f x) (get_or stripes i []) g f x
     (λ e. in_row (get_or stripes j []) f g x hf ∙ ap (λ (k : ℕ). cond (g == f) x (get_or (get_or stripes k []) g None)) (same_number i j e))
-
-few_fragments : (code : Code) → fragment_count code ≤ 16
-few_fragments Wide = omega arith
-few_fragments Small = omega arith
 
 -- ---- one element that is seen as a row
 module _ {A : Type 0} (items : List A) (row : A → List (Option (List ℕ))) (j : ℕ) (old new : A) (there : j < length items) (at : old ≡ get_or items j old) where

@@ -4,7 +4,7 @@ use Rattle.std.proofs.lemmas.Nat.{div-mul-add}
 use Rattle.std.proofs.lemmas.Bool.{cases_eq}
 use Rattle.lrc_code.specs.declared.Code.{Code}
 use Rattle.lrc_code.specs.declared.Code.TheVariants.{Wide, Small}
-use Rattle.lrc_code.specs.Code.{data_count}
+use Rattle.lrc_code.specs.Code.{data_count, fragment_count}
 
 pub some_data : (code : Code) → 1 ≤ data_count code
 some_data Wide = omega arith
@@ -13,6 +13,14 @@ some_data Small = omega arith
 pub few_data : (code : Code) → data_count code ≤ 12
 few_data Wide = omega arith
 few_data Small = omega arith
+
+pub data_is_counted : (code : Code) → data_count code ≤ fragment_count code
+data_is_counted Wide = omega arith
+data_is_counted Small = omega arith
+
+pub few_fragments : (code : Code) → fragment_count code ≤ 16
+few_fragments Wide = omega arith
+few_fragments Small = omega arith
 
 -- a quotient that is rounded up, by dividing first
 pub rounded_up : (n d : ℕ) → 1 ≤ d → n / d + min 1 (n % d) ≡ (n + d - 1) / d

@@ -1,13 +1,12 @@
 -- A blob's fragments are the one stripe whose data fragments hold its bytes.
-use Rattle.std.proofs.Common.{◌≡◌, ℕ, ◌<◌, ◌≤◌, List, length, sym, ◌∙◌, subst, arith}
+use Rattle.std.proofs.Common.{◌≡◌, ℕ, ◌<◌, List, length, sym, ◌∙◌, subst, arith}
 use Rattle.std.specs.Prelude.{All, slice_index, slice_index_or}
 use Rattle.std.proofs.Common.{inl, inr}
 use Rattle.std.proofs.lemmas.Bool.{cases_lt}
 use Rattle.std.proofs.lemmas.List.{get_or_past}
 use Rattle.std.proofs.lemmas.List.FromFn.{length-map-range_with_len, get_or-map-range_with_len, fill_by_all}
 use Rattle.lrc_code.specs.declared.Code.{Code}
-use Rattle.lrc_code.specs.declared.Code.TheVariants.{Wide, Small}
-use Rattle.lrc_code.specs.Code.{fragment_count, IsColumn, data_count}
+use Rattle.lrc_code.specs.Code.{fragment_count, IsColumn}
 use Rattle.lrc_code.specs.Column.{column}
 use Rattle.lrc_code.proofs.Columns.{column_is, column_only, column_data}
 use Rattle.sealed.specs.Layout.{byte_of}
@@ -20,10 +19,6 @@ byte_or_zero b i bytes =
       | inl inside ↦ bytes i 0 inside
       | inr past ↦ subst (λ x. x < 256) (sym (get_or_past b i 0 past)) (omega arith)
     ]
-
-data_is_counted : (code : Code) → data_count code ≤ fragment_count code
-data_is_counted Wide = omega arith
-data_is_counted Small = omega arith
 
 module _ (code : Code) (w : ℕ) (b : List ℕ) (j : ℕ) where
   at : (f p : ℕ) → p < w → slice_index (fragment code w b j f) p ≡ column code (data_at code w b j p) f

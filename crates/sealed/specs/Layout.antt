@@ -1,6 +1,6 @@
 -- Where the bytes of a blob stand. Stripes, fragments and places are numbers from 0.
-use Rattle.lrc_code.specs.Code.{data_count}
-use Rattle.std.specs.Prelude.{ℕ, ◌+◌, ◌-◌, ◌*◌, ◌/◌, ◌%◌}
+use Rattle.lrc_code.specs.Code.{data_count, fragment_count}
+use Rattle.std.specs.Prelude.{ℕ, ◌+◌, ◌-◌, ◌*◌, ◌/◌, ◌%◌, ◌<◌}
 use Rattle.lrc_code.specs.declared.Code.{Code}
 
 -- how many bytes of a blob a stripe holds: w in each of its data fragments
@@ -10,6 +10,10 @@ stripe_size code w = data_count code * w
 -- how many stripes a blob of this length has: the empty one has none
 abbrev pub stripe_count : Code → ℕ → ℕ → ℕ
 stripe_count code w len = (len + stripe_size code w - 1) / stripe_size code w
+
+-- a blob of this length has a fragment f of stripe j
+abbrev pub HasFragment : Code → ℕ → ℕ → ℕ → ℕ → Type 0
+HasFragment code w len j f = (j < stripe_count code w len) × (f < fragment_count code)
 
 -- byte i of a blob stands in this stripe, in this data fragment of it, and at this place of the fragment
 abbrev pub stripe_of : Code → ℕ → ℕ → ℕ

@@ -1,6 +1,6 @@
 //! How many bytes and stripes a blob has.
-ghost use Rattle.std.specs.Prelude.{◌≡◌, ◌≤◌};
-ghost use Rattle.sealed.specs.Layout.{stripe_count, stripe_size};
+ghost use Rattle.std.specs.Prelude.{◌≡◌, ◌≤◌, ◌↔◌, IsTrue};
+ghost use Rattle.sealed.specs.Layout.{HasFragment, stripe_count, stripe_size};
 
 use crate::Width;
 use lrc_code::Code;
@@ -20,4 +20,11 @@ pub fn count_stripes(code: Code, width: Width, len: u64) -> u64
     ensures { result ≡ stripe_count code width len }
 {
     len.div_ceil(bytes_per_stripe(code, width))
+}
+
+/// Whether a blob of `len` bytes has this fragment: so many stripes, and a code with such a number. Both are counted from 0.
+pub fn has_fragment(code: Code, width: Width, len: u64, stripe: u64, fragment: u64) -> bool
+    ensures { IsTrue result ↔ HasFragment code width len stripe fragment }
+{
+    stripe < count_stripes(code, width, len) && fragment < u64::from(code.fragments())
 }

@@ -133,3 +133,29 @@ fn who_shares_a_stripe_keeps_it(rt: HostRuntime) -> Result<(), Fail> {
     assert!(rt; fragment(&rt, &second, 0, 0) == b"A".as_slice());
     Ok(())
 }
+
+#[test]
+fn a_lost_fragment_is_rebuilt(rt: HostRuntime) -> Result<(), Fail> {
+    let alloc = rt.alloc();
+    let mut value = sealed(&rt, alloc, Bytes::from_static(LETTERS), 4);
+    let has = [
+        value.has_fragment(0, 15),
+        value.has_fragment(0, 16),
+        value.has_fragment(1, 0),
+    ];
+    assert!(rt; has == [true, false, false]);
+    assert!(rt; !value.is_rebuildable(0, 11));
+    for f in [11u8, 4, 5] {
+        take_out(&rt, alloc, &mut value, 0, f);
+    }
+    let can_be_rebuilt = value.is_rebuildable(0, 11);
+    assert!(rt; can_be_rebuilt);
+    let bytes = value.rebuild_fragment(alloc, 0, 11).expect(&rt, "memory");
+    assert!(rt; bytes.as_slice() == b"stuv".as_slice());
+    for f in [12u8, 13] {
+        take_out(&rt, alloc, &mut value, 0, f);
+    }
+    assert!(rt; !value.is_rebuildable(0, 4));
+    assert!(rt; !value.is_rebuildable(1, 0));
+    Ok(())
+}

@@ -22,12 +22,13 @@ use Rattle.book.specs.Tells.{Represents, Correspond}
 use Rattle.book.proofs.Reading.{inside_from}
 use Rattle.book.proofs.Same.{unreadable_alike}
 use Rattle.book.proofs.Versions.{was_put, only_put}
-use Rattle.shared.specs.declared.kept.Kept.{Kept}
-use Rattle.shared.specs.declared.request.Request.{Request}
-use Rattle.shared.specs.declared.request.Request.TheVariants.{Put, Read, Lose, Install, Delete, Stat}
+use Rattle.requests.specs.declared.kept.Kept.{Kept}
+use Rattle.requests.specs.declared.request.Request.{Request}
+use Rattle.requests.specs.declared.request.Request.TheVariants.{Put, Read, Lose, Install, Delete, Stat}
 use Rattle.shared.specs.Passes.{seen_of, width_of}
 use Rattle.shared.specs.Calls.{event, made_by, GrantedIn, IfGranted}
-use Rattle.shared.specs.Requests.{operation_of, IsAnswerTo, IsGrantedTo, MayWant, WantedFor}
+use Rattle.requests.specs.Requests.{operation_of, IsAnswerTo, MayWant}
+use Rattle.shared.specs.Requests.{IsGrantedTo, WantedFor}
 use Rattle.shared.proofs.Steps.{Stepped, told_history}
 
 -- a grant of the book, by the state

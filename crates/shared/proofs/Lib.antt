@@ -1,5 +1,3 @@
-pub mod Bytes
-pub mod Between
 pub mod Passes
 pub mod Steps
 pub mod Requests

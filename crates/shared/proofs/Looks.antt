@@ -12,12 +12,12 @@ use Rattle.book.specs.Contents.{Contents}
 use Rattle.book.specs.Plan.{plan_of}
 use Rattle.book.specs.Tells.{Tells}
 use Rattle.book.specs.Trimming.{given_up}
-use Rattle.shared.specs.declared.kept.Kept.{Kept}
+use Rattle.requests.specs.declared.kept.Kept.{Kept}
 use Rattle.book.specs.Serial.{events_in, given_in}
 use Rattle.shared.specs.Passes.{acts_of, seen_of, trimmed_of, shows}
 use Rattle.shared.specs.Deeds.{trim_deed, Takes}
 use Rattle.shared.specs.Calls.{Trims, GivesUpAlone}
-use Rattle.shared.proofs.Between.{GoesOn, told_length}
+use Rattle.requests.proofs.Between.{GoesOn, told_length}
 use Rattle.shared.proofs.Passes.{trimmed_is}
 use Rattle.shared.proofs.Steps.{Leaves, Stepped, told_history, calls_found, still_goes_on, takes}
 

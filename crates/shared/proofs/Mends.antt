@@ -11,24 +11,25 @@ use Rattle.sealed.specs.declared.fault.Fault.{Fault}
 use Rattle.sealed.specs.declared.fault.Fault.TheVariants.{NoMemory, JournalFull}
 use Rattle.sealed.specs.Layout.{stripe_count}
 use Rattle.sealed.specs.Blob.{fragment}
+use Rattle.sealed.specs.Rebuilding.{IsRebuildable, IsFragmentOf}
 use Rattle.history.specs.State.{Blob}
 use Rattle.history.specs.Step.{Operation, repair}
 use Rattle.history.specs.History.{History, HasPut, state_of}
 use Rattle.book.specs.declared.answer.Answer.{Answer}
 use Rattle.book.specs.Contents.{Contents, sealed_at}
 use Rattle.book.specs.Known.{IsFragmentIn}
-use Rattle.book.specs.Losing.{IsFragmentOf}
 use Rattle.book.specs.Serial.{Deed, Act, events_in, standing_of}
 use Rattle.book.specs.Tells.{Represents, Correspond}
 use Rattle.book.proofs.Versions.{was_put}
-use Rattle.shared.specs.declared.kept.Kept.{Kept}
-use Rattle.shared.specs.declared.mending.Look.{Look}
-use Rattle.shared.specs.declared.mending.Look.TheVariants.{Done, Refused, Mendable}
+use Rattle.requests.specs.declared.kept.Kept.{Kept}
+use Rattle.requests.specs.declared.look.Look.{Look}
+use Rattle.requests.specs.declared.look.Look.TheVariants.{Done, Refused, Rebuildable}
 use Rattle.shared.specs.Passes.{Which, Shows, Calls, seen_of, width_of, trimmed_of, shows}
 use Rattle.shared.specs.Deeds.{deed_of, act_if, DoesIf, Takes}
 use Rattle.shared.specs.Calls.{event, Called, Looked}
-use Rattle.shared.specs.Mends.{IsMendable, IsKnown, FoundIn, Found}
-use Rattle.shared.proofs.Between.{GoesOn}
+use Rattle.requests.specs.Looks.{FoundIn}
+use Rattle.shared.specs.Mends.{IsKnown, Found}
+use Rattle.requests.proofs.Between.{GoesOn}
 use Rattle.shared.proofs.Steps.{Stepped, told_history, looked, takes, IsFullIf, call_goes_on, same_goes_on, room_seen, called}
 
 -- the event of a repair, where the look made it
@@ -40,7 +41,7 @@ pub look_goes_on : (l : Look) (old new : Contents) (who : ℕ) (n : List ℕ) (j
     → FoundIn old new who n j f l → GoesOn old new (events_at_look l who (repair n j f)) 0
 look_goes_on (Done a) old new who n j f kept is = call_goes_on (Ok a) old new who (repair n j f) kept is tt
 look_goes_on (Refused e) old new who n j f kept is = same_goes_on old new is.0
-look_goes_on (Mendable s) old new who n j f kept is = same_goes_on old new is.0
+look_goes_on (Rebuildable s) old new who n j f kept is = same_goes_on old new is.0
 
 known_by : (w : ℕ) (found : Option Sealed) (had : Option Blob) (s : Sealed) → found ≡ Some s → Correspond w found had → (blob : Blob) × (had ≡ Some blob) × Represents w s blob
 known_by w None had s is both = absurd (cc (is))
@@ -75,23 +76,23 @@ look_found p q x y who n j f (Done a) step left is =
 look_found p q x y who n j f (Refused e) step left is =
     called p q x who (repair n j f) (Err e) step left (refused_full e x.0.value is.1) (λ full long. long)
     (λ long. ⊎_elim (λ (none : (e ≡ NoMemory) × (length x.0.value.entries ≢ x.0.value.limit)). cc (none.0, long)) (λ (there : (e ≡ JournalFull) × (length x.0.value.entries ≡ x.0.value.limit)). cc (there.0, long)) is.1)
-look_found p q x y who n j f (Mendable s) step left is = record {
+look_found p q x y who n j f (Rebuildable s) step left is = record {
   looked = looked p q x 0 who step;
   takes = takes p q x [] 0 who None step refl tt;
   base = λ all. left ∙ (step.lone all).1;
   room = room_seen p q x who step left is.3;
   known = known p q x n s.value step is.1;
-  mendable = is.2;
+  rebuildable = is.2;
 }
 
 -- a rebuilt fragment is that of the put
-pub known_fragment : (h : History) (w : ℕ) (n : List ℕ) (s : Sealed) (j f : ℕ) (bytes : List ℕ) → IsKnown h w n s → IsMendable s j f → IsFragmentOf s j f bytes → IsFragmentIn h w n s.version j f bytes
+pub known_fragment : (h : History) (w : ℕ) (n : List ℕ) (s : Sealed) (j f : ℕ) (bytes : List ℕ) → IsKnown h w n s → IsRebuildable s j f → IsFragmentOf s j f bytes → IsFragmentIn h w n s.version j f bytes
 known_fragment h w n s j f bytes k m is = record {
   code = k.blob.code;
   bytes = k.blob.bytes;
   put = subst (λ (v : ℕ). HasPut h v n k.blob.code k.blob.bytes) (sym k.represents.version) k.put_is;
-  stripe = subst (λ (c : ℕ). j < c) (λ i. stripe_count (k.represents.code i) (k.represents.width i) (k.represents.stands.length_is i)) m.stripe;
-  number = subst (λ c. f < fragment_count c) k.represents.code m.number;
+  stripe = subst (λ (c : ℕ). j < c) (λ i. stripe_count (k.represents.code i) (k.represents.width i) (k.represents.stands.length_is i)) m.has.0;
+  number = subst (λ c. f < fragment_count c) k.represents.code m.has.1;
   is = is k.blob.bytes k.blob.lost k.represents.stands ∙ (λ i. fragment (k.represents.code i) (k.represents.width i) k.blob.bytes j f);
 }
 

@@ -6,11 +6,11 @@ use Rattle.gate.specs.Events.{history_of, events_at}
 use Rattle.gate.proofs.Events.{history_prefix, events_at_prefix, events_at-append, once_each, all_made, all_below, once_below_length, within_prefix}
 use Rattle.gate.proofs.Lists.{times-append}
 use Rattle.book.specs.Tells.{Tells}
-use Rattle.shared.specs.declared.kept.Kept.{Kept}
+use Rattle.requests.specs.declared.kept.Kept.{Kept}
 use Rattle.history.specs.History.{History, IsLegal}
 use Rattle.book.specs.Serial.{events_in}
 use Rattle.shared.specs.Passes.{between_kept, acts_between_kept, acts_of, did_of, seen_of, made_of, width_of, limit_of, trimmed_of, shows, TellsAs, IsTold, IsPass, Agrees, IsWhole}
-use Rattle.shared.proofs.Between.{one_call, one_act, told_length, events-append, events_for}
+use Rattle.requests.proofs.Between.{one_call, one_act, told_length, events-append, events_for}
 
 -- the calls among the acts are those that lie between the books
 pub seen_is : (list : List Kept) → seen_of list ≡ history_of between_kept list

@@ -1,51 +1,24 @@
--- What a request makes of the book in the gate.
-use Rattle.std.proofs.Common.{◌≡◌, ◌⊎◌, ℕ, ◌<◌, ◌≤◌, List, ◌++◌, length, None, Result, Ok, Err, IfOk, IfErr, refl, ap, sym, subst, ◌∙◌, ⊎_elim, append_assoc, arith}
+-- What a pass may ask, and what is refused it.
+use Rattle.std.proofs.Common.{◌≡◌, ◌⊎◌, ℕ, ◌<◌, List, ◌++◌, length, None, Err, refl, ap, sym, subst, ◌∙◌, ⊎_elim, append_assoc}
 use mathlib.Core.List.{IsPrefix}
 use Rattle.gate.specs.Places.{SeatState}
 use Rattle.sealed.specs.declared.fault.Fault.{Fault}
-use Rattle.sealed.specs.declared.fault.Fault.TheVariants.{NoMemory, JournalFull, TooLong, Busy}
-use Rattle.sealed.specs.declared.value.Sealed.{Sealed}
-use Rattle.sealed.specs.Blob.{nothing}
+use Rattle.sealed.specs.declared.fault.Fault.TheVariants.{NoMemory, TooLong, Busy}
 use Rattle.sealed.specs.Layout.{stripe_count}
-use Rattle.sealed.specs.Sealed.{StandsFor}
 use Rattle.history.specs.Step.{Operation, put}
 use Rattle.history.specs.History.{History, IsLegal}
-use Rattle.book.specs.declared.answer.Answer.{Answer}
-use Rattle.book.specs.Contents.{Contents}
 use Rattle.book.specs.Known.{IsFragmentIn}
-use Rattle.book.specs.Serial.{IsTooLong}
-use Rattle.book.specs.Tells.{CarriesOn}
-use Rattle.shared.specs.declared.kept.Kept.{Kept}
-use Rattle.shared.specs.declared.request.Request.{Request}
-use Rattle.shared.specs.declared.request.Request.TheVariants.{Put, Read, Lose, Install, Delete, Stat}
-use Rattle.shared.specs.Bytes.{bytes_of}
+use Rattle.requests.specs.declared.kept.Kept.{Kept}
+use Rattle.requests.specs.declared.request.Request.{Request}
+use Rattle.requests.specs.declared.request.Request.TheVariants.{Put, Read, Lose, Install, Delete, Stat}
 use Rattle.lrc_code.specs.declared.Code.{Code}
 use Rattle.shared.specs.Deeds.{Takes}
 use Rattle.shared.specs.Calls.{Called}
 use Rattle.shared.specs.Passes.{Shows, IsPass, Agrees, seen_of, width_of, shows}
-use Rattle.shared.specs.Requests.{operation_of, CanMake, CanAsk, IsFaultOf}
-use Rattle.shared.proofs.Bytes.{bytes_are}
+use Rattle.requests.specs.Requests.{CanMake}
+use Rattle.shared.specs.Requests.{CanAsk}
 use Rattle.shared.proofs.Passes.{agreed, legal_shown}
 use Rattle.shared.proofs.Steps.{Enters, Found, found, found_before, takes_nothing, refused}
-
--- a put carries on the bytes that are read out of its sealed value
-pub put_carries : (r : Result Answer Fault) (old new : Contents) (who : ℕ) (n : List ℕ) (s : Sealed) → (b : List ℕ) × StandsFor s b nothing
-    → IfOk r (λ a. (b : List ℕ) → StandsFor s b nothing → CarriesOn old new who (put n s.code b) a) → IfOk r (CarriesOn old new who (put n s.code (bytes_of s)))
-put_carries (Ok a) old new who n s stands carries = carries (bytes_of s) (subst (λ b. StandsFor s b nothing) (sym (bytes_are s stands.0 stands.1)) stands.1)
-put_carries (Err e) old new who n s stands carries = tt
-
-neither : {f : Fault} → (f ≡ NoMemory) ⊎ (f ≡ JournalFull) → f ≡ TooLong → ⊥
-neither is long = ⊎_elim (λ (m : _ ≡ NoMemory). cc (m, long)) (λ (m : _ ≡ JournalFull). cc (m, long)) is
-
--- no request is too long
-pub never_too_long : (r : Result Answer Fault) (request : Request) → IfErr r (IsFaultOf request) → r ≡ Err TooLong → ⊥
-never_too_long (Ok a) request faults is = absurd (cc (is))
-never_too_long (Err f) (Put alloc n s) faults is = neither faults (cc (is))
-never_too_long (Err f) (Read n start len) faults is = neither faults (cc (is))
-never_too_long (Err f) (Lose alloc n j g) faults is = neither faults (cc (is))
-never_too_long (Err f) (Install alloc n version j g bytes) faults is = neither faults (cc (is))
-never_too_long (Err f) (Delete n) faults is = cc (faults, is)
-never_too_long (Err f) (Stat n) faults is = cc (faults, is)
 
 -- what is known of a put stays known
 pub put_later : (h h' : History) (w : ℕ) (n : List ℕ) (v j f : ℕ) (x : List ℕ) → IsPrefix h h' → IsFragmentIn h w n v j f x → IsFragmentIn h' w n v j f x
@@ -62,20 +35,6 @@ put_later h h' w n v j f x more is = record {
   number = is.number;
   is = is.is;
 }
-
--- no request that can be made is too long
-pub request_fits : (book : Contents) (request : Request) → CanMake book request → ¬ IsTooLong book.width (operation_of request)
-request_fits book (Put alloc n s) can over =
-    let few : length s.stripes ≤ 4096 = s.shaped.few in
-    let count : length s.stripes ≡ stripe_count s.code s.width s.len = s.shaped.count in
-    let long : length (bytes_of s) ≡ s.len = ap length (bytes_are s can.1.0 can.1.1) ∙ sym can.1.1.length_is in
-    let same : stripe_count s.code book.width (length (bytes_of s)) ≡ stripe_count s.code s.width s.len = λ i. stripe_count s.code (sym can.0 i) (long i) in
-    absurd (omega arith)
-request_fits book (Read n start len) can over = over
-request_fits book (Lose alloc n j g) can over = over
-request_fits book (Install alloc n version j g bytes) can over = over
-request_fits book (Delete n) can over = over
-request_fits book (Stat n) can over = over
 
 -- what a pass may ask can be made on the book that it finds
 can_make : (p m : SeatState Kept) (x : Kept) (who : ℕ) (request : Request) → Found p m x → CanAsk (shows p who) request → CanMake x.0.value request

@@ -8,8 +8,8 @@ use Rattle.sealed.specs.declared.fault.Fault.TheVariants.{NoMemory, JournalFull,
 use Rattle.history.specs.Step.{Operation}
 use Rattle.history.specs.History.{Event, History}
 use Rattle.book.specs.declared.answer.Answer.{Answer}
-use Rattle.shared.specs.declared.jobs.Reply.{Reply}
-use Rattle.shared.specs.declared.jobs.Reply.TheVariants.{Made, Refused, Trimmed}
+use Rattle.requests.specs.declared.jobs.Reply.{Reply}
+use Rattle.requests.specs.declared.jobs.Reply.TheVariants.{Made, Refused, Trimmed}
 use Rattle.shared.specs.declared.run.Outcome.{Outcome}
 use Rattle.shared.specs.declared.run.Outcome.TheVariants as outcome
 use Rattle.shared.specs.Passes.{Which, Shows, Stays, Looks}

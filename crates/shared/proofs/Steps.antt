@@ -19,12 +19,12 @@ use Rattle.book.specs.Serial.{IsTooLong, Deed, Act, events_in, given_in, standin
 use Rattle.book.specs.declared.answer.Answer.{Answer}
 use Rattle.book.specs.Contents.{Contents}
 use Rattle.book.specs.Tells.{Tells, CarriesOn}
-use Rattle.shared.specs.declared.kept.Kept.{Kept}
-use Rattle.shared.specs.Between.{MayFollow, TellsActs, acts_for}
+use Rattle.requests.specs.declared.kept.Kept.{Kept}
+use Rattle.requests.specs.Between.{MayFollow, TellsActs, acts_for}
 use Rattle.shared.specs.Passes.{Which, Shows, between_kept, acts_between_kept, acts_of, did_of, seen_of, made_of, width_of, limit_of, trimmed_of, shows, TellsAs, IsPass, Agrees, Stays}
 use Rattle.shared.specs.Deeds.{deed_of, act_if, DoesIf, Takes}
 use Rattle.shared.specs.Calls.{event, made_by, Called, Looked, HasRoom, IsOutside}
-use Rattle.shared.proofs.Between.{GoesOn, between_is, acts_are, tells_more, told_length, events-append, events_for, below_unless, goes_follows}
+use Rattle.requests.proofs.Between.{GoesOn, between_is, acts_are, tells_more, told_length, events-append, events_for, below_unless, goes_follows}
 use Rattle.shared.proofs.Passes.{width_stays, limit_stays, trimmed_is, seen_is, agreed}
 
 abbrev pub kept_follows : Kept → Kept → Type 0

@@ -4,10 +4,10 @@ use Rattle.std.proofs.lemmas.List.{append-nil}
 use mathlib.Core.List.{IsPrefix}
 use Rattle.gate.proofs.Lists.{prefix_self, prefix_trans}
 use Rattle.history.specs.History.{History}
-use Rattle.shared.specs.declared.jobs.Ask.{Ask}
-use Rattle.shared.specs.declared.jobs.Job.{Job}
-use Rattle.shared.specs.declared.jobs.Reply.{Reply}
-use Rattle.shared.specs.declared.jobs.Reply.TheVariants.{Trimmed}
+use Rattle.requests.specs.declared.jobs.Ask.{Ask}
+use Rattle.requests.specs.declared.jobs.Job.{Job}
+use Rattle.requests.specs.declared.jobs.Reply.{Reply}
+use Rattle.requests.specs.declared.jobs.Reply.TheVariants.{Trimmed}
 use Rattle.shared.specs.declared.run.Outcome.{Outcome}
 use Rattle.shared.specs.declared.run.Outcome.TheVariants as outcome
 use Rattle.shared.specs.Passes.{Shows}

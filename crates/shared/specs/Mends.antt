@@ -1,40 +1,22 @@
 -- What a look before a repair finds.
-use Rattle.std.specs.Prelude.{◌≡◌, ◌≢◌, ◌⊎◌, ℕ, ◌<◌, true, List, length, None, Some, Ok, Err}
-use Rattle.lrc_code.specs.Code.{fragment_count, Open}
+use Rattle.std.specs.Prelude.{◌≡◌, ◌⊎◌, ℕ, List, None, Ok, Err}
 use Rattle.sealed.specs.declared.value.Sealed.{Sealed}
-use Rattle.sealed.specs.declared.fault.Fault.{Fault}
-use Rattle.sealed.specs.declared.fault.Fault.TheVariants.{NoMemory, JournalFull}
-use Rattle.sealed.specs.Layout.{stripe_count}
-use Rattle.sealed.specs.Sealed.{absent_in}
+use Rattle.sealed.specs.Rebuilding.{IsRebuildable}
 use Rattle.history.specs.State.{Blob}
 use Rattle.history.specs.Step.{repair}
 use Rattle.history.specs.History.{History, HasPut}
-use Rattle.book.specs.Contents.{Contents, sealed_at}
-use Rattle.book.specs.Tells.{CarriesOn, Represents}
-use Rattle.shared.specs.declared.mending.Look.{Look}
-use Rattle.shared.specs.declared.mending.Look.TheVariants.{Done, Refused, Mendable}
+use Rattle.book.specs.Tells.{Represents}
+use Rattle.requests.specs.declared.look.Look.{Look}
+use Rattle.requests.specs.declared.look.Look.TheVariants.{Done, Refused, Rebuildable}
 use Rattle.shared.specs.Passes.{Shows}
 use Rattle.shared.specs.Deeds.{Takes}
 use Rattle.shared.specs.Calls.{Called, Looked, HasRoom}
-
--- the value lacks the fragment, which can be told from those left
-pub record IsMendable (s : Sealed) (j f : ℕ) : Type 0 where
-  pub stripe : j < stripe_count s.code s.width s.len
-  pub number : f < fragment_count s.code
-  pub lost : absent_in s j f ≡ true
-  pub closed : Open s.code (absent_in s j) f → ⊥
 
 -- the value represents a blob that was put in this history
 pub record IsKnown (h : History) (w : ℕ) (n : List ℕ) (s : Sealed) : Type 0 where
   pub blob : Blob
   pub represents : Represents w s blob
   pub put_is : HasPut h blob.version n blob.code blob.bytes
-
--- what is found in the book: the repair was made, or was refused, or nothing was changed, there is room and the fragment can be rebuilt outside
-abbrev pub FoundIn : Contents → Contents → ℕ → List ℕ → ℕ → ℕ → Look → Type 0
-FoundIn old new who n j f (Done a) = CarriesOn old new who (repair n j f) a × (length old.entries ≢ old.limit)
-FoundIn old new who n j f (Refused e) = (new ≡ old) × (((e ≡ NoMemory) × (length old.entries ≢ old.limit)) ⊎ ((e ≡ JournalFull) × (length old.entries ≡ old.limit)))
-FoundIn old new who n j f (Mendable s) = (new ≡ old) × (sealed_at old n ≡ Some s.value) × IsMendable s.value j f × (length old.entries ≢ old.limit)
 
 -- a pass found that there is room, and that the fragment can be rebuilt from this value
 pub record CanMend (v : Shows) (n : List ℕ) (j f : ℕ) (s : Sealed) (w : Shows) : Type 0 where
@@ -43,7 +25,7 @@ pub record CanMend (v : Shows) (n : List ℕ) (j f : ℕ) (s : Sealed) (w : Show
   pub base : v.room ≡ 64 → w.trimmed ≡ v.trimmed
   pub room : HasRoom w
   pub known : IsKnown w.seen w.store.width n s
-  pub mendable : IsMendable s j f
+  pub rebuildable : IsRebuildable s j f
 
 -- a pass that does not wait found somebody inside: it is as it was, or has looked before that and found a value to rebuild from
 abbrev pub FoundBusy : Shows → List ℕ → ℕ → ℕ → Shows → Type 0
@@ -53,9 +35,4 @@ FoundBusy v n j f w = (w ≡ v) ⊎ ((s : Sealed) × CanMend v n j f s w)
 abbrev pub Found : Shows → List ℕ → ℕ → ℕ → Look → Shows → Type 0
 Found v n j f (Done a) w = Called v (repair n j f) (Ok a) w
 Found v n j f (Refused e) w = Called v (repair n j f) (Err e) w
-Found v n j f (Mendable s) w = CanMend v n j f s.value w
-
--- where the look was refused
-abbrev pub IfRefused : Look → (Fault → Type 0) → Type 0
-IfRefused (Refused e) P = P e
-IfRefused look P = Unit {0}
+Found v n j f (Rebuildable s) w = CanMend v n j f s.value w

@@ -5,8 +5,8 @@ use Rattle.gate.specs.Places.{TableId, SeatState, last_of, IsWithin, times}
 use Rattle.gate.specs.Events.{history_of, events_at}
 use Rattle.history.specs.History.{Event, History}
 use Rattle.book.specs.Serial.{Act, events_in, given_in}
-use Rattle.shared.specs.declared.kept.Kept.{Kept}
-use Rattle.shared.specs.Between.{between, acts_between, TellsActs}
+use Rattle.requests.specs.declared.kept.Kept.{Kept}
+use Rattle.requests.specs.Between.{between, acts_between, TellsActs}
 
 -- a store, with the width and the limit of its books
 pub record Which : Type 0 where

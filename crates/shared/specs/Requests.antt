@@ -1,35 +1,14 @@
--- Calls as they are made on the book in the gate.
-use Rattle.std.specs.Prelude.{◌≡◌, ◌⊎◌, ℕ, List}
-use Rattle.sealed.specs.declared.fault.Fault.{Fault}
-use Rattle.sealed.specs.declared.fault.Fault.TheVariants.{NoMemory, JournalFull}
+-- Calls as they are asked of a store.
+use Rattle.std.specs.Prelude.{◌≡◌, ℕ, List}
 use Rattle.sealed.specs.Blob.{nothing}
 use Rattle.sealed.specs.Sealed.{StandsFor}
-use Rattle.history.specs.Step.{Operation, put, read, lose, repair, delete, stat}
 use Rattle.history.specs.History.{History}
 use Rattle.book.specs.declared.answer.Answer.{Answer}
-use Rattle.book.specs.Asked.{IsReadAnswer, IsGrantable}
-use Rattle.book.specs.Contents.{Contents, sealed_at}
 use Rattle.book.specs.Known.{IsFragmentIn}
-use Rattle.book.specs.Tells.{Tells}
-use Rattle.shared.specs.declared.request.Request.{Request}
-use Rattle.shared.specs.declared.request.Request.TheVariants.{Put, Read, Lose, Install, Delete, Stat}
-use Rattle.shared.specs.Bytes.{bytes_of}
+use Rattle.requests.specs.declared.request.Request.{Request}
+use Rattle.requests.specs.declared.request.Request.TheVariants.{Put, Read, Install}
 use Rattle.shared.specs.Calls.{IfGranted, GrantedIn, CanGrant}
 use Rattle.shared.specs.Passes.{Shows}
-
-abbrev pub operation_of : Request → Operation
-operation_of (Put alloc n s) = put n s.code (bytes_of s)
-operation_of (Read n start len) = read n start len
-operation_of (Lose alloc n j f) = lose n j f
-operation_of (Install alloc n version j f bytes) = repair n j f
-operation_of (Delete n) = delete n
-operation_of (Stat n) = stat n
-
--- it can be made on this book
-abbrev pub CanMake : Contents → Request → Type 0
-CanMake book (Put alloc n s) = (s.width ≡ book.width) × ((b : List ℕ) × StandsFor s b nothing)
-CanMake book (Install alloc n version j f bytes) = (h : History) × Tells book h × IsFragmentIn h book.width n version j f bytes
-CanMake book request = Unit {0}
 
 -- it can be asked of a store by who has this pass
 abbrev pub CanAsk : Shows → Request → Type 0
@@ -37,28 +16,12 @@ CanAsk v (Put alloc n s) = (s.width ≡ v.store.width) × ((b : List ℕ) × Sta
 CanAsk v (Install alloc n version j f bytes) = IsFragmentIn v.seen v.store.width n version j f bytes
 CanAsk v request = Unit {0}
 
--- what a book answers to a read
-abbrev pub IsAnswerTo : Contents → Request → Answer → Type 0
-IsAnswerTo book (Read n start len) answer = IsReadAnswer (sealed_at book n) start len answer
-IsAnswerTo book request answer = Unit {0}
-
--- and what a pass is granted
+-- what a pass is granted
 abbrev pub IsGrantedTo : History → ℕ → Request → Answer → Type 0
 IsGrantedTo h w (Read n start len) answer = IfGranted answer (GrantedIn h w n start len)
 IsGrantedTo h w request answer = Unit {0}
 
--- a read wants memory only where the book can grant it
-abbrev pub MayWant : Contents → Request → Type 0
-MayWant book (Read n start len) = IsGrantable (sealed_at book n) start len
-MayWant book request = Unit {0}
-
--- and as a pass sees it
+-- a read wants memory only where the history grants it
 abbrev pub WantedFor : History → ℕ → Request → Type 0
 WantedFor h w (Read n start len) = CanGrant h w n start len
 WantedFor h w request = Unit {0}
-
--- deletions and questions ask for no memory
-abbrev pub IsFaultOf : Request → Fault → Type 0
-IsFaultOf (Delete n) fault = fault ≡ JournalFull
-IsFaultOf (Stat n) fault = fault ≡ JournalFull
-IsFaultOf request fault = (fault ≡ NoMemory) ⊎ (fault ≡ JournalFull)

@@ -7,11 +7,11 @@ use Rattle.history.specs.Step.{Operation, put, read, lose, repair, delete, stat}
 use Rattle.history.specs.History.{Event, History}
 use Rattle.book.specs.declared.answer.Answer.{Answer}
 use Rattle.book.specs.Trimming.{given_up}
-use Rattle.shared.specs.declared.jobs.Ask.{Ask}
-use Rattle.shared.specs.declared.jobs.Ask.TheVariants.{Put, Read, Lose, Repair, Delete, Stat, Trim}
-use Rattle.shared.specs.declared.jobs.Job.{Job}
-use Rattle.shared.specs.declared.jobs.Reply.{Reply}
-use Rattle.shared.specs.declared.jobs.Reply.TheVariants.{Made, Refused, Trimmed}
+use Rattle.requests.specs.declared.jobs.Ask.{Ask}
+use Rattle.requests.specs.declared.jobs.Ask.TheVariants.{Put, Read, Lose, Repair, Delete, Stat, Trim}
+use Rattle.requests.specs.declared.jobs.Job.{Job}
+use Rattle.requests.specs.declared.jobs.Reply.{Reply}
+use Rattle.requests.specs.declared.jobs.Reply.TheVariants.{Made, Refused, Trimmed}
 use Rattle.shared.specs.declared.run.Outcome.{Outcome}
 use Rattle.shared.specs.declared.run.Outcome.TheVariants as outcome
 use Rattle.shared.specs.Passes.{Shows, Stays}

@@ -11,11 +11,11 @@ use Rattle.history.specs.History.{History}
 use Rattle.book.specs.declared.answer.Answer.{Answer}
 use Rattle.book.specs.Notes.{note_of}
 use Rattle.book.specs.Serial.{Deed, called, full, too_long, trimmed, Does, Act, act_of, events_in, standing_of}
-use Rattle.shared.specs.declared.jobs.Ask.{Ask}
-use Rattle.shared.specs.declared.jobs.Ask.TheVariants as ask
-use Rattle.shared.specs.declared.jobs.Job.{Job}
-use Rattle.shared.specs.declared.jobs.Reply.{Reply}
-use Rattle.shared.specs.declared.jobs.Reply.TheVariants.{Made, Refused, Trimmed}
+use Rattle.requests.specs.declared.jobs.Ask.{Ask}
+use Rattle.requests.specs.declared.jobs.Ask.TheVariants as ask
+use Rattle.requests.specs.declared.jobs.Job.{Job}
+use Rattle.requests.specs.declared.jobs.Reply.{Reply}
+use Rattle.requests.specs.declared.jobs.Reply.TheVariants.{Made, Refused, Trimmed}
 use Rattle.shared.specs.declared.run.Outcome.{Outcome}
 use Rattle.shared.specs.declared.run.Outcome.TheVariants as outcome
 use Rattle.shared.specs.Passes.{Shows}

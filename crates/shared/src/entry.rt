@@ -1,11 +1,12 @@
 //! One call inside the gate.
 ghost use Rattle.std.specs.Prelude.{◌≡◌, ◌≢◌, ◌⊎◌, IfOk, IfErr};
 ghost use Rattle.shared.specs.Calls.{Called};
-ghost use Rattle.shared.specs.Requests.{operation_of, CanAsk, IsGrantedTo, WantedFor, IsFaultOf};
+ghost use Rattle.requests.specs.Requests.{operation_of, IsFaultOf};
+ghost use Rattle.shared.specs.Requests.{CanAsk, IsGrantedTo, WantedFor};
 
-use crate::request::Request;
 use crate::{Pass, Store};
 use book::{Answer, Fault};
+use requests::Request;
 use std::sync::Wait;
 
 impl Store {

@@ -4,20 +4,22 @@
 
 mod calls;
 mod entry;
-mod jobs;
-mod kept;
 mod mending;
 mod pass;
 mod plan;
-mod request;
 mod run;
 mod store;
 mod tries;
 mod trim;
 
-pub use jobs::{Ask, Cause, Job, Pace, Reply, Stopped};
-pub use kept::Kept;
+pub use book::{
+    Answer, Base, Book, Call, Entry, Fault, Item, Limit, Name, Note, Plan, is_lawful, is_lawful_from,
+};
+pub use bytes::Bytes;
+pub use lent::{Asked, Grant, Piece, PlannedWalk, Span, Spans, Walk};
+pub use lrc_code::{Code, Plans};
 pub use pass::Pass;
+pub use requests::{Ask, Cause, Job, Kept, Pace, Reply, Stopped};
 pub use store::Store;
 
 #[cfg(test)]

@@ -1,29 +1,15 @@
 //! Repairs. What can be rebuilt is rebuilt outside the gate, while others may be inside.
-ghost use Rattle.std.specs.Prelude.{◌≡◌, ◌≢◌, ◌⊎◌, IsTrue, IfOk, IfErr};
+ghost use Rattle.std.specs.Prelude.{◌≡◌, ◌≢◌, ◌⊎◌, IfErr};
 ghost use Rattle.history.specs.Step.{repair as repair_of};
-ghost use Rattle.book.specs.Losing.{IsFragmentOf};
 ghost use Rattle.shared.specs.Calls.{Called};
-ghost use Rattle.shared.specs.Mends.{IsMendable, Found, FoundBusy, FoundIn, IfRefused};
+ghost use Rattle.requests.specs.Looks.{IfRefused};
+ghost use Rattle.shared.specs.Mends.{Found, FoundBusy};
 
-use crate::request::Request;
-use crate::{Kept, Pass, Store};
-use book::{Answer, Book, Fault, Name};
-use bytes::Bytes;
-use lrc_code::{NoMemory, Rebuild, is_open_in, rebuild};
-use sealed::Sealed;
-use std::alloc::{AllocError, Global};
-use std::sync::{Arc, Wait};
-
-/// What a look before a repair finds.
-#[derive(Drop)]
-pub enum Look {
-    /// The repair was made, and answered so.
-    Done(Answer),
-    /// It was refused.
-    Refused(Fault),
-    /// The fragment can be rebuilt from this value, and nothing was done.
-    Mendable(Arc<Sealed>),
-}
+use crate::{Pass, Store};
+use book::{Answer, Fault, Name};
+use requests::{Look, Request, look_in};
+use std::alloc::Global;
+use std::sync::Wait;
 
 impl Store {
     /// Rebuilds a lost fragment of a name's blob. It enters twice where the fragment can be rebuilt, and rebuilds in between; the answer is then that of the second time.
@@ -48,9 +34,9 @@ impl Store {
         let sealed = match self.look(rt, alloc, pass, &name, stripe, fragment) {
             Look::Done(answer) => return Ok(answer),
             Look::Refused(fault) => return Err(fault),
-            Look::Mendable(sealed) => sealed,
+            Look::Rebuildable(sealed) => sealed,
         };
-        let Ok(bytes) = rebuild_whole(alloc, &sealed, stripe, fragment) else {
+        let Ok(bytes) = sealed.rebuild_fragment(alloc, stripe, fragment) else {
             return Err(Fault::NoMemory);
         };
         let version = sealed.version;
@@ -89,9 +75,9 @@ impl Store {
         let sealed = match self.try_look(alloc, pass, &name, stripe, fragment) {
             Look::Done(answer) => return Ok(answer),
             Look::Refused(fault) => return Err(fault),
-            Look::Mendable(sealed) => sealed,
+            Look::Rebuildable(sealed) => sealed,
         };
-        let Ok(bytes) = rebuild_whole(alloc, &sealed, stripe, fragment) else {
+        let Ok(bytes) = sealed.rebuild_fragment(alloc, stripe, fragment) else {
             return Err(Fault::NoMemory);
         };
         let version = sealed.version;
@@ -151,87 +137,5 @@ impl Store {
         let look = look_in(&mut inside.value, alloc, pass.who, name, stripe, fragment);
         self.gate.leave(&mut pass.seat, inside);
         look
-    }
-}
-
-/// Looks at the book in the gate, and makes the repair there if it answers anything but `Repaired`.
-fn look_in(
-    kept: &mut Kept,
-    alloc: Global,
-    who: u32,
-    name: &Name,
-    stripe: u64,
-    fragment: u64,
-) -> Look
-    ensures found { FoundIn kept.old.0.value kept.new.0.value who name.now stripe fragment result }
-    ensures kept { (kept.new.0.value.width ≡ kept.old.0.value.width) × (kept.new.0.value.limit ≡ kept.old.0.value.limit) × (kept.new.0.value.base ≡ kept.old.0.value.base) }
-{
-    let book: &mut Book = &mut kept.0;
-    look_in_book(book, alloc, who, name, stripe, fragment)
-}
-
-/// Looks at a book, and makes the repair there if it answers anything but `Repaired`.
-fn look_in_book(
-    book: &mut Book,
-    alloc: Global,
-    who: u32,
-    name: &Name,
-    stripe: u64,
-    fragment: u64,
-) -> Look
-    ensures found { FoundIn book.old book.new who name.now stripe fragment result }
-    ensures kept { (book.new.width ≡ book.old.width) × (book.new.limit ≡ book.old.limit) × (book.new.base ≡ book.old.base) }
-{
-    if book.is_full() {
-        return Look::Refused(Fault::JournalFull);
-    }
-    if let Some(sealed) = book.find(name) {
-        if is_mendable(sealed, stripe, fragment) {
-            return match Arc::try_clone(sealed) {
-                Ok(sealed) => Look::Mendable(sealed),
-                Err(_) => Look::Refused(Fault::NoMemory),
-            };
-        }
-    }
-    match book.repair(alloc, who, name.duplicate(), stripe, fragment) {
-        Ok(answer) => Look::Done(answer),
-        Err(fault) => Look::Refused(fault),
-    }
-}
-
-/// Whether a value lacks a fragment that can be told from those left.
-fn is_mendable(sealed: &Sealed, stripe: u64, fragment: u64) -> bool
-    ensures { IsTrue result → IsMendable sealed.now stripe fragment }
-{
-    let has_stripe = stripe < sealed.stripes.len() as u64;
-    if !has_stripe || fragment >= u64::from(sealed.code.fragments()) {
-        return false;
-    }
-    let f = fragment as u8;
-    if sealed.fragment(stripe, f).is_some() {
-        return false;
-    }
-    !is_open_in(sealed.code, sealed.lost(stripe), f)
-}
-
-/// The whole of a fragment that can be rebuilt.
-fn rebuild_whole(
-    alloc: Global,
-    sealed: &Sealed,
-    stripe: u64,
-    fragment: u64,
-) -> Result<Bytes, NoMemory>
-    requires { IsMendable sealed.now stripe fragment }
-    ensures { IfOk result (IsFragmentOf sealed.now stripe fragment) }
-{
-    let left = sealed.left(stripe);
-    let width = sealed.width.get() as usize;
-    match rebuild(alloc, &left, fragment as usize, 0, width) {
-        Ok(bytes) => match Bytes::from_vec(bytes) {
-            Ok(bytes) => Ok(bytes),
-            Err(_) => Err(AllocError),
-        },
-        Err(Rebuild::NoMemory) => Err(AllocError),
-        Err(Rebuild::Open) => unreachable!(),
     }
 }

@@ -5,11 +5,11 @@ ghost use Rattle.sealed.specs.Layout.{stripe_count};
 ghost use Rattle.history.specs.Step.{put as put_of, read as read_of, lose as lose_of, delete as delete_of, stat as stat_of};
 ghost use Rattle.shared.specs.Calls.{Called, CanGrant, GrantedIn, IfGranted};
 
-use crate::request::Request;
 use crate::{Pass, Store};
 use book::{Answer, Fault, Name};
 use bytes::Bytes;
 use lrc_code::Code;
+use requests::Request;
 use sealed::seal_as;
 use std::alloc::Global;
 

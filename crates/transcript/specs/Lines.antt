@@ -14,7 +14,7 @@ use Rattle.history.specs.declared.note.Entry.{Entry}
 use Rattle.book.specs.Notes.{note_of}
 use Rattle.book.specs.declared.answer.Answer.{Answer}
 use Rattle.book.specs.declared.answer.Answer.TheVariants as answer
-use Rattle.shared.specs.declared.jobs.Reply.TheVariants as made
+use Rattle.requests.specs.declared.jobs.Reply.TheVariants as made
 use Rattle.mender.specs.Line.{report_line}
 use Rattle.transcript.specs.declared.outcome.Done.{Done}
 use Rattle.transcript.specs.declared.outcome.RowOutcome.{RowOutcome}

@@ -8,7 +8,7 @@ use book::{Answer, Fault, Note};
 use lent::{Grant, Piece};
 use lrc_code::Plans;
 use mender::Report;
-use shared::Reply;
+use requests::Reply;
 use std::alloc::{AllocError, Global};
 use std::fmt;
 

@@ -2,7 +2,7 @@ use Rattle.std.proofs.Common.{Err, ap, sym, subst, ◌∙◌}
 use Rattle.history.specs.Step.{Operation, put}
 use Rattle.shared.specs.Passes.{Which}
 use Rattle.shared.specs.Calls.{Called}
-use Rattle.shared.proofs.Bytes.{bytes_are}
+use Rattle.requests.proofs.Bytes.{bytes_are}
 use Rattle.shared.proofs.Requests.{refused_put}
 use Rattle.shared.proofs.store.Store.put_as.Goals as goal
 

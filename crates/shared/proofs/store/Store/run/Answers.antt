@@ -1,9 +1,9 @@
 use Rattle.std.proofs.Common.{◌≡◌, ℕ, ◌<◌, inr, List, [], ◌∷◌, ◌++◌, ◌+◌, length, Option, sym, ap, subst, ◌∙◌, arith, append_assoc, length-append}
 use Rattle.std.proofs.lemmas.List.{map-append, length-map}
 use Rattle.history.specs.Step.{Operation}
-use Rattle.shared.specs.declared.jobs.Ask.{Ask}
-use Rattle.shared.specs.declared.jobs.Job.{Job}
-use Rattle.shared.specs.declared.jobs.Reply.{Reply}
+use Rattle.requests.specs.declared.jobs.Ask.{Ask}
+use Rattle.requests.specs.declared.jobs.Job.{Job}
+use Rattle.requests.specs.declared.jobs.Reply.{Reply}
 use Rattle.shared.specs.Runs.{operation_asked, asked, Runs, AreTrims}
 use Rattle.shared.proofs.Runs.{runs_none, runs_longer, runs_more, served, stopped}
 use Rattle.shared.specs.Serving.{asks_of, Serves}

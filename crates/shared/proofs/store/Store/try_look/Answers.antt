@@ -1,9 +1,9 @@
 use Rattle.std.proofs.Common.{IfSome, sym, subst}
 use Rattle.history.specs.Step.{repair}
-use Rattle.shared.specs.Between.{MayFollow}
+use Rattle.requests.specs.Between.{MayFollow}
 use Rattle.shared.specs.Passes.{shows}
 use Rattle.shared.specs.Mends.{Found}
-use Rattle.shared.proofs.Between.{goes_follows}
+use Rattle.requests.proofs.Between.{goes_follows}
 use Rattle.shared.proofs.Requests.{was_busy}
 use Rattle.shared.proofs.Steps.{Stepped, left_base, stepped}
 use Rattle.shared.proofs.Mends.{events_at_look, look_goes_on, look_found}

@@ -1,9 +1,9 @@
 use Rattle.std.proofs.Common.{◌≡◌, [], IfSome, sym, subst}
-use Rattle.shared.specs.Between.{MayFollow}
+use Rattle.requests.specs.Between.{MayFollow}
 use Rattle.shared.specs.Passes.{Shows, shows}
 use Rattle.shared.specs.Deeds.{trim_deed, Takes}
 use Rattle.shared.specs.Calls.{Looked, GivesUpAlone}
-use Rattle.shared.proofs.Between.{goes_follows}
+use Rattle.requests.proofs.Between.{goes_follows}
 use Rattle.shared.proofs.Requests.{did_nothing}
 use Rattle.shared.proofs.Steps.{Stepped, stepped, looked}
 use Rattle.shared.proofs.Looks.{given_by, trim_goes_on, takes_trim, trims, trims_alone}

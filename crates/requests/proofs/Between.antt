@@ -19,8 +19,8 @@ use Rattle.history.proofs.Beginnings.{after_all-append}
 use Rattle.book.specs.Contents.{Contents, sealed_at}
 use Rattle.book.specs.Tells.{Tells, Correspond}
 use Rattle.book.specs.Serial.{Act, call, trim, events_in, given_in}
-use Rattle.shared.specs.Between.{bytes_found, operation_in, first_in, between, acts_for, acts_between, TellsActs, MayFollow}
-use Rattle.shared.proofs.Bytes.{bytes_are}
+use Rattle.requests.specs.Between.{bytes_found, operation_in, first_in, between, acts_for, acts_between, TellsActs, MayFollow}
+use Rattle.requests.proofs.Bytes.{bytes_are}
 
 kept_bytes : (w : ℕ) (found : Option Sealed) (v : ℕ) (code : Code) (b : List ℕ) → Correspond w found (Some (record { version = v; bytes = b; code = code; lost = nothing })) → bytes_found found ≡ b
 kept_bytes w None v code b keeps = absurd keeps

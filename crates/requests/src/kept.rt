@@ -14,7 +14,7 @@ use std::alloc::{AllocError, Global};
 pub struct Kept(pub Box<Book, Global>);
 
 impl Follows for Kept {
-    ghost use Rattle.shared.specs.Between.{MayFollow};
+    ghost use Rattle.requests.specs.Between.{MayFollow};
 
     ghost follows = { λ a b. MayFollow a.0.value b.0.value };
 }
@@ -31,16 +31,16 @@ impl Kept {
         }
     }
 
-    /// As `Book::plan`.
-    pub(crate) fn plan(&self, alloc: Global) -> Result<Plan, AllocError>
+    /// The lost fragments of all blobs, as `Book::plan` gives them.
+    pub fn plan(&self, alloc: Global) -> Result<Plan, AllocError>
         ensures { IfOk result (λ p. (h : History) → Tells self.now.0.value h → p.items.items ≡ plan_of (state_of h)) }
     {
         let book: &Book = &self.0;
         book.plan(alloc)
     }
 
-    /// As `Book::trim`.
-    pub(crate) fn trim(&mut self, alloc: Global, keep: u64) -> Result<u64, Fault>
+    /// Gives up all entries but the last `keep`, as `Book::trim` does.
+    pub fn trim(&mut self, alloc: Global, keep: u64) -> Result<u64, Fault>
         ensures told { (h : History) → Tells self.old.0.value h → Tells self.new.0.value h }
         ensures answer { IfOk result (λ n. n ≡ given_up self.old.0.value.base.trimmed (length self.old.0.value.entries) keep) }
         ensures trimmed { IfOk result (λ n. self.new.0.value.base.trimmed ≡ self.old.0.value.base.trimmed + n) }

@@ -1,7 +1,7 @@
 //! Calls as they are made on the book in the gate.
 ghost use Rattle.std.specs.Prelude.{◌≡◌, ◌↔◌, length, IfOk, IfErr, OnErr};
 ghost use Rattle.book.specs.Tells.{CarriesOn};
-ghost use Rattle.shared.specs.Requests.{operation_of, CanMake, IsAnswerTo, MayWant, IsFaultOf};
+ghost use Rattle.requests.specs.Requests.{operation_of, CanMake, IsAnswerTo, MayWant, IsFaultOf};
 
 use crate::Kept;
 use book::{Answer, Book, Fault, Name};
@@ -45,8 +45,11 @@ pub enum Request {
 }
 
 impl Request {
-    /// Makes the call on the book in the gate.
-    pub(crate) fn make_on(self, kept: &mut Kept, who: u32) -> Result<Answer, Fault>
+    /// Makes the call on the book in the gate, under this label.
+    ///
+    /// `JournalFull` where the journal holds as many entries as its limit; else `NoMemory` where memory is refused, which a deletion and a question for the shape don't ask for. After
+    /// either the book is as it was.
+    pub fn make_on(self, kept: &mut Kept, who: u32) -> Result<Answer, Fault>
         requires { CanMake kept.old.0.value self }
         ensures ok { IfOk result (CarriesOn kept.old.0.value kept.new.0.value who (operation_of self)) }
         ensures answer { IfOk result (IsAnswerTo kept.old.0.value self) }

@@ -9,7 +9,7 @@ use Rattle.history.specs.History.{History}
 use Rattle.book.specs.Contents.{Contents, sealed_at}
 use Rattle.book.specs.Serial.{Act, call, trim_acts, events_in, given_in}
 use Rattle.book.specs.Tells.{Tells}
-use Rattle.shared.specs.Bytes.{bytes_of}
+use Rattle.requests.specs.Bytes.{bytes_of}
 
 abbrev pub bytes_found : Option Sealed → List ℕ
 bytes_found None = []

@@ -1,9 +1,9 @@
 use Rattle.std.proofs.Common.{IfOk, sym, subst}
 use Rattle.book.specs.Tells.{CarriesOn}
-use Rattle.shared.specs.declared.request.Request.{Request}
-use Rattle.shared.specs.Requests.{operation_of, CanMake}
-use Rattle.shared.proofs.Requests.{put_carries}
-use Rattle.shared.proofs.request.Request.make_on_book.Goals as goal
+use Rattle.requests.specs.declared.request.Request.{Request}
+use Rattle.requests.specs.Requests.{operation_of, CanMake}
+use Rattle.requests.proofs.Requests.{put_carries}
+use Rattle.requests.proofs.request.Request.make_on_book.Goals as goal
 
 pub returns-in-Put-clause-ok : goal.returns-in-Put-clause-ok
 returns-in-Put-clause-ok c =

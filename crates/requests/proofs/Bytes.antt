@@ -11,7 +11,7 @@ use Rattle.sealed.specs.Stripes.{fragment_at}
 use Rattle.sealed.specs.Blob.{data_at, fragment, nothing, pair_cmp}
 use Rattle.sealed.specs.Sealed.{StandsFor}
 use Rattle.sealed.proofs.Places.{stripe_inside, fragment_inside, place_inside, byte_back}
-use Rattle.shared.specs.Bytes.{bytes_left, byte_at, bytes_of}
+use Rattle.requests.specs.Bytes.{bytes_left, byte_at, bytes_of}
 
 byte_is : (s : Sealed) (b : List ℕ) → StandsFor s b nothing → (i : ℕ) → i < s.len → byte_at s i ≡ slice_index b i
 byte_is s b stands i below =

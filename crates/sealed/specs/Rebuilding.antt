@@ -1,0 +1,17 @@
+-- Which fragments of a sealed value can be rebuilt, and what they are.
+use Rattle.std.specs.Prelude.{◌≡◌, ℕ, true, List}
+use Rattle.lrc_code.specs.Code.{Open}
+use Rattle.sealed.specs.declared.value.Sealed.{Sealed}
+use Rattle.sealed.specs.Layout.{HasFragment}
+use Rattle.sealed.specs.Blob.{Lost, fragment}
+use Rattle.sealed.specs.Sealed.{StandsFor, absent_in}
+
+-- the blob has the fragment f of stripe j, which the value lacks, and which can be told from those left
+pub record IsRebuildable (s : Sealed) (j f : ℕ) : Type 0 where
+  pub has : HasFragment s.code s.width s.len j f
+  pub lost : absent_in s j f ≡ true
+  pub closed : Open s.code (absent_in s j) f → ⊥
+
+-- the bytes are the fragment f of stripe j, in each blob that the value stands for
+abbrev pub IsFragmentOf : Sealed → ℕ → ℕ → List ℕ → Type 0
+IsFragmentOf s j f bytes = (b : List ℕ) (lost : Lost) → StandsFor s b lost → bytes ≡ fragment s.code s.width b j f
