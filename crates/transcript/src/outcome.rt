@@ -1,7 +1,7 @@
 //! What became of the rows.
 
 use mender::Report;
-use shared::Reply;
+use requests::Reply;
 
 /// What became of one row: its number, from 1, and what came of it.
 #[derive(Drop)]
