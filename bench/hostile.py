@@ -97,12 +97,6 @@ KINDS = {
 }
 
 
-def written(parts, path):
-    with open(path, "w", encoding="ascii") as file:
-        file.writelines(parts)
-    return os.path.getsize(path)
-
-
 def main():
     parser = argparse.ArgumentParser(description=__doc__.splitlines()[0])
     parser.add_argument("--times", type=int, default=3)
@@ -116,7 +110,8 @@ def main():
                 continue
             seconds, peaks, statuses = [], [], set()
             for size in sizes:
-                written(parts(size), path)
+                with open(path, "w", encoding="ascii") as file:
+                    file.writelines(parts(size))
                 runs = [measured(given.program, [path, *FULL, *options]) for _ in range(given.times)]
                 seconds.append(min(one.seconds for one in runs))
                 peaks.append(max(one.peak for one in runs))
