@@ -1,3 +1,5 @@
+mod answers;
 mod drawing;
 mod gathering;
 mod mending;
+mod refused;

@@ -145,4 +145,5 @@ fn broken_ends(rt: HostRuntime) -> Result<(), Fail> {
 
 mod bent;
 mod degraded;
+mod paced;
 mod workers;

@@ -118,7 +118,8 @@ impl fmt::Display for Line {
 
 /// Walks a grant to its end, by the recipes that are kept in `plans`.
 fn walked(alloc: Global, grant: &Grant, plans: &mut Plans) -> Result<Reading, AllocError>
-    ensures { IfOk result (IsReadingOf grant.now) }
+    ensures ok { IfOk result (IsReadingOf grant.now) }
+    ensures more { plans.old ≤ plans.new }
 {
     let mut bytes = Vec::with_capacity(alloc, grant.len as usize)?;
     let mut lent: u64 = 0;
@@ -145,7 +146,8 @@ pub fn line_for(
     outcome: RowOutcome,
     plans: &mut Plans,
 ) -> Result<Line, AllocError>
-    ensures { IfOk result (IsLineFor outcome) }
+    ensures ok { IfOk result (IsLineFor outcome) }
+    ensures more { plans.old ≤ plans.new }
 {
     match outcome {
         RowOutcome::Replied(Reply::Made(Answer::Granted(grant))) => {

@@ -40,6 +40,8 @@ loop-bytes-preserved c =
           (ahead_of c.loop-bytes.walk) (ahead_of c.next_piece.new.self) c.in-Some.piece inv.split gives joins more;
       lent = omega (arith, t.lent_is, one.lent, inv.lent);
       built = omega (arith, t.built_is, one.built, inv.built);
+      same = search rules;
+      more = search rules;
       few = omega (arith, t.both, one.all, inv.few);
     }
 
@@ -74,11 +76,13 @@ loop-bytes-preserved-in_ok-extend_from_slice c =
           (ahead_of c.loop-bytes.walk) (ahead_of c.next_piece.new.self) c.in-Some.piece inv.split gives joins more;
       lent = omega (arith, t.lent_is, one.lent, inv.lent);
       built = omega (arith, t.built_is, one.built, inv.built);
+      same = search rules;
+      more = search rules;
       few = omega (arith, t.both, one.all, inv.few);
     }
 
-pub returns : goal.returns
-returns c =
+pub returns-clause-ok : goal.returns-clause-ok
+returns-clause-ok c =
     let grant = c.args.grant.now in
     let s = grant.sealed.value in
     let inv = c.loop-bytes.invariant in

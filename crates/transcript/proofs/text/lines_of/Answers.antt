@@ -14,7 +14,7 @@ loop-one-preserved c =
     let e : string_bytes c.writeln.new.self ≡ string_bytes c.loop-one.text ++ (decimal d.number ++ (codes " " ++ (line_text c.in_ok-line.line ++ codes "\n"))) =
     first_of (search rules, grind (arith, common_steps)) in
     record {
-      lines = subst (AreLines _) (sym e) (lines-more c.loop-one.yielded d (string_bytes c.loop-one.text) c.in_ok-line.line c.loop-one.invariant.lines c.in_ok-line.ensures);
+      lines = subst (AreLines _) (sym e) (lines-more c.loop-one.yielded d (string_bytes c.loop-one.text) c.in_ok-line.line c.loop-one.invariant.lines c.in_ok-line.ensures.ok);
       all = grind (arith, common_steps);
     }
 
@@ -24,7 +24,7 @@ loop-one-preserved-in_ok-writeln c =
     let e : string_bytes c.writeln.new.self ≡ string_bytes c.loop-one.text ++ (decimal d.number ++ (codes " " ++ (line_text c.in_ok-line.line ++ codes "\n"))) =
     first_of (search rules, grind (arith, common_steps)) in
     record {
-      lines = subst (AreLines _) (sym e) (lines-more c.loop-one.yielded d (string_bytes c.loop-one.text) c.in_ok-line.line c.loop-one.invariant.lines c.in_ok-line.ensures);
+      lines = subst (AreLines _) (sym e) (lines-more c.loop-one.yielded d (string_bytes c.loop-one.text) c.in_ok-line.line c.loop-one.invariant.lines c.in_ok-line.ensures.ok);
       all = grind (arith, common_steps);
     }
 

@@ -1,0 +1,11 @@
+use Rattle.std.proofs.Common.{◌≡◌}
+use Rattle.mender.proofs.tests.refused.each_fragment_comes_back.Given as goal
+
+abbrev pub invariant-loop-f : goal.invariant-loop-f
+invariant-loop-f g l = l.pass.store ≡ l.store
+
+abbrev pub invariant-loop-parity : goal.invariant-loop-parity
+invariant-loop-parity g l = l.pass.store ≡ l.store
+
+abbrev pub invariant-loop-lost : goal.invariant-loop-lost
+invariant-loop-lost g l = l.pass.store ≡ l.store

@@ -1,0 +1,161 @@
+//! What is left of a store by calls that are refused, and by repairs.
+ghost use Rattle.std.specs.Prelude.{◌≡◌, ◌<◌, IfOk};
+
+use book::{Answer, Book, Fault, Limit, Name};
+use bytes::Bytes;
+use sealed::{Sealed, count_stripes, seal};
+use shared::{Pass, Store};
+use std::alloc::Global;
+use std::process::Abort;
+use std::sync::Wait;
+use std::test::Fail;
+
+/// A store with a blob `a` of twelve bytes, without its fragment 0: two entries.
+fn one_lost<R: Wait + Abort>(rt: &R, alloc: Global, limit: u32) -> Result<(Store, Pass), Fault>
+    ensures { IfOk result (λ r. r.1.store ≡ r.0) }
+{
+    let (store, mut pass) = Store::open(alloc, 1, Limit::new(limit).expect(rt, "a limit"))?;
+    let bytes = Bytes::from_static(b"ABCDEFGHIJKL");
+    store.put(rt, alloc, &mut pass, Name::new("a")?, bytes)?;
+    store.lose(rt, alloc, &mut pass, Name::new("a")?, 0, 0)?;
+    Ok((store, pass))
+}
+
+/// A fragment of the only stripe, if it is there.
+fn fragment<'a>(rt: &impl Abort, sealed: &'a Sealed, f: u8) -> Option<&'a [u8]>
+    requires { f < 16 }
+{
+    assert!(rt; count_stripes(sealed.code, sealed.width, sealed.len) == 1);
+    sealed.fragment(0, f)
+}
+
+/// That the book has `a` with each of its fragments as it was put, but for the first where that is lost.
+fn has_each<R: Wait + Abort>(
+    rt: &R,
+    alloc: Global,
+    book: &Book,
+    first_is_lost: bool,
+) -> Result<(), Fail> {
+    let name = Name::new("a")?;
+    let found = book.find(&name).expect(rt, "a blob");
+    let whole = seal(alloc, Bytes::from_static(b"ABCDEFGHIJKL"), found.width)?;
+    for f in 0..16u8 {
+        let there = fragment(rt, found, f);
+        if f == 0 && first_is_lost {
+            assert!(rt; there.is_none());
+        } else {
+            assert!(rt; there == fragment(rt, &whole, f), "{f}");
+        }
+    }
+    Ok(())
+}
+
+/// Whether each of the six calls, a repair and a deletion among them, is refused for a full journal.
+fn are_refused<R: Wait>(
+    rt: &R,
+    alloc: Global,
+    store: &Store,
+    pass: &mut Pass,
+) -> Result<bool, Fault>
+    requires { pass.old.store ≡ store.now }
+    ensures { pass.new.store ≡ store.now }
+{
+    let bytes = Bytes::from_static(b"MNOPQRSTUVWX");
+    let put = store.put(rt, alloc, pass, Name::new("a")?, bytes);
+    let read = store.read(rt, pass, Name::new("a")?, 0, 12);
+    let lost = store.lose(rt, alloc, pass, Name::new("a")?, 0, 1);
+    let repaired = store.repair(rt, alloc, pass, Name::new("a")?, 0, 0);
+    let deleted = store.delete(rt, pass, Name::new("a")?);
+    let told = store.stat(rt, pass, Name::new("a")?);
+    let mut all = true;
+    for result in [put, read, lost, repaired, deleted, told] {
+        all = all && matches!(result, Err(Fault::JournalFull));
+    }
+    Ok(all)
+}
+
+#[test]
+fn a_full_journal_leaves_all_as_it_was(rt: HostRuntime) -> Result<(), Fail> {
+    let alloc = rt.alloc();
+    let (store, mut pass) = one_lost(&rt, alloc, 2)?;
+    assert!(rt; are_refused(&rt, alloc, &store, &mut pass)?);
+    let trimmed = store.trim(&rt, alloc, &mut pass, 1)?;
+    assert_eq!(rt; trimmed, 1);
+    let shape = store.stat(&rt, &mut pass, Name::new("a")?)?;
+    assert!(rt;
+        matches!(
+            shape,
+            Answer::Shape {
+                version: 1,
+                len: 12,
+                stripes: 1,
+                lost: 1
+            }
+        )
+    );
+    assert_eq!(rt; pass.room(), 64);
+    let book = store.close(pass);
+    assert_eq!(rt; (book.base().trimmed, book.entries().len()), (1, 2));
+    has_each(&rt, alloc, &book, true)
+}
+
+/// Calls of a name that there is not are entered, and leave the other name's blob as it was.
+#[test]
+fn another_name_leaves_all_as_it_was(rt: HostRuntime) -> Result<(), Fail> {
+    let alloc = rt.alloc();
+    let (store, mut pass) = one_lost(&rt, alloc, 100)?;
+    let read = store.read(&rt, &mut pass, Name::new("b")?, 0, 12)?;
+    let lost = store.lose(&rt, alloc, &mut pass, Name::new("b")?, 0, 1)?;
+    let repaired = store.repair(&rt, alloc, &mut pass, Name::new("b")?, 0, 0)?;
+    let deleted = store.delete(&rt, &mut pass, Name::new("b")?)?;
+    let told = store.stat(&rt, &mut pass, Name::new("b")?)?;
+    for answer in [read, lost, repaired, deleted, told] {
+        assert!(rt; matches!(answer, Answer::NoName));
+    }
+    assert!(rt; matches!(Name::new("B"), Err(Fault::BadName)));
+    assert_eq!(rt; pass.room(), 64);
+    let book = store.close(pass);
+    assert_eq!(rt; book.entries().len(), 7);
+    has_each(&rt, alloc, &book, true)
+}
+
+/// Each of the sixteen fragments is lost and repaired, the four parities at once: each is again as it was put.
+#[test]
+fn each_fragment_comes_back(rt: HostRuntime) -> Result<(), Fail> {
+    let alloc = rt.alloc();
+    let (store, mut pass) = one_lost(&rt, alloc, 100)?;
+    store.repair(&rt, alloc, &mut pass, Name::new("a")?, 0, 0)?;
+    for f in 1..12 {
+        store.lose(&rt, alloc, &mut pass, Name::new("a")?, 0, f)?;
+        store.repair(&rt, alloc, &mut pass, Name::new("a")?, 0, f)?;
+    }
+    for parity in 12..16 {
+        store.lose(&rt, alloc, &mut pass, Name::new("a")?, 0, parity)?;
+    }
+    for lost in 12..16 {
+        let answer = store.repair(&rt, alloc, &mut pass, Name::new("a")?, 0, lost)?;
+        assert!(rt; matches!(answer, Answer::Repaired(1)));
+    }
+    assert_eq!(rt; pass.room(), 64);
+    let book = store.close(pass);
+    assert_eq!(rt; book.entries().len(), 33);
+    has_each(&rt, alloc, &book, false)
+}
+
+/// The text of each fault.
+#[test]
+fn faults_are_told(rt: HostRuntime) -> Result<(), Fail> {
+    let faults = [
+        (Fault::NoMemory, "out of memory"),
+        (Fault::JournalFull, "the journal is full"),
+        (Fault::BadName, "not a name"),
+        (Fault::TooLong, "the blob is too long"),
+        (Fault::Busy, "the store is busy"),
+        (Fault::BadWidth, "not a width"),
+        (Fault::NoPass, "no pass is left"),
+    ];
+    for (fault, text) in faults {
+        assert_eq!(rt; format!(in rt.alloc(); "{fault}")?.as_str(), text);
+    }
+    Ok(())
+}
