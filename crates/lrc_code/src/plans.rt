@@ -1,6 +1,6 @@
 //! Recipes that are kept from their first use.
 
-ghost use Rattle.std.specs.Prelude.{◌≡◌, ℕ, ◌+◌, ◌-◌, ◌^◌, ◌<◌, ◌≤◌, ◌↔◌, true, false, min, IfOk, IfSome, length};
+ghost use Rattle.std.specs.Prelude.{◌≡◌, ℕ, ◌+◌, ◌-◌, ◌^◌, ◌<◌, ◌≤◌, ◌↔◌, true, false, min, IsTrue, IfOk, IfSome, MatchResult, length};
 ghost use Rattle.lrc_code.specs.Code.{fragment_count, is_lost, Open};
 ghost use Rattle.lrc_code.specs.Recipe.{IsRecipe};
 ghost use Rattle.lrc_code.specs.Stripe.{is_absent, Reaches, Rebuilds};
@@ -24,13 +24,16 @@ struct Plan {
 
 impl Plan {
     /// What the recipe is for.
-    fn key(&self) -> (Code, LostSet, u8) {
+    fn key(&self) -> (Code, LostSet, u8)
+        ensures { result ≡ (self.now.code, self.now.lost, self.now.fragment) }
+    {
         (self.code, self.lost, self.fragment)
     }
 
     /// Whether the recipe is for this fragment.
     fn is_for(&self, code: Code, lost: LostSet, f: u8) -> bool
-        ensures { result ≡ true → IsRecipe code (is_lost lost) f self.now.recipe.items }
+        ensures exact { IsTrue result ↔ (self.now.code ≡ code) × (self.now.lost ≡ lost) × (self.now.fragment ≡ f) }
+        ensures right { result ≡ true → IsRecipe code (is_lost lost) f self.now.recipe.items }
     {
         self.code == code && self.lost == lost && self.fragment == f
     }
@@ -68,7 +71,9 @@ impl Plans {
     }
 
     /// Where the recipe for this fragment stands, or should stand.
-    fn search(&self, code: Code, lost: LostSet, f: u8) -> Result<usize, usize> {
+    fn search(&self, code: Code, lost: LostSet, f: u8) -> Result<usize, usize>
+        ensures { MatchResult result (λ i. i < self.now) (λ i. i ≤ self.now) }
+    {
         self.plans
             .as_slice()
             .binary_search_by_key(&(code, lost, f), |plan| plan.key())
@@ -94,15 +99,13 @@ impl Plans {
         ensures one { self.new ≤ self.old + 1 }
     {
         if let Err(i) = self.search(code, lost, f) {
-            if i <= self.plans.len() {
-                let plan = Plan {
-                    code,
-                    lost,
-                    fragment: f,
-                    recipe,
-                };
-                let _ = self.plans.insert(i, plan);
-            }
+            let plan = Plan {
+                code,
+                lost,
+                fragment: f,
+                recipe,
+            };
+            let _ = self.plans.insert(i, plan);
         }
     }
 
