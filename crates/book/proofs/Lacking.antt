@@ -16,7 +16,7 @@ use Rattle.history.specs.State.{Blob, IsLostInside}
 use Rattle.book.specs.Tells.{Represents}
 use Rattle.history.specs.Views.{view_of}
 use Rattle.history.proofs.Keeping.{same_truth, lt_of, is_lt, both}
-use Rattle.history.proofs.Replies.{pairs_total}
+use Rattle.sealed.proofs.Changing.{pairs_total}
 use Rattle.book.proofs.Same.{same_lost}
 
 -- ---- counting

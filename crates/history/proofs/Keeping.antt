@@ -24,7 +24,8 @@ use Rattle.lent.proofs.Readable.{Meets, has_open}
 use Rattle.history.specs.Views.{open_test, open_in_range}
 use Rattle.history.specs.Kept.{lost_of, is_open_between}
 use Rattle.history.specs.declared.kept.Kept.{Kept}
-use Rattle.history.proofs.Replies.{below_of, open_found, pairs_total}
+use Rattle.history.proofs.Replies.{below_of, open_found}
+use Rattle.sealed.proofs.Changing.{pairs_total}
 
 pub same_truth : (a b : Bool) → (a ≡ true → b ≡ true) → (b ≡ true → a ≡ true) → a ≡ b
 same_truth true b forth back = sym (forth refl)

@@ -24,7 +24,7 @@ use Rattle.history.specs.Kept.{outline_kept, outlines_of, seen_as, views_of}
 use Rattle.history.specs.declared.kept.Kept.{Kept}
 use Rattle.history.specs.declared.replay.Replay.{Replay}
 use Rattle.history.proofs.Catalogue.{option_map-cond}
-use Rattle.history.proofs.Replies.{pairs_total}
+use Rattle.sealed.proofs.Changing.{pairs_total}
 use Rattle.history.proofs.Rising.{insert_next, keys_rise, same_found, entries_back, same_pairs, pairs_of-has, pairs_of-length, pairs_rise}
 
 -- the entry after those that are in goes to the end

@@ -22,7 +22,7 @@ use Rattle.history.specs.declared.note.Note.TheVariants as note
 use Rattle.history.specs.declared.kept.Kept.{Kept}
 use Rattle.history.specs.declared.note.Note.{Note}
 use Rattle.history.proofs.Catalogue.{option_map_put}
-use Rattle.history.proofs.Replies.{pairs_total}
+use Rattle.sealed.proofs.Changing.{pairs_total}
 
 -- the views of a list of names
 abbrev pub seen_in : List (List ℕ × Kept) → List ℕ → Option View

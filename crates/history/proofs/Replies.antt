@@ -4,10 +4,8 @@ use Rattle.std.specs.Prelude.{MatchBool, nat_le, ◌↔◌}
 use Rattle.std.specs.Option.{option_map}
 use Rattle.std.specs.FinMap as finite
 use Rattle.std.specs.FinSet as set
-use Rattle.std.specs.Cmp.{IsTotalOrder, nat_cmp_total}
 use Rattle.std.specs.Cmp.Lexicographic.{nat_list_cmp_total}
 use Rattle.std.specs.Ordering.{eq_by_cmp}
-use Rattle.std.proofs.lemmas.Cmp.{then_total, on_total}
 use Rattle.std.proofs.lemmas.Bool.{or_cases, or_parts, or_left, or_right, cases_eq, false≢true}
 use Rattle.std.proofs.Math.Nat.{div-zero}
 use Rattle.std.proofs.lemmas.Nat.{div_below as div_under}
@@ -16,6 +14,7 @@ use Rattle.lrc_code.specs.declared.Code.{Code}
 use Rattle.lrc_code.specs.declared.Code.TheVariants.{Wide, Small}
 use Rattle.lrc_code.specs.Code.{fragment_count, Open}
 use Rattle.lrc_code.proofs.Recoverable.{exact}
+use Rattle.sealed.proofs.Changing.{pairs_total}
 use Rattle.sealed.specs.Layout.{stripe_of, fragment_of}
 use Rattle.sealed.specs.Blob.{Lost, nothing, lost_in, pair_cmp}
 use Rattle.lent.specs.Range.{is_outside, HasOpen}
@@ -26,9 +25,6 @@ use Rattle.history.specs.History.{History, IsLegalFrom, IsLegal}
 use Rattle.history.specs.declared.note.Note.{Note}
 use Rattle.history.specs.declared.note.Note.TheVariants as note
 use Rattle.history.specs.Views.{View, Views, view_of, view, any_from, open_test, open_in_range, read_reply, lose_reply, repair_reply, delete_reply, stat_reply, reply, CanPut, added, taken, changed, view_after, empty_views}
-
-pub pairs_total : IsTotalOrder pair_cmp
-pairs_total = then_total (on_total (λ (p : ℕ × ℕ). p.0) nat_cmp_total) (on_total (λ (p : ℕ × ℕ). p.1) nat_cmp_total)
 
 -- ---- the reply meets the definition
 if_is : (t : Bool) (P : Type 0) → ((t ≡ true) ↔ P) → (m x y : Note) → IfHolds P (m ≡ x) (m ≡ y) ↔ (m ≡ cond t x y)

@@ -21,7 +21,7 @@ use Rattle.std.proofs.lemmas.List.{length-map, length-take-le, get_or-take, get_
 use Rattle.std.proofs.lemmas.List.Elements.{All-head, All-tail}
 use Rattle.sealed.specs.Blob.{Lost, pair_cmp}
 use Rattle.history.specs.Base.{pairs_of}
-use Rattle.history.proofs.Replies.{pairs_total}
+use Rattle.sealed.proofs.Changing.{pairs_total}
 
 less : (o : Ordering) → T (is_lt o) → o ≡ Less
 less Less p = refl

@@ -11,7 +11,7 @@ use std::cmp::Ordering;
 use std::marker::Model;
 
 /// The name of a blob: from 1 to 32 bytes of `a-z`, `0-9`, `.`, `_` and `-`.
-#[derive(Drop)]
+#[derive(Debug, Drop)]
 pub struct Name {
     text: ArrayString<32>,
 }

@@ -2,9 +2,10 @@
 use book::{Answer, Fault, Name};
 use bytes::Bytes;
 use lrc_code::Code;
+use thiserror::Error;
 
 /// A call with its arguments, or a trim.
-#[derive(Drop)]
+#[derive(Debug, Drop, PartialEq, Eq)]
 pub enum Ask {
     /// Puts these bytes under the name, in this code.
     Put {
@@ -45,7 +46,7 @@ pub enum Ask {
 }
 
 /// What is asked for, and the row that asks.
-#[derive(Drop)]
+#[derive(Debug, Drop, PartialEq, Eq)]
 pub struct Job {
     /// The row.
     pub row: u32,
@@ -65,11 +66,13 @@ pub enum Reply {
 }
 
 /// Why a run stopped.
-#[derive(Clone, Copy, Debug, PartialEq, Eq)]
+#[derive(Clone, Copy, Debug, Drop, PartialEq, Eq, Error)]
 pub enum Cause {
     /// Memory was refused.
+    #[error("out of memory")]
     NoMemory,
     /// A `before` answered false.
+    #[error("the run was paused")]
     Paused,
 }
 

@@ -12,22 +12,26 @@ use std::alloc::Global;
 /// A call with all that it needs, made before the gate is entered: the blob of a put is sealed, and the fragment that a repair installs is rebuilt.
 #[derive(Drop)]
 pub enum Request {
+    /// Stores the sealed blob, of which nothing is lost and which has the book's width, under the name.
     Put {
         alloc: Global,
         name: Name,
         sealed: Sealed,
     },
+    /// Grants `len` bytes of the name's blob from `start` on.
     Read {
         name: Name,
         start: u64,
         len: u64,
     },
+    /// Loses a fragment of a stripe of the name's blob.
     Lose {
         alloc: Global,
         name: Name,
         stripe: u64,
         fragment: u64,
     },
+    /// Mends it by these bytes, rebuilt from the blob of this version.
     Install {
         alloc: Global,
         name: Name,
@@ -36,9 +40,11 @@ pub enum Request {
         fragment: u64,
         bytes: Bytes,
     },
+    /// Takes the name out.
     Delete {
         name: Name,
     },
+    /// Asks for the shape of the name's blob.
     Stat {
         name: Name,
     },

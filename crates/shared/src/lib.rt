@@ -13,7 +13,8 @@ mod tries;
 mod trim;
 
 pub use book::{
-    Answer, Base, Book, Call, Entry, Fault, Item, Limit, Name, Note, Plan, is_lawful, is_lawful_from,
+    Answer, Base, Book, Call, Entry, Fault, Item, Limit, Name, Note, Plan, is_lawful,
+    is_lawful_from,
 };
 pub use bytes::Bytes;
 pub use lent::{Asked, Grant, Piece, PlannedWalk, Span, Spans, Walk};
