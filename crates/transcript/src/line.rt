@@ -141,11 +141,7 @@ fn walked(alloc: Global, grant: &Grant, plans: &mut Plans) -> Result<Reading, Al
 }
 
 /// The reply to a row. A grant is walked here, by the recipes that are kept in `plans`.
-pub fn line_for(
-    alloc: Global,
-    outcome: RowOutcome,
-    plans: &mut Plans,
-) -> Result<Line, AllocError>
+pub fn line_for(alloc: Global, outcome: RowOutcome, plans: &mut Plans) -> Result<Line, AllocError>
     ensures ok { IfOk result (IsLineFor outcome) }
     ensures more { plans.old ≤ plans.new }
 {
