@@ -1,18 +1,19 @@
 #!/usr/bin/env python3
-"""Measures the program beside the same in plain Rust, bench/plain.rs: bench/beside_plain.py [--times N] [PROGRAM ..]
+"""Measures the program beside the same in plain Rust, bench/plain.rs: bench/beside_plain.py [--times N] [--only WORD] [PROGRAM ..]
 
-It needs rustc. Each script is run N times (5 without the option), the programs in turn, the plain one last, and the least processor
-time counts. First it compares what they print, of scripts whose calls one worker makes. With no PROGRAM it is the one that tools/build.py makes.
+It needs rustc. Each script whose name has WORD in it is run N times (5 without the option), the programs in turn, the plain one last, and the
+least processor time counts; the medians and the greatest are told beside it. First it compares what they print, of scripts whose calls one worker makes. With no PROGRAM it is the one that tools/build.py makes.
 """
 
 import argparse
 import os
 import random
+import statistics
 import subprocess
 import sys
 import tempfile
 
-from program import BUILT, FULL, LONG, MIB_48, SMALL, TOP, least
+from program import BUILT, FULL, LONG, MIB_48, SMALL, TOP, run
 
 WIDE = ["--width", "65536"]
 ROWS = 65535
@@ -98,6 +99,7 @@ def compare(programs, folder, times):
 def main():
     parser = argparse.ArgumentParser(description=__doc__.splitlines()[0])
     parser.add_argument("--times", type=int, default=5)
+    parser.add_argument("--only", default="")
     parser.add_argument("programs", nargs="*", default=[BUILT])
     given = parser.parse_args()
     with tempfile.TemporaryDirectory() as folder:
@@ -106,9 +108,13 @@ def main():
         programs = [*given.programs, plain]
         compare(programs, folder, 200)
         for name, script, options in scripts(random.Random(1)):
-            figures = least(programs, script, options, given.times, folder)
-            ratios = ", ".join(f"{one[0]:.3f} s ({one[0] / figures[-1][0]:.2f})" for one in figures[:-1])
-            print(f"{name}: {ratios}; plain {figures[-1][0]:.3f} s", flush=True)
+            if given.only not in name:
+                continue
+            runs = [[run(program, script, options, folder)[0] for program in programs] for _ in range(given.times)]
+            times = [sorted(column) for column in zip(*runs)]
+            ratios = ", ".join(f"{one[0]:.3f} s ({one[0] / times[-1][0]:.2f})" for one in times[:-1])
+            others = ", ".join(f"{statistics.median(one):.3f} and {one[-1]:.3f}" for one in times)
+            print(f"{name}: {ratios}; plain {times[-1][0]:.3f} s; medians and greatest {others}", flush=True)
 
 
 if __name__ == "__main__":

@@ -18,6 +18,7 @@ FULL = ["--limit", "1048576"]
 SMALL = "1,1,put,a,text,ABCDEFGHIJKL"
 LONG = "1,1,put,a,text," + "x" * 49152
 MIB_48 = 48 << 20
+MIB_12 = 12 << 20
 # What starts a run, and tells its status, its seconds and its peak in KiB.
 START = """
 import os, sys, time
@@ -59,6 +60,16 @@ def mend(width, is_mended):
 def whole(is_read):
     """A blob of 48 MiB in hexadecimal, and the read of all of it."""
     return ["1,1,put,a,hex," + "5a" * MIB_48] + [f"2,1,read,a,0,{MIB_48}"] * is_read
+
+
+def blob_size(width):
+    """768 KiB, or as many bytes as 4,096 stripes hold: whole stripes at each width."""
+    return min(768 << 10, 4096 * 12 * width)
+
+
+def blobs(width, count):
+    """So many blobs of that size under as many names."""
+    return [f"1,1,put,n{k},text," + "x" * blob_size(width) for k in range(count)]
 
 
 Run = collections.namedtuple("Run", "status seconds wall peak")
@@ -116,6 +127,10 @@ def main():
         for is_read, what in ((False, "48 MiB put, peak memory"), (True, "48 MiB put, and read, peak memory")):
             peaks = least(programs, whole(is_read), wide, 1, folder)
             show(what, programs, [f"{one[2] / MIB_48:.2f} bytes for each of the blob" for one in peaks])
+        for width in (1, 64, 1024, 65536):
+            wide, count = [*FULL, "--width", str(width)], MIB_12 // blob_size(width)
+            some, twice = (least(programs, blobs(width, number), wide, 1, folder) for number in (count, 2 * count))
+            show(f"a stored byte at width {width}", programs, [f"{(b[2] - a[2]) / MIB_12:.2f} bytes of memory" for a, b in zip(some, twice)])
         for width in (4096, 65536):
             for workers in (1, 2, 4):
                 options = [*FULL, "--width", str(width), "--workers", str(workers)]

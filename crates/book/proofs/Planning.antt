@@ -155,7 +155,7 @@ none_listed : (b : Bool) (c : ℕ) (xs : List (ℕ × ℕ)) (k : ℕ × ℕ) →
 none_listed true c xs k e before = absurd (omega arith)
 none_listed false c xs k e before = before (omega arith)
 
-none_below : (s : Sealed) (n : ℕ) → count_below (λ i. lacks s (i / 16) (i % 16)) n ≡ 0 → lacked_below s n ≡ []
+pub none_below : (s : Sealed) (n : ℕ) → count_below (λ i. lacks s (i / 16) (i % 16)) n ≡ 0 → lacked_below s n ≡ []
 none_below s zero e = refl
 none_below s (suc n) e = none_listed (lacks s (n / 16) (n % 16)) _ (lacked_below s n) (n / 16, n % 16) e (none_below s n)
 

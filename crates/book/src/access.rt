@@ -6,11 +6,11 @@ ghost use Rattle.book.specs.Contents.{sealed_at};
 ghost use Rattle.book.specs.Tells.{Tells};
 
 use crate::book::Book;
-use crate::journal::Journal;
+use crate::catalogue::Catalogue;
 use crate::{Base, Entry, Fault, Limit, Name};
+use history::Journal;
 use sealed::{Sealed, Width};
 use std::alloc::Global;
-use std::collections::BTreeMap;
 use std::sync::Arc;
 
 impl Book {
@@ -26,7 +26,7 @@ impl Book {
             return Err(Fault::NoMemory);
         };
         Ok(Book {
-            catalogue: BTreeMap::new(alloc),
+            catalogue: Catalogue::new(alloc),
             base: Base::empty(alloc),
             journal,
             width,

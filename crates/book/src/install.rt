@@ -1,9 +1,10 @@
 //! Mending by a fragment that was rebuilt elsewhere.
-ghost use Rattle.std.specs.Prelude.{◌≡◌, ◌⊎◌, ◌↔◌, length, IfSome, IfOk, IfErr, OnErr};
+ghost use Rattle.std.specs.Prelude.{◌≡◌, true, ◌⊎◌, ◌↔◌, length, IfSome, IfOk, IfErr, OnErr};
 ghost use Rattle.history.specs.History.{History};
 ghost use Rattle.history.specs.Step.{repair as repair_of};
 ghost use Rattle.history.specs.Views.{repair_reply};
 ghost use Rattle.book.specs.Known.{IsFragmentIn, Serves};
+ghost use Rattle.book.specs.Catalogue.{lacks_at};
 ghost use Rattle.book.specs.Losing.{Mends, Replaces, value_at};
 ghost use Rattle.book.specs.Notes.{note_of};
 ghost use Rattle.book.specs.Tells.{Tells, CarriesOn};
@@ -43,15 +44,10 @@ impl Book {
         if self.is_full() {
             return Err(Fault::JournalFull);
         }
-        let answer = match install_in(
-            &mut self.catalogue,
-            alloc,
-            &name,
-            version,
-            stripe,
-            fragment,
-            bytes,
-        ) {
+        let answer = match self
+            .catalogue
+            .install(alloc, &name, version, stripe, fragment, bytes)
+        {
             Ok(answer) => answer,
             Err(error) => return Err(error),
         };
@@ -67,7 +63,7 @@ impl Book {
 }
 
 /// Mends a lost fragment of a name's blob in the catalogue, with these bytes where the blob has this version. The only fault is `NoMemory`.
-fn install_in(
+pub(crate) fn install_in(
     catalogue: &mut BTreeMap<Name, Shelved>,
     alloc: Global,
     name: &Name,
@@ -78,6 +74,7 @@ fn install_in(
 ) -> Result<Answer, Fault>
     requires { IfSome (value_at catalogue.old.entries name.now) (Serves version stripe fragment bytes) }
     ensures ok { IfOk result (λ a. Replaces (λ w x. repair_reply w x stripe fragment) (Mends stripe fragment (note_of a)) catalogue.old.entries catalogue.new.entries name.now (note_of a)) }
+    ensures fewer { lacks_at catalogue.new.entries name.now ≡ true → lacks_at catalogue.old.entries name.now ≡ true }
     ensures faults { IfErr result (λ e. e ≡ Fault.NoMemory) }
     ensures err { OnErr result (catalogue.new.entries ≡ catalogue.old.entries) }
 {

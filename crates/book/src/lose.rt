@@ -13,7 +13,7 @@ use std::alloc::Global;
 use std::collections::BTreeMap;
 
 impl Book {
-    /// Loses a fragment of a name's blob: its bytes are given up, unless a grant still holds them.
+    /// Loses a fragment of a name's blob: only grants from before lend its bytes. Their memory is given back with the last of the blob.
     ///
     /// The answer is `NoName` where the name has no blob; else `NoFragment` where the blob has no such stripe, or its code no such fragment; else
     /// `AlreadyLost` where it was lost before; else `Lost`, with the version.
@@ -37,7 +37,7 @@ impl Book {
         if self.is_full() {
             return Err(Fault::JournalFull);
         }
-        let answer = match lose_in(&mut self.catalogue, alloc, &name, stripe, fragment) {
+        let answer = match self.catalogue.lose(alloc, &name, stripe, fragment) {
             Ok(answer) => answer,
             Err(error) => return Err(error),
         };
@@ -53,7 +53,7 @@ impl Book {
 }
 
 /// Loses a fragment of a name's blob in the catalogue. The only fault is `NoMemory`.
-fn lose_in(
+pub(crate) fn lose_in(
     catalogue: &mut BTreeMap<Name, Shelved>,
     alloc: Global,
     name: &Name,

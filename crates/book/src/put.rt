@@ -7,7 +7,6 @@ ghost use Rattle.history.specs.Step.{put as put_of};
 ghost use Rattle.book.specs.Tells.{CarriesOn};
 
 use crate::book::Book;
-use crate::shelved::Shelved;
 use crate::{Answer, Call, Entry, Fault, Name, Note};
 use sealed::Sealed;
 use std::alloc::Global;
@@ -43,16 +42,11 @@ impl Book {
         let Ok(sealed) = Arc::new(alloc, sealed.with_version(version)) else {
             return Err(Fault::NoMemory);
         };
-        let noted = name.duplicate();
-        let Ok(_) = self.catalogue.insert(name, Shelved::whole(sealed)) else {
+        let Ok(()) = self.catalogue.insert(&name, sealed) else {
             return Err(Fault::NoMemory);
         };
         self.puts = version;
-        let call = Call::Put {
-            name: noted,
-            code,
-            len,
-        };
+        let call = Call::Put { name, code, len };
         let note = Note::Stored(version);
         self.journal.push(Entry { who, call, note });
         Ok(Answer::Stored(version))

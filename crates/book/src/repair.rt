@@ -1,5 +1,6 @@
 //! Rebuilding a lost fragment.
-ghost use Rattle.std.specs.Prelude.{◌≡◌, ◌⊎◌, ◌↔◌, length, IfOk, IfErr, OnErr};
+ghost use Rattle.std.specs.Prelude.{◌≡◌, true, ◌⊎◌, ◌↔◌, length, IfOk, IfErr, OnErr};
+ghost use Rattle.book.specs.Catalogue.{lacks_at};
 ghost use Rattle.book.specs.Losing.{Mends, Replaces};
 ghost use Rattle.book.specs.Notes.{note_of};
 ghost use Rattle.history.specs.Step.{repair as repair_of};
@@ -38,7 +39,7 @@ impl Book {
         if self.is_full() {
             return Err(Fault::JournalFull);
         }
-        let answer = match repair_in(&mut self.catalogue, alloc, &name, stripe, fragment) {
+        let answer = match self.catalogue.repair(alloc, &name, stripe, fragment) {
             Ok(answer) => answer,
             Err(error) => return Err(error),
         };
@@ -54,7 +55,7 @@ impl Book {
 }
 
 /// Rebuilds a lost fragment of a name's blob in the catalogue. The only fault is `NoMemory`.
-fn repair_in(
+pub(crate) fn repair_in(
     catalogue: &mut BTreeMap<Name, Shelved>,
     alloc: Global,
     name: &Name,
@@ -62,6 +63,7 @@ fn repair_in(
     fragment: u64,
 ) -> Result<Answer, Fault>
     ensures ok { IfOk result (λ a. Replaces (λ w x. repair_reply w x stripe fragment) (Mends stripe fragment (note_of a)) catalogue.old.entries catalogue.new.entries name.now (note_of a)) }
+    ensures fewer { lacks_at catalogue.new.entries name.now ≡ true → lacks_at catalogue.old.entries name.now ≡ true }
     ensures faults { IfErr result (λ e. e ≡ Fault.NoMemory) }
     ensures err { OnErr result (catalogue.new.entries ≡ catalogue.old.entries) }
 {

@@ -1,5 +1,5 @@
 //! A sealed blob in the catalogue.
-ghost use Rattle.std.specs.Prelude.{◌≡◌, ◌<◌, ◌++◌, List, ℕ, Some, true, false, length, IfOk, IfErr, OnOk, OnErr};
+ghost use Rattle.std.specs.Prelude.{◌≡◌, ◌<◌, ◌≤◌, ◌++◌, List, ℕ, Some, true, false, length, IfOk, IfErr, OnOk, OnErr};
 ghost use Rattle.std.specs.FinSet as set;
 ghost use Rattle.lrc_code.specs.Code.{fragment_count};
 ghost use Rattle.sealed.specs.Layout.{stripe_count};
@@ -8,16 +8,15 @@ ghost use Rattle.sealed.specs.Change.{IsChanged};
 ghost use Rattle.sealed.specs.Sealed.{StandsFor, absent_in};
 ghost use Rattle.sealed.specs.Rebuilding.{IsFragmentOf, IsRebuildable};
 ghost use Rattle.book.specs.Known.{Serves};
-ghost use Rattle.book.specs.Lacking.{reply_for, lacks, seen_of};
+ghost use Rattle.book.specs.Catalogue.{lacks_some};
+ghost use Rattle.book.specs.Lacking.{reply_for, lacks, lacked_count, seen_of};
 ghost use Rattle.book.specs.Losing.{IsWith, Loses, Mends};
 ghost use Rattle.book.specs.Notes.{note_of};
 ghost use Rattle.book.specs.Plan.{items_lacked};
 ghost use Rattle.history.specs.Views.{no_such, lose_reply, repair_reply, stat_reply};
 
 use crate::plan::Item;
-use crate::{Answer, Fault, Name};
-use bytes::Bytes;
-use sealed::Sealed;
+use crate::{Answer, Bytes, Fault, Name, Sealed};
 use std::alloc::{AllocError, Global};
 use std::marker::Model;
 use std::sync::Arc;
@@ -70,6 +69,13 @@ impl Shelved {
         }
     }
 
+    /// Whether a fragment is lost.
+    pub fn lacks_some(&self) -> bool
+        ensures { result ≡ lacks_some self.now }
+    {
+        self.lost > 0
+    }
+
     /// Whether the blob has no such fragment.
     fn is_no_fragment(&self, stripe: u64, fragment: u64) -> bool
         ensures { result ≡ no_such self.now.width (seen_of self.now) stripe fragment }
@@ -77,7 +83,7 @@ impl Shelved {
         !self.sealed.has_fragment(stripe, fragment)
     }
 
-    /// Whether a fragment is lost.
+    /// Whether this fragment is lost.
     fn is_lost(&self, stripe: u64, f: u8) -> bool
         requires stripe_below { stripe < stripe_count self.now.code self.now.width self.now.len }
         requires f_below { f < fragment_count self.now.code }
@@ -153,6 +159,7 @@ impl Shelved {
     pub fn repair(&mut self, alloc: Global, stripe: u64, fragment: u64) -> Result<Answer, Fault>
         ensures answer { IfOk result (λ a. note_of a ≡ reply_for (λ w x. repair_reply w x stripe fragment) (Some self.old)) }
         ensures changed { IfOk result (λ a. Mends stripe fragment (note_of a) self.old self.new) }
+        ensures fewer { lacked_count self.new ≤ lacked_count self.old }
         ensures faults { IfErr result (λ e. e ≡ Fault.NoMemory) }
         ensures err { OnErr result (self.new ≡ self.old) }
     {
@@ -183,6 +190,7 @@ impl Shelved {
         requires { Serves version stripe fragment bytes self.old }
         ensures answer { IfOk result (λ a. note_of a ≡ reply_for (λ w x. repair_reply w x stripe fragment) (Some self.old)) }
         ensures changed { IfOk result (λ a. Mends stripe fragment (note_of a) self.old self.new) }
+        ensures fewer { lacked_count self.new ≤ lacked_count self.old }
         ensures faults { IfErr result (λ e. e ≡ Fault.NoMemory) }
         ensures err { OnErr result (self.new ≡ self.old) }
     {
@@ -205,6 +213,7 @@ impl Shelved {
         requires own { IsFragmentOf self.old stripe fragment bytes }
         ensures answer { IfOk result (λ a. note_of a ≡ reply_for (λ w x. repair_reply w x stripe fragment) (Some self.old)) }
         ensures changed { IfOk result (λ a. Mends stripe fragment (note_of a) self.old self.new) }
+        ensures fewer { lacked_count self.new ≤ lacked_count self.old }
         ensures faults { IfErr result (λ e. e ≡ Fault.NoMemory) }
         ensures err { OnErr result (self.new ≡ self.old) }
     {
@@ -223,6 +232,7 @@ impl Shelved {
         requires long { length bytes ≡ self.old.width }
         requires own { IsFragmentOf self.old stripe f bytes }
         ensures ok { OnOk result (IsWith (λ lost. set.remove lost (stripe, f)) self.old self.new) }
+        ensures fewer { lacked_count self.new ≤ lacked_count self.old }
         ensures faults { IfErr result (λ e. e ≡ Fault.NoMemory) }
         ensures err { OnErr result (self.new ≡ self.old) }
     {

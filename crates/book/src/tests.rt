@@ -114,10 +114,7 @@ fn first_byte(book: &Book, name: &Name) -> Option<u8> {
     if stripes.len() == 0 {
         return None;
     }
-    match &stripes.at(0).fragments[0] {
-        Some(bytes) => bytes.as_slice().first().copied(),
-        None => None,
-    }
+    stripes.fragment(0, 0)?.first().copied()
 }
 
 /// Makes the calls on the book in which version 1 was stored. Each has this note, and leaves this first byte.

@@ -1,8 +1,8 @@
 -- What the parser's answer says of the words.
-use Rattle.std.proofs.Common.{◌≡◌, ◌⊎◌, ◌∙◌, ℕ, List, Option, Some, None, Result, Ok, true, inl, inr, refl, sym, ap, subst}
-use Rattle.std.specs.Prelude.{option_map}
-use Rattle.std.specs.Str.Parse.{ParsesUnsigned, digits_value, without_leading_plus}
-use Rattle.clap.specs.Words.{HasKind, IsAmong, ReadsOne, Text, fault_of, is_simple, is_simple_and_free, kind_of, one_text, rows_of}
+use Rattle.std.proofs.Common.{◌≡◌, ◌⊎◌, ◌∙◌, ◌<◌, ◌^◌, ℕ, List, Option, Some, None, Result, Ok, Err, true, inl, inr, refl, sym, ap, subst}
+use Rattle.std.specs.Prelude.{SomeIff, option_map}
+use Rattle.std.specs.Str.Parse.{IsNumeral, ParsesUnsigned, digits_value, without_leading_plus}
+use Rattle.clap.specs.Words.{HasKind, IsAmong, ReadsOne, Text, fault_of, is_simple, is_simple_and_free, kind_of, one_of, one_text, rows_of}
 use Rattle.clap.specs.declared.error.Error.{Error}
 use Rattle.clap.specs.declared.error.kind.ErrorKind.{ErrorKind}
 use Rattle.clap.specs.declared.error.kind.ErrorKind.TheVariants as kind
@@ -29,6 +29,21 @@ number_read {E} G k found id n parses none value = ap (option_map (λ text. digi
     go : (o : Option Text) → one_text found id ≡ o → option_map (λ text. digits_value 10 (without_leading_plus text)) o ≡ Some n
     go None is = cc (none is)
     go (Some t) is = ap Some (sym ((parses t (Ok n) (value t is)).1))
+
+-- what was read of a text is its number, where it has one
+pub text_read : {E : Type 0} (G : List ℕ → Result ℕ E → Type 0) (k : ℕ) (found : Found) (id : Text) (o : Option ℕ) → ((t : List ℕ) (r : Result ℕ E) → G t r → ParsesUnsigned k 10 t r)
+    → ((t : List ℕ) → one_text found id ≡ Some t → ReadsOne G t o) → (t : Text) → one_of id (rows_of found) ≡ Some t
+    → SomeIff o (IsNumeral 10 (without_leading_plus t) × (digits_value 10 (without_leading_plus t) < 2 ^ k)) (digits_value 10 (without_leading_plus t))
+text_read G k found id None parses value t is = let read = value t (one_text-rows found id ∙ is) in parses t (Err read.0) read.1
+text_read G k found id (Some n) parses value t is = parses t (Ok n) (value t (one_text-rows found id ∙ is))
+
+-- an option of which a number was read has a text
+pub text_given : (found : Found) (id : Text) (n : ℕ) → (one_text found id ≡ None → Some n ≡ None) → (t : Text) × (one_of id (rows_of found) ≡ Some t)
+text_given found id n none = go (one_text found id) refl
+  where
+    go : (o : Option Text) → one_text found id ≡ o → (t : Text) × (one_of id (rows_of found) ≡ Some t)
+    go None is = cc (none is)
+    go (Some t) is = (t, sym (one_text-rows found id) ∙ is)
 
 -- what is refused by `clap` is refused for what `clap` refuses it for
 pub refuses : (words : List Text) (error : Error) → HasKind (fault_of program words) error → Refuses words (refusal_of error)

@@ -1,6 +1,6 @@
 -- What the words after the program's name say.
 use Rattle.std.specs.Prelude.{◌≡◌, ℕ, List, [], Option, Some, true, false, codes, option_map, string_bytes}
-use Rattle.std.specs.Str.Parse.{digits_value, without_leading_plus}
+use Rattle.std.specs.Str.Parse.{IsNumeral, digits_value, without_leading_plus}
 use Rattle.clap.specs.Words.{IsAmong, Row, Text, fault_of, first_of, kind_of, matches_of, one_of}
 use Rattle.clap.specs.declared.error.Error.{Error}
 use Rattle.clap.specs.declared.error.kind.ErrorKind.{ErrorKind}
@@ -9,10 +9,22 @@ use Rattle.command_line.specs.declared.line.BadLine.{BadLine}
 use Rattle.command_line.specs.declared.line.BadLine.TheVariants.{Clap, NoMemory}
 use Rattle.command_line.specs.declared.line.Options.{Options}
 use Rattle.command_line.specs.Program.{program}
+use Rattle.command_line.specs.Ranges.{InRange}
 
 -- the number that an option was given, or has by default
 abbrev pub number_of : Text → List Row → Option ℕ
 number_of id found = option_map (λ text. digits_value 10 (without_leading_plus text)) (one_of id found)
+
+-- the text of a number from 1 to the most, in decimal digits, before which one plus may stand
+pub record IsNumberText (most : ℕ) (text : Text) : Type 0 where
+  pub numeral : IsNumeral 10 (without_leading_plus text)
+  pub range : InRange (digits_value 10 (without_leading_plus text)) most
+
+-- an option was given such a number, or has it by default
+pub record HasNumber (id : Text) (most : ℕ) (found : List Row) : Type 0 where
+  pub text : Text
+  pub given : one_of id found ≡ Some text
+  pub number : IsNumberText most text
 
 -- the options are those that were found
 pub record AreFound (found : List Row) (options : Options) : Type 0 where

@@ -1,8 +1,8 @@
 //! Reading the command line.
 
-ghost use Rattle.std.specs.Prelude.{◌≡◌, IfErr, IfOk, MatchOption, Some, false, map};
+ghost use Rattle.std.specs.Prelude.{◌≡◌, ◌↔◌, IfErr, IfOk, IfSome, IsSome, Some, false, map};
 ghost use Rattle.clap.specs.Words.{app_of, found_of, rows_of, rule_of};
-ghost use Rattle.command_line.specs.Line.{Says, Refuses, number_of, refusal_of};
+ghost use Rattle.command_line.specs.Line.{HasNumber, Says, Refuses, number_of, refusal_of};
 ghost use Rattle.command_line.specs.Program.{history_rule, number_rule, program, script_rule};
 ghost use Rattle.command_line.specs.Ranges.{InRange};
 
@@ -117,10 +117,11 @@ fn command<'a>(alloc: Global) -> Result<Command<'a>, AllocError>
     Ok(command)
 }
 
-/// The number of an option, where it is from 1 to `most`.
+/// The number of an option, where it has one and it is from 1 to `most`.
 fn number(matches: &ArgMatches, id: &str, most: u32) -> Option<u32>
-    ensures range { MatchOption result (Unit {0}) (λ n. InRange n most) }
-    ensures value { MatchOption result (Unit {0}) (λ n. number_of id.now (rows_of (found_of matches.now)) ≡ Some n) }
+    ensures range { IfSome result (λ n. InRange n most) }
+    ensures value { IfSome result (λ n. number_of id.now (rows_of (found_of matches.now)) ≡ Some n) }
+    ensures some { IsSome result ↔ HasNumber id.now most (rows_of (found_of matches.now)) }
 {
     let n = matches.get_one::<u32>(id)?;
     if 1 <= n && n <= most { Some(n) } else { None }

@@ -10,10 +10,16 @@ use std::alloc::{AllocError, Global};
 use std::marker::Model;
 use std::snapshot::Snapshot;
 use std::sync::Wait;
-use std::thread;
+use std::time::Duration;
+use std::{hint, thread};
 
 /// A request for memory was refused.
 pub type NoMemory = AllocError;
+
+/// How often who waits looks at the word before it lets others run.
+const LOOKS: u32 = 5;
+/// How often it lets others run before it sleeps.
+const YIELDS: u32 = 8;
 
 /// The word at 0 is 1 while somebody is inside, and the slot at 0 holds the value while nobody is.
 type GateTable<T> = Table<Option<T>, View<T>, Snapshot<T>, GateRule, Global>;
@@ -129,13 +135,33 @@ impl<T: Follows> Gate<T> {
         ensures found { last_of seat.new.list ≡ Some result.value }
         ensures lone { seat.old.room ≡ 64 → HasAll seat.new.list seat.new.own }
     {
+        let mut turns: u32 = 0;
         for _ in rt.forever() {
             if let Some(inside) = self.try_enter(seat) {
                 return inside;
             }
-            thread::yield_now();
+            self.wait(rt, turns);
+            turns = turns.saturating_add(1);
         }
         unreachable!()
+    }
+
+    /// Waits a while, for less time as long as few tries were made: it looks at the word, then yields the processor, and from `YIELDS` turns on sleeps. It is no step on the
+    /// table, and tells nothing.
+    fn wait<R: Wait>(&self, rt: &R, turns: u32) {
+        for _ in 0..LOOKS {
+            if self.table.shared.peek(0) == 0 {
+                return;
+            }
+            hint::spin_loop();
+        }
+        if turns < YIELDS {
+            thread::yield_now();
+        } else {
+            let doublings = (turns - YIELDS).min(5);
+            let nap = Duration::from_micros(50 << doublings);
+            self.table.shared.park_timeout(rt, 0, 1, nap);
+        }
     }
 
     /// Gives the value that was left last, once all seats are joined: then every place of the list but the opening one is the seat's own.

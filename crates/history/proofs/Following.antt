@@ -9,8 +9,8 @@ use Rattle.history.specs.Base.{Checkpoint, Outlines, IsRising}
 use Rattle.history.specs.Names.{name_cmp}
 use Rattle.history.specs.Parts.{changes_of, is_changed}
 use Rattle.history.specs.Views.{View, Views, view, empty_views, AreNoted, all_next}
-use Rattle.history.specs.Kept.{outlines_of, seen_as, views_of}
-use Rattle.history.specs.declared.kept.Kept.{Kept}
+use Rattle.history.specs.Metadata.{outlines_of, seen_as, views_of}
+use Rattle.history.specs.declared.metadata.BlobMetadata.{BlobMetadata}
 use Rattle.history.specs.declared.note.Entry.{Entry}
 use Rattle.history.specs.declared.replay.Replay.{Replay}
 use Rattle.history.proofs.Framing.{over, AreWithin, all_next_over, noted_within, all_next-changes, noted-changes, changes_within}
@@ -32,7 +32,7 @@ outlined_after w base later r t es names puts follows rise later_names later_put
 
 -- ---- the replay of a part that is laid over the other names
 -- a name's view as the replay begins, over all the others and over none
-module _ (changed : Bool) (old part : Option Kept) where
+module _ (changed : Bool) (old part : Option BlobMetadata) where
   begun : part ≡ cond changed old None → option_map seen_as old ≡ cond changed (option_map seen_as part) (option_map seen_as old)
   begun = by changed
     where
@@ -48,7 +48,7 @@ module _ (changed : Bool) (old part : Option Kept) where
       by false e = ap (option_map seen_as) e
 
 -- and after what the replay left is laid over them
-laid : (changed : Bool) (done old : Option Kept) (now : Option View) → option_map seen_as done ≡ cond changed now None
+laid : (changed : Bool) (done old : Option BlobMetadata) (now : Option View) → option_map seen_as done ≡ cond changed now None
     → option_map seen_as (option_or done (cond changed None old)) ≡ cond changed (option_map seen_as done) (option_map seen_as old)
 laid true None old now e = refl
 laid true (Some k) old now e = refl
@@ -56,7 +56,7 @@ laid false None old now e = refl
 laid false (Some k) old now e = absurd (let no : ⊥ = cc in no)
 
 -- so the names then show what the replay of all entries on all names does
-pub follows_laid : (w : ℕ) (es : List Entry) (all part done : Replay) (names : BTreeMap (List ℕ) Kept)
+pub follows_laid : (w : ℕ) (es : List Entry) (all part done : Replay) (names : BTreeMap (List ℕ) BlobMetadata)
     → ((q : List ℕ) → get name_cmp part.names q ≡ cond (is_changed es q) (get name_cmp all.names q) None) → part.puts ≡ all.puts
     → (AreNoted w (views_of part) (changes_of es) → views_of done ≡ all_next (views_of part) (changes_of es))
     → ((q : List ℕ) → get name_cmp names q ≡ option_or (get name_cmp done.names q) (cond (is_changed es q) None (get name_cmp all.names q)))

@@ -5,7 +5,7 @@ use Rattle.std.specs.Cmp.Lexicographic.{nat_list_cmp_total}
 use Rattle.std.proofs.lemmas.Cmp.{eq_by_cmp_equiv}
 use Rattle.std.proofs.lemmas.Bool.{false≢true, or_left, or_right}
 use Rattle.std.proofs.lemmas.Map.Lookups.{exact_bytes}
-use Rattle.std.proofs.lemmas.Map.Views.{tells_apart}
+use Rattle.std.proofs.lemmas.Map.Views.{tells_apart, any-filter_same}
 use Rattle.history.specs.Names.{name_cmp}
 use Rattle.history.specs.Parts.{name_of, can_change, changes_of, is_changed}
 use Rattle.history.specs.Views.{View, Views, reply, read_reply, lose_reply, repair_reply, delete_reply, stat_reply, view_after, changed, added, taken, operation_of, AreNoted, next, all_next}
@@ -129,4 +129,23 @@ changes_within within (e ∷ es) h =
       h (name_of e.call) (or_left _ (is_changed es (name_of e.call)) ((λ i. t i && (eq_by_cmp_equiv nat_list_cmp_total).refl (name_of e.call) i))),
       rest,
     )
+    by false t rest = rest
+
+-- and say alone which these are
+first_true : (x y : Bool) → (x && y) ≡ true → x ≡ true
+first_true true y h = refl
+first_true false y h = h
+
+pub changed_alike : (es : List Entry) (q : List ℕ) → is_changed (changes_of es) q ≡ is_changed es q
+changed_alike es q =
+    any-filter_same (λ (e : Entry). can_change e.call && eq_by_cmp name_cmp q (name_of e.call)) (λ (e : Entry). can_change e.call) true
+    (λ e t. first_true (can_change e.call) (eq_by_cmp name_cmp q (name_of e.call)) t) es
+
+-- once more they are the same
+pub changes_twice : (es : List Entry) → changes_of (changes_of es) ≡ changes_of es
+changes_twice [] = refl
+changes_twice (e ∷ es) = by (can_change e.call) refl (changes_twice es)
+  where
+    by : (b : Bool) → can_change e.call ≡ b → changes_of (changes_of es) ≡ changes_of es → changes_of (cond b (e ∷ changes_of es) (changes_of es)) ≡ cond b (e ∷ changes_of es) (changes_of es)
+    by true t rest = ap (λ b. cond b (e ∷ changes_of (changes_of es)) (changes_of (changes_of es))) t ∙ ap (λ xs. e ∷ xs) rest
     by false t rest = rest

@@ -22,8 +22,8 @@ use Rattle.sealed.proofs.Places.{fragment_inside, stripe_by_count, fragment_by_c
 use Rattle.lent.specs.Range.{HasOpen}
 use Rattle.lent.proofs.Readable.{Meets, has_open}
 use Rattle.history.specs.Views.{open_test, open_in_range}
-use Rattle.history.specs.Kept.{lost_of, is_open_between}
-use Rattle.history.specs.declared.kept.Kept.{Kept}
+use Rattle.history.specs.Metadata.{lost_of, is_open_between}
+use Rattle.history.specs.declared.metadata.BlobMetadata.{BlobMetadata}
 use Rattle.history.proofs.Replies.{below_of, open_found}
 use Rattle.sealed.proofs.Changing.{pairs_total}
 
@@ -95,7 +95,7 @@ by_fragment code w len j f r is =
 div_mono : (w a b : ℕ) → 1 ≤ w → a ≤ b → a / w ≤ b / w
 div_mono w a b some le = let under : a / w * w ≤ a = div-mul-le_self a w in le-div (a / w) b w some (omega arith)
 
-module _ (k : Kept) (w start len : ℕ) (some : 1 ≤ w) (bytes : 0 < len) where
+module _ (k : BlobMetadata) (w start len : ℕ) (some : 1 ≤ w) (bytes : 0 < len) where
   meets : (n : ℕ) → start / w ≤ n → n ≤ (start + len - 1) / w → Meets w start len n
   meets n low high = record { first = low; last = grind arith }
 
@@ -198,7 +198,7 @@ module _ (j : ℕ) where
       ∙ ap (λ (b : Bool). b || list_any (is_at (pair_cmp (j, g))) rest) (sym is)
 
 -- ---- the pairs of the stripes that the fragments from first to last are in
-module _ (k : Kept) (first last : ℕ) where
+module _ (k : BlobMetadata) (first last : ℕ) where
   abbrev pub low_pair : ℕ × ℕ
   low_pair = (first / data_count k.code, 0)
 

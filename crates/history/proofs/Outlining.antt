@@ -20,24 +20,24 @@ use Rattle.history.specs.Names.{name_cmp}
 use Rattle.history.specs.State.{Blob, State}
 use Rattle.history.specs.Base.{Outline, Checkpoint, Outlines, IsRising, outline_of, pairs_of}
 use Rattle.history.specs.Views.{View, view, view_of}
-use Rattle.history.specs.Kept.{outline_kept, outlines_of, seen_as, views_of}
-use Rattle.history.specs.declared.kept.Kept.{Kept}
+use Rattle.history.specs.Metadata.{outline_kept, outlines_of, seen_as, views_of}
+use Rattle.history.specs.declared.metadata.BlobMetadata.{BlobMetadata}
 use Rattle.history.specs.declared.replay.Replay.{Replay}
 use Rattle.history.proofs.Catalogue.{option_map-cond}
 use Rattle.sealed.proofs.Changing.{pairs_total}
 use Rattle.history.proofs.Rising.{insert_next, keys_rise, same_found, entries_back, same_pairs, pairs_of-has, pairs_of-length, pairs_rise}
 
 -- the entry after those that are in goes to the end
-pub kept_next : (all es rest : List (List ℕ × Kept)) (n : List ℕ) (k : Kept) → IsStrictlySortedBy name_cmp (keys_of all) → es ++ (n, k) ∷ rest ≡ all
+pub kept_next : (all es rest : List (List ℕ × BlobMetadata)) (n : List ℕ) (k : BlobMetadata) → IsStrictlySortedBy name_cmp (keys_of all) → es ++ (n, k) ∷ rest ≡ all
     → insert_entry name_cmp es n k ++ rest ≡ all
 kept_next all es rest n k s whole =
     let ks = keys_of all in
     let i = length (keys_of es) in
-    let parts : ks ≡ keys_of es ++ n ∷ keys_of rest = sym (ap keys_of whole) ∙ map-append (λ (e : List ℕ × Kept). e.0) es ((n, k) ∷ rest) in
+    let parts : ks ≡ keys_of es ++ n ∷ keys_of rest = sym (ap keys_of whole) ∙ map-append (λ (e : List ℕ × BlobMetadata). e.0) es ((n, k) ∷ rest) in
     let before : keys_of es ≡ take i ks = sym (ap (take i) parts ∙ take-append_seam (keys_of es) (n ∷ keys_of rest)) in
     let inside : i < length ks = omega (arith, ap length parts, length-append (keys_of es) (n ∷ keys_of rest)) in
     let at : n ≡ get_or ks i n = sym (ap (λ (l : List (List ℕ)). get_or l i n) parts ∙ get_or-append_seam (keys_of es) n (keys_of rest) n) in
-    ap (λ (l : List (List ℕ × Kept)). l ++ rest) (insert_next nat_list_cmp_total ks s i n k inside at es before) ∙ append_assoc es ((n, k) ∷ []) rest ∙ whole
+    ap (λ (l : List (List ℕ × BlobMetadata)). l ++ rest) (insert_next nat_list_cmp_total ks s i n k inside at es before) ∙ append_assoc es ((n, k) ∷ []) rest ∙ whole
 
 -- ---- what outlines show
 abbrev shown_by : Outline → View
@@ -59,7 +59,7 @@ module _ {X : Type 0} (seen : X → View) (outline : List ℕ × X → Outline) 
       ∙ (λ i. cond (is_at (name_cmp n) (sym (name e) i)) (Some (same e i)) (shown_in es n i))
       ∙ option_map-cond shown_by (is_at (name_cmp n) (outline e).name) (outline e) (found (map outline es) n)
 
-kept_shown : (es : List (List ℕ × Kept)) (n : List ℕ) → option_map seen_as (lookup (is_at (name_cmp n)) es) ≡ option_map shown_by (found (map outline_kept es) n)
+kept_shown : (es : List (List ℕ × BlobMetadata)) (n : List ℕ) → option_map seen_as (lookup (is_at (name_cmp n)) es) ≡ option_map shown_by (found (map outline_kept es) n)
 kept_shown = shown_in seen_as outline_kept (λ e. refl) (λ e. refl)
 
 blob_shown : (e : List ℕ × Blob) → view_of e.1 ≡ shown_by (outline_of e)

@@ -2,7 +2,7 @@
 use Rattle.std.proofs.Common.{◌≡◌, ℕ, ◌+◌, ◌≤◌, ◌<◌, false, List, [], ◌∷◌, map, Some, cond, length, replicate, get_or, refl, sym, ap, ◌∙◌, subst, arith, drop, suc, add-one, drop-cons}
 use Rattle.std.specs.Prelude.{◌↔◌, All}
 use Rattle.std.specs.Ordering.{eq_by_cmp}
-use Rattle.std.proofs.lemmas.List.{length-replicate}
+use Rattle.std.proofs.lemmas.List.{length-replicate, length-map, get_or-map}
 use Rattle.std.proofs.lemmas.Grind.{common_steps}
 use Rattle.sealed.specs.Layout.{stripe_count}
 use Rattle.history.specs.Names.{name_cmp}
@@ -10,7 +10,7 @@ use Rattle.history.specs.State.{State}
 use Rattle.history.specs.Step.{Operation, put, read, lose, repair, delete, stat, after}
 use Rattle.history.specs.History.{Event, History, IsLegalFrom, after_all, call_of, entry_of}
 use Rattle.history.specs.Base.{Checkpoint, Outlines, IsRising}
-use Rattle.history.specs.Kept.{outlines_of, views_of}
+use Rattle.history.specs.Metadata.{outlines_of, views_of}
 use Rattle.history.specs.Lawful.{IsLawfulFrom}
 use Rattle.history.specs.Views.{Views, view, reply, CanPut, view_after, operation_of, IsNoted, AreNoted, next, all_next}
 use Rattle.history.specs.declared.replay.Replay.{Replay}
@@ -116,3 +116,10 @@ noted_at w v es i e l is = let split = split_at es i e l is in (subst (AreNoted 
 
 pub next_at : (v : Views) (es : List Entry) (i : ℕ) (e : Entry) → i < length es → e ≡ get_or es i e → all_next v (drop i es) ≡ all_next (next v e) (drop (i + 1) es)
 next_at v es i e l is = ap (all_next v) (split_at es i e l is)
+
+-- ---- entries by reference
+pub within : {X : Type 0} (xs : List X) (i : ℕ) (f : X → Entry) → i < length xs → i < length (map f xs)
+within xs i f l = subst (λ n. i < n) (sym (length-map xs f)) l
+
+pub named_at : {X : Type 0} (xs : List X) (i : ℕ) (x : X) (f : X → Entry) → i < length xs → x ≡ get_or xs i x → f x ≡ get_or (map f xs) i (f x)
+named_at xs i x f l is = ap f is ∙ sym (get_or-map f xs i x (f x) l)

@@ -4,10 +4,10 @@ ghost use Rattle.history.specs.Base.{Outlines, empty_base};
 ghost use Rattle.history.specs.History.{History, IsLegalFrom, after_all, entry_of, is_put};
 ghost use Rattle.history.specs.State.{State};
 
-use crate::note::count_puts;
+use crate::note::{changes_in, count_puts};
 use crate::replay::Replay;
 use crate::settle::{fill, make_room, take_out};
-use crate::{Entry, Kept, Name};
+use crate::{BlobMetadata, Entry, Name};
 use sealed::Width;
 use std::alloc::{AllocError, Global};
 use std::collections::BTreeMap;
@@ -21,7 +21,7 @@ pub struct Base {
     /// How many puts were among them.
     pub puts: u64,
     /// The names with their blobs.
-    pub names: BTreeMap<Name, Kept>,
+    pub names: BTreeMap<Name, BlobMetadata>,
 }
 
 impl Model for Base {
@@ -82,13 +82,15 @@ impl Base {
         ensures outlines { OnOk result ((s : State) (h : History) → Outlines self.old s → IsLegalFrom width s h → map entry_of h ≡ entries.now → Outlines self.new (after_all s h)) }
         ensures err { OnErr result (self.new ≡ self.old) }
     {
-        let mut part = Replay::part(alloc, &self.names, self.puts, entries, width)?;
-        part.take_in(alloc, entries)?;
+        let changes = changes_in(alloc, entries)?;
+        let changes = changes.as_slice();
+        let mut part = Replay::part(alloc, &self.names, self.puts, changes, width)?;
+        part.take_in(alloc, changes)?;
         make_room(alloc, &mut self.names, &part.names)?;
-        take_out(&mut self.names, &part.names, entries);
+        take_out(&mut self.names, &part.names, changes);
         fill(&mut self.names, part.names);
         self.trimmed += entries.len() as u64;
-        self.puts += count_puts(entries);
+        self.puts += count_puts(changes);
         Ok(())
     }
 }

@@ -2,8 +2,10 @@
 #![tactic(auto)]
 
 mod base;
-mod kept;
+mod journal;
 mod lawful;
+mod limit;
+mod metadata;
 mod name;
 mod note;
 mod replay;
@@ -11,8 +13,10 @@ mod settle;
 mod text;
 
 pub use base::Base;
-pub use kept::Kept;
+pub use journal::Journal;
 pub use lawful::{is_lawful, is_lawful_from};
+pub use limit::Limit;
+pub use metadata::BlobMetadata;
 pub use name::Name;
 pub use note::{Call, Entry, Note};
 pub use sealed::Fault;

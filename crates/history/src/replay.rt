@@ -1,16 +1,16 @@
 //! The object of one thread without its bytes: what it replies to each call, and what is kept after it.
-ghost use Rattle.std.specs.Prelude.{◌≡◌, ◌≤◌, ◌+◌, ◌↔◌, IsTrue, IfOk, OnOk, None, cond, replicate};
+ghost use Rattle.std.specs.Prelude.{◌≡◌, ◌≤◌, ◌+◌, ◌↔◌, IsTrue, IfOk, OnOk, None, cond, map, replicate};
 ghost use Rattle.std.specs.Option.{option_map};
 ghost use Rattle.std.specs.BTreeMap.{get};
 ghost use Rattle.sealed.specs.Layout.{stripe_count};
-ghost use Rattle.history.specs.Kept.{seen_as, views_of, outlines_of, PairsRise};
+ghost use Rattle.history.specs.Metadata.{seen_as, views_of, outlines_of, PairsRise};
 ghost use Rattle.history.specs.Base.{IsRising};
 ghost use Rattle.history.specs.Names.{name_cmp};
 ghost use Rattle.history.specs.Parts.{changes_of, is_changed};
 ghost use Rattle.history.specs.Views.{read_reply, lose_reply, repair_reply, delete_reply, stat_reply, view_after, added, taken, changed, IsNoted, AreNoted, next, all_next};
 ghost use Rattle.history.specs.Step.{put};
 
-use crate::kept::Kept;
+use crate::metadata::BlobMetadata;
 use crate::{Base, Call, Entry, Name, Note};
 use lrc_code::Code;
 use sealed::{Width, count_stripes};
@@ -20,7 +20,7 @@ use std::collections::{BTreeMap, BTreeSet};
 /// The names with what is kept of their blobs, and how many puts there were.
 #[derive(Drop)]
 pub struct Replay {
-    pub names: BTreeMap<Name, Kept>,
+    pub names: BTreeMap<Name, BlobMetadata>,
     pub puts: u64,
     pub width: Width,
 }
@@ -50,12 +50,12 @@ impl Replay {
     /// Of these names those that the entries can change, after so many puts. It copies no other name's blob.
     pub fn part(
         alloc: Global,
-        all: &BTreeMap<Name, Kept>,
+        all: &BTreeMap<Name, BlobMetadata>,
         puts: u64,
-        entries: &[Entry],
+        entries: &[&Entry],
         width: Width,
     ) -> Result<Replay, AllocError>
-        ensures names { IfOk result (λ replay. (q : _) → get name_cmp replay.names q ≡ cond (is_changed entries.now q) (get name_cmp all.now q) None) }
+        ensures names { IfOk result (λ replay. (q : _) → get name_cmp replay.names q ≡ cond (is_changed (map (λ e. e.now) entries.now) q) (get name_cmp all.now q) None) }
         ensures rising { IfOk result (λ replay. PairsRise replay.names) }
         ensures puts { IfOk result (λ replay. replay.puts ≡ puts) }
         ensures width { IfOk result (λ replay. replay.width ≡ width) }
@@ -79,8 +79,8 @@ impl Replay {
 
     /// Takes in those of the entries that can change something, up to the first of them whose note isn't the reply to its call. It looks at no other
     /// entry.
-    pub fn take_in(&mut self, alloc: Global, entries: &[Entry]) -> Result<(), AllocError>
-        ensures views { OnOk result (AreNoted self.old.width (views_of self.old) (changes_of entries.now) → views_of self.new ≡ all_next (views_of self.old) (changes_of entries.now)) }
+    pub fn take_in(&mut self, alloc: Global, entries: &[&Entry]) -> Result<(), AllocError>
+        ensures views { OnOk result (AreNoted self.old.width (views_of self.old) (changes_of (map (λ e. e.now) entries.now)) → views_of self.new ≡ all_next (views_of self.old) (changes_of (map (λ e. e.now) entries.now))) }
         ensures rising { OnOk result (PairsRise self.old.names → PairsRise self.new.names) }
     {
         for entry in entries {
@@ -145,7 +145,7 @@ impl Replay {
     }
 
     /// What is kept of a name's blob.
-    fn find(&self, name: &Name) -> Option<&Kept>
+    fn find(&self, name: &Name) -> Option<&BlobMetadata>
         ensures { option_map (λ k. seen_as k.now) result ≡ (views_of self.now).names name.now }
     {
         self.names.get(name)
@@ -255,7 +255,7 @@ impl Replay {
         ensures rising { OnOk result (PairsRise self.old.names → PairsRise self.new.names) }
         ensures width { self.new.width ≡ self.old.width }
     {
-        let kept = Kept {
+        let kept = BlobMetadata {
             version,
             len,
             code,

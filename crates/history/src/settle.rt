@@ -1,11 +1,11 @@
 //! Carrying what a replay of part of a base's names left into the base. Only making room can fail, and then the names are as they were.
-ghost use Rattle.std.specs.Prelude.{◌≡◌, ◌&&◌, not, true, None, Some, cond, OnOk, OnErr, IfOk, IsSome};
+ghost use Rattle.std.specs.Prelude.{◌≡◌, ◌&&◌, not, true, None, Some, cond, map, OnOk, OnErr, IfOk, IsSome};
 ghost use Rattle.std.specs.Option.{is_some, option_or};
 ghost use Rattle.std.specs.BTreeMap.{get, IsOrdered};
 ghost use Rattle.history.specs.Names.{name_cmp};
 ghost use Rattle.history.specs.Parts.{has_name, is_changed};
 
-use crate::{Entry, Kept, Name};
+use crate::{BlobMetadata, Entry, Name};
 use lrc_code::Code;
 use std::alloc::{AllocError, Global};
 use std::collections::{BTreeMap, BTreeSet};
@@ -13,8 +13,8 @@ use std::collections::{BTreeMap, BTreeSet};
 /// The names of the part that aren't there.
 fn absent(
     alloc: Global,
-    names: &BTreeMap<Name, Kept>,
-    part: &BTreeMap<Name, Kept>,
+    names: &BTreeMap<Name, BlobMetadata>,
+    part: &BTreeMap<Name, BlobMetadata>,
 ) -> Result<Vec<Name>, AllocError>
     ensures { IfOk result (λ fresh. (q : _) → has_name fresh.items q ≡ (is_some (get name_cmp part.now q) && not (is_some (get name_cmp names.now q)))) }
 {
@@ -28,7 +28,7 @@ fn absent(
 }
 
 /// Takes these names out.
-fn withdraw(names: &mut BTreeMap<Name, Kept>, gone: &[Name])
+fn withdraw(names: &mut BTreeMap<Name, BlobMetadata>, gone: &[Name])
     ensures names { (q : _) → get name_cmp names.new q ≡ cond (has_name gone.now q) None (get name_cmp names.old q) }
     ensures ordered { IsOrdered name_cmp names.old → IsOrdered name_cmp names.new }
 {
@@ -42,8 +42,8 @@ fn withdraw(names: &mut BTreeMap<Name, Kept>, gone: &[Name])
 /// `AllocError` where memory is refused, and then the names are as they were.
 pub fn make_room(
     alloc: Global,
-    names: &mut BTreeMap<Name, Kept>,
-    part: &BTreeMap<Name, Kept>,
+    names: &mut BTreeMap<Name, BlobMetadata>,
+    part: &BTreeMap<Name, BlobMetadata>,
 ) -> Result<(), AllocError>
     requires { IsOrdered name_cmp names.old }
     ensures placed { OnOk result ((q : _) → IsSome (get name_cmp part.now q) → IsSome (get name_cmp names.new q)) }
@@ -53,7 +53,7 @@ pub fn make_room(
 {
     let fresh = absent(alloc, names, part)?;
     for name in &fresh {
-        let place = Kept {
+        let place = BlobMetadata {
             version: 0,
             len: 0,
             code: Code::Wide,
@@ -68,8 +68,12 @@ pub fn make_room(
 }
 
 /// Takes out the names that the entries can have changed and that the part doesn't have.
-pub fn take_out(names: &mut BTreeMap<Name, Kept>, part: &BTreeMap<Name, Kept>, entries: &[Entry])
-    ensures names { (q : _) → get name_cmp names.new q ≡ cond (is_changed entries.now q && not (is_some (get name_cmp part.now q))) None (get name_cmp names.old q) }
+pub fn take_out(
+    names: &mut BTreeMap<Name, BlobMetadata>,
+    part: &BTreeMap<Name, BlobMetadata>,
+    entries: &[&Entry],
+)
+    ensures names { (q : _) → get name_cmp names.new q ≡ cond (is_changed (map (λ e. e.now) entries.now) q && not (is_some (get name_cmp part.now q))) None (get name_cmp names.old q) }
     ensures ordered { IsOrdered name_cmp names.old → IsOrdered name_cmp names.new }
 {
     for entry in entries {
@@ -82,7 +86,7 @@ pub fn take_out(names: &mut BTreeMap<Name, Kept>, part: &BTreeMap<Name, Kept>, e
 }
 
 /// Gives each name of the part what it has there. It has its place already, so no memory is asked for.
-pub fn fill(names: &mut BTreeMap<Name, Kept>, mut part: BTreeMap<Name, Kept>)
+pub fn fill(names: &mut BTreeMap<Name, BlobMetadata>, mut part: BTreeMap<Name, BlobMetadata>)
     requires { (q : _) → IsSome (get name_cmp part q) → IsSome (get name_cmp names.old q) }
     ensures names { (q : _) → get name_cmp names.new q ≡ option_or (get name_cmp part q) (get name_cmp names.old q) }
     ensures ordered { IsOrdered name_cmp names.old → IsOrdered name_cmp names.new }

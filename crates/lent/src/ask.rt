@@ -1,11 +1,14 @@
 //! Asking for a range.
-ghost use Rattle.std.specs.Prelude.{◌≡◌, ◌+◌, ◌≤◌, false, IfOk, OnErr, MatchBool};
+ghost use Rattle.std.specs.Prelude.{◌≡◌, ◌+◌, ◌<◌, ◌≤◌, ℕ, false, IfOk, OnErr, MatchBool};
+ghost use Rattle.lrc_code.specs.Code.{data_count, Open};
+ghost use Rattle.sealed.specs.Layout.{stripe_count};
+ghost use Rattle.sealed.specs.Sealed.{absent_in};
 ghost use Rattle.lent.specs.Range.{is_outside, IsReadable, IsUnreadable};
 ghost use Rattle.lent.specs.Asked.{IsAnswer};
 
-use crate::cut::{is_open_at, met_by};
+use crate::cut::{met_by, place_of};
 use crate::{Asked, Grant};
-use lrc_code::NoMemory;
+use lrc_code::{LostSet, NoMemory, is_alone_in};
 use sealed::Sealed;
 use std::sync::Arc;
 
@@ -36,16 +39,41 @@ impl Grant {
     }
 }
 
-/// Whether no byte of the range stands in an open fragment.
+/// Whether no byte of the range stands in an open fragment. It is judged stripe by stripe.
+#[tactic(auto, using(sealed::proofs::Counting::some_data, sealed::proofs::Counting::few_data))]
 fn is_readable(sealed: &Sealed, start: u64, len: u64) -> bool
     requires { start + len ≤ sealed.now.len }
     ensures { MatchBool result (IsReadable sealed.now start len) (IsUnreadable sealed.now start len) }
 {
     let met = met_by(sealed, start, len);
-    for k in met.start..met.end {
-        if is_open_at(sealed, k) {
+    let mut k = met.start;
+    while k < met.end {
+        let (stripe, from) = place_of(sealed.code, k);
+        let count = u64::from(sealed.code.data_fragments() - from).min(met.end - k);
+        if has_open(sealed, stripe, from, from + count as u8) {
             return false;
         }
+        k += count;
     }
     true
+}
+
+/// Whether one of the data fragments of a stripe from `from` on, up to `to`, is open. The first of them that is lost, and not alone in its group, tells it: it is
+/// open where the excess is above 2, and else nothing of the stripe is.
+fn has_open(sealed: &Sealed, stripe: u64, from: u8, to: u8) -> bool
+    requires stripe_below { stripe < stripe_count sealed.now.code sealed.now.width sealed.now.len }
+    requires to_below { to ≤ data_count sealed.now.code }
+    ensures { MatchBool result ((f : ℕ) × (from ≤ f) × (f < to) × Open sealed.now.code (absent_in sealed.now stripe) f)
+        ((f : ℕ) → from ≤ f → f < to → Open sealed.now.code (absent_in sealed.now stripe) f → ⊥) }
+{
+    let lost = sealed.lost(stripe);
+    if lost == LostSet::empty() {
+        return false;
+    }
+    for f in from..to {
+        if !lost.left(f) && !is_alone_in(sealed.code, lost, f) {
+            return lost.excess_in(sealed.code) > 2;
+        }
+    }
+    false
 }

@@ -1,12 +1,12 @@
 //! The data fragments that a range meets, counted through the blob.
-ghost use Rattle.std.specs.Prelude.{◌≡◌, ◌+◌, ◌/◌, ◌%◌, ◌≤◌, ◌<◌, ◌↔◌, IsTrue};
+ghost use Rattle.std.specs.Prelude.{◌≡◌, ◌+◌, ◌/◌, ◌%◌, ◌≤◌, ◌<◌};
 ghost use Rattle.lrc_code.specs.Code.{data_count, Open};
 ghost use Rattle.sealed.specs.Layout.{stripe_count};
 ghost use Rattle.sealed.specs.Sealed.{absent_in};
 ghost use Rattle.lent.specs.Cut.{cut_end, part_of};
 
 use crate::{Grant, Part};
-use lrc_code::is_open_in;
+use lrc_code::Code;
 use sealed::Sealed;
 use std::ops::Range;
 
@@ -24,16 +24,15 @@ pub(crate) fn met_by(sealed: &Sealed, start: u64, len: u64) -> Range<u64>
     first..(start + len - 1) / width + 1
 }
 
-/// Whether the `k`-th data fragment of the blob is open.
-#[tactic(auto, using(sealed::proofs::Counting::some_data))]
-pub(crate) fn is_open_at(sealed: &Sealed, k: u64) -> bool
-    requires { k / data_count sealed.now.code < stripe_count sealed.now.code sealed.now.width sealed.now.len }
-    ensures { IsTrue result ↔ Open sealed.now.code (absent_in sealed.now (k / data_count sealed.now.code)) (k % data_count sealed.now.code) }
+/// The stripe of the `k`-th data fragment of a blob, and its number there. Each code divides by a number of its own, which costs less than by one that is looked up.
+pub(crate) fn place_of(code: Code, k: u64) -> (u64, u8)
+    ensures stripe { result.0 ≡ k / data_count code }
+    ensures fragment { result.1 ≡ k % data_count code }
 {
-    let count = u64::from(sealed.code.data_fragments());
-    let stripe = k / count;
-    let f = (k % count) as u8;
-    sealed.fragment(stripe, f).is_none() && is_open_in(sealed.code, sealed.lost(stripe), f)
+    match code {
+        Code::Wide => (k / 12, (k % 12) as u8),
+        Code::Small => (k / 6, (k % 6) as u8),
+    }
 }
 
 /// The part of the `k`-th data fragment of the blob that lies in the range.
@@ -48,14 +47,15 @@ pub(crate) fn part_at(grant: &Grant, k: u64) -> Part
     ensures range { (result.from ≤ result.to) × (result.to ≤ grant.now.sealed.value.width) }
 {
     let sealed: &Sealed = &grant.sealed;
-    let count = u64::from(sealed.code.data_fragments());
     let width = u64::from(sealed.width.get());
     let begin = k * width;
     let end = grant.start + grant.len;
+    let (from, to) = (grant.start.saturating_sub(begin), width.min(end - begin));
+    let (stripe, fragment) = place_of(sealed.code, k);
     Part {
-        stripe: k / count,
-        fragment: (k % count) as u8,
-        from: grant.start.saturating_sub(begin) as usize,
-        to: width.min(end - begin) as usize,
+        stripe,
+        fragment,
+        from: from as usize,
+        to: to as usize,
     }
 }

@@ -88,9 +88,8 @@ fn build(alloc: Global, sealed: &Sealed, part: Part) -> Result<Vec<u8>, NoMemory
     requires range { (part.from ≤ part.to) × (part.to ≤ sealed.now.width) }
     ensures { IfOk result (λ bytes. AreBytesOf sealed.now part bytes.items) }
 {
-    let left = sealed.left(part.stripe);
     let f = usize::from(part.fragment);
-    closed(rebuild(alloc, &left, f, part.from, part.to))
+    closed(rebuild(alloc, &sealed.left(part.stripe), f, part.from, part.to))
 }
 
 /// The same, by the recipes that `plans` keeps.
@@ -109,9 +108,8 @@ fn build_by(
     ensures more { plans.old ≤ plans.new }
     ensures one { plans.new ≤ plans.old + 1 }
 {
-    let left = sealed.left(part.stripe);
     let f = usize::from(part.fragment);
-    closed(plans.rebuild(alloc, &left, f, part.from, part.to))
+    closed(plans.rebuild(alloc, &sealed.left(part.stripe), f, part.from, part.to))
 }
 
 /// What was rebuilt of a fragment that is not open.

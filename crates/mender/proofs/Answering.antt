@@ -1,18 +1,17 @@
 -- What a repair answers.
-use Rattle.std.proofs.Common.{◌≡◌, ℕ, ◌++◌, ◌∷◌, [], List, Bool, true, false, Option, None, Some, Ok, MatchBool, refl, ap, subst, ◌∙◌, ⊎_elim}
+use Rattle.std.proofs.Common.{◌≡◌, ℕ, ◌++◌, List, Bool, true, false, Option, None, Some, Ok, MatchBool, refl, ap, ◌∙◌, ⊎_elim}
 use Rattle.std.specs.FinMap as finite
 use Rattle.sealed.specs.Blob.{lost_in}
 use Rattle.history.specs.declared.note.Note.{Note}
 use Rattle.history.specs.declared.note.Note.TheVariants as note
-use Rattle.history.specs.State.{Blob, empty_state}
+use Rattle.history.specs.State.{Blob}
 use Rattle.history.specs.Step.{IfHolds, is_no_fragment, IsRepairReply, repair}
-use Rattle.history.specs.History.{Event, History, IsLegal, IsLegalFrom, state_of}
-use Rattle.history.proofs.Beginnings.{legal_rest}
 use Rattle.book.specs.declared.answer.Answer.{Answer}
 use Rattle.book.specs.declared.answer.Answer.TheVariants.{Stored, NoName, OutOfRange, Unrecoverable, Granted, Lost, NoFragment, AlreadyLost, Repaired, NotLost, Deleted, Shape}
 use Rattle.book.specs.Notes.{note_of}
+use Rattle.book.specs.Serial.{standing_of}
 use Rattle.shared.specs.Passes.{Shows}
-use Rattle.shared.specs.Calls.{event, Called}
+use Rattle.shared.specs.Calls.{Called}
 use Rattle.mender.specs.Answers.{is_of_repair, IsOfRepair}
 
 -- the same of a note
@@ -59,8 +58,4 @@ reply_noted w (Some blob) j f n reply =
 
 -- a repair answers by one of its five answers
 pub answer_of_repair : (v w : Shows) (n : List ℕ) (j f : ℕ) (a : Answer) → Called v (repair n j f) (Ok a) w → IsOfRepair a
-answer_of_repair v w n j f a c =
-    let e : Event = event v.who (repair n j f) a in
-    let before : History = v.seen ++ c.ok.0 in
-    let last : IsLegalFrom w.store.width (state_of before) (e ∷ []) = legal_rest w.store.width empty_state before (e ∷ []) (subst (IsLegal w.store.width) c.ok.1 c.legal) in
-    noted a ∙ reply_noted w.store.width (finite.get (state_of before).names n) j f (note_of a) last.0
+answer_of_repair v w n j f a c = noted a ∙ reply_noted v.store.width (finite.get (standing_of (v.acts ++ c.takes.others)).state.names n) j f (note_of a) c.takes.does.1

@@ -9,18 +9,16 @@ use Rattle.mender.specs.declared.done.Done.{Done}
 use Rattle.std.proofs.lemmas.Option.{slice_get-get_or, slice_get_within}
 use Rattle.mender.specs.Drawn.{Hand}
 use Rattle.mender.specs.Gathered.{tickets_of, IsOfPlan}
-use Rattle.mender.specs.Worked.{repair_of, repairs_of, replies_of, Repairs, ask_of, asks_of, AreMended, Draws, Worked, Stopped, StoppedFull}
+use Rattle.mender.specs.Worked.{repair_of, replies_of, ask_of, asks_of, AreMended, Draws, Worked, Stopped, StoppedFull}
 use Rattle.history.specs.Step.{Operation}
 use Rattle.sealed.specs.declared.fault.Fault.{Fault}
 use Rattle.sealed.specs.declared.fault.Fault.TheVariants.{JournalFull}
-use Rattle.shared.specs.Passes.{Shows, Stays}
+use Rattle.shared.specs.Passes.{Shows}
 use Rattle.shared.specs.Calls.{Called}
-use Rattle.shared.specs.Runs.{Runs}
 use Rattle.shared.specs.Serving.{Serves}
-use Rattle.shared.proofs.Serving.{serves_append, serves_one}
+use Rattle.shared.proofs.Serving.{serves_append, serves_longer, serves_one, serves_refused}
 use Rattle.requests.specs.declared.jobs.Reply.TheVariants.{Made, Refused}
 use Rattle.shared.specs.declared.run.Outcome.TheVariants as outcome
-use Rattle.shared.proofs.Runs.{runs_looks, runs_longer, runs_more, served}
 use Rattle.mender.proofs.Judged.{all_one, one_more}
 
 pub begun : (plan : List Item) (hand : Hand) → Worked plan hand hand [] []
@@ -85,56 +83,43 @@ in_hand plan ys old new new' done n it w some_left is fresh same lt here = recor
 pub stopped : (plan : List Item) (old new : Hand) (done items : List Done) (n : ℕ) (it : Item) → InHand plan old new done n it → items ≡ done → Stopped plan old new items
 stopped plan old new done items n it h kept = subst (Stopped plan old new) (sym kept) (n, slice_get_within plan n it h.there, h.none, h.after)
 
-as_many : (done : List Done) → length (replies_of done) ≡ length (repairs_of done)
-as_many done = length-map done (λ d. Made d.answer) ∙ sym (length-map done (λ d. Some (repair_of d.item)))
-
--- a repair more was made
-pub made_more : (v u w : Shows) (done items items' : List Done) (d : Done) (o : Operation) → Repairs v done u → Called u o (Ok d.answer) w → o ≡ repair_of d.item → items ≡ done → items' ≡ items ++ d ∷ []
-    → Repairs v items' w
-made_more v u w done items items' d o made called same kept pushed =
-    let list : done ++ d ∷ [] ≡ items' = sym (pushed ∙ ap (λ l. l ++ d ∷ []) kept) in
-    let one : Repairs u (d ∷ []) w = served u w (Some (repair_of d.item)) (outcome.Made (Ok d.answer)) (Made d.answer) (subst (λ operation. Called u operation (Ok d.answer) w) same called, tt) refl in
-    let both : Runs v (repairs_of done ++ repairs_of (d ∷ [])) (replies_of done ++ replies_of (d ∷ [])) w = runs_more v u w (repairs_of done) (replies_of done) _ _ (as_many done) made one in
-    let repairs : repairs_of done ++ repairs_of (d ∷ []) ≡ repairs_of (done ++ d ∷ []) = sym (map-append (λ e. Some (repair_of e.item)) done (d ∷ [])) in
-    let replies : replies_of done ++ replies_of (d ∷ []) ≡ replies_of (done ++ d ∷ []) = sym (map-append (λ e. Made e.answer) done (d ∷ [])) in
-    subst (λ l. Repairs v l w) list (subst (λ l. Runs v (repairs_of (done ++ d ∷ [])) l w) replies (subst (λ l. Runs v l (replies_of done ++ replies_of (d ∷ [])) w) repairs both))
-
 asked_many : (done : List Done) → length (replies_of done) ≡ length (asks_of done)
 asked_many done = length-map done (λ d. Made d.answer) ∙ sym (length-map done (λ d. ask_of d.item))
 
 -- one repair, answered
 mended_one : (u w : Shows) (d : Done) → Called u (repair_of d.item) (Ok d.answer) w → AreMended u (d ∷ []) w
-mended_one u w d called = serves_one u w (ask_of d.item) (outcome.Made (Ok d.answer)) (Made d.answer) called.stays (called, tt) called.takes refl
+mended_one u w d called = serves_one u w (ask_of d.item) (outcome.Made (Ok d.answer)) (Made d.answer) (called, tt) called.takes refl
 
-pub mended_more : (v u w : Shows) (done items items' : List Done) (d : Done) (o : Operation) → Stays v u → AreMended v done u → Called u o (Ok d.answer) w → o ≡ repair_of d.item → items ≡ done → items' ≡ items ++ d ∷ []
+-- a repair more was made
+pub mended_more : (v u w : Shows) (done items items' : List Done) (d : Done) (o : Operation) → AreMended v done u → Called u o (Ok d.answer) w → o ≡ repair_of d.item → items ≡ done → items' ≡ items ++ d ∷ []
     → AreMended v items' w
-mended_more v u w done items items' d o stays mended called same kept pushed =
+mended_more v u w done items items' d o mended called same kept pushed =
     let list : done ++ d ∷ [] ≡ items' = sym (pushed ∙ ap (λ l. l ++ d ∷ []) kept) in
     let one : AreMended u (d ∷ []) w = mended_one u w d (subst (λ operation. Called u operation (Ok d.answer) w) same called) in
-    let both : Serves v (asks_of done ++ asks_of (d ∷ [])) (replies_of done ++ replies_of (d ∷ [])) w = serves_append v u w (asks_of done) _ (replies_of done) _ (asked_many done) stays mended one in
+    let both : Serves v (asks_of done ++ asks_of (d ∷ [])) (replies_of done ++ replies_of (d ∷ [])) w = serves_append v u w (asks_of done) _ (replies_of done) _ (asked_many done) mended one in
     let asks : asks_of done ++ asks_of (d ∷ []) ≡ asks_of (done ++ d ∷ []) = sym (map-append (λ e. ask_of e.item) done (d ∷ [])) in
     let replies : replies_of done ++ replies_of (d ∷ []) ≡ replies_of (done ++ d ∷ []) = sym (map-append (λ e. Made e.answer) done (d ∷ [])) in
     subst (λ l. AreMended v l w) list (subst (λ l. Serves v (asks_of (done ++ d ∷ [])) l w) replies (subst (λ l. Serves v l (replies_of done ++ replies_of (d ∷ [])) w) asks both))
 
 -- the repair of the item in hand met a full journal
-pub stopped_full : (plan : List Item) (old new : Hand) (v u w : Shows) (done items : List Done) (n : ℕ) (it : Item) (o : Operation) (f : Fault) → Stays v u → AreMended v done u → Called u o (Err f) w → o ≡ repair_of it
+pub stopped_full : (plan : List Item) (old new : Hand) (v u w : Shows) (done items : List Done) (n : ℕ) (it : Item) (o : Operation) (f : Fault) → AreMended v done u → Called u o (Err f) w → o ≡ repair_of it
     → InHand plan old new done n it → items ≡ done → f ≡ JournalFull → StoppedFull plan old new v items w
-stopped_full plan old new v u w done items n it o f stays mended called same h kept full =
+stopped_full plan old new v u w done items n it o f mended called same h kept full =
     let refused : Called u (repair_of it) (Err JournalFull) w = subst (λ (x : Operation × Fault). Called u x.0 (Err x.1) w) (λ i. (same i, full i)) called in
-    let one : Serves u (ask_of it ∷ []) (Refused JournalFull ∷ []) w = serves_one u w (ask_of it) (outcome.Made (Err JournalFull)) (Refused JournalFull) refused.stays (refused, tt) refused.takes refl in
+    let one : Serves u (ask_of it ∷ []) (Refused JournalFull ∷ []) w = serves_one u w (ask_of it) (outcome.Made (Err JournalFull)) (Refused JournalFull) (refused, tt) refused.takes refl in
     subst (λ (l : List Done). StoppedFull plan old new v l w) (sym kept) (record {
       ticket = n;
       item = it;
       there = h.there;
       worked = h.after;
-      serves = serves_append v u w (asks_of done) (ask_of it ∷ []) (replies_of done) (Refused JournalFull ∷ []) (asked_many done) stays mended one;
+      serves = serves_append v u w (asks_of done) (ask_of it ∷ []) (replies_of done) (Refused JournalFull ∷ []) (asked_many done) mended one;
     })
 
 -- a repair was refused
-pub made_no_more : (v u w : Shows) (done items : List Done) (o : Operation) (f : Fault) → Repairs v done u → Called u o (Err f) w → items ≡ done → Repairs v items w
-made_no_more v u w done items o f made called kept =
-    let longer : Runs v (repairs_of done ++ []) (replies_of done) w = runs_longer v u w (repairs_of done) [] (replies_of done) (as_many done) made (runs_looks u w [] called.stays called.err) in
-    subst (λ l. Repairs v l w) (sym kept) (subst (λ l. Runs v l (replies_of done) w) (append-nil (repairs_of done)) longer)
+pub mended_no_more : (v u w : Shows) (done items : List Done) (o : Operation) (f : Fault) → AreMended v done u → Called u o (Err f) w → items ≡ done → AreMended v items w
+mended_no_more v u w done items o f mended called kept =
+    let longer : Serves v (asks_of done ++ []) (replies_of done) w = serves_longer v u w (asks_of done) [] (replies_of done) (asked_many done) mended (serves_refused u w [] o f called) in
+    subst (λ l. AreMended v l w) (sym kept) (subst (λ l. Serves v l (replies_of done) w) (append-nil (asks_of done)) longer)
 
 pub did_more : (plan : List Item) (old new : Hand) (done items items' : List Done) (n : ℕ) (d : Done) (it : Item) → InHand plan old new done n it
     → d.ticket ≡ n → d.item ≡ it → items ≡ done → items' ≡ items ++ d ∷ [] → Worked plan old new items' []

@@ -1,5 +1,5 @@
 -- What a worker did.
-use Rattle.std.specs.Prelude.{◌≡◌, ◌⊎◌, ℕ, ◌+◌, ◌<◌, ◌≤◌, List, [], ◌∷◌, ◌++◌, length, map, All, Option, Some, slice_get}
+use Rattle.std.specs.Prelude.{◌≡◌, ◌⊎◌, ℕ, ◌+◌, ◌<◌, ◌≤◌, List, [], ◌∷◌, ◌++◌, length, map, All, Some, slice_get}
 use Rattle.book.specs.declared.plan.Item.{Item}
 use Rattle.gate.specs.Places.{times}
 use Rattle.history.specs.Step.{Operation, repair}
@@ -10,7 +10,6 @@ use Rattle.requests.specs.declared.jobs.Ask.TheVariants.{Repair}
 use Rattle.sealed.specs.declared.fault.Fault.{Fault}
 use Rattle.sealed.specs.declared.fault.Fault.TheVariants.{JournalFull}
 use Rattle.shared.specs.Passes.{Shows}
-use Rattle.shared.specs.Runs.{Runs}
 use Rattle.shared.specs.Serving.{Serves}
 use Rattle.mender.specs.declared.done.Done.{Done}
 use Rattle.mender.specs.Drawn.{Hand}
@@ -20,17 +19,9 @@ use Rattle.mender.specs.Gathered.{tickets_of, IsOfPlan}
 abbrev pub repair_of : Item → Operation
 repair_of item = repair item.name item.stripe item.f
 
--- the repairs of the results' items, in order
-abbrev pub repairs_of : List Done → List (Option Operation)
-repairs_of done = map (λ d. Some (repair_of d.item)) done
-
 -- the answers of the results, in order
 abbrev pub replies_of : List Done → List Reply
 replies_of done = map (λ d. Made d.answer) done
-
--- the pass made just the repairs of the results' items, in order, with the results' answers
-abbrev pub Repairs : Shows → List Done → Shows → Type 0
-Repairs v done w = Runs v (repairs_of done) (replies_of done) w
 
 -- what is asked for the repair of an item
 abbrev pub ask_of : Item → Ask
@@ -39,7 +30,7 @@ ask_of item = Repair item.name item.stripe item.f
 abbrev pub asks_of : List Done → List Ask
 asks_of done = map (λ d. ask_of d.item) done
 
--- and each of them is what the store of one thread does, at its place
+-- the pass made just the repairs of the results' items, in order, with the results' answers, each as the store of one thread does at its place
 abbrev pub AreMended : Shows → List Done → Shows → Type 0
 AreMended v done w = Serves v (asks_of done) (replies_of done) w
 

@@ -2,9 +2,8 @@
 ghost use Rattle.std.specs.Prelude.{◌≡◌, ◌⊎◌, ◌≤◌, ◌^◌, [], length, None, IfOk, IfErr};
 ghost use Rattle.history.specs.History.{state_of};
 ghost use Rattle.book.specs.Plan.{plan_of};
-ghost use Rattle.shared.specs.Calls.{Looked};
 ghost use Rattle.shared.specs.Deeds.{Takes};
-ghost use Rattle.mender.specs.Worked.{Finished, Stopped, StoppedFull, IfFull, Repairs, AreMended};
+ghost use Rattle.mender.specs.Worked.{Finished, Stopped, StoppedFull, IfFull, AreMended};
 
 use crate::item::duplicate;
 use crate::{Done, Drawer, Tickets, WorkFault};
@@ -23,7 +22,6 @@ pub fn scrub<R: Wait>(
     pass: &mut Pass,
 ) -> Result<(Plan, Tickets, Drawer), Fault>
     requires { pass.old.store ≡ store.now }
-    ensures looked { Looked pass.old pass.new }
     ensures takes { Takes pass.old None pass.new }
     ensures plan { IfOk result (λ r. r.0.items.items ≡ plan_of (state_of pass.new.seen)) }
     ensures drawer { IfOk result (λ r. r.2 ≡ record { tickets = r.1; allowance = 2 ^ 40; drawn = [] }) }
@@ -51,10 +49,9 @@ pub fn work<R: Wait>(
     requires store { pass.old.store ≡ store.now }
     requires tickets { drawer.old.tickets ≡ tickets.now }
     ensures ok { IfOk result (λ done. Finished plan.now.items.items drawer.old drawer.new done.items) }
-    ensures made { IfOk result (λ done. Repairs pass.old done.items pass.new) }
     ensures mended { IfOk result (λ done. AreMended pass.old done.items pass.new) }
     ensures err { IfErr result (λ stop. Stopped plan.now.items.items drawer.old drawer.new stop.done.items) }
-    ensures made_by_then { IfErr result (λ stop. Repairs pass.old stop.done.items pass.new) }
+    ensures mended_by_then { IfErr result (λ stop. AreMended pass.old stop.done.items pass.new) }
     ensures faults { IfErr result (λ stop. (stop.fault ≡ Fault.NoMemory) ⊎ (stop.fault ≡ Fault.JournalFull)) }
     ensures full { IfErr result (λ stop. stop.fault ≡ Fault.JournalFull → pass.new.store.limit ≤ length pass.new.seen) }
     ensures stopped_full { IfErr result (λ stop. IfFull stop.fault (StoppedFull plan.now.items.items drawer.old drawer.new pass.old stop.done.items pass.new)) }

@@ -26,7 +26,7 @@ use Rattle.rounds.specs.declared.work.Outcome.TheVariants as outcome
 use Rattle.rounds.specs.declared.work.Ran.{Ran}
 use Rattle.rounds.specs.declared.work.Work.{Work}
 use Rattle.rounds.specs.Pools.{AreWorkers, passes_of, outcomes_of}
-use Rattle.play.specs.Mends.{IsPart, IsMender, AreMenders, IsBack, AreBack, IsEnded, AreEnded, given_to, given_to_all, given_before, results_in, left_with, left_of, all_left, is_stopped, drawn_by, AreDrawnOnce}
+use Rattle.play.specs.Mends.{IsPart, IsMender, AreMenders, IsForRow, AreForRow, IsBack, AreBack, IsEnded, AreEnded, given_to, given_to_all, given_before, results_in, left_with, left_of, all_left, is_stopped, drawn_by, AreDrawnOnce}
 
 -- ---- the parts are given out
 -- one worker more
@@ -34,6 +34,10 @@ pub menders-more : (plan : List Item) (tickets : TableId) (works : List Work) (w
     → AreMenders plan tickets (works ++ w ∷ [])
 menders-more plan tickets [] w all last = (last, tt)
 menders-more plan tickets (x ∷ works) w all last = (all.0, menders-more plan tickets works w all.1 last)
+
+pub rows-more : (row : ℕ) (works : List Work) (w : Work) → AreForRow row works → IsForRow row w.errand → AreForRow row (works ++ w ∷ [])
+rows-more row [] w all last = (last, tt)
+rows-more row (x ∷ works) w all last = (all.0, rows-more row works w all.1 last)
 
 pub given-more : (works : List Work) (w : Work) → given_to_all (works ++ w ∷ []) ≡ given_to_all works + given_to w.errand
 given-more works w = sum_by_push (λ (x : Work). given_to x.errand) works w

@@ -78,11 +78,11 @@ module _ (store : Which) (rows : List Row) (round top base number : ℕ) (past :
   mender_did who v w (Mend m) (outcome.Called r) at new is did ended later = absurd did
   mender_did who v w (Mend m) (outcome.Mended drawer Paused) at new is did ended later = absurd ended
   mender_did who v w (Mend m) (outcome.Mended drawer (Worked (Ok done))) at new is did ended later =
-      let asked = all_asked v w (asks_of done.items) (replies_of done.items) did.2 (length-map done.items (λ d. Made d.answer) ∙ sym (length-map done.items (λ d. ask_of d.item))) in
-      turned who (outcome.Mended drawer (Worked (Ok done))) v w (asks_of done.items) (replies_of done.items) at new did.2 later
+      let asked = all_asked v w (asks_of done.items) (replies_of done.items) did.1 (length-map done.items (λ d. Made d.answer) ∙ sym (length-map done.items (λ d. ask_of d.item))) in
+      turned who (outcome.Mended drawer (Worked (Ok done))) v w (asks_of done.items) (replies_of done.items) at new did.1 later
       (λ deeds told.
       took_ok plan m.drawer drawer done.items (Worked (Ok done)) deeds (subst (λ (p : List Item). Finished p m.drawer drawer done.items) is.plan_is did.0) is.none refl (append-nil done.items)
-      (deeds_finished deeds did.2.turns done.items told asked did.2.replied))
+      (deeds_finished deeds did.1.turns done.items told asked did.1.replied))
   mender_did who v w (Mend m) (outcome.Mended drawer (Worked (Err stop))) at new is did ended later =
       let full = did.2 ended in
       let done = stop.done.items in

@@ -36,6 +36,15 @@ abbrev pub AreMenders : List Item → TableId → List Work → Type 0
 AreMenders plan tickets [] = Unit {0}
 AreMenders plan tickets (w ∷ ws) = IsMender plan tickets w.errand × AreMenders plan tickets ws
 
+-- each mends for this row, of which the pace is asked
+abbrev pub IsForRow : ℕ → Errand → Type 0
+IsForRow row (Calls jobs) = ⊥
+IsForRow row (Mend m) = m.row ≡ row
+
+abbrev pub AreForRow : ℕ → List Work → Type 0
+AreForRow row [] = Unit {0}
+AreForRow row (w ∷ ws) = IsForRow row w.errand × AreForRow row ws
+
 -- the allowances that the workers were given
 abbrev pub given_to : Errand → ℕ
 given_to (Calls jobs) = 0

@@ -52,6 +52,7 @@ impl From<Halt> for Fail {
 
     fn from(halt: Halt) -> Fail
         ensures gives { result ≡ fail_by halt }
+        ensures paused { result ≡ Fail.Paused → halt ≡ Halt.Paused }
         ensures tells { (workers : ℕ) (text : List ℕ) → Tells workers text result }
     {
         match halt {
@@ -63,7 +64,7 @@ impl From<Halt> for Fail {
 }
 
 impl From<NotRead> for Fail {
-    ghost use Rattle.std.specs.Prelude.{◌≡◌, ℕ, List};
+    ghost use Rattle.std.specs.Prelude.{◌≡◌, ◌≢◌, ℕ, List};
     ghost use Rattle.play.specs.Fails.{Tells, fail_of};
     ghost use Rattle.script.specs.Script.{TellsWhy, script_records};
 
@@ -72,6 +73,7 @@ impl From<NotRead> for Fail {
     fn from(not_read: NotRead) -> Fail
         ensures gives { result ≡ fail_of not_read }
         ensures tells { (workers : ℕ) (text : List ℕ) → TellsWhy workers (script_records text) not_read → Tells workers text result }
+        ensures not_paused { result ≢ Fail.Paused }
     {
         match not_read {
             NotRead::Bad(BadScript::NoMemory) | NotRead::Reader(ErrorKind::OutOfMemory) => {

@@ -1,4 +1,6 @@
 //! Runs of calls: what is asked for, and what comes of it.
+ghost use Rattle.std.specs.Prelude.{ℕ, Bool, ⊤};
+
 use book::{Answer, Fault, Name};
 use bytes::Bytes;
 use lrc_code::Code;
@@ -87,8 +89,12 @@ pub struct Stopped {
 
 /// What a run does before and after each row.
 pub trait Pace {
+    // Holds of each answer that `before` may give for a row.
+    ghost may_answer: { Self → ℕ → Bool → Type 0 } = { λ _ _ _. ⊤ };
+
     /// Whether the run goes on with this row.
-    fn before(&self, row: u32) -> bool;
+    fn before(&self, row: u32) -> bool
+        ensures { may_answer self.now row result };
 
     /// The row was done.
     fn after(&self, row: u32);

@@ -1,11 +1,11 @@
 -- Why a run stopped before its end.
-use Rattle.std.specs.Prelude.{◌≡◌, Bool, true, false, not, List, Option, None, Some, Ok, Err, if◌then◌else◌}
+use Rattle.std.specs.Prelude.{◌≡◌, ℕ, Bool, true, false, not, List, Option, None, Some, Ok, Err, if◌then◌else◌}
 use Rattle.std.specs.List.{list_any}
 use Rattle.sealed.specs.declared.fault.Fault.{Fault}
 use Rattle.sealed.specs.declared.fault.Fault.TheVariants.{JournalFull}
 use Rattle.requests.specs.declared.jobs.Cause.{Cause}
 use Rattle.requests.specs.declared.jobs.Cause.TheVariants as cause
-use Rattle.rounds.specs.Rounds.{DidAll}
+use Rattle.rounds.specs.Rounds.{ArePaced, DidAll}
 use Rattle.rounds.specs.declared.work.Mended.TheVariants.{Worked, Paused}
 use Rattle.rounds.specs.declared.work.NotRun.{NotRun}
 use Rattle.rounds.specs.declared.work.NotRun.TheVariants as not_run
@@ -58,10 +58,11 @@ halt_after outcomes =
 abbrev pub GoesOn : Outcome → Type 0
 GoesOn o = (lacks_memory o ≡ false) × (is_paused o ≡ false)
 
--- a round of such works in which a worker was paused, and none was refused memory
-pub record HasPaused (AreWorks : List Work → Type 0) : Type 0 where
+-- a round of such works, at such a pace, was run, and ended the run for this reason, or for none
+pub record HasRound (AreWorks : List Work → Type 0) (may_answer : ℕ → Bool → Type 0) (reason : Option Halt) : Type 0 where
   pub works : List Work
   pub rans : List Ran
   pub are : AreWorks works
   pub did : DidAll works rans
-  pub paused : halt_after (outcomes_of rans) ≡ Some halt.Paused
+  pub paced : ArePaced may_answer works rans
+  pub ends : halt_after (outcomes_of rans) ≡ reason

@@ -1,11 +1,11 @@
 -- What the workers of a round do.
-use Rattle.std.specs.Prelude.{◌≡◌, ◌⊎◌, ◌≤◌, List, [], ◌∷◌, ◌++◌, length, Ok, Err}
+use Rattle.std.specs.Prelude.{◌≡◌, ◌⊎◌, ◌≤◌, ℕ, Bool, true, false, List, [], ◌∷◌, ◌++◌, length, Ok, Err}
 use Rattle.sealed.specs.declared.fault.Fault.{Fault}
 use Rattle.sealed.specs.declared.fault.Fault.TheVariants.{NoMemory, JournalFull}
+use Rattle.shared.specs.Paced.{AreLetThrough, HasNotBegun, StoppedAt}
 use Rattle.shared.specs.Passes.{Shows, Which}
-use Rattle.shared.specs.Runs.{asked, Runs, AreTrims}
 use Rattle.shared.specs.Serving.{asks_of, Serves}
-use Rattle.mender.specs.Worked.{Finished, Repairs, AreMended, StoppedFull, IfFull}
+use Rattle.mender.specs.Worked.{Finished, AreMended, StoppedFull, IfFull}
 use Rattle.mender.specs.Worked as worked
 use Rattle.rounds.specs.declared.work.Errand.{Errand}
 use Rattle.rounds.specs.declared.work.Errand.TheVariants.{Calls, Mend}
@@ -34,13 +34,10 @@ AreOf store [] = Unit {0}
 AreOf store (w ∷ ws) = IsOf store w × AreOf store ws
 
 -- ---- what came of an errand, with the pass before and after it
--- just the calls with an answer were made, in order, and all of them where the run did not stop; each reply tells what one thread does at its place, and that to a trim how
--- many calls it gave up
+-- each reply tells what one thread does at its place, and nothing else was done; where the run did not stop, there is a reply to each job
 abbrev pub DidCalls : Shows → Errand → Outcome → Shows → Type 0
-DidCalls v (Calls jobs) (Called (Ok replies)) w =
-    Runs v (asked jobs.items) replies.items w × (length replies.items ≡ length jobs.items) × Serves v (asks_of jobs.items) replies.items w × AreTrims w.seen jobs.items replies.items
-DidCalls v (Calls jobs) (Called (Err stopped)) w =
-    Runs v (asked jobs.items) stopped.done.items w × Serves v (asks_of jobs.items) stopped.done.items w × AreTrims w.seen jobs.items stopped.done.items
+DidCalls v (Calls jobs) (Called (Ok replies)) w = (length replies.items ≡ length jobs.items) × Serves v (asks_of jobs.items) replies.items w
+DidCalls v (Calls jobs) (Called (Err stopped)) w = Serves v (asks_of jobs.items) stopped.done.items w
 DidCalls v errand outcome w = ⊥
 
 -- a worker stops for want of memory, or at a full journal: then as many calls were seen as the limit
@@ -49,9 +46,9 @@ IsStop fault w = ((fault ≡ NoMemory) ⊎ (fault ≡ JournalFull)) × IfFull fa
 
 -- just the repairs with a result were made, in order, each by a ticket that was drawn
 abbrev pub DidMend : Shows → Mending → Outcome → Shows → Type 0
-DidMend v m (Mended drawer (Worked (Ok done))) w = Finished m.plan.value.items.items m.drawer drawer done.items × Repairs v done.items w × AreMended v done.items w
+DidMend v m (Mended drawer (Worked (Ok done))) w = Finished m.plan.value.items.items m.drawer drawer done.items × AreMended v done.items w
 DidMend v m (Mended drawer (Worked (Err stop))) w =
-    worked.Stopped m.plan.value.items.items m.drawer drawer stop.done.items × Repairs v stop.done.items w × IfFull stop.fault (StoppedFull m.plan.value.items.items m.drawer drawer v stop.done.items w)
+    worked.Stopped m.plan.value.items.items m.drawer drawer stop.done.items × AreMended v stop.done.items w × IfFull stop.fault (StoppedFull m.plan.value.items.items m.drawer drawer v stop.done.items w)
     × IsStop stop.fault w
 DidMend v m (Mended drawer Paused) w = (drawer ≡ m.drawer) × (w ≡ v)
 DidMend v m (Called r) w = ⊥
@@ -63,12 +60,35 @@ DidErrand v (Mend m) outcome w = DidMend v m outcome w
 abbrev pub Did : Work → Ran → Type 0
 Did work ran = DidErrand work.pass work.errand ran.outcome ran.pass
 
+-- of each work and of what came of it
+abbrev pub EachRan : (Work → Ran → Type 0) → List Work → List Ran → Type 0
+EachRan P [] [] = Unit {0}
+EachRan P [] (r ∷ rs) = ⊥
+EachRan P (w ∷ ws) [] = ⊥
+EachRan P (w ∷ ws) (r ∷ rs) = P w r × EachRan P ws rs
+
 -- each worker did its errand
 abbrev pub DidAll : List Work → List Ran → Type 0
-DidAll [] [] = Unit {0}
-DidAll [] (r ∷ rs) = ⊥
-DidAll (w ∷ ws) [] = ⊥
-DidAll (w ∷ ws) (r ∷ rs) = Did w r × DidAll ws rs
+DidAll works rans = EachRan Did works rans
+
+-- ---- what a pace, of which is known what it may answer for a row, has to do with it
+-- rows that were let through may have been, and a row at which a worker was paused may have been held back
+abbrev pub IsPacedErrand : (ℕ → Bool → Type 0) → Shows → Errand → Outcome → Shows → Type 0
+IsPacedErrand may_answer v (Calls jobs) (Called (Ok replies)) w = AreLetThrough may_answer jobs.items
+IsPacedErrand may_answer v (Calls jobs) (Called (Err stopped)) w = HasNotBegun v stopped w ⊎ StoppedAt may_answer jobs.items stopped
+IsPacedErrand may_answer v (Mend m) (Mended drawer (Worked r)) w = may_answer m.row true
+IsPacedErrand may_answer v (Mend m) (Mended drawer Paused) w = may_answer m.row false
+IsPacedErrand may_answer v errand outcome w = ⊥
+
+abbrev pub IsPaced : (ℕ → Bool → Type 0) → Work → Ran → Type 0
+IsPaced may_answer work ran = IsPacedErrand may_answer work.pass work.errand ran.outcome ran.pass
+
+abbrev pub ArePaced : (ℕ → Bool → Type 0) → List Work → List Ran → Type 0
+ArePaced may_answer works rans = EachRan (IsPaced may_answer) works rans
+
+-- a worker did its errand at this pace
+abbrev pub DidAt : (ℕ → Bool → Type 0) → Work → Ran → Type 0
+DidAt may_answer work ran = Did work ran × IsPaced may_answer work ran
 
 -- the works of a round that has no results: as they were; or the first ones are done, and the others are as they were
 abbrev pub AreReturned : List Work → NotRun → Type 0
@@ -77,16 +97,16 @@ AreReturned works (Start rans left) = (done : List Work) × (works ≡ done ++ l
 
 -- ---- between the start and the end of a round
 -- the work that a worker was given
-abbrev pub work_of : Started → Work
+abbrev pub work_of : {P : Type 0} → Started P → Work
 work_of (Busy handle) = handle.promise.0.value
 work_of (Idle work) = work
 work_of (Done promise ran) = promise.0.value
 
-abbrev pub IsReady : Which → Started → Type 0
-IsReady store (Busy handle) = Unit {0}
-IsReady store (Idle work) = IsOf store work
-IsReady store (Done promise ran) = Did promise.0.value ran
+abbrev pub IsReady : {P : Type 0} → Which → P → (ℕ → Bool → Type 0) → Started P → Type 0
+IsReady store pace may_answer (Busy handle) = handle.promise.1.value ≡ pace
+IsReady store pace may_answer (Idle work) = IsOf store work
+IsReady store pace may_answer (Done promise ran) = DidAt may_answer promise.0.value ran
 
-abbrev pub AreReady : Which → List Started → Type 0
-AreReady store [] = Unit {0}
-AreReady store (s ∷ ss) = IsReady store s × AreReady store ss
+abbrev pub AreReady : {P : Type 0} → Which → P → (ℕ → Bool → Type 0) → List (Started P) → Type 0
+AreReady store pace may_answer [] = Unit {0}
+AreReady store pace may_answer (s ∷ ss) = IsReady store pace may_answer s × AreReady store pace may_answer ss

@@ -1,6 +1,7 @@
 //! One round: a thread for each worker that has something to do, all joined at its end.
 ghost use Rattle.std.specs.Prelude.{◌≡◌, ◌≤◌, ◌++◌, [], false, IfOk, IfErr, map, vec_len, vec_capacity};
-ghost use Rattle.rounds.specs.Rounds.{AreOf, IsOf, AreReady, IsReady, Did, DidAll, DidMend, AreReturned, work_of};
+ghost use Rattle.rounds.specs.Rounds.{AreOf, IsOf, ArePaced, AreReady, IsPacedErrand, IsReady, DidAll, DidAt, DidMend, EachRan, AreReturned, work_of};
+ghost use Rattle.rounds.specs.declared.work.Errand.TheVariants.{Mend};
 
 use crate::work::{DoesErrand, Errand, Mended, Mending, NotRun, Outcome, Ran, Started, Work};
 use mender::work;
@@ -22,7 +23,8 @@ fn mend_on<R: Wait, P: Pace>(
 ) -> Outcome
     requires store { pass.old.store ≡ store.now }
     requires tickets { mending.drawer.tickets ≡ mending.tickets.value }
-    ensures { DidMend pass.old mending result pass.new }
+    ensures did { DidMend pass.old mending result pass.new }
+    ensures paced { IsPacedErrand (P.may_answer pace.now) pass.old (Mend mending) result pass.new }
 {
     let Mending {
         row,
@@ -41,7 +43,7 @@ fn mend_on<R: Wait, P: Pace>(
 /// What runs on a worker's thread.
 fn work_on<R: Wait, P: Pace>(rt: &R, alloc: Global, store: &Store, work: Work, pace: &P) -> Ran
     requires { IsOf store.now work }
-    ensures { Did work result }
+    ensures { DidAt (P.may_answer pace.now) work result }
 {
     let Work { mut pass, errand } = work;
     let outcome = match errand {
@@ -59,17 +61,17 @@ fn start<'s, 'e, R: Threads + Wait + Sync, P: Pace + Sync>(
     store: &'e Store,
     work: Work,
     pace: &'e P,
-) -> Started
+) -> Started<P>
     requires { IsOf store.now work }
     ensures work { work_of result ≡ work }
-    ensures ready { IsReady store.now result }
+    ensures ready { IsReady store.now pace.now (P.may_answer pace.now) result }
 {
     if work.is_idle() {
         return Started::Idle(work);
     }
     let (promise, same) = (
-        DoesErrand(Snapshot::of(&work)),
-        DoesErrand(Snapshot::of(&work)),
+        DoesErrand(Snapshot::of(&work), Snapshot::of(pace)),
+        DoesErrand(Snapshot::of(&work), Snapshot::of(pace)),
     );
     match scope.spawn_with(promise, move || work_on(rt, alloc, store, work, pace)) {
         Ok(handle) => Started::Busy(handle),
@@ -82,9 +84,9 @@ fn start<'s, 'e, R: Threads + Wait + Sync, P: Pace + Sync>(
 
 /// What the works of a round are put into, as it begins.
 #[derive(Drop)]
-struct Begun {
+struct Begun<P: Pace> {
     /// The workers up to one whose thread can't be started.
-    started: Vec<Started>,
+    started: Vec<Started<P>>,
     /// The works behind it.
     left: Vec<Work>,
     /// Whether there is such a one.
@@ -99,13 +101,13 @@ fn start_all<'s, 'e, R: Threads + Wait + Sync, P: Pace + Sync>(
     store: &'e Store,
     works: Vec<Work>,
     pace: &'e P,
-    begun: Begun,
-) -> Begun
+    begun: Begun<P>,
+) -> Begun<P>
     requires works { AreOf store.now works.items }
     requires none { (begun.started.items ≡ []) × (begun.left.items ≡ []) × (begun.is_short ≡ false) }
     requires room { (vec_len works ≤ vec_capacity begun.started) × (vec_len works ≤ vec_capacity begun.left) }
     ensures works { map work_of result.started.items ++ result.left.items ≡ works.items }
-    ensures ready { AreReady store.now result.started.items }
+    ensures ready { AreReady store.now pace.now (P.may_answer pace.now) result.started.items }
     ensures all { result.is_short ≡ false → result.left.items ≡ [] }
 {
     let Begun {
@@ -134,11 +136,11 @@ fn join<R: Threads + Wait, P: Pace>(
     rt: &R,
     alloc: Global,
     store: &Store,
-    started: Started,
+    started: Started<P>,
     pace: &P,
 ) -> Ran
-    requires { IsReady store.now started }
-    ensures { Did (work_of started) result }
+    requires { IsReady store.now pace.now (P.may_answer pace.now) started }
+    ensures { DidAt (P.may_answer pace.now) (work_of started) result }
 {
     match started {
         Started::Busy(handle) => handle.join(rt),
@@ -152,14 +154,14 @@ fn join_all<R: Threads + Wait, P: Pace>(
     rt: &R,
     alloc: Global,
     store: &Store,
-    started: Vec<Started>,
+    started: Vec<Started<P>>,
     pace: &P,
     mut rans: Vec<Ran>,
 ) -> Vec<Ran>
-    requires ready { AreReady store.now started.items }
+    requires ready { AreReady store.now pace.now (P.may_answer pace.now) started.items }
     requires none { rans.items ≡ [] }
     requires room { vec_len started ≤ vec_capacity rans }
-    ensures { DidAll (map work_of started.items) result.items }
+    ensures { EachRan (DidAt (P.may_answer pace.now)) (map work_of started.items) result.items }
 {
     for one in started {
         rans.push_reserved(join(rt, alloc, store, one, pace));
@@ -181,6 +183,7 @@ pub fn run_round<R: Threads + Wait + Sync, P: Pace + Sync>(
 ) -> Result<Vec<Ran>, NotRun>
     requires { AreOf store.now works.items }
     ensures did { IfOk result (λ rans. DidAll works.items rans.items) }
+    ensures paced { IfOk result (λ rans. ArePaced (P.may_answer pace.now) works.items rans.items) }
     ensures back { IfErr result (AreReturned works.items) }
 {
     let many = works.len();
@@ -203,7 +206,7 @@ pub fn run_round<R: Threads + Wait + Sync, P: Pace + Sync>(
             requires { AreOf store.now works.items × (rans.items ≡ []) × (vec_len works ≤ vec_capacity rans)
                 × (begun.started.items ≡ []) × (begun.left.items ≡ []) × (begun.is_short ≡ false)
                 × (vec_len works ≤ vec_capacity begun.started) × (vec_len works ≤ vec_capacity begun.left) }
-            ensures did { IfOk result (λ rans. DidAll works.items rans.items) }
+            ensures did { IfOk result (λ rans. EachRan (DidAt (P.may_answer pace.entry.now)) works.items rans.items) }
             ensures back { IfErr result (AreReturned works.items) }
         {
             let Begun {

@@ -2,7 +2,7 @@
 
 use book::Plan;
 use mender::{Done, Drawer, Tickets, WorkFault};
-use shared::{Job, Pass, Reply, Stopped};
+use shared::{Job, Pace, Pass, Reply, Stopped};
 use std::snapshot::Snapshot;
 use std::sync::Arc;
 use std::thread::{Promise, PromisedHandle};
@@ -84,25 +84,25 @@ pub enum NotRun {
     Start(Vec<Ran>, Vec<Work>),
 }
 
-/// A promise that a worker did its errand.
+/// A promise that a worker did its errand at this pace.
 #[derive(Drop)]
-pub(crate) struct DoesErrand(pub(crate) Snapshot<Work>);
+pub(crate) struct DoesErrand<P>(pub(crate) Snapshot<Work>, pub(crate) Snapshot<P>);
 
-impl Promise<Ran> for DoesErrand {
-    ghost use Rattle.rounds.specs.Rounds.{Did};
+impl<P: Pace> Promise<Ran> for DoesErrand<P> {
+    ghost use Rattle.rounds.specs.Rounds.{DidAt};
 
-    ghost kept_by = { λ p r. Did p.0.value r };
+    ghost kept_by = { λ p r. DidAt (P.may_answer p.1.value) p.0.value r };
 }
 
 /// A worker in its round: on a thread, with nothing to do, or done already, since its thread can't be started.
 #[derive(Drop)]
-pub(crate) enum Started {
-    Busy(PromisedHandle<Ran, DoesErrand>),
+pub(crate) enum Started<P: Pace> {
+    Busy(PromisedHandle<Ran, DoesErrand<P>>),
     Idle(Work),
-    Done(DoesErrand, Ran),
+    Done(DoesErrand<P>, Ran),
 }
 
-impl Started {
+impl<P: Pace> Started<P> {
     /// Whether its thread can't be started.
     pub(crate) fn is_done(&self) -> bool {
         match self {

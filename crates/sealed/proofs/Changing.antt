@@ -1,6 +1,6 @@
 -- Values that differ at one place.
 use Rattle.std.proofs.Common.{◌≡◌, ◌≢◌, ℕ, ◌<◌, Bool, true, false, List, [], length, map, get_or, Option, None, Some, Result, Ok, Err, OnOk, OnErr, cond, refl, sym, ap, ◌∙◌, subst, arith}
-use Rattle.std.specs.Prelude.{slice_set, ◌&&◌, ◌||◌, ◌==◌, not}
+use Rattle.std.specs.Prelude.{IfOk, slice_set, ◌&&◌, ◌||◌, ◌==◌, not}
 use Rattle.std.specs.FinSet as set
 use Rattle.std.specs.Cmp.{IsTotalOrder, nat_cmp_total}
 use Rattle.std.specs.Ordering.{eq_by_cmp}
@@ -43,7 +43,7 @@ pick_row false new row g f x h = refl
 same_number : (i j : ℕ) → (i == j) ≡ true → j ≡ i
 same_number i j e = grind (arith, common_steps)
 
-set_at : (stripes : Stripes) (j f i g : ℕ) (x : Option (List ℕ)) → j < length stripes → f < length (get_or stripes j [])
+pub set_at : (stripes : Stripes) (j f i g : ℕ) (x : Option (List ℕ)) → j < length stripes → f < length (get_or stripes j [])
     → fragment_at (slice_set stripes j (slice_set (get_or stripes j []) f x)) i g ≡ cond ((i == j) && (g == f)) x (fragment_at stripes i g)
 set_at stripes j f i g x hj hf =
     ap (λ (row : List (Option (List ℕ))). get_or row g None) (in_rows stripes (slice_set (get_or stripes j []) f x) j i hj)
@@ -89,6 +89,11 @@ shape_kept s j f x stripes count inside long at =
 pub either_way : {T E P Q R : Type 0} (r : Result T E) → (P → R) → (Q → R) → OnOk r P → OnErr r Q → R
 either_way (Ok x) p q ok err = p ok
 either_way (Err x) p q ok err = q err
+
+-- of what a call gives, two clauses say what follows from both
+pub both_ok : {T E : Type 0} (r : Result T E) (P Q R : T → Type 0) → ((x : T) → P x → Q x → R x) → IfOk r P → IfOk r Q → IfOk r R
+both_ok (Ok x) P Q R follows p q = follows x p q
+both_ok (Err e) P Q R follows p q = tt
 
 -- the same fields are the same value
 pub same_fields : (s : Sealed) (stripes : Stripes) (shaped : IsShaped stripes s.code s.width s.len) → stripes ≡ s.stripes

@@ -1,5 +1,5 @@
 -- How many data fragments and stripes there are.
-use Rattle.std.proofs.Common.{◌≡◌, ◌≢◌, ℕ, ◌+◌, ◌-◌, ◌*◌, ◌/◌, ◌%◌, ◌<◌, ◌≤◌, min, sym, ◌∙◌, ap, arith, inl, inr}
+use Rattle.std.proofs.Common.{◌≡◌, ◌≢◌, ℕ, ◌+◌, ◌-◌, ◌*◌, ◌/◌, ◌%◌, ◌<◌, ◌≤◌, min, refl, sym, ◌∙◌, ap, arith, inl, inr}
 use Rattle.std.proofs.lemmas.Nat.{div-mul-add}
 use Rattle.std.proofs.lemmas.Bool.{cases_eq}
 use Rattle.lrc_code.specs.declared.Code.{Code}
@@ -21,6 +21,10 @@ data_is_counted Small = omega arith
 pub few_fragments : (code : Code) → fragment_count code ≤ 16
 few_fragments Wide = omega arith
 few_fragments Small = omega arith
+
+pub parity_count : (code : Code) → fragment_count code ≡ data_count code + 4
+parity_count Wide = refl
+parity_count Small = refl
 
 -- a quotient that is rounded up, by dividing first
 pub rounded_up : (n d : ℕ) → 1 ≤ d → n / d + min 1 (n % d) ≡ (n + d - 1) / d

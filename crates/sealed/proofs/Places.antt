@@ -24,7 +24,7 @@ some_size : (code : Code) (w : ℕ) → 1 ≤ w → 0 < stripe_size code w
 some_size Wide w some = omega arith
 some_size Small w some = omega arith
 
-rest_of : (x d q r : ℕ) → x ≡ q * d + r → x / d ≡ q → x % d ≡ r
+pub rest_of : (x d q r : ℕ) → x ≡ q * d + r → x / d ≡ q → x % d ≡ r
 rest_of x d q r e h = (let whole : d * (x / d) + x % d ≡ x = omega arith in let whole' : d * q + x % d ≡ x = subst (λ (k : ℕ). d * k + x % d ≡ x) h whole in omega arith)
 
 module _ (code : Code) (w : ℕ) (some : 1 ≤ w) where

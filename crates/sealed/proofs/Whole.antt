@@ -1,41 +1,36 @@
 -- What sealing makes: stripes with nothing lost.
-use Rattle.std.proofs.Common.{◌≡◌, ℕ, zero, suc, ◌+◌, ◌-◌, ◌*◌, ◌<◌, ◌≤◌, ◌++◌, ◌∷◌, [], List, length, get_or, map, take, Option, None, Some, Bor, cond, refl, sym, ap, ap₂, ◌∙◌, subst, arith, inl, inr}
-use Rattle.std.specs.Prelude.{All, slice_index, slice_index_or, slice_range, slice_set}
+use Rattle.std.proofs.Common.{◌≡◌, ℕ, zero, suc, ◌+◌, ◌-◌, ◌*◌, ◌/◌, ◌%◌, ◌<◌, ◌≤◌, ◌++◌, ◌∷◌, [], List, length, get_or, map, take, None, Some, Bor, cond, sym, ap, ap₂, ◌∙◌, subst, arith, inl, inr}
+use Rattle.std.specs.Prelude.{All, slice_index, slice_index_or, slice_range}
 use Rattle.std.specs.FinSet as set
-use Rattle.std.proofs.Math.Nat.{mul-le-mul_right}
-use Rattle.std.proofs.Math.Seq.{get_or-append_seam}
+use Rattle.std.proofs.Math.ListN.{drop}
 use Rattle.std.proofs.lemmas.Bool.{cases_lt}
+use Rattle.std.proofs.lemmas.Nat.{div-mul-add}
+use Rattle.std.proofs.lemmas.Slice.{between_is, between-put_mid, take-put_mid_below}
+use borrow.Rule.Slice.PartMut.{put_mid}
 use Rattle.std.proofs.lemmas.Grind.{common_steps}
-use Rattle.std.proofs.lemmas.List.{get_or_append_left, get_or-append_right, get_or-map, get_or-take, length-map, length-take-le, get_or_default, map-append}
-use Rattle.std.proofs.lemmas.List.FromFn.{length-map-range_with_len}
+use Rattle.std.proofs.lemmas.List.{get_or_append_left, get_or-append_right, get_or-map, get_or-take, length-map, length-take-le, length-append, get_or_default}
+use Rattle.std.proofs.lemmas.List.FromFn.{length-map-range_with_len, fill_by_all}
 use Rattle.lrc_code.specs.declared.Code.{Code}
-use Rattle.lrc_code.specs.declared.Code.TheVariants.{Wide, Small}
 use Rattle.lrc_code.specs.Code.{data_count, fragment_count}
 use Rattle.lrc_code.specs.Column.{column}
 use Rattle.lrc_code.specs.Stripe.{IsStripe, list_at, quarters}
+use Rattle.lrc_code.proofs.Columns.{column_data}
+use Rattle.lrc_code.proofs.Parities.{quarters_joined, written_back}
 use Rattle.sealed.specs.Layout.{stripe_size}
 use Rattle.sealed.specs.Stripes.{Stripes, fragment_at}
+use Rattle.sealed.specs.Packed.{held_by, parities_by, part_of, packed, AreParitiesOf}
 use Rattle.sealed.specs.Blob.{data_at, fragment, nothing, lost_in, pair_cmp}
 use Rattle.sealed.proofs.Fragments.{byte_or_zero, fragments_are, fragments_only}
-use Rattle.sealed.proofs.Counting.{few_data}
-use Rattle.sealed.proofs.Ranges.{item_of_range}
-
-parity_count : (code : Code) → fragment_count code ≡ data_count code + 4
-parity_count Wide = refl
-parity_count Small = refl
+use Rattle.sealed.proofs.Counting.{few_data, parity_count}
+use Rattle.sealed.proofs.Packing.{slice_inside, part_data, part_parity, part_none, part_ends, packed_at}
+use Rattle.sealed.proofs.Places.{rest_of}
+use Rattle.sealed.proofs.Ranges.{length_of_range, item_of_range}
 
 some_item : {X : Type 0} (xs : List X) → 0 < length xs → X
 some_item [] l = absurd (omega arith)
 some_item (x ∷ xs) l = x
 
 -- ---- one stripe
--- a data fragment ends inside the bytes that the stripe holds
-slice_inside : (code : Code) (w f : ℕ) → f < data_count code → w * f + w ≤ stripe_size code w
-slice_inside code w f l =
-    let most : (f + 1) * w ≤ data_count code * w = mul-le-mul_right w (omega arith) in
-    let e : (f + 1) * w ≡ w * f + w = omega arith in
-    omega arith
-
 -- the stripe whose data fragments are the slices of what it holds
 slices_are : (code : Code) (w : ℕ) (held : List ℕ) (s : ℕ → List ℕ) → IsStripe code w s → length held ≡ stripe_size code w
     → ((f : ℕ) → f < data_count code → s f ≡ slice_range held (w * f) (w * f + w)) → (f : ℕ) → f < fragment_count code → s f ≡ fragment code w held 0 f
@@ -71,21 +66,12 @@ module _ (code : Code) (d w : ℕ) (count : d ≡ data_count code) (held : List 
       get_or-append_right (map (λ s. s.now) (take d slices)) parities d (d + k) [] (length-map (take d slices) (λ s. s.now) ∙ taken) (omega arith)
       ∙ ap (λ i. get_or parities i []) (let e : d + k - d ≡ k = omega arith in e)
 
-  -- what was written from the slices and the parities is the whole stripe
-  pub made_whole : (parities : List (List ℕ)) (made : List (Option (List ℕ))) → IsStripe code w (list_at (all parities))
-      → ((g : ℕ) → g < d → get_or made g None ≡ Some (slice_range held (w * g) (w * g + w)))
-      → ((k : ℕ) → k < 4 → get_or made (d + k) None ≡ Some (list_at parities k))
-      → (f : ℕ) → f < fragment_count code → get_or made f None ≡ Some (fragment code w held 0 f)
-  made_whole parities made is at_data at_parity f l =
-      let whole : list_at (all parities) f ≡ fragment code w held 0 f = slices_are code w held (list_at (all parities)) is long (λ g h. first parities g (omega arith)) f l in
-      elim (cases_lt f d) [
-        | inl below ↦ at_data f below ∙ ap (λ x. Some x) (sym (first parities f below) ∙ whole)
-        | inr past ↦
-            let k = f - d in
-            let here : d + k ≡ f = omega arith in
-            subst (λ i. get_or made i None ≡ Some (fragment code w held 0 f)) here
-            (at_parity k (let four = parity_count code in omega arith) ∙ ap (λ x. Some x) (sym (second parities k) ∙ ap (λ i. list_at (all parities) i) here ∙ whole))
-      ]
+  -- the parities that make a stripe with the slices are those of the whole stripe
+  pub made_parities : (parities : List (List ℕ)) → IsStripe code w (list_at (all parities)) → (k : ℕ) → k < 4 → list_at parities k ≡ fragment code w held 0 (data_count code + k)
+  made_parities parities is k l =
+      sym (second parities k)
+      ∙ slices_are code w held (list_at (all parities)) is long (λ g h. first parities g (omega arith)) (d + k) (let four = parity_count code in omega arith)
+      ∙ ap (λ n. fragment code w held 0 (n + k)) count
 
 -- ---- the parities, one after the other
 pub quarter_at : (w : ℕ) (bytes : List ℕ) (k : ℕ) → k < 4 → list_at (quarters w bytes) k ≡ slice_range bytes (w * k) (w * k + w)
@@ -95,9 +81,39 @@ quarter_at w bytes (suc (suc zero)) l = ap₂ (slice_range bytes) (let e : 2 * w
 quarter_at w bytes (suc (suc (suc zero))) l = ap₂ (slice_range bytes) (let e : 3 * w ≡ w * 3 = omega arith in e) (let e : 4 * w ≡ w * 3 + w = omega arith in e)
 quarter_at w bytes (suc (suc (suc (suc k)))) l = absurd (omega arith)
 
-pub one_more : (made : List (Option (List ℕ))) (d n : ℕ) (x : Option (List ℕ)) (part : ℕ → Option (List ℕ)) → d + n < length made → x ≡ part n
-    → ((k : ℕ) → k < n → get_or made (d + k) None ≡ part k) → (k : ℕ) → k < n + 1 → get_or (slice_set made (d + n) x) (d + k) None ≡ part k
-one_more made d n x part inside is before k l = grind (arith, common_steps, is, before)
+-- and four lists of w bytes that are written so
+pub parities_written : (code : Code) (w : ℕ) (held a b c d : List ℕ) → length a ≡ w → length b ≡ w → length c ≡ w → length d ≡ w
+    → ((k : ℕ) → k < 4 → list_at (a ∷ b ∷ c ∷ d ∷ []) k ≡ fragment code w held 0 (data_count code + k)) → AreParitiesOf code w held (a ++ (b ++ (c ++ d)))
+parities_written code w held a b c d la lb lc ld is =
+    let joined : List ℕ = a ++ (b ++ (c ++ d)) in
+    record {
+      long = omega (arith, length-append a (b ++ (c ++ d)), length-append b (c ++ d), length-append c d);
+      each = λ k l. sym (quarter_at w joined k l) ∙ ap (λ (parts : List (List ℕ)). list_at parts k) (quarters_joined w a b c d la lb lc ld) ∙ is k l;
+    }
+
+-- ---- the slots of a stripe that is whole
+data_slice : (code : Code) (w : ℕ) (held : List ℕ) (f : ℕ) → length held ≡ stripe_size code w → f < data_count code
+    → slice_range held (w * f) (w * f + w) ≡ fragment code w held 0 f
+data_slice code w held f long l =
+    let ends : w * f + w ≤ length held = (let inside = slice_inside code w f l in omega arith) in
+    fill_by_all (λ p. column code (data_at code w held 0 p) f) (slice_range held (w * f) (w * f + w)) w 0 (length_of_range held (w * f) (w * f + w) ends ∙ (let e : w * f + w - w * f ≡ w = omega arith in e))
+    (λ p below.
+    item_of_range held (w * f) (w * f + w) p ends (omega arith)
+    ∙ ap (λ i. get_or held i 0) (let e : w * f + p ≡ stripe_size code w * 0 + w * f + p = omega arith in e)
+    ∙ sym (column_data code (data_at code w held 0 p) f l))
+
+whole_part : (code : Code) (w : ℕ) (held parities : List ℕ) (f : ℕ) → length held ≡ stripe_size code w → AreParitiesOf code w held parities → f < fragment_count code
+    → part_of code w held parities f ≡ Some (fragment code w held 0 f)
+whole_part code w held parities f long are l =
+    elim (cases_lt f (data_count code)) [
+      | inl below ↦ part_data code w held parities f below ∙ ap (λ x. Some x) (data_slice code w held f long below)
+      | inr past ↦
+          let k = f - data_count code in
+          let here : data_count code + k ≡ f = omega arith in
+          let four : k < 4 = (let few = parity_count code in omega arith) in
+          part_parity code w held parities f k (sym here) four
+          ∙ ap (λ x. Some x) (are.each k four ∙ ap (fragment code w held 0) here)
+    ]
 
 -- ---- all stripes
 -- the bytes that a stripe holds are a blob of one stripe, which is the same
@@ -116,21 +132,80 @@ same_stripe code w j held b bytes long same =
           ∙ ap (λ i. get_or b i 0) (let e : stripe_size code w * j + (w * f + p) ≡ stripe_size code w * j + w * f + p = omega arith in e));
     })
 
--- one more stripe
-module _ {A : Type 0} (fragments_of : A → List (Option (List ℕ))) (old new : List A) (stripe : A) (j : ℕ) (pushed : new ≡ old ++ stripe ∷ []) (long : length old ≡ j) where
-  rows : map fragments_of new ≡ map fragments_of old ++ fragments_of stripe ∷ []
-  rows = ap (map fragments_of) pushed ∙ map-append fragments_of old (stripe ∷ [])
+module _ (code : Code) (w : ℕ) (b last parities : List ℕ) (count : ℕ)
+    (begins : (j : ℕ) → j < count → stripe_size code w * j < length b)
+    (long : (j : ℕ) → stripe_size code w * j < length b → length (held_by (stripe_size code w) b last j) ≡ stripe_size code w)
+    (bytes : (j i : ℕ) → stripe_size code w * j < length b → i < stripe_size code w
+    → slice_index_or (held_by (stripe_size code w) b last j) i 0 ≡ slice_index_or b (stripe_size code w * j + i) 0)
+    (are : (j : ℕ) → j < count → AreParitiesOf code w (held_by (stripe_size code w) b last j) (parities_by w parities j)) where
+  pub packed_whole : All (λ x. x < 256) b → (j f : ℕ) → j < count → f < fragment_count code → fragment_at (packed code w b last parities count) j f ≡ Some (fragment code w b j f)
+  packed_whole fit j f l inside =
+      let held : List ℕ = held_by (stripe_size code w) b last j in
+      let below = begins j l in
+      packed_at code w b last parities count j f l
+      ∙ whole_part code w held (parities_by w parities j) f (long j below) (are j l) inside
+      ∙ ap (λ x. Some x) (same_stripe code w j held b fit (long j below) (λ i h. bytes j i below h) f inside)
 
-  pub stripe_kept : (k f : ℕ) → k < j → fragment_at (map fragments_of new) k f ≡ fragment_at (map fragments_of old) k f
-  stripe_kept k f l =
-      ap (λ (r : Stripes). fragment_at r k f) rows
-      ∙ ap (λ row. get_or row f None) (get_or_append_left (map fragments_of old) (fragments_of stripe ∷ []) [] k (let e = length-map old fragments_of in omega arith))
+pub packed_others : (code : Code) (w : ℕ) (b last parities : List ℕ) (count j f : ℕ) → j < count → fragment_count code ≤ f → fragment_at (packed code w b last parities count) j f ≡ None
+packed_others code w b last parities count j f l past =
+    packed_at code w b last parities count j f l ∙ part_none code w (held_by (stripe_size code w) b last j) (parities_by w parities j) f past
 
-  pub stripe_added : (k f : ℕ) → k ≡ j → fragment_at (map fragments_of new) k f ≡ slice_index_or (fragments_of stripe) f None
-  stripe_added k f at =
-      ap (λ (r : Stripes). fragment_at r k f) rows
-      ∙ ap (λ row. get_or row f None)
-      (ap (λ i. get_or (map fragments_of old ++ fragments_of stripe ∷ []) i []) (at ∙ sym long ∙ sym (length-map old fragments_of)) ∙ get_or-append_seam (map fragments_of old) (fragments_of stripe) [] [])
+-- ---- the last bytes, filled up
+held_whole : (size : ℕ) (b last : List ℕ) (j : ℕ) → size * j + size ≤ length b → held_by size b last j ≡ slice_range b (size * j) (size * j + size)
+held_whole size b last j h = grind (arith, common_steps)
+
+held_last : (size : ℕ) (b last : List ℕ) (j : ℕ) → length b < size * j + size → held_by size b last j ≡ last
+held_last size b last j h = grind (arith, common_steps)
+
+rest_is : (size j n : ℕ) → size * j ≤ n → n < size * j + size → n % size ≡ n - size * j
+rest_is size j n from below =
+    let e : n ≡ j * size + (n - size * j) = omega arith in
+    rest_of n size j (n - size * j) e (ap (λ k. k / size) e ∙ div-mul-add j size (n - size * j) (omega arith))
+
+module _ (size : ℕ) (b last : List ℕ) (long : (length b % size ≡ 0 → ⊥) → length last ≡ size)
+    (bytes : (length b % size ≡ 0 → ⊥) → (i : ℕ) → slice_index_or last i 0 ≡ slice_index_or b (length b - length b % size + i) 0) where
+  some_rest : (j : ℕ) → size * j < length b → length b < size * j + size → length b % size ≡ 0 → ⊥
+  some_rest j from below none = let rest = rest_is size j (length b) (omega arith) below in omega arith
+
+  pub held_long : (j : ℕ) → size * j < length b → length (held_by size b last j) ≡ size
+  held_long j from =
+      elim (cases_lt (length b) (size * j + size)) [
+        | inl below ↦ ap length (held_last size b last j below) ∙ long (some_rest j from below)
+        | inr inside ↦
+            ap length (held_whole size b last j inside) ∙ length_of_range b (size * j) (size * j + size) inside ∙ (let e : size * j + size - size * j ≡ size = omega arith in e)
+      ]
+
+  pub held_bytes : (j i : ℕ) → size * j < length b → i < size → slice_index_or (held_by size b last j) i 0 ≡ slice_index_or b (size * j + i) 0
+  held_bytes j i from l =
+      elim (cases_lt (length b) (size * j + size)) [
+        | inl below ↦
+            ap (λ (xs : List ℕ). get_or xs i 0) (held_last size b last j below) ∙ bytes (some_rest j from below) i
+            ∙ ap (λ k. get_or b k 0) (let rest = rest_is size j (length b) (omega arith) below in let e : length b - length b % size + i ≡ size * j + i = omega arith in e)
+        | inr inside ↦ ap (λ (xs : List ℕ). get_or xs i 0) (held_whole size b last j inside) ∙ item_of_range b (size * j) (size * j + size) i inside (omega arith)
+      ]
+
+-- ---- the parities of one stripe after the other
+module _ (w j : ℕ) (xs ys : List ℕ) (inside : 4 * w * j + 4 * w ≤ length xs) (long : length ys ≡ 4 * w) where
+  abbrev pub after : List ℕ
+  after = put_mid (4 * w * j) (4 * w * j + 4 * w - 4 * w * j) xs ys
+
+  pub put_here : parities_by w after j ≡ ys
+  put_here = between-put_mid (4 * w * j) (4 * w * j + 4 * w - 4 * w * j) xs ys (4 * w * j + 4 * w) (omega arith) (omega arith)
+
+  pub put_before : (i : ℕ) → i < j → parities_by w after i ≡ parities_by w xs i
+  put_before i l =
+      let to : ℕ = 4 * w * i + 4 * w in
+      let ends : to ≤ 4 * w * j = part_ends (4 * w) i j l in
+      between_is after (4 * w * i) to
+      ∙ ap (drop (4 * w * i)) (take-put_mid_below (4 * w * j) (4 * w * j + 4 * w - 4 * w * j) xs ys to ends (omega arith))
+      ∙ sym (between_is xs (4 * w * i) to)
+
+  pub put_long : length after ≡ length xs
+  put_long = grind (arith, common_steps, long, inside)
+
+  -- where they are a list's room, they are written back into it
+  pub put_back : (n : ℕ) (rest : List ℕ) → length xs ≡ n → take n (after ++ rest) ≡ after
+  put_back n rest room = written_back n after rest (put_long ∙ room)
 
 -- ---- the sealed value
 none_is_no_some : (x : List ℕ) → None ≡ Some x → ⊥

@@ -1,5 +1,5 @@
 //! Values that differ from an old one at one place.
-ghost use Rattle.std.specs.Prelude.{◌≡◌, ◌<◌, ℕ, List, None, Some, length, map, slice_index_or, slice_set, IfOk, IfErr, IfSome, OnOk, OnErr};
+ghost use Rattle.std.specs.Prelude.{◌≡◌, ◌<◌, ℕ, List, None, Some, length, slice_set, IfOk, IfErr, IfSome, OnOk, OnErr};
 ghost use Rattle.std.specs.FinSet as set;
 ghost use Rattle.lrc_code.specs.Code.{fragment_count};
 ghost use Rattle.sealed.specs.Layout.{stripe_count};
@@ -7,7 +7,7 @@ ghost use Rattle.sealed.specs.Blob.{Lost, fragment};
 ghost use Rattle.sealed.specs.Sealed.{StandsFor};
 ghost use Rattle.sealed.specs.Change.{IsChanged};
 
-use crate::{Fault, Sealed, Stripe, Stripes};
+use crate::{Fault, Sealed, Stripe};
 use bytes::Bytes;
 use lrc_code::NoMemory;
 use std::alloc::Global;
@@ -104,27 +104,13 @@ impl Sealed {
     fn share(&self, alloc: Global) -> Result<Sealed, NoMemory>
         ensures { IfOk result (λ s. s ≡ self.now) }
     {
-        let stripes = Stripes::from_vec(self.stripes.share_all(alloc)?);
         Ok(Sealed {
             version: self.version,
             len: self.len,
             width: self.width,
             code: self.code,
-            stripes,
+            stripes: self.stripes.share(alloc)?,
         })
-    }
-}
-
-impl Stripes {
-    /// One more owner of each stripe.
-    fn share_all(&self, alloc: Global) -> Result<Vec<Arc<Stripe>>, NoMemory>
-        ensures { IfOk result (λ v. map (λ a. a.value.fragments) v.items ≡ self.now) }
-    {
-        let mut items = Vec::with_capacity(alloc, self.len())?;
-        for j in 0..self.len() {
-            items.push(Arc::try_clone(self.shared_at(j))?)?;
-        }
-        Ok(items)
     }
 }
 
@@ -140,7 +126,7 @@ pub(crate) fn set_slot(
     ensures err { OnErr result (stripe.new.value.fragments ≡ stripe.old.value.fragments) }
 {
     if let Some(own) = Arc::get_mut(stripe) {
-        own.fragments[f] = slot;
+        own.put(f, slot);
         return Ok(());
     }
     let changed = with_slot(stripe, f, slot)?;
@@ -163,7 +149,7 @@ fn with_slot(stripe: &Stripe, f: usize, slot: Option<Bytes>) -> Result<Stripe, N
         }
     }
     fragments[f] = slot;
-    Ok(Stripe { fragments })
+    Ok(Stripe::new(fragments))
 }
 
 /// One more owner of a fragment that is there.

@@ -1,5 +1,5 @@
 //! What is read of a sealed blob.
-ghost use Rattle.std.specs.Prelude.{◌≡◌, ◌<◌, ◌≤◌, ℕ, false};
+ghost use Rattle.std.specs.Prelude.{◌≡◌, ◌<◌, ◌≤◌, ◌&&◌, ℕ, false, nat_lt};
 ghost use Rattle.std.specs.Option.{option_map};
 ghost use Rattle.lrc_code.specs.Code.{fragment_count, is_lost};
 ghost use Rattle.lrc_code.specs.Stripe.{slot};
@@ -8,7 +8,7 @@ ghost use Rattle.sealed.specs.Stripes.{fragment_at};
 ghost use Rattle.sealed.specs.Sealed.{absent_in};
 
 use crate::Sealed;
-use lrc_code::{Left, LostSet};
+use lrc_code::{Code, Left, LostSet};
 
 impl Sealed {
     /// The same blob under another version.
@@ -37,10 +37,7 @@ impl Sealed {
         requires f_below { f < 16 }
         ensures { option_map (λ x. x.now) result ≡ fragment_at self.now.stripes stripe f }
     {
-        match &self.stripes.at(stripe as usize).fragments[usize::from(f)] {
-            Some(bytes) => Some(bytes.as_slice()),
-            None => None,
-        }
+        self.stripes.fragment(stripe as usize, usize::from(f))
     }
 
     /// What is left of a stripe.
@@ -49,14 +46,14 @@ impl Sealed {
         ensures code { result.code ≡ self.now.code }
         ensures fragments { (f : ℕ) → f < 16 → option_map (λ x. x.now) (slot result.fragments f) ≡ fragment_at self.now.stripes stripe f }
     {
-        let mut fragments: [Option<&[u8]>; 16] = [None; 16];
-        for f in 0..16u8 {
-            fragments[usize::from(f)] = self.fragment(stripe, f);
-        }
-        Left {
+        let mut left = Left {
             code: self.code,
-            fragments,
+            fragments: [None; 16],
+        };
+        for f in 0..16u8 {
+            left.fragments[usize::from(f)] = self.fragment(stripe, f);
         }
+        left
     }
 
     /// The fragments that are absent in a stripe. The set has no number past those of the code.
@@ -65,13 +62,20 @@ impl Sealed {
         ensures absent { (f : ℕ) → f < fragment_count self.now.code → is_lost result f ≡ absent_in self.now stripe f }
         ensures inside { (f : ℕ) → fragment_count self.now.code ≤ f → is_lost result f ≡ false }
     {
-        let kept = self.stripes.at(stripe as usize);
-        let mut lost = LostSet::empty();
-        for f in 0..self.code.fragments() {
-            if kept.fragments[usize::from(f)].is_none() {
-                lost = lost.with(f);
-            }
+        of_code(self.code, self.stripes.lost(stripe as usize))
+    }
+}
+
+/// The numbers of a set of slots that are fragments of a code.
+fn of_code(code: Code, slots: LostSet) -> LostSet
+    requires { (i : ℕ) → 16 ≤ i → is_lost slots i ≡ false }
+    ensures { (i : ℕ) → is_lost result i ≡ (nat_lt i (fragment_count code) && is_lost slots i) }
+{
+    match code {
+        Code::Wide => slots,
+        Code::Small => {
+            let slots = slots.without(10).without(11).without(12);
+            slots.without(13).without(14).without(15)
         }
-        lost
     }
 }

@@ -1,21 +1,21 @@
 //! Sealing a blob.
-ghost use Rattle.std.specs.Prelude.{◌≡◌, ◌⊎◌, ◌<◌, ◌≤◌, ◌+◌, ◌*◌, ◌↔◌, ℕ, List, All, None, Some, length, map, slice_index_or, slice_range, IfOk, IfErr, []};
+ghost use Rattle.std.specs.Prelude.{◌≡◌, ◌⊎◌, ◌<◌, ◌≤◌, ◌+◌, ◌*◌, ◌↔◌, ℕ, List, All, None, Some, length, slice_index_or, slice_range, IfOk, IfErr};
 ghost use Rattle.std.specs.Borrow.{Bor};
 ghost use Rattle.lrc_code.specs.Code.{data_count, fragment_count};
-ghost use Rattle.lrc_code.specs.Stripe.{list_at};
 ghost use Rattle.sealed.specs.Layout.{stripe_count, stripe_size};
 ghost use Rattle.sealed.specs.Blob.{fragment, nothing};
 ghost use Rattle.sealed.specs.Stripes.{fragment_at};
+ghost use Rattle.sealed.specs.Packed.{held_by, parities_by, AreParitiesOf};
 ghost use Rattle.sealed.specs.Sealed.{StandsFor};
 
-use crate::{Fault, Sealed, Stripe, Stripes, Width, count_stripes};
+use crate::packed::{Packed, held_in};
+use crate::{Fault, Sealed, Stripes, Width, count_stripes};
 use bytes::Bytes;
-use lrc_code::{Code, NoMemory, encode_joined};
+use lrc_code::{Code, NoMemory, encode_to};
 use std::alloc::Global;
-use std::sync::Arc;
 
 /// Cuts a blob into stripes of LRC(12,2,2) with fragments of this width. Every fragment is present, and the version is 0. A blob of more than 4,096
-/// stripes is `TooLong`, which asks for no memory. The fragments share the memory of `bytes`, but for the last stripe where it is filled up, and for the parities. Those of a stripe share one list.
+/// stripes is `TooLong`, which asks for no memory. The fragments share the memory of `bytes`, but for the last stripe where it is filled up, and for the parities. Those of all stripes share one list.
 pub fn seal(alloc: Global, bytes: Bytes, width: Width) -> Result<Sealed, Fault>
     ensures too_long { (result ≡ Err Fault.TooLong) ↔ (4096 < stripe_count Code.Wide width (length bytes)) }
     ensures ok { IfOk result (λ s. StandsFor s bytes nothing) }
@@ -38,8 +38,7 @@ pub fn seal_as(alloc: Global, bytes: Bytes, width: Width, code: Code) -> Result<
         return Err(Fault::TooLong);
     }
     fits(bytes.as_slice());
-    let w = width.get() as usize;
-    match all_stripes(alloc, code, w, &bytes, count as usize) {
+    match all_stripes(alloc, code, width, bytes, count as usize) {
         Ok(stripes) => Ok(Sealed {
             version: 0,
             len,
@@ -55,40 +54,38 @@ pub fn seal_as(alloc: Global, bytes: Bytes, width: Width, code: Code) -> Result<
 fn all_stripes(
     alloc: Global,
     code: Code,
-    w: usize,
-    bytes: &Bytes,
+    width: Width,
+    bytes: Bytes,
     count: usize,
 ) -> Result<Stripes, NoMemory>
-    requires width { (1 ≤ w) × (w ≤ 65536) }
-    requires count { (count ≡ stripe_count code w (length bytes.now)) × (count ≤ 4096) }
-    requires bytes { All (λ x. x < 256) bytes.now }
+    requires count { (count ≡ stripe_count code width (length bytes)) × (count ≤ 4096) }
+    requires bytes { All (λ x. x < 256) bytes }
+    ensures wide { 1 ≤ width }
     ensures count { IfOk result (λ s. length s ≡ count) }
-    ensures present { IfOk result (λ s. (j f : ℕ) → j < count → f < fragment_count code → fragment_at s j f ≡ Some (fragment code w bytes.now j f)) }
+    ensures present { IfOk result (λ s. (j f : ℕ) → j < count → f < fragment_count code → fragment_at s j f ≡ Some (fragment code width bytes j f)) }
     ensures others { IfOk result (λ s. (j f : ℕ) → j < count → fragment_count code ≤ f → fragment_at s j f ≡ None) }
 {
+    let w = width.get() as usize;
     let size = usize::from(code.data_fragments()) * w;
-    let mut items = Vec::with_capacity(alloc, count)?;
-    for j in 0..count {
-        let held = held_by(alloc, bytes, size, j)?;
-        let stripe = one_stripe(alloc, code, w, &held)?;
-        items.push(Arc::new(alloc, stripe)?)?;
-    }
-    Ok(Stripes::from_vec(items))
+    let last = last_held(alloc, &bytes, size)?;
+    let parities = all_parities(alloc, code, w, bytes.as_slice(), last.as_slice(), count)?;
+    let parities = Bytes::from_vec(parities)?;
+    let packed = Packed::new(code, width, bytes, last, parities, count);
+    Stripes::from_packed(alloc, packed)
 }
 
-/// The bytes that stripe `j` holds. They are shared, but for those of the last stripe where it is filled up with zero bytes.
-fn held_by(alloc: Global, bytes: &Bytes, size: usize, j: usize) -> Result<Bytes, NoMemory>
-    requires small { size ≤ 786432 }
-    requires begins { size * j < length bytes.now }
-    ensures long { IfOk result (λ held. length held ≡ size) }
-    ensures bytes { IfOk result (λ held. (i : ℕ) → i < size → slice_index_or held i 0 ≡ slice_index_or bytes.now (size * j + i) 0) }
+/// The bytes of the stripe that the blob does not fill, filled up with zero bytes; none where there is no such stripe.
+fn last_held(alloc: Global, bytes: &Bytes, size: usize) -> Result<Bytes, NoMemory>
+    requires { (1 ≤ size) × (size ≤ 786432) }
+    ensures long { IfOk result (λ last. (j : ℕ) → size * j < length bytes.now → length (held_by size bytes.now last j) ≡ size) }
+    ensures bytes { IfOk result (λ last. (j i : ℕ) → size * j < length bytes.now → i < size
+        → slice_index_or (held_by size bytes.now last j) i 0 ≡ slice_index_or bytes.now (size * j + i) 0) }
 {
-    let len = bytes.len();
-    let start = size * j;
-    if len - start >= size {
-        return bytes.slice(start..start + size);
+    let rest = bytes.len() % size;
+    if rest == 0 {
+        return Ok(Bytes::new());
     }
-    filled_up(alloc, &bytes.as_slice()[start..], size)
+    filled_up(alloc, &bytes.as_slice()[bytes.len() - rest..], size)
 }
 
 /// A copy of the bytes, filled up with zero bytes.
@@ -103,27 +100,44 @@ fn filled_up(alloc: Global, bytes: &[u8], size: usize) -> Result<Bytes, NoMemory
     Ok(Bytes::from_vec(filled)?)
 }
 
-/// The stripe that holds these bytes.
-fn one_stripe(alloc: Global, code: Code, w: usize, held: &Bytes) -> Result<Stripe, NoMemory>
+/// The parities of so many stripes, whose bytes are those of the blob, and the last ones where it does not fill a stripe: four for each, one after the other.
+fn all_parities(
+    alloc: Global,
+    code: Code,
+    w: usize,
+    blob: &[u8],
+    last: &[u8],
+    count: usize,
+) -> Result<Vec<u8>, NoMemory>
+    requires width { w ≤ 65536 }
+    requires count { count ≤ 4096 }
+    requires begin { (j : ℕ) → j < count → stripe_size code w * j < length blob.now }
+    requires hold { (j : ℕ) → j < count → length (held_by (stripe_size code w) blob.now last.now j) ≡ stripe_size code w }
+    ensures long { IfOk result (λ parities. length parities.items ≡ 4 * w * count) }
+    ensures parities { IfOk result (λ parities. (j : ℕ) → j < count → AreParitiesOf code w (held_by (stripe_size code w) blob.now last.now j) (parities_by w parities.items j)) }
+{
+    let size = usize::from(code.data_fragments()) * w;
+    let mut parities = vec![in alloc; 0; 4 * w * count]?;
+    for j in 0..count {
+        let held = held_in(blob, last, size, j);
+        write_parities(code, w, held, &mut parities[4 * w * j..4 * w * j + 4 * w]);
+    }
+    Ok(parities)
+}
+
+/// Writes the four parities of the stripe that holds these bytes, one after the other.
+fn write_parities(code: Code, w: usize, held: &[u8], parities: &mut [u8])
     requires width { w ≤ 65536 }
     requires long { length held.now ≡ stripe_size code w }
-    ensures present { IfOk result (λ s. (f : ℕ) → f < fragment_count code → slice_index_or s.fragments f None ≡ Some (fragment code w held.now 0 f)) }
-    ensures others { IfOk result (λ s. (f : ℕ) → fragment_count code ≤ f → slice_index_or s.fragments f None ≡ None) }
+    requires room { length parities.old ≡ 4 * w }
+    ensures { AreParitiesOf code w held.now parities.new }
 {
+    let slices = data_slices(code, w, held);
+    let (first, rest) = parities.split_at_mut(w);
+    let (second, rest) = rest.split_at_mut(w);
+    let (third, fourth) = rest.split_at_mut(w);
     let data = usize::from(code.data_fragments());
-    let slices = data_slices(code, w, held.as_slice());
-    let parities = Bytes::from_vec(encode_joined(alloc, code, &slices[..data], w)?)?;
-    let mut fragments: [Option<Bytes>; 16] = [
-        None, None, None, None, None, None, None, None, None, None, None, None, None, None, None,
-        None,
-    ];
-    for f in 0..data {
-        fragments[f] = Some(held.slice(w * f..w * f + w)?);
-    }
-    for k in 0..4usize {
-        fragments[data + k] = Some(parities.slice(w * k..w * k + w)?);
-    }
-    Ok(Stripe { fragments })
+    encode_to(code, &slices[..data], first, second, third, fourth);
 }
 
 /// The data fragments of the stripe that holds these bytes, and empty slices behind them.

@@ -135,6 +135,21 @@ fn who_shares_a_stripe_keeps_it(rt: HostRuntime) -> Result<(), Fail> {
 }
 
 #[test]
+fn a_stripe_filled_up_has_a_loss(rt: HostRuntime) -> Result<(), Fail> {
+    let alloc = rt.alloc();
+    let mut value = sealed(&rt, alloc, Bytes::from_static(b"ABCDEFGHIJKLHELLO"), 1);
+    take_out(&rt, alloc, &mut value, 1, 0);
+    assert!(rt; 1 < count_stripes(value.code, value.width, value.len));
+    assert!(rt; value.fragment(1, 0).is_none());
+    let stripe = b"HELLO\0\0\0\0\0\0\0\x42\x00\x55\x5f";
+    for f in 1..16u8 {
+        assert!(rt; fragment(&rt, &value, 1, f) == [stripe[usize::from(f)]].as_slice());
+    }
+    assert!(rt; fragment(&rt, &value, 0, 11) == b"L".as_slice());
+    Ok(())
+}
+
+#[test]
 fn a_lost_fragment_is_rebuilt(rt: HostRuntime) -> Result<(), Fail> {
     let alloc = rt.alloc();
     let mut value = sealed(&rt, alloc, Bytes::from_static(LETTERS), 4);

@@ -26,10 +26,10 @@ use Rattle.requests.specs.declared.kept.Kept.{Kept}
 use Rattle.requests.specs.declared.request.Request.{Request}
 use Rattle.requests.specs.declared.request.Request.TheVariants.{Put, Read, Lose, Install, Delete, Stat}
 use Rattle.shared.specs.Passes.{seen_of, width_of}
-use Rattle.shared.specs.Calls.{event, made_by, GrantedIn, IfGranted}
+use Rattle.shared.specs.Calls.{GrantedIn, IfGranted}
 use Rattle.requests.specs.Requests.{operation_of, IsAnswerTo, MayWant}
 use Rattle.shared.specs.Requests.{IsGrantedTo, WantedFor}
-use Rattle.shared.proofs.Steps.{Stepped, told_history}
+use Rattle.shared.proofs.Steps.{event, made_by, Stepped, told_history}
 
 -- a grant of the book, by the state
 grant_in : (w : ℕ) (found : Option Sealed) (had : Option Blob) (start len : ℕ) (g : Grant) → IsReadAnswer found start len (answer.Granted g) → Correspond w found had

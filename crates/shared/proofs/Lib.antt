@@ -4,6 +4,4 @@ pub mod Requests
 pub mod Grants
 pub mod Mends
 pub mod Looks
-pub mod Runs
 pub mod Serving
-pub mod Trims

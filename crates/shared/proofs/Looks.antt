@@ -3,8 +3,7 @@ use Rattle.std.proofs.Common.{◌≡◌, ℕ, ◌+◌, ◌-◌, [], ◌++◌, le
 use Rattle.std.specs.Prelude.{MatchResult, is_ok}
 use Rattle.std.specs.declared.alloc.AllocError.{AllocError}
 use Rattle.std.proofs.lemmas.List.{append-nil}
-use Rattle.gate.specs.Places.{SeatState, last_of}
-use Rattle.gate.proofs.Lists.{last_of-snoc}
+use Rattle.gate.specs.Places.{SeatState}
 use Rattle.sealed.specs.declared.fault.Fault.{Fault}
 use Rattle.history.specs.History.{History, state_of}
 use Rattle.book.specs.declared.plan.Plan.{Plan}
@@ -14,12 +13,10 @@ use Rattle.book.specs.Tells.{Tells}
 use Rattle.book.specs.Trimming.{given_up}
 use Rattle.requests.specs.declared.kept.Kept.{Kept}
 use Rattle.book.specs.Serial.{events_in, given_in}
-use Rattle.shared.specs.Passes.{acts_of, seen_of, trimmed_of, shows}
+use Rattle.shared.specs.Passes.{acts_of, seen_of, shows}
 use Rattle.shared.specs.Deeds.{trim_deed, Takes}
-use Rattle.shared.specs.Calls.{Trims, GivesUpAlone}
-use Rattle.requests.proofs.Between.{GoesOn, told_length}
-use Rattle.shared.proofs.Passes.{trimmed_is}
-use Rattle.shared.proofs.Steps.{Leaves, Stepped, told_history, calls_found, still_goes_on, takes}
+use Rattle.requests.proofs.Between.{GoesOn}
+use Rattle.shared.proofs.Steps.{Stepped, told_history, calls_found, still_goes_on, takes}
 
 -- how many calls a trim gave up
 abbrev pub given_by : Result ℕ Fault → ℕ
@@ -45,28 +42,6 @@ takes_trim (Ok n) p q x who keep step answer =
     let given : x.0.value.base.trimmed ≡ given_in acts = step.told.told.given in
     let count : length x.0.value.entries ≡ length (events_in acts) - given_in acts = omega arith in
     takes p q x [] n who (trim_deed keep (Ok n)) step refl (answer ∙ (λ i. given_up (given i) (count i) keep))
-
-pub trims : (r : Result ℕ Fault) (p m q : SeatState Kept) (x y : Kept) (who keep : ℕ) → Leaves m q y → Stepped p q x [] (given_by r)
-    → IfOk r (λ n. n ≡ given_up x.0.value.base.trimmed (length x.0.value.entries) keep) → IfOk r (λ n. y.0.value.base.trimmed ≡ x.0.value.base.trimmed + n) → IfOk r (λ n. Trims keep n (shows q who))
-trims (Err e) p m q x y who keep leaves step answer trimmed = tt
-trims (Ok n) p m q x y who keep leaves step answer trimmed =
-    let t : ℕ = x.0.value.base.trimmed in
-    let h : History = seen_of p.list ++ events_in step.others in
-    let seen : length (seen_of q.list) ≡ length h = ap length (step.seen ∙ append-nil h) in
-    let told : t + length x.0.value.entries ≡ length h = told_length x.0.value h (told_history p q x [] n step) in
-    let count : length x.0.value.entries ≡ length (seen_of q.list) - t = omega arith in
-    let last : trimmed_of q.list ≡ y.0.value.base.trimmed = trimmed_is q.list y (ap last_of leaves.list ∙ last_of-snoc m.list y) in
-    (t, last ∙ trimmed, answer ∙ ap (λ c. given_up t c keep) count)
-
--- where no other pass is out, what was given up before is what the pass had seen of it
-pub trims_alone : (r : Result ℕ Fault) (p m q : SeatState Kept) (x y : Kept) (who : ℕ) → Leaves m q y → Stepped p q x [] (given_by r) → IfOk r (λ n. y.0.value.base.trimmed ≡ x.0.value.base.trimmed + n) → OnErr r (y.0.value ≡ x.0.value)
-    → p.room ≡ 64 → GivesUpAlone (shows p who) r (shows q who)
-trims_alone (Ok n) p m q x y who leaves step trimmed same all =
-    let last : trimmed_of q.list ≡ y.0.value.base.trimmed = trimmed_is q.list y (ap last_of leaves.list ∙ last_of-snoc m.list y) in
-    last ∙ trimmed ∙ ap (λ (t : ℕ). t + n) (step.lone all).1
-trims_alone (Err e) p m q x y who leaves step trimmed same all =
-    let last : trimmed_of q.list ≡ y.0.value.base.trimmed = trimmed_is q.list y (ap last_of leaves.list ∙ last_of-snoc m.list y) in
-    last ∙ ap (λ (book : Contents). book.base.trimmed) same ∙ (step.lone all).1
 
 -- the plan of the book is that of the state that was seen
 pub planned : (found : Result Plan AllocError) (r : Result Plan Fault) (p q : SeatState Kept) (x : Kept) (Q : AllocError → Type 0) → Stepped p q x [] 0 → is_ok r ≡ is_ok found

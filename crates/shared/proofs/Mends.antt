@@ -4,7 +4,6 @@ use Rattle.std.proofs.lemmas.List.{append-nil}
 use Rattle.std.specs.FinMap as finite
 use Rattle.gate.specs.Places.{SeatState}
 use Rattle.gate.specs.Events.{number_if}
-use Rattle.gate.proofs.Lists.{prefix_trans}
 use Rattle.lrc_code.specs.Code.{fragment_count}
 use Rattle.sealed.specs.declared.value.Sealed.{Sealed}
 use Rattle.sealed.specs.declared.fault.Fault.{Fault}
@@ -24,13 +23,13 @@ use Rattle.book.proofs.Versions.{was_put}
 use Rattle.requests.specs.declared.kept.Kept.{Kept}
 use Rattle.requests.specs.declared.look.Look.{Look}
 use Rattle.requests.specs.declared.look.Look.TheVariants.{Done, Refused, Rebuildable}
-use Rattle.shared.specs.Passes.{Which, Shows, Calls, seen_of, width_of, trimmed_of, shows}
+use Rattle.shared.specs.Passes.{Which, Shows, seen_of, width_of, trimmed_of, shows}
 use Rattle.shared.specs.Deeds.{deed_of, act_if, DoesIf, Takes}
-use Rattle.shared.specs.Calls.{event, Called, Looked}
+use Rattle.shared.specs.Calls.{Called}
 use Rattle.requests.specs.Looks.{FoundIn}
 use Rattle.shared.specs.Mends.{IsKnown, Found}
 use Rattle.requests.proofs.Between.{GoesOn}
-use Rattle.shared.proofs.Steps.{Stepped, told_history, looked, takes, IsFullIf, call_goes_on, same_goes_on, room_seen, called}
+use Rattle.shared.proofs.Steps.{event, Stepped, told_history, takes, IsFullIf, call_goes_on, same_goes_on, room_seen, called}
 
 -- the event of a repair, where the look made it
 abbrev pub events_at_look : Look → ℕ → Operation → History
@@ -77,9 +76,7 @@ look_found p q x y who n j f (Refused e) step left is =
     called p q x who (repair n j f) (Err e) step left (refused_full e x.0.value is.1) (λ full long. long)
     (λ long. ⊎_elim (λ (none : (e ≡ NoMemory) × (length x.0.value.entries ≢ x.0.value.limit)). cc (none.0, long)) (λ (there : (e ≡ JournalFull) × (length x.0.value.entries ≡ x.0.value.limit)). cc (there.0, long)) is.1)
 look_found p q x y who n j f (Rebuildable s) step left is = record {
-  looked = looked p q x 0 who step;
   takes = takes p q x [] 0 who None step refl tt;
-  base = λ all. left ∙ (step.lone all).1;
   room = room_seen p q x who step left is.3;
   known = known p q x n s.value step is.1;
   rebuildable = is.2;
@@ -97,50 +94,24 @@ known_fragment h w n s j f bytes k m is = record {
 }
 
 -- a look, and then a deed
-pub takes_later : (u v w : Shows) (deed : Option Deed) → u.who ≡ v.who → u.room ≡ v.room → u.store ≡ v.store → Takes u None v → Takes v deed w → Takes u deed w
-takes_later u v w deed who room store first then =
+pub takes_later : (u v w : Shows) (deed : Option Deed) → Takes u None v → Takes v deed w → Takes u deed w
+takes_later u v w deed first then =
     let between : (u.acts ++ first.others) ++ [] ≡ u.acts ++ first.others = append-nil (u.acts ++ first.others) in
     let all : v.acts ++ then.others ≡ u.acts ++ (first.others ++ then.others) = ap (λ l. l ++ then.others) (first.acts ∙ between) ∙ append_assoc u.acts first.others then.others in
     record {
+      stays = (then.stays.0 ∙ first.stays.0, then.stays.1 ∙ first.stays.1, then.stays.2 ∙ first.stays.2);
       others = first.others ++ then.others;
-      does = subst (λ (u : Which × List Act). DoesIf u.0.width u.0.limit (standing_of u.1) deed) (λ i. (sym store i, all i)) then.does;
-      acts = then.acts ∙ (λ i. all i ++ act_if (sym who i) deed);
-      did = then.did ∙ (λ i. (first.did ∙ append-nil u.did) i ++ number_if (length (all i)) (act_if (sym who i) deed));
+      does = subst (λ (u : Which × List Act). DoesIf u.0.width u.0.limit (standing_of u.1) deed) (λ i. (first.stays.0 i, all i)) then.does;
+      acts = then.acts ∙ (λ i. all i ++ act_if (first.stays.1 i) deed);
+      did = then.did ∙ (λ i. (first.did ∙ append-nil u.did) i ++ number_if (length (all i)) (act_if (first.stays.1 i) deed));
       agrees = then.agrees;
-      lone = λ alone. (λ i. first.lone alone i ++ then.lone (sym room ∙ alone) i);
+      lone = λ alone. (λ i. first.lone alone i ++ then.lone (first.stays.2 ∙ alone) i);
     }
 
 -- a look, and then the repair
-pub looks_then_called : (u v w : Shows) (n : List ℕ) (j f : ℕ) (r : Result Answer Fault) → Looked u v → Takes u None v → (u.room ≡ 64 → v.trimmed ≡ u.trimmed) → Called v (repair n j f) r w
-    → Called u (repair n j f) r w
-looks_then_called u v w n j f (Ok a) l t base c =
-    let o : Operation = repair n j f in
-    let k = c.ok in
-    let first = l.looks.0 in
-    let all : u.seen ++ (first.0 ++ k.0) ≡ v.seen ++ k.0 = sym (append_assoc u.seen first.0 k.0) ∙ ap (λ h. h ++ k.0) first.1 in
-    record {
-      stays = (c.stays.0 ∙ l.stays.0, c.stays.1 ∙ l.stays.1, c.stays.2 ∙ l.stays.2);
-      legal = c.legal;
-      ok = subst (λ (who : ℕ). Calls u (event who o a) w) l.stays.1 (first.0 ++ k.0, k.1 ∙ ap (λ h. h ++ event v.who o a ∷ []) (sym all), k.2 ∙ (λ i. l.looks.1 i ++ length (sym all i) ∷ []));
-      err = tt;
-      full = c.full;
-      no_memory = c.no_memory;
-      too_long = c.too_long;
-      outside = λ is. absurd (c.too_long is);
-      takes = takes_later u v w (deed_of o (Ok a)) (sym l.stays.1) (sym l.stays.2) (sym l.stays.0) t c.takes;
-      lone = λ all.
-          let k = c.lone (l.stays.2 ∙ all) in
-          (subst (λ (who : ℕ). w.seen ≡ u.seen ++ event who o a ∷ []) l.stays.1 (k.0 ∙ ap (λ h. h ++ event v.who o a ∷ []) (l.lone all)), k.1 ∙ base all);
-    }
-looks_then_called u v w n j f (Err e) l t base c = record {
-  stays = (c.stays.0 ∙ l.stays.0, c.stays.1 ∙ l.stays.1, c.stays.2 ∙ l.stays.2);
-  legal = c.legal;
-  ok = tt;
-  err = (prefix_trans u.seen v.seen w.seen l.looks.0 c.err.0, c.err.1 ∙ l.looks.1);
-  full = c.full;
-  no_memory = c.no_memory;
-  too_long = c.too_long;
-  outside = λ is. absurd (c.too_long is);
-  takes = takes_later u v w (deed_of (repair n j f) (Err e)) (sym l.stays.1) (sym l.stays.2) (sym l.stays.0) t c.takes;
-  lone = λ all. let k = c.lone (l.stays.2 ∙ all) in (k.0 ∙ ap (λ h. h ++ []) (l.lone all), k.1 ∙ base all);
+pub looks_then_called : (u v w : Shows) (n : List ℕ) (j f : ℕ) (r : Result Answer Fault) → Takes u None v → Called v (repair n j f) r w → Called u (repair n j f) r w
+looks_then_called u v w n j f r first then = record {
+  takes = takes_later u v w (deed_of (repair n j f) r) first then.takes;
+  no_memory = then.no_memory;
+  outside = λ long. absurd (subst (λ (s : Result Answer Fault). DoesIf v.store.width v.store.limit (standing_of (v.acts ++ then.takes.others)) (deed_of (repair n j f) s)) long then.takes.does);
 }

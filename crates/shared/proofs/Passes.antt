@@ -1,15 +1,18 @@
 -- What a pass knows.
-use Rattle.std.proofs.Common.{◌≡◌, ◌⊎◌, ℕ, ◌+◌, ◌-◌, ◌≤◌, ◌<◌, false, List, [], ◌∷◌, ◌++◌, length, Some, refl, ap, sym, subst, ◌∙◌, ⊎_elim, arith}
+use Rattle.std.proofs.Common.{◌≡◌, ◌⊎◌, ℕ, zero, suc, ◌+◌, ◌-◌, ◌≤◌, ◌<◌, false, List, [], ◌∷◌, ◌++◌, length, take, drop, Some, refl, ap, sym, subst, ◌∙◌, ⊎_elim, arith, append_assoc, length-append}
+use Rattle.std.proofs.Math.Seq.{take-append_seam, drop-append_seam}
+use Rattle.std.proofs.lemmas.Grind.{flat_map-append}
 use mathlib.Core.List.{IsPrefix}
 use Rattle.gate.specs.Places.{SeatState, last_of, IsWithin, times, AreApart, HasAll}
-use Rattle.gate.specs.Events.{history_of, events_at}
+use Rattle.gate.specs.Events.{number_if, history_of, event_at, events_at}
 use Rattle.gate.proofs.Events.{history_prefix, events_at_prefix, events_at-append, once_each, all_made, all_below, once_below_length, within_prefix}
 use Rattle.gate.proofs.Lists.{times-append}
 use Rattle.book.specs.Tells.{Tells}
 use Rattle.requests.specs.declared.kept.Kept.{Kept}
 use Rattle.history.specs.History.{History, IsLegal}
-use Rattle.book.specs.Serial.{events_in}
-use Rattle.shared.specs.Passes.{between_kept, acts_between_kept, acts_of, did_of, seen_of, made_of, width_of, limit_of, trimmed_of, shows, TellsAs, IsTold, IsPass, Agrees, IsWhole}
+use Rattle.book.specs.Serial.{Act, call, trim, events_in}
+use Rattle.requests.specs.Between.{acts_for}
+use Rattle.shared.specs.Passes.{calls_at, between_kept, acts_between_kept, acts_of, did_of, seen_of, made_of, width_of, limit_of, trimmed_of, shows, TellsAs, IsTold, IsPass, Agrees, IsWhole}
 use Rattle.requests.proofs.Between.{one_call, one_act, told_length, events-append, events_for}
 
 -- the calls among the acts are those that lie between the books
@@ -34,6 +37,34 @@ trimmed_is [] x e = absurd (cc)
 trimmed_is (y ∷ []) x e = let same : y ≡ x = cc in ap (λ (k : Kept). k.0.value.base.trimmed) same
 trimmed_is (y ∷ z ∷ zs) x e = trimmed_is (z ∷ zs) x e
 
+-- the own calls are the calls among the own acts
+call_here : (before rest : List Act) (h : History) (n : ℕ) → number_if (length (events_in before)) h ≡ calls_at (before ++ (acts_for h n ++ rest)) (number_if (length before) (acts_for h n))
+call_here before rest (e ∷ es) n =
+    sym (λ i. number_if (length (events_in (take-append_seam before (call e ∷ rest) i))) (events_in (take 1 (drop-append_seam before (call e ∷ rest) i))) ++ [])
+call_here before rest [] zero = refl
+call_here before rest [] (suc n) =
+    sym (λ i. number_if (length (events_in (take-append_seam before (trim (suc n) ∷ rest) i))) (events_in (take 1 (drop-append_seam before (trim (suc n) ∷ rest) i))) ++ [])
+
+call_at : (before : List Act) (list : List Kept) (p : ℕ) → event_at between_kept (length (events_in before)) list p ≡ calls_at (before ++ acts_of list) (event_at acts_between_kept (length before) list p)
+call_at before [] p = refl
+call_at before (x ∷ []) p = refl
+call_at before (x ∷ y ∷ ys) zero = refl
+call_at before (x ∷ y ∷ ys) (suc zero) = call_here before (acts_of (y ∷ ys)) (between_kept x y) (y.0.value.base.trimmed - x.0.value.base.trimmed)
+call_at before (x ∷ y ∷ ys) (suc (suc p)) =
+    let acts = acts_between_kept x y in
+    let calls : length (events_in (before ++ acts)) ≡ length (events_in before) + length (between_kept x y) =
+    ap length (events-append before acts ∙ ap (λ h. events_in before ++ h) (events_for (between_kept x y) (y.0.value.base.trimmed - x.0.value.base.trimmed) (one_call x.0.value y.0.value)))
+    ∙ length-append (events_in before) (between_kept x y) in
+    (λ i. event_at between_kept (sym calls i) (y ∷ ys) (suc p)) ∙ call_at (before ++ acts) (y ∷ ys) (suc p)
+    ∙ (λ i. calls_at (append_assoc before acts (acts_of (y ∷ ys)) i) (event_at acts_between_kept (length-append before acts i) (y ∷ ys) (suc p)))
+
+made_are : (list : List Kept) (own : List ℕ) → made_of list own ≡ calls_at (acts_of list) (did_of list own)
+made_are list [] = refl
+made_are list (p ∷ ps) =
+    let acts = acts_of list in
+    (λ i. call_at [] list p i ++ made_are list ps i)
+    ∙ sym (flat_map-append (λ k. number_if (length (events_in (take k acts))) (events_in (take 1 (drop k acts)))) (event_at acts_between_kept 0 list p) (did_of list ps))
+
 -- what a pass shows agrees
 pub agreed : (p : SeatState Kept) (who : ℕ) → IsPass p → Agrees (shows p who)
 agreed p who pass =
@@ -43,7 +74,7 @@ agreed p who pass =
     let count : x.0.value.base.trimmed + length x.0.value.entries ≡ length (seen_of p.list) = told_length x.0.value (seen_of p.list) is.told.tells in
     let fits : length x.0.value.entries ≤ x.0.value.limit = is.told.room in
     let limit : x.0.value.limit ≡ limit_of p.list = is.limit in
-    record { seen_is = refl; trimmed_is = given ∙ is.told.given; room = omega arith }
+    record { seen_is = refl; trimmed_is = given ∙ is.told.given; made_is = made_are p.list p.own; room = omega arith }
 
 pub legal_shown : (p : SeatState Kept) (who : ℕ) → IsPass p → IsLegal (shows p who).store.width (shows p who).seen
 legal_shown p who pass = let told = pass.told.2 in subst (λ (w : ℕ). IsLegal w (seen_of p.list)) told.width told.told.tells.legal

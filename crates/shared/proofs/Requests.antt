@@ -6,7 +6,7 @@ use Rattle.sealed.specs.declared.fault.Fault.{Fault}
 use Rattle.sealed.specs.declared.fault.Fault.TheVariants.{NoMemory, TooLong, Busy}
 use Rattle.sealed.specs.Layout.{stripe_count}
 use Rattle.history.specs.Step.{Operation, put}
-use Rattle.history.specs.History.{History, IsLegal}
+use Rattle.history.specs.History.{History}
 use Rattle.book.specs.Known.{IsFragmentIn}
 use Rattle.requests.specs.declared.kept.Kept.{Kept}
 use Rattle.requests.specs.declared.request.Request.{Request}
@@ -17,7 +17,7 @@ use Rattle.shared.specs.Calls.{Called}
 use Rattle.shared.specs.Passes.{Shows, IsPass, Agrees, seen_of, width_of, shows}
 use Rattle.requests.specs.Requests.{CanMake}
 use Rattle.shared.specs.Requests.{CanAsk}
-use Rattle.shared.proofs.Passes.{agreed, legal_shown}
+use Rattle.shared.proofs.Passes.{agreed}
 use Rattle.shared.proofs.Steps.{Enters, Found, found, found_before, takes_nothing, refused}
 
 -- what is known of a put stays known
@@ -54,10 +54,10 @@ pub can_make_inside : (p m : SeatState Kept) (x : Kept) (who : ℕ) (request : R
 can_make_inside p m x who request v same pass enters can = can_make p m x who request (found p m x pass enters) (subst (λ (u : Shows). CanAsk u request) (sym same) can)
 
 -- a blob that was refused before the gate was entered
-pub refused_put : (v : Shows) (n : List ℕ) (code : Code) (b : List ℕ) (w : ℕ) (f : Fault) → IsLegal v.store.width v.seen → Agrees v → w ≡ v.store.width → (f ≡ NoMemory) ⊎ (f ≡ TooLong)
+pub refused_put : (v : Shows) (n : List ℕ) (code : Code) (b : List ℕ) (w : ℕ) (f : Fault) → Agrees v → w ≡ v.store.width → (f ≡ NoMemory) ⊎ (f ≡ TooLong)
     → (f ≡ TooLong → 4096 < stripe_count code w (length b)) → Called v (put n code b) (Err f) v
-refused_put v n code b w f legal agrees width is long =
-    refused v (put n code b) f legal agrees (λ full. ⊎_elim (λ (m : f ≡ NoMemory). cc (m, full)) (λ (t : f ≡ TooLong). cc (t, full)) is) (λ _. refl)
+refused_put v n code b w f agrees width is long =
+    refused v (put n code b) f agrees (λ full. ⊎_elim (λ (m : f ≡ NoMemory). cc (m, full)) (λ (t : f ≡ TooLong). cc (t, full)) is) (λ _. refl)
     (λ there. subst (λ (u : ℕ). 4096 < stripe_count code u (length b)) width (long there))
 
 -- a pass that found somebody inside
@@ -65,7 +65,7 @@ pub was_busy : (p q : SeatState Kept) (who : ℕ) (v : Shows) (o : Operation) �
 was_busy p q who v o pass same is =
     let now : shows q who ≡ v = ap (λ (s : SeatState Kept). shows s who) same ∙ is in
     subst (Called v o (Err Busy)) (sym now)
-    (refused v o Busy (subst (λ (u : Shows). IsLegal u.store.width u.seen) is (legal_shown p who pass)) (subst Agrees is (agreed p who pass)) (λ e. cc (e)) (λ e. absurd (cc (e))) (λ e. absurd (cc (e))))
+    (refused v o Busy (subst Agrees is (agreed p who pass)) (λ e. cc (e)) (λ e. absurd (cc (e))) (λ e. absurd (cc (e))))
 
 pub did_nothing : (p q : SeatState Kept) (who : ℕ) (v : Shows) → IsPass p → q ≡ p → shows p who ≡ v → Takes v None (shows q who)
 did_nothing p q who v pass same is =

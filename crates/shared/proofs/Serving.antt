@@ -19,9 +19,11 @@ use Rattle.requests.specs.declared.jobs.Reply.{Reply}
 use Rattle.requests.specs.declared.jobs.Reply.TheVariants.{Made, Refused, Trimmed}
 use Rattle.shared.specs.declared.run.Outcome.{Outcome}
 use Rattle.shared.specs.declared.run.Outcome.TheVariants as outcome
-use Rattle.shared.specs.Passes.{Which, Shows, Stays}
+use Rattle.shared.specs.Passes.{Which, Shows}
 use Rattle.shared.specs.Deeds.{deed_of, act_if, DoesIf, Takes}
+use Rattle.shared.specs.Calls.{Called}
 use Rattle.shared.specs.Runs.{operation_asked, ComesOf, reply_of}
+use Rattle.shared.proofs.Steps.{act_called}
 use Rattle.shared.specs.Serving.{keep_asked, call_deed, keep_deed, outcome_deed, deed_told, IfGrantedTo, Turn, act_in, IsServed, AreServed, places_of, acts_in, Serves}
 
 -- ---- what was served stays served
@@ -62,29 +64,37 @@ are_served-append w l acts later who low (t ∷ turns) more p le are past =
 
 -- ---- runs
 -- no job was done, and perhaps more was seen
-pub serves_none : (v w : Shows) (asks : List Ask) → Takes v None w → Serves v asks [] w
-serves_none v w asks takes = record {
-  acts = (takes.others, sym (takes.acts ∙ append-nil (v.acts ++ takes.others)));
-  turns = [];
-  asked = (asks, refl);
-  replied = refl;
-  each = tt;
-  did = takes.did;
-  lone = λ all. takes.acts ∙ append-nil (v.acts ++ takes.others) ∙ ap (λ l. v.acts ++ l) (takes.lone all);
-}
+serves_none : (v w : Shows) (asks : List Ask) (deed : Option Deed) → act_if v.who deed ≡ [] → Takes v deed w → Serves v asks [] w
+serves_none v w asks deed none takes =
+    let shown : w.acts ≡ v.acts ++ takes.others = takes.acts ∙ ap (λ l. (v.acts ++ takes.others) ++ l) none ∙ append-nil (v.acts ++ takes.others) in record {
+      stays = takes.stays;
+      acts = (takes.others, sym shown);
+      turns = [];
+      asked = (asks, refl);
+      replied = refl;
+      each = tt;
+      did = takes.did ∙ ap (λ l. v.did ++ number_if (length (v.acts ++ takes.others)) l) none;
+      lone = λ all. shown ∙ ap (λ l. v.acts ++ l) (takes.lone all);
+    }
+
+-- a call was refused
+pub serves_refused : (v w : Shows) (asks : List Ask) (o : Operation) (f : Fault) → Called v o (Err f) w → Serves v asks [] w
+serves_refused v w asks o f refused = serves_none v w asks (deed_of o (Err f)) (act_called v.who o (Err f)) refused.takes
 
 pub serves_nothing : (v : Shows) (asks : List Ask) → Serves v asks [] v
-serves_nothing v asks = record { acts = prefix_self v.acts; turns = []; asked = (asks, refl); replied = refl; each = tt; did = sym (append-nil v.did); lone = λ all. sym (append-nil v.acts) }
+serves_nothing v asks = record { stays = (refl, refl, refl); acts = prefix_self v.acts; turns = []; asked = (asks, refl); replied = refl; each = tt; did = sym (append-nil v.did); lone = λ all. sym (append-nil v.acts) }
 
 -- a run, and then another
-pub serves_append : (v u w : Shows) (asks more : List Ask) (replies others : List Reply) → length replies ≡ length asks → Stays v u → Serves v asks replies u → Serves u more others w
+pub serves_append : (v u w : Shows) (asks more : List Ask) (replies others : List Reply) → length replies ≡ length asks → Serves v asks replies u → Serves u more others w
     → Serves v (asks ++ more) (replies ++ others) w
-serves_append v u w asks more replies others many stays one two =
+serves_append v u w asks more replies others many one two =
+    let stays = one.stays in
     let many_turns : length (map (λ (t : Turn). t.ask) one.turns) ≡ length asks = turns_many one.turns replies (length asks) one.replied many in
     let whole : map (λ (t : Turn). t.ask) one.turns ≡ asks = prefix_all (map (λ (t : Turn). t.ask) one.turns) asks one.asked many_turns in
     let served : AreServed v.store.width v.store.limit w.acts v.who (length u.acts) two.turns =
     subst (λ (s : Which × ℕ). AreServed s.0.width s.0.limit w.acts s.1 (length u.acts) two.turns) (λ i. (stays.0 i, stays.1 i)) two.each in
     record {
+      stays = (two.stays.0 ∙ stays.0, two.stays.1 ∙ stays.1, two.stays.2 ∙ stays.2);
       acts = prefix_trans v.acts u.acts w.acts one.acts two.acts;
       turns = one.turns ++ two.turns;
       asked = (
@@ -115,9 +125,9 @@ serves_append v u w asks more replies others many stays one two =
     prefix_all (x ∷ xs) (y ∷ ys) p e = let rest = prefix_all xs ys (p.0, cc (p.1)) (omega arith) in cc (p.1, rest)
 
 -- the run ends before the next job
-pub serves_longer : (v u w : Shows) (asks more : List Ask) (replies : List Reply) → length replies ≡ length asks → Stays v u → Serves v asks replies u → Serves u more [] w → Serves v (asks ++ more) replies w
-serves_longer v u w asks more replies many stays one rest =
-    subst (λ l. Serves v (asks ++ more) l w) (append-nil replies) (serves_append v u w asks more replies [] many stays one rest)
+pub serves_longer : (v u w : Shows) (asks more : List Ask) (replies : List Reply) → length replies ≡ length asks → Serves v asks replies u → Serves u more [] w → Serves v (asks ++ more) replies w
+serves_longer v u w asks more replies many one rest =
+    subst (λ l. Serves v (asks ++ more) l w) (append-nil replies) (serves_append v u w asks more replies [] many one rest)
 
 -- ---- one job
 some_reply : {a b : Reply} → Some a ≡ Some b → a ≡ b
@@ -210,8 +220,8 @@ granted_there v w a x reply comes is = by x (operation_asked a) comes is
     by (outcome.Trimmed r) None comes is = tt
 
 -- an outcome with its reply
-pub serves_one : (v w : Shows) (a : Ask) (x : Outcome) (reply : Reply) → Stays v w → ComesOf v (operation_asked a) x w → Takes v (outcome_deed a x) w → reply_of x ≡ Some reply → Serves v (a ∷ []) (reply ∷ []) w
-serves_one v w a x reply stays comes takes is =
+pub serves_one : (v w : Shows) (a : Ask) (x : Outcome) (reply : Reply) → ComesOf v (operation_asked a) x w → Takes v (outcome_deed a x) w → reply_of x ≡ Some reply → Serves v (a ∷ []) (reply ∷ []) w
+serves_one v w a x reply comes takes is =
     let d = deed_there v w a x reply comes is in
     let told : deed_told a reply ≡ Some d.0 = sym (told_by a x reply is) ∙ d.1 in
     let before : List Act = v.acts ++ takes.others in
@@ -221,6 +231,7 @@ serves_one v w a x reply stays comes takes is =
     let seen : w.seen ≡ events_in (before ++ act_of v.who d.0) = takes.agrees.seen_is ∙ ap events_in done in
     let long : length before ≡ length v.acts + length takes.others = length-append v.acts takes.others in
     record {
+      stays = takes.stays;
       acts = (takes.others ++ act_if v.who (outcome_deed a x), sym (append_assoc v.acts takes.others (act_if v.who (outcome_deed a x))) ∙ sym takes.acts);
       turns = t ∷ [];
       asked = ([], refl);
@@ -234,7 +245,7 @@ serves_one v w a x reply stays comes takes is =
           place_is = refl;
           does = subst (λ (e : Option Deed). DoesIf v.store.width v.store.limit (standing_of before) e) d.1 takes.does;
           stands = ([], append-nil (before ++ act_of v.who d.0) ∙ sym done);
-          granted = subst (λ (u : History × ℕ). IfGrantedTo u.0 u.1 (operation_asked a) reply) (λ i. (seen i, ap (λ (s : Which). s.width) stays.0 i)) (granted_there v w a x reply comes is);
+          granted = subst (λ (u : History × ℕ). IfGrantedTo u.0 u.1 (operation_asked a) reply) (λ i. (seen i, ap (λ (s : Which). s.width) takes.stays.0 i)) (granted_there v w a x reply comes is);
         },
         tt,
       );
@@ -266,4 +277,4 @@ no_deed a (outcome.Trimmed (Err f)) is = no_trim (keep_asked a) f
 
 -- an outcome with no reply
 pub serves_stopped : (v w : Shows) (a : Ask) (x : Outcome) (asks : List Ask) → Takes v (outcome_deed a x) w → reply_of x ≡ None → Serves v asks [] w
-serves_stopped v w a x asks takes is = serves_none v w asks (subst (λ d. Takes v d w) (no_deed a x is) takes)
+serves_stopped v w a x asks takes is = serves_none v w asks (outcome_deed a x) (ap (act_if v.who) (no_deed a x is)) takes

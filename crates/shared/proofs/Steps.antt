@@ -6,7 +6,7 @@ use mathlib.Core.List.{IsPrefix}
 use Rattle.gate.specs.Places.{SeatState, last_of, IsChain, IsWithin, HasAll, times}
 use Rattle.gate.specs.Events.{number_if, history_of, events_at}
 use Rattle.gate.proofs.Events.{history-append, history_prefix, events_at_prefix, events_at_left, told_longer, within_left, within_prefix}
-use Rattle.gate.proofs.Lists.{prefix_self, last_of-snoc, once_later-here}
+use Rattle.gate.proofs.Lists.{last_of-snoc, once_later-here}
 use Rattle.sealed.specs.declared.fault.Fault.{Fault}
 use Rattle.sealed.specs.declared.fault.Fault.TheVariants.{NoMemory, JournalFull, BadName, TooLong, Busy, BadWidth, NoPass}
 use Rattle.history.specs.Base.{Checkpoint}
@@ -23,7 +23,7 @@ use Rattle.requests.specs.declared.kept.Kept.{Kept}
 use Rattle.requests.specs.Between.{MayFollow, TellsActs, acts_for}
 use Rattle.shared.specs.Passes.{Which, Shows, between_kept, acts_between_kept, acts_of, did_of, seen_of, made_of, width_of, limit_of, trimmed_of, shows, TellsAs, IsPass, Agrees, Stays}
 use Rattle.shared.specs.Deeds.{deed_of, act_if, DoesIf, Takes}
-use Rattle.shared.specs.Calls.{event, made_by, Called, Looked, HasRoom, IsOutside}
+use Rattle.shared.specs.Calls.{Called, HasRoom, IsOutside}
 use Rattle.requests.proofs.Between.{GoesOn, between_is, acts_are, tells_more, told_length, events-append, events_for, below_unless, goes_follows}
 use Rattle.shared.proofs.Passes.{width_stays, limit_stays, trimmed_is, seen_is, agreed}
 
@@ -150,19 +150,6 @@ stepped p m q x y g n pass enters leaves on =
 stays : (p q : SeatState Kept) (x : Kept) (g : History) (n who : ℕ) → Stepped p q x g n → Stays (shows p who) (shows q who)
 stays p q x g n who s = (s.store, refl, s.room)
 
--- no other did anything
-alone : (p q : SeatState Kept) (x : Kept) (g : History) (n : ℕ) (s : Stepped p q x g n) → s.others ≡ [] → seen_of q.list ≡ seen_of p.list ++ g
-alone p q x g n s none = s.seen ∙ (λ i. (seen_of p.list ++ events_in (none i)) ++ g) ∙ ap (λ h. h ++ g) (append-nil (seen_of p.list))
-
--- no call was made
-pub looked : (p q : SeatState Kept) (x : Kept) (n who : ℕ) → Stepped p q x [] n → Looked (shows p who) (shows q who)
-looked p q x n who s = record {
-  stays = stays p q x [] n who s;
-  legal = s.legal;
-  looks = ((events_in s.others, sym (s.seen ∙ append-nil (seen_of p.list ++ events_in s.others))), s.made ∙ append-nil (made_of p.list p.own));
-  lone = λ all. alone p q x [] n s (s.lone all).0 ∙ append-nil (seen_of p.list);
-}
-
 -- the history that the book tells which was found
 pub told_history : (p q : SeatState Kept) (x : Kept) (g : History) (n : ℕ) (s : Stepped p q x g n) → Tells x.0.value (seen_of p.list ++ events_in s.others)
 told_history p q x g n s = subst (Tells x.0.value) (events-append (acts_of p.list) s.others) s.told.told.tells
@@ -171,6 +158,7 @@ told_history p q x g n s = subst (Tells x.0.value) (events-append (acts_of p.lis
 pub takes : (p q : SeatState Kept) (x : Kept) (g : History) (n who : ℕ) (deed : Option Deed) (s : Stepped p q x g n) → act_if who deed ≡ acts_for g n
     → DoesIf (width_of p.list) (limit_of p.list) (standing_of (acts_of p.list ++ s.others)) deed → Takes (shows p who) deed (shows q who)
 takes p q x g n who deed s is does = record {
+  stays = stays p q x g n who s;
   others = s.others;
   does = does;
   acts = s.acts ∙ ap (λ l. (acts_of p.list ++ s.others) ++ l) (sym is);
@@ -204,6 +192,14 @@ unchanged o k is =
     subst (λ o. IfSome o (λ found. MayFollow found.0.value b)) (sym is) (goes_follows b b [] 0 (same_goes_on b b refl))
 
 -- ---- calls
+-- the event of a call, where it was made
+abbrev pub event : ℕ → Operation → Answer → Event
+event who operation answer = record { who = who; operation = operation; note = note_of answer }
+
+abbrev pub made_by : ℕ → Operation → Result Answer Fault → History
+made_by who operation (Ok answer) = event who operation answer ∷ []
+made_by who operation (Err fault) = []
+
 -- what is asked of the journal where a call is refused
 abbrev pub IsFullIf : Contents → Result Answer Fault → Type 0
 IsFullIf book r = (r ≡ Err JournalFull) ↔ (length book.entries ≡ book.limit)
@@ -235,17 +231,7 @@ call_goes_on (Err e) old new who o kept carries err = same_goes_on old new err
 pub left_base : (m q : SeatState Kept) (x y : Kept) → Leaves m q y → y.0.value.base ≡ x.0.value.base → trimmed_of q.list ≡ x.0.value.base.trimmed
 left_base m q x y leaves same = trimmed_is q.list y (ap last_of leaves.list ∙ last_of-snoc m.list y) ∙ ap (λ (base : Checkpoint). base.trimmed) same
 
--- a full journal holds as many entries as its limit, so as many calls were seen and not given up
-full_seen : (p q : SeatState Kept) (x : Kept) → Stepped p q x [] 0 → trimmed_of q.list ≡ x.0.value.base.trimmed → length x.0.value.entries ≡ x.0.value.limit
-    → length (seen_of q.list) ≡ trimmed_of q.list + limit_of q.list
-full_seen p q x s left full =
-    let h : History = seen_of p.list ++ events_in s.others in
-    let same : length (seen_of q.list) ≡ length h = ap length (s.seen ∙ append-nil h) in
-    let told : x.0.value.base.trimmed + length x.0.value.entries ≡ length h = told_length x.0.value h (told_history p q x [] 0 s) in
-    let limit : x.0.value.limit ≡ limit_of q.list = s.told.limit in
-    omega arith
-
--- and in a journal with room there are fewer
+-- in a journal with room fewer calls were seen and not given up than the limit
 pub room_seen : (p q : SeatState Kept) (x : Kept) (who : ℕ) → Stepped p q x [] 0 → trimmed_of q.list ≡ x.0.value.base.trimmed → length x.0.value.entries ≢ x.0.value.limit → HasRoom (shows q who)
 room_seen p q x who s left apart =
     let h : History = seen_of p.list ++ events_in s.others in
@@ -298,7 +284,7 @@ does_call p q x who o (Err BadWidth) s full short not_long = tt
 does_call p q x who o (Err NoPass) s full short not_long = tt
 
 -- the act of a call
-act_called : (who : ℕ) (o : Operation) (r : Result Answer Fault) → act_if who (deed_of o r) ≡ acts_for (made_by who o r) 0
+pub act_called : (who : ℕ) (o : Operation) (r : Result Answer Fault) → act_if who (deed_of o r) ≡ acts_for (made_by who o r) 0
 act_called who o (Ok a) = refl
 act_called who o (Err JournalFull) = refl
 act_called who o (Err TooLong) = refl
@@ -312,34 +298,21 @@ act_called who o (Err NoPass) = refl
 pub called : (p q : SeatState Kept) (x : Kept) (who : ℕ) (o : Operation) (r : Result Answer Fault) → Stepped p q x (made_by who o r) 0 → trimmed_of q.list ≡ x.0.value.base.trimmed → IsFullIf x.0.value r
     → (r ≡ Err JournalFull → ¬ IsTooLong x.0.value.width o) → (r ≡ Err TooLong → ⊥) → Called (shows p who) o r (shows q who)
 called p q x who o (Ok a) s left full short not_long = record {
-  stays = stays p q x (event who o a ∷ []) 0 who s;
-  legal = s.legal;
-  ok = (events_in s.others, s.seen, s.made);
-  err = tt;
-  full = λ is. absurd (no_fault is);
-  no_memory = λ is. absurd (no_fault is);
-  too_long = λ is. absurd (no_fault is);
-  outside = λ is. absurd (no_fault is);
   takes = takes p q x (event who o a ∷ []) 0 who (deed_of o (Ok a)) s (act_called who o (Ok a)) (does_call p q x who o (Ok a) s full short not_long);
-  lone = λ all. (alone p q x (event who o a ∷ []) 0 s (s.lone all).0, left ∙ (s.lone all).1);
+  no_memory = λ is. absurd (no_fault is);
+  outside = λ is. absurd (no_fault is);
 }
 called p q x who o (Err e) s left full short not_long = record {
-  stays = stays p q x [] 0 who s;
-  legal = s.legal;
-  ok = tt;
-  err = (looked p q x 0 who s).looks;
-  full = λ is. full_seen p q x s left (full.0 is);
-  no_memory = λ is. inl (room_seen p q x who s left (λ there. cc (full.1 there, is)));
-  too_long = λ is. absurd (not_long is);
-  outside = λ is. absurd (not_long is);
   takes = takes p q x [] 0 who (deed_of o (Err e)) s (act_called who o (Err e)) (does_call p q x who o (Err e) s full short not_long);
-  lone = λ all. (alone p q x [] 0 s (s.lone all).0, left ∙ (s.lone all).1);
+  no_memory = λ is. inl (room_seen p q x who s left (λ there. cc (full.1 there, is)));
+  outside = λ is. absurd (not_long is);
 }
 
 -- ---- what is refused before the gate is entered
 -- a pass that stays as it is did this deed, which is no act
 pub takes_nothing : (v : Shows) (deed : Option Deed) → Agrees v → act_if v.who deed ≡ [] → DoesIf v.store.width v.store.limit (standing_of (v.acts ++ [])) deed → Takes v deed v
 takes_nothing v deed agrees none does = record {
+  stays = (refl, refl, refl);
   others = [];
   does = does;
   acts = sym (ap (λ l. (v.acts ++ []) ++ l) none ∙ append-nil (v.acts ++ []) ∙ append-nil v.acts);
@@ -357,20 +330,8 @@ takes_refused v o Busy agrees full long = takes_nothing v None agrees refl tt
 takes_refused v o BadWidth agrees full long = takes_nothing v None agrees refl tt
 takes_refused v o NoPass agrees full long = takes_nothing v None agrees refl tt
 
-pub refused : (v : Shows) (o : Operation) (f : Fault) → IsLegal v.store.width v.seen → Agrees v → (f ≡ JournalFull → ⊥) → (f ≡ NoMemory → IsOutside v o v) → (f ≡ TooLong → IsTooLong v.store.width o)
-    → Called v o (Err f) v
-refused v o f legal agrees full memory long = record {
-  stays = (refl, refl, refl);
-  legal = legal;
-  ok = tt;
-  err = (prefix_self v.seen, refl);
-  full = λ is. absurd (full (fault_is is));
-  no_memory = λ is. inr (memory (fault_is is));
-  too_long = λ is. long (fault_is is);
-  outside = λ is. refl;
-  takes = takes_refused v o f agrees full long;
-  lone = λ all. (sym (append-nil v.seen), refl);
-}
+pub refused : (v : Shows) (o : Operation) (f : Fault) → Agrees v → (f ≡ JournalFull → ⊥) → (f ≡ NoMemory → IsOutside v o v) → (f ≡ TooLong → IsTooLong v.store.width o) → Called v o (Err f) v
+refused v o f agrees full memory long = record { takes = takes_refused v o f agrees full long; no_memory = λ is. inr (memory (fault_is is)); outside = λ is. refl }
   where
     fault_is : {e : Fault} → ◌≡◌ {A = Result Answer Fault} (Err f) (Err e) → f ≡ e
     fault_is is = cc (is)

@@ -1,46 +1,19 @@
 -- What a call leaves of a pass.
-use Rattle.std.specs.Prelude.{◌≡◌, ◌⊎◌, ℕ, ◌+◌, ◌-◌, ◌<◌, List, [], ◌∷◌, ◌++◌, length, Some, Result, Ok, Err, IfOk, OnErr}
+use Rattle.std.specs.Prelude.{◌≡◌, ◌⊎◌, ℕ, ◌+◌, ◌<◌, List, length, Some, Result, Err}
 use Rattle.std.specs.FinMap as finite
 use Rattle.lrc_code.specs.declared.Code.{Code}
 use Rattle.sealed.specs.declared.fault.Fault.{Fault}
-use Rattle.sealed.specs.declared.fault.Fault.TheVariants.{NoMemory, JournalFull, TooLong}
+use Rattle.sealed.specs.declared.fault.Fault.TheVariants.{NoMemory, TooLong}
 use Rattle.lent.specs.declared.grant.Grant.{Grant}
 use Rattle.history.specs.State.{Blob}
 use Rattle.history.specs.declared.note.Note.TheVariants as noted
 use Rattle.history.specs.Step.{Operation, put, read, IsReply}
-use Rattle.history.specs.History.{Event, History, IsLegal, HasPut, state_of}
+use Rattle.history.specs.History.{History, HasPut, state_of}
 use Rattle.book.specs.declared.answer.Answer.{Answer}
 use Rattle.book.specs.declared.answer.Answer.TheVariants.{Granted}
-use Rattle.book.specs.Notes.{note_of}
-use Rattle.book.specs.Serial.{IsTooLong}
 use Rattle.book.specs.Tells.{Represents}
-use Rattle.book.specs.Trimming.{given_up}
 use Rattle.shared.specs.Deeds.{deed_of, Takes}
-use Rattle.shared.specs.Passes.{Shows, Stays, Calls, Looks}
-
-abbrev pub event : ℕ → Operation → Answer → Event
-event who operation answer = record { who = who; operation = operation; note = note_of answer }
-
--- What the pass shows afterwards where no call was made. While no other pass is out, no more was seen
-pub record Looked (v w : Shows) : Type 0 where
-  pub stays : Stays v w
-  pub legal : IsLegal w.store.width w.seen
-  pub looks : Looks v w
-  pub lone : v.room ≡ 64 → w.seen ≡ v.seen
-
--- so many calls were given up at last, where `before` had been given up before
-abbrev pub Trims : ℕ → ℕ → Shows → Type 0
-Trims keep n w = (before : ℕ) × (w.trimmed ≡ before + n) × (n ≡ given_up before (length w.seen - before) keep)
-
--- the event of a call, where it was made
-abbrev pub made_by : ℕ → Operation → Result Answer Fault → History
-made_by who operation (Ok answer) = event who operation answer ∷ []
-made_by who operation (Err fault) = []
-
--- how many calls were given up by then, where no other pass is out
-abbrev pub GivesUpAlone : Shows → Result ℕ Fault → Shows → Type 0
-GivesUpAlone v (Ok n) w = w.trimmed ≡ v.trimmed + n
-GivesUpAlone v (Err fault) w = w.trimmed ≡ v.trimmed
+use Rattle.shared.specs.Passes.{Shows}
 
 -- the journal had room: fewer entries than its limit. These are the calls that were seen and not given up
 abbrev pub HasRoom : Shows → Type 0
@@ -51,19 +24,12 @@ abbrev pub IsOutside : Shows → Operation → Shows → Type 0
 IsOutside v (put n code b) w = w ≡ v
 IsOutside v operation w = ⊥
 
--- What the pass shows afterwards: with an answer the call was made, and with a fault it was not. A journal was full where it had as many entries as its limit; memory was
--- refused where it had fewer, or outside. A blob that is too long is refused outside. While no other pass is out, nothing else was done
+-- What the pass shows afterwards: with an answer the call was made, and with a fault it was not. Memory was refused where the journal had fewer entries than its limit, or
+-- outside. A blob that is too long is refused outside
 pub record Called (v : Shows) (operation : Operation) (r : Result Answer Fault) (w : Shows) : Type 0 where
-  pub stays : Stays v w
-  pub legal : IsLegal w.store.width w.seen
-  pub ok : IfOk r (λ a. Calls v (event v.who operation a) w)
-  pub err : OnErr r (Looks v w)
-  pub full : r ≡ Err JournalFull → length w.seen ≡ w.trimmed + w.store.limit
-  pub no_memory : r ≡ Err NoMemory → HasRoom w ⊎ IsOutside v operation w
-  pub too_long : r ≡ Err TooLong → IsTooLong w.store.width operation
-  pub outside : r ≡ Err TooLong → w ≡ v
   pub takes : Takes v (deed_of operation r) w
-  pub lone : v.room ≡ 64 → (w.seen ≡ v.seen ++ made_by v.who operation r) × (w.trimmed ≡ v.trimmed)
+  pub no_memory : r ≡ Err NoMemory → HasRoom w ⊎ IsOutside v operation w
+  pub outside : r ≡ Err TooLong → w ≡ v
 
 -- The grant has the range that was asked for. After the history the name has a blob, which the grant's value represents. The blob was put in the history under its
 -- version, and no other put has this version.

@@ -7,7 +7,7 @@ use Rattle.history.specs.Step.{Operation}
 use Rattle.book.specs.declared.answer.Answer.{Answer}
 use Rattle.book.specs.Notes.{note_of}
 use Rattle.book.specs.Serial.{Deed, called, full, too_long, trimmed, Standing, Does, Act, act_of, standing_of}
-use Rattle.shared.specs.Passes.{Shows, Agrees}
+use Rattle.shared.specs.Passes.{Shows, Agrees, Stays}
 
 -- what a call did. With another fault it did nothing
 abbrev pub deed_of : Operation → Result Answer Fault → Option Deed
@@ -32,6 +32,7 @@ DoesIf w limit s (Some deed) = Does w limit s deed
 -- After the acts that the pass had seen, and those of others, one thread does this deed, if there is one. It is the last act that the pass shows, at a new own place, where it
 -- is one at all. While no other pass is out, there are no acts of others
 pub record Takes (v : Shows) (deed : Option Deed) (w : Shows) : Type 0 where
+  pub stays : Stays v w
   pub others : List Act
   pub does : DoesIf v.store.width v.store.limit (standing_of (v.acts ++ others)) deed
   pub acts : w.acts ≡ (v.acts ++ others) ++ act_if v.who deed

@@ -4,4 +4,5 @@ pub mod Calls
 pub mod Requests
 pub mod Mends
 pub mod Runs
+pub mod Paced
 pub mod Serving

@@ -10,7 +10,7 @@ use Rattle.requests.specs.declared.look.Look.{Look}
 use Rattle.requests.specs.declared.look.Look.TheVariants.{Done, Refused, Rebuildable}
 use Rattle.shared.specs.Passes.{Shows}
 use Rattle.shared.specs.Deeds.{Takes}
-use Rattle.shared.specs.Calls.{Called, Looked, HasRoom}
+use Rattle.shared.specs.Calls.{Called, HasRoom}
 
 -- the value represents a blob that was put in this history
 pub record IsKnown (h : History) (w : ℕ) (n : List ℕ) (s : Sealed) : Type 0 where
@@ -20,9 +20,7 @@ pub record IsKnown (h : History) (w : ℕ) (n : List ℕ) (s : Sealed) : Type 0 
 
 -- a pass found that there is room, and that the fragment can be rebuilt from this value
 pub record CanMend (v : Shows) (n : List ℕ) (j f : ℕ) (s : Sealed) (w : Shows) : Type 0 where
-  pub looked : Looked v w
   pub takes : Takes v None w
-  pub base : v.room ≡ 64 → w.trimmed ≡ v.trimmed
   pub room : HasRoom w
   pub known : IsKnown w.seen w.store.width n s
   pub rebuildable : IsRebuildable s j f

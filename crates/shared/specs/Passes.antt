@@ -1,9 +1,9 @@
 -- What a pass shows: what was done, the history that it makes, and its own places in both.
-use Rattle.std.specs.Prelude.{◌≡◌, ℕ, ◌+◌, ◌<◌, ◌≤◌, false, List, [], ◌∷◌, ◌++◌, length, Some}
-use mathlib.Core.List.{IsPrefix}
+use Rattle.std.specs.Prelude.{◌≡◌, ℕ, ◌+◌, ◌<◌, ◌≤◌, false, List, [], ◌∷◌, length, take, drop, Some}
+use Rattle.std.specs.List.{flat_map}
 use Rattle.gate.specs.Places.{TableId, SeatState, last_of, IsWithin, times}
-use Rattle.gate.specs.Events.{history_of, events_at}
-use Rattle.history.specs.History.{Event, History}
+use Rattle.gate.specs.Events.{number_if, history_of, events_at}
+use Rattle.history.specs.History.{History}
 use Rattle.book.specs.Serial.{Act, events_in, given_in}
 use Rattle.requests.specs.declared.kept.Kept.{Kept}
 use Rattle.requests.specs.Between.{between, acts_between, TellsActs}
@@ -86,10 +86,15 @@ pub record IsPass (p : SeatState Kept) : Type 0 where
   pub told : IsTold p.list
   pub within : IsWithin p.list p.own
 
--- the history and what was given up of it are those of the acts, and no more calls were seen and not given up than the limit
+-- the calls among the acts at these places, by their places in the history
+abbrev pub calls_at : List Act → List ℕ → List ℕ
+calls_at acts places = flat_map (λ k. number_if (length (events_in (take k acts))) (events_in (take 1 (drop k acts)))) places
+
+-- the history, what was given up of it and the own calls are those of the acts, and no more calls were seen and not given up than the limit
 pub record Agrees (v : Shows) : Type 0 where
   pub seen_is : v.seen ≡ events_in v.acts
   pub trimmed_is : v.trimmed ≡ given_in v.acts
+  pub made_is : v.made ≡ calls_at v.acts v.did
   pub room : length v.seen ≤ v.trimmed + v.store.limit
 
 -- each call and each trim that it has seen is its own
@@ -100,11 +105,3 @@ pub record IsWhole (v : Shows) : Type 0 where
 -- the same pass
 abbrev pub Stays : Shows → Shows → Type 0
 Stays v w = (w.store ≡ v.store) × (w.who ≡ v.who) × (w.room ≡ v.room)
-
--- the history goes on from what was seen, and ends with the call, at a new own place
-abbrev pub Calls : Shows → Event → Shows → Type 0
-Calls v e w = (others : History) × (w.seen ≡ (v.seen ++ others) ++ e ∷ []) × (w.made ≡ v.made ++ length (v.seen ++ others) ∷ [])
-
--- no call was made, and perhaps more was seen
-abbrev pub Looks : Shows → Shows → Type 0
-Looks v w = IsPrefix v.seen w.seen × (w.made ≡ v.made)

@@ -18,7 +18,7 @@ use Rattle.requests.specs.declared.jobs.Reply.{Reply}
 use Rattle.requests.specs.declared.jobs.Reply.TheVariants.{Made, Refused, Trimmed}
 use Rattle.shared.specs.declared.run.Outcome.{Outcome}
 use Rattle.shared.specs.declared.run.Outcome.TheVariants as outcome
-use Rattle.shared.specs.Passes.{Shows}
+use Rattle.shared.specs.Passes.{Shows, Stays}
 use Rattle.shared.specs.Deeds.{deed_of, trim_deed, act_if}
 use Rattle.shared.specs.Runs.{operation_asked, IfReadGranted}
 
@@ -95,6 +95,7 @@ acts_in who turns = flat_map (act_in who) turns
 -- The first jobs have these replies, in order, each in its turn, under the pass's label and after all that the pass had seen; and the pass did nothing else. While no other
 -- pass is out, nothing else was done
 pub record Serves (v : Shows) (asks : List Ask) (replies : List Reply) (w : Shows) : Type 0 where
+  pub stays : Stays v w
   pub acts : IsPrefix v.acts w.acts
   pub turns : List Turn
   pub asked : IsPrefix (map (λ t. t.ask) turns) asks

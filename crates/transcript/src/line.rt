@@ -1,7 +1,7 @@
 //! What is printed of a row.
-ghost use Rattle.std.specs.Prelude.{◌≡◌, ◌≤◌, IfOk, length};
+ghost use Rattle.std.specs.Prelude.{◌≡◌, ◌≤◌, ◌+◌, ◌*◌, IfOk, length};
 ghost use Rattle.hex.specs.Hex.{encode_lower};
-ghost use Rattle.transcript.specs.Lines.{IsReadingOf, IsLineFor};
+ghost use Rattle.transcript.specs.Lines.{IsReadingOf, IsLineFor, byte_count};
 
 use crate::outcome::RowOutcome;
 use book::{Answer, Fault, Note};
@@ -76,8 +76,11 @@ fn digits_of<'a>(bytes: &[u8], room: &'a mut [u8; 2 * AT_ONCE]) -> &'a str
 }
 
 impl Line {
-    /// How many bytes its text has at most, so that room for it is asked for once.
-    pub(crate) fn room(&self) -> usize {
+    /// Room for the digits of its bytes and for what stands before them, so that it is asked for once.
+    pub(crate) fn room(&self) -> usize
+        ensures digits { 2 * byte_count self.now ≤ result }
+        ensures most { result ≤ 2 * byte_count self.now + 80 }
+    {
         match self {
             Line::Granted(reading) => reading.bytes.len().saturating_mul(2).saturating_add(80),
             _ => 80,

@@ -1,7 +1,7 @@
 use Rattle.std.proofs.Common.{ℕ, subst}
 use Rattle.std.specs.Prelude.{IsTrue, ◌↔◌}
 use Rattle.std.proofs.lemmas.Result.{IfOk-weaker}
-use Rattle.history.specs.Kept.{views_of}
+use Rattle.history.specs.Metadata.{views_of}
 use Rattle.history.specs.Views.{AreNoted}
 use Rattle.history.specs.Lawful.{IsLawfulFrom}
 use Rattle.history.proofs.Shapes.{lawful_kept}

@@ -6,7 +6,7 @@ use Rattle.std.proofs.lemmas.Map.Lookups.{exact_bytes}
 use Rattle.lrc_code.specs.declared.Code.TheVariants.{Wide}
 use Rattle.history.specs.Names.{name_cmp}
 use Rattle.history.specs.Parts.{has_name}
-use Rattle.history.specs.declared.kept.Kept.{Kept}
+use Rattle.history.specs.declared.metadata.BlobMetadata.{BlobMetadata}
 use Rattle.history.proofs.Rising.{same_found}
 use Rattle.history.proofs.Settling.{inside_is, room_more, room_kept, back}
 use Rattle.history.proofs.settle.make_room.Goals as goal
@@ -16,7 +16,7 @@ loop-name-preserved c =
     let n = c.name-item.result in
     let was = c.loop-name.names in
     let new = c.insert.new.self in
-    let k : Kept = record { version = 0; len = 0; code = Wide; lost = c.new.result } in
+    let k : BlobMetadata = record { version = 0; len = 0; code = Wide; lost = c.new.result } in
     let step = λ (q : List ℕ). subst (λ (m : List ℕ). get name_cmp new q ≡ cond (is_at (name_cmp m) q) (Some k) (get name_cmp was q)) c.duplicate.ensures (c.in-Ok.ensures.updates.0 q) in
     record {
       others = λ q h. step q ∙ ap (λ b. cond b (Some k) (get name_cmp was q)) (inside_is _ c.loop-name.name-index n q c.loop-name-test.true c.name-item.is h) ∙ c.loop-name.invariant.others q h;
@@ -33,7 +33,7 @@ returns-in_default-clause-err c =
     let fresh = c.in_ok-fresh.fresh.items in
     let same : was.entries ≡ c.loop-name.names.entries = c.in_default.ensures.err in
     let others = λ (q : List ℕ) (f : has_name fresh q ≡ false).
-    ap (λ (es : List (List ℕ × Kept)). lookup (is_at (name_cmp q)) es) same ∙ c.loop-name.invariant.others q (ap (λ l. has_name l q) c.deref-name-items.ensures.value ∙ f) in
+    ap (λ (es : List (List ℕ × BlobMetadata)). lookup (is_at (name_cmp q)) es) same ∙ c.loop-name.invariant.others q (ap (λ l. has_name l q) c.deref-name-items.ensures.value ∙ f) in
     let found = λ (q : List ℕ). back (has_name fresh q) (get name_cmp c.args.part.now q) (get name_cmp old q) (get name_cmp was q) (get name_cmp new q) (c.in_ok-fresh.ensures q) (others q)
     (c.withdraw.ensures.names q ∙ ap (λ l. cond (has_name l q) None (get name_cmp was q)) c.deref.ensures.value) in
     let entries : new.entries ≡ old.entries = same_found nat_list_cmp_total exact_bytes new.entries old.entries (c.withdraw.ensures.ordered c.insert.ensures.ordered) c.requires found in

@@ -1,31 +1,43 @@
-use Rattle.std.proofs.Common.{◌≡◌, ◌≤◌, ◌/◌, Bool, true, false, IsTrue, arith, below_more}
-use Rattle.lent.proofs.Readable.{OpenAt, stripe_met, has_open, has_none}
+use Rattle.std.proofs.Common.{◌≡◌, ℕ, ◌+◌, ◌-◌, ◌*◌, ◌/◌, ◌%◌, ◌<◌, ◌≤◌, sym, ap, ◌∙◌, subst, arith}
+use Rattle.std.proofs.lemmas.Nat.{div-mul-add}
+use Rattle.lrc_code.specs.Code.{data_count, Open}
+use Rattle.sealed.specs.Layout.{stripe_count}
 use Rattle.sealed.specs.Sealed.{absent_in}
+use Rattle.sealed.proofs.Places.{rest_of}
+use Rattle.lent.proofs.Readable.{stripe_met, has_open, has_none}
 use Rattle.lent.proofs.ask.is_readable.Goals as goal
 
-test_true : (b : Bool) → b ≡ true → IsTrue b
-test_true b e = grind arith
+-- some data fragments further on in the same stripe
+stands_at : (d k q r f : ℕ) → q ≡ k / d → r ≡ k % d → r ≤ f → f < d → (((k + (f - r)) / d ≡ q) × ((k + (f - r)) % d ≡ f))
+stands_at d k q r f quotient rest from below =
+    let whole : d * (k / d) + k % d ≡ k = omega arith in
+    let scaled : d * q ≡ d * (k / d) = ap (λ n. d * n) quotient in
+    let turned : q * d ≡ d * q = omega arith in
+    let at : k + (f - r) ≡ q * d + f = omega arith in
+    let stripe : (k + (f - r)) / d ≡ q = ap (λ n. n / d) at ∙ div-mul-add q d f below in
+    (stripe, rest_of (k + (f - r)) d q f at stripe)
 
-test_false : (b : Bool) → b ≡ false → IsTrue b → ⊥
-test_false b e t = grind arith
-
-pub is_open_at-requires : goal.is_open_at-requires
-is_open_at-requires c =
+pub has_open-requires-clause-stripe_below : goal.has_open-requires-clause-stripe_below
+has_open-requires-clause-stripe_below c =
     let s = c.args.sealed.now in
-    stripe_met s.code s.width s.shaped.wide c.args.start c.args.len c.loop-k.k s.len (record { first = omega arith; last = omega arith }) c.requires
+    subst (λ n. n < stripe_count s.code s.width s.len) (sym c.place_of-stripe.ensures.stripe)
+    (stripe_met s.code s.width s.shaped.wide c.args.start c.args.len c.loop-k.k s.len (record { first = c.loop-k.invariant.begun; last = omega (arith, c.met_by-met.ensures.end, c.loop-k-test.true) }) c.requires)
 
-pub returns-then-is_open_at : goal.returns-then-is_open_at
-returns-then-is_open_at c =
+pub returns-then-has_open : goal.returns-then-has_open
+returns-then-has_open c =
     let s = c.args.sealed.now in
-    has_open s.code s.width s.shaped.wide c.args.start c.args.len (absent_in s) c.loop-k.k (record { first = omega arith; last = omega arith })
-    (c.is_open_at.ensures.0 (test_true c.is_open_at.result c.if-is_open_at.true))
-
-pub loop-k-preserved : goal.loop-k-preserved
-loop-k-preserved c u low high =
-    below_more (λ u. c.args.start / c.args.sealed.now.width ≤ u → OpenAt c.args.sealed.now.code (absent_in c.args.sealed.now) u → ⊥) c.loop-k.k (λ u h low. c.loop-k.invariant u low h)
-    (λ low o. test_false c.is_open_at.result c.if-is_open_at.false (c.is_open_at.ensures.1 o)) u high low
+    let code = s.code in
+    let found = c.if-has_open.ensures in
+    let f : ℕ = found.0 in
+    let r : ℕ = c.place_of-stripe.result.1 in
+    let u : ℕ = c.loop-k.k + (f - r) in
+    let inside : f < data_count code = omega (arith, found.2, c.min-count.ensures, c.from.ensures, c.data_fragments.ensures) in
+    let at = stands_at (data_count code) c.loop-k.k c.place_of-stripe.result.0 r f c.place_of-stripe.ensures.stripe c.place_of-stripe.ensures.fragment found.1 inside in
+    has_open code s.width s.shaped.wide c.args.start c.args.len (absent_in s) u
+    (record { first = omega (arith, c.loop-k.invariant.begun); last = omega (arith, found.1, found.2, c.min-count.ensures, c.met_by-met.ensures.end, c.loop-k-test.true) })
+    (subst (λ g. Open code (absent_in s (u / data_count code)) g) (sym at.1) (subst (λ j. Open code (absent_in s j) f) (sym at.0) found.3))
 
 pub returns : goal.returns
 returns c =
     let s = c.args.sealed.now in
-    has_none s.code s.width s.shaped.wide c.args.start c.args.len (absent_in s) (λ k met. c.loop-k.invariant k met.first (omega (arith, met.last)))
+    has_none s.code s.width s.shaped.wide c.args.start c.args.len (absent_in s) (λ k met. c.loop-k.invariant.closed k met.first (omega (arith, met.last, c.met_by-met.ensures.end, c.loop-k-test.false)))

@@ -1,7 +1,13 @@
-use Rattle.std.proofs.Common.{ℕ, ◌<◌, ◌/◌, ◌%◌, ◌≤◌}
-use Rattle.lrc_code.specs.Code.{data_count, Open}
+use Rattle.std.proofs.Common.{ℕ, ◌-◌, ◌<◌, ◌/◌, ◌≤◌}
 use Rattle.sealed.specs.Sealed.{absent_in}
+use Rattle.lent.proofs.Readable.{OpenAt}
 use Rattle.lent.proofs.ask.is_readable.Given as goal
 
 abbrev pub invariant-loop-k : goal.invariant-loop-k
-invariant-loop-k l = (u : ℕ) → l.start / l.sealed.width ≤ u → u < l.k → Open l.sealed.code (absent_in l.sealed (u / data_count l.sealed.code)) (u % data_count l.sealed.code) → ⊥
+invariant-loop-k l = record {
+  begun : l.start / l.sealed.width ≤ l.k;
+  closed : (u : ℕ) → l.start / l.sealed.width ≤ u → u < l.k → OpenAt l.sealed.code (absent_in l.sealed) u → ⊥;
+}
+
+abbrev pub decreases-loop-k : goal.decreases-loop-k
+decreases-loop-k l = l.met.end - l.k

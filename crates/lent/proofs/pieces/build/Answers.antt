@@ -6,11 +6,11 @@ use Rattle.lent.proofs.pieces.build.Goals as goal
 
 pub closed-requires : goal.closed-requires
 closed-requires c is_open =
-    c.requires.closed (open_left c.args.sealed.now c.args.part.stripe c.args.part.fragment c.left-left.result.code c.left-left.result.fragments c.from-f.result c.left-left.ensures.code c.from-f.ensures c.left-left.ensures.fragments (c.rebuild.ensures.«open».0 is_open))
+    c.requires.closed (open_left c.args.sealed.now c.args.part.stripe c.args.part.fragment c.left.result.code c.left.result.fragments c.from-f.result c.left.ensures.code c.from-f.ensures c.left.ensures.fragments (c.rebuild.ensures.«open».0 is_open))
 
 pub returns : goal.returns
 returns c =
     IfOk-weaker c.closed.result _ (λ bytes. AreBytesOf c.args.sealed.now c.args.part bytes.items)
-    (λ bytes same. built c.args.sealed.now c.args.part c.left-left.result.code c.left-left.result.fragments c.from-f.result bytes.items c.left-left.ensures.code c.from-f.ensures c.left-left.ensures.fragments c.requires.stripe c.requires.range.1
-    (IfOk-at_ok (λ v. Rebuilds c.left-left.result.code c.left-left.result.fragments c.from-f.result c.args.part.from c.args.part.to v.items) same c.rebuild.ensures.ok))
+    (λ bytes same. built c.args.sealed.now c.args.part c.left.result.code c.left.result.fragments c.from-f.result bytes.items c.left.ensures.code c.from-f.ensures c.left.ensures.fragments c.requires.stripe c.requires.range.1
+    (IfOk-at_ok (λ v. Rebuilds c.left.result.code c.left.result.fragments c.from-f.result c.args.part.from c.args.part.to v.items) same c.rebuild.ensures.ok))
     c.closed.ensures

@@ -1,6 +1,6 @@
 use Rattle.std.proofs.Common.{◌∙◌, refl}
 use Rattle.mender.proofs.Answering.{answer_of_repair}
-use Rattle.mender.proofs.Working.{in_hand, stopped, made_more, mended_more, made_no_more, did_more, stopped_full}
+use Rattle.mender.proofs.Working.{in_hand, stopped, mended_more, mended_no_more, did_more, stopped_full}
 use Rattle.mender.proofs.workers.work.Goals as goal
 
 pub returns-then-is_err-clause-err : goal.returns-then-is_err-clause-err
@@ -19,11 +19,9 @@ loop-ticket-preserved g c =
     let drew = c.in-Some.ensures in
     let found = c.in-Some-get.ensures.lookup.3 in
     let h = in_hand _ _ _ _ c.draw.new.drawer _ c.in-Some.ticket c.in-Some-get.item.now inv.worked drew.some.0 drew.some.1 drew.fresh c.deref.ensures.value found.0 (found.1 _) in record {
-      store = c.in-Ok.ensures.called.stays.0 ∙ inv.store;
+      store = c.in-Ok.ensures.called.takes.stays.0 ∙ inv.store;
       tickets = cc;
-      made = made_more _ _ _ _ _ _ _ _ inv.made c.in-Ok.ensures.called (cc) c.reserve.ensures.items c.push_reserved.ensures.items;
-      stays = (c.in-Ok.ensures.called.stays.0 ∙ inv.stays.0, c.in-Ok.ensures.called.stays.1 ∙ inv.stays.1, c.in-Ok.ensures.called.stays.2 ∙ inv.stays.2);
-      mended = mended_more _ _ _ _ _ _ _ _ inv.stays inv.mended c.in-Ok.ensures.called (cc) c.reserve.ensures.items c.push_reserved.ensures.items;
+      mended = mended_more _ _ _ _ _ _ _ _ inv.mended c.in-Ok.ensures.called (cc) c.reserve.ensures.items c.push_reserved.ensures.items;
       worked = did_more _ _ _ _ _ _ _ _ _ h refl c.duplicate.ensures c.reserve.ensures.items c.push_reserved.ensures.items;
     }
 
@@ -34,8 +32,8 @@ returns-in-Err-clause-err g c =
     let h = in_hand _ _ _ _ c.draw.new.drawer _ c.in-Some.ticket c.in-Some-get.item.now c.loop-ticket.invariant.worked drew.some.0 drew.some.1 drew.fresh c.deref.ensures.value found.0 (found.1 _) in
     stopped _ _ _ _ _ _ _ h c.reserve.ensures.items
 
-pub returns-in-Err-clause-made_by_then : goal.returns-in-Err-clause-made_by_then
-returns-in-Err-clause-made_by_then g c = made_no_more _ _ _ _ _ _ _ c.loop-ticket.invariant.made c.in-Err.ensures.called c.reserve.ensures.items
+pub returns-in-Err-clause-mended_by_then : goal.returns-in-Err-clause-mended_by_then
+returns-in-Err-clause-mended_by_then g c = mended_no_more _ _ _ _ _ _ _ c.loop-ticket.invariant.mended c.in-Err.ensures.called c.reserve.ensures.items
 
 pub returns-in-Err-clause-stopped_full : goal.returns-in-Err-clause-stopped_full
 returns-in-Err-clause-stopped_full g c =
@@ -43,4 +41,4 @@ returns-in-Err-clause-stopped_full g c =
     let drew = c.in-Some.ensures in
     let found = c.in-Some-get.ensures.lookup.3 in
     let h = in_hand _ _ _ _ c.draw.new.drawer _ c.in-Some.ticket c.in-Some-get.item.now inv.worked drew.some.0 drew.some.1 drew.fresh c.deref.ensures.value found.0 (found.1 _) in
-    λ full. stopped_full _ _ _ _ _ _ _ _ _ _ _ _ inv.stays inv.mended c.in-Err.ensures.called (cc) h c.reserve.ensures.items full
+    λ full. stopped_full _ _ _ _ _ _ _ _ _ _ _ _ inv.mended c.in-Err.ensures.called (cc) h c.reserve.ensures.items full

@@ -1,14 +1,11 @@
 use Rattle.std.proofs.Common.{◌≡◌, []}
-use Rattle.shared.specs.Passes.{Stays}
-use Rattle.mender.specs.Worked.{Worked, Repairs, AreMended}
+use Rattle.mender.specs.Worked.{Worked, AreMended}
 use Rattle.mender.proofs.workers.work.Given as goal
 
 abbrev pub invariant-loop-ticket : goal.invariant-loop-ticket
 invariant-loop-ticket g l = record {
   store : l.pass.store ≡ l.store;
   tickets : l.drawer.tickets ≡ l.tickets;
-  made : Repairs l.initial.pass l.done.items l.pass;
-  stays : Stays l.initial.pass l.pass;
   mended : AreMended l.initial.pass l.done.items l.pass;
   worked : Worked l.plan.items.items l.initial.drawer l.drawer l.done.items [];
 }

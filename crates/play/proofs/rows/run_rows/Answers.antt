@@ -1,4 +1,4 @@
-use Rattle.std.proofs.Common.{◌≡◌, ◌∙◌, ℕ, ◌+◌, List, [], ◌∷◌, ◌++◌, length, ap, sym, subst, arith, append_assoc, append-nil, length-append}
+use Rattle.std.proofs.Common.{◌≡◌, ◌∙◌, ℕ, ◌+◌, List, [], ◌∷◌, ◌++◌, ◌≤◌, length, ap, sym, subst, arith, append_assoc, append-nil, length-append}
 use Rattle.std.specs.Vec.Iter.{into_iter_items}
 use Rattle.std.proofs.lemmas.Grind.{common_steps}
 use Rattle.script.specs.declared.rows.Row.{Row}
@@ -7,6 +7,10 @@ use Rattle.gate.specs.Places.{once_later, times}
 use Rattle.script.specs.Script.{HasWorker}
 use Rattle.play.specs.Accounts.{IsPlayed, numbers_in}
 use Rattle.play.proofs.Played.{Finds, finds_made, finds_same, has_worker, makes_call, makes_mend, made_last}
+use Rattle.play.specs.Paced.{HoldsBack}
+use Rattle.play.proofs.Pacing.{calls_held, mend_held, passed_on}
+use Rattle.rounds.specs.declared.halt.Halt.{Halt}
+use Rattle.rounds.specs.declared.halt.Halt.TheVariants as halt
 use Rattle.play.proofs.rows.run_rows.Goals as goal
 use Rattle.play.proofs.rows.run_rows.Goals.{then-starts+in_ok-pool, else-starts}
 
@@ -99,3 +103,33 @@ returns-clause-once g c = λ k.
     let made = made_last store.width store.limit workers rows c.loop-row.current c.loop-row.number c.loop-row.pool.first.acts pool.first.acts c.loop-row.pool.first.did pool.first.did c.loop-row.done.items c.run_calls-2.new.done.items
     (length c.loop-row.pool.passes.items) c.loop-row.calls.items inv.waits c.in_ok-pool-2.ensures.acts inv.many c.in_ok-pool-2.ensures.round in
     subst (λ (n : ℕ). times k (numbers_in c.run_calls-2.new.done.items) ≡ once_later (n + 1) k) number (let once = made.1 k in omega (arith, once))
+
+-- a run that was paused was held back at one of its rows
+pub returns-in_err-pool-clause-paused : goal.returns-in_err-pool-clause-paused
+returns-in_err-pool-clause-paused g c =
+    let inv = c.loop-row.invariant in
+    let many = length c.args.rows.items in
+    let le : c.loop-row.number ≤ many = omega (arith, inv.number, ap length inv.all, length-append c.loop-row.yielded (into_iter_items c.loop-row.row-iterator)) in
+    passed_on c.from_residual.result c.in_err-pool.field-0.0 (λ (why : Halt). why ≡ halt.Paused → HoldsBack (g.P.Pace.may_answer c.args.pace.now) many) c.from_residual.ensures.1
+    (λ e. calls_held (g.P.Pace.may_answer c.args.pace.now) _ (length c.args.pool.passes.items) c.loop-row.current c.loop-row.number many c.args.rows.items c.loop-row.calls.items _ le inv.waits.are (grind (arith, common_steps)) (c.in_err-pool.ensures.paused e))
+
+pub returns-in_err-pool-2-clause-paused : goal.returns-in_err-pool-2-clause-paused
+returns-in_err-pool-2-clause-paused g c =
+    let inv = c.loop-row.invariant in
+    let many = length c.args.rows.items in
+    let le : c.loop-row.number ≤ many = omega (arith, inv.number, ap length inv.all, length-append c.loop-row.yielded (into_iter_items c.loop-row.row-iterator)) in
+    passed_on c.from_residual-in_err-pool-2.result c.in_err-pool-2.field-0.0 (λ (why : Halt). why ≡ halt.Paused → HoldsBack (g.P.Pace.may_answer c.args.pace.now) many) c.from_residual-in_err-pool-2.ensures.1
+    (λ e. calls_held (g.P.Pace.may_answer c.args.pace.now) _ (length c.args.pool.passes.items) c.loop-row.current c.loop-row.number many c.args.rows.items c.loop-row.calls.items _ le inv.waits.are (grind (arith, common_steps)) (c.in_err-pool-2.ensures.paused e))
+
+pub returns-in_err-pool-in-Mend-clause-paused : goal.returns-in_err-pool-in-Mend-clause-paused
+returns-in_err-pool-in-Mend-clause-paused g c =
+    let inv = c.loop-row.invariant in
+    let rows = c.args.rows.items in
+    let row = c.in-Some.row in
+    let yielded = c.loop-row.yielded in
+    let rest = into_iter_items c.next.new.self in
+    let all : rows ≡ yielded ++ row ∷ rest = inv.all ∙ ap (λ (l : List Row). yielded ++ l) c.in-Some.ensures.steps.0 in
+    let long : length rows ≡ length yielded + length (row ∷ rest) = ap length all ∙ length-append yielded (row ∷ rest) in
+    let next : c.saturating_add-number.result ≡ c.loop-row.number + 1 = omega (arith, long, inv.number, c.requires.few, c.saturating_add-number.ensures) in
+    passed_on c.from_residual-in_err-pool-in-Mend.result c.in_err-pool-in-Mend.field-0.0 (λ (why : Halt). why ≡ halt.Paused → HoldsBack (g.P.Pace.may_answer c.args.pace.now) (length rows)) c.from_residual-in_err-pool-in-Mend.ensures.1
+    (λ e. mend_held (g.P.Pace.may_answer c.args.pace.now) c.saturating_add-number.result (length rows) (omega (arith, next)) (omega (arith, next, long, inv.number)) (c.in_err-pool-in-Mend.ensures.paused e))

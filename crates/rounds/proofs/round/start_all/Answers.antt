@@ -3,7 +3,6 @@ use Rattle.std.proofs.lemmas.Grind.{common_steps}
 use Rattle.std.proofs.lemmas.List.{map-append}
 use Rattle.std.specs.Vec.Iter.{into_iter_items}
 use Rattle.rounds.specs.Rounds.{AreOf, work_of}
-use Rattle.rounds.specs.declared.work.Started.{Started}
 use Rattle.rounds.specs.declared.work.Work.{Work}
 use Rattle.rounds.proofs.Joining.{one-of, ready-more}
 use Rattle.rounds.proofs.round.start_all.Goals as goal
@@ -24,9 +23,9 @@ loop-work-preserved g c =
     record {
       started_room = grind (arith, common_steps);
       left_room = grind (arith, common_steps);
-      works = ap (λ (l : List Started). map work_of l ++ left) c.push_reserved-else-is_short.ensures.items ∙ ap (λ (l : List Work). map work_of (started ++ one ∷ []) ++ l) none
+      works = ap (λ l. map work_of l ++ left) c.push_reserved-else-is_short.ensures.items ∙ ap (λ (l : List Work). map work_of (started ++ one ∷ []) ++ l) none
           ∙ append-nil (map work_of (started ++ one ∷ [])) ∙ map-append work_of started (one ∷ []) ∙ (λ i. before i ++ c.start-one.ensures.work i ∷ []);
-      ready = rw c.push_reserved-else-is_short.ensures.items (ready-more c.args.store.now started one inv.ready c.start-one.ensures.ready);
+      ready = rw c.push_reserved-else-is_short.ensures.items (ready-more c.args.store.now c.args.pace.now (g.P.Pace.may_answer c.args.pace.now) started one inv.ready c.start-one.ensures.ready);
       all = λ short. none;
       rest = grind (arith, common_steps);
     }

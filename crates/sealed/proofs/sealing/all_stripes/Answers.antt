@@ -1,46 +1,51 @@
-use Rattle.std.proofs.Common.{◌≡◌, ℕ, ◌+◌, ◌*◌, ◌<◌, ◌∙◌, List, Option, None, Some, Global, length, sym, ap, subst, arith, inl, inr}
-use Rattle.std.specs.declared.sync.Arc.{Arc}
+use Rattle.std.proofs.Common.{◌≡◌, ℕ, ◌+◌, ◌*◌, ◌<◌, ◌∙◌, List, Some, length, sym, ap, ap₂, subst, arith}
 use Rattle.std.specs.Prelude.{slice_index_or}
-use Rattle.std.proofs.lemmas.Bool.{cases_lt}
+use Rattle.std.proofs.lemmas.Result.{IfOk-weaker}
 use Rattle.lrc_code.specs.Code.{fragment_count}
-use Rattle.sealed.specs.declared.stripes.Stripe.{Stripe}
-use Rattle.sealed.specs.Layout.{stripe_size}
+use Rattle.sealed.specs.Layout.{stripe_size, stripe_count}
 use Rattle.sealed.specs.Blob.{fragment}
+use Rattle.sealed.specs.Stripes.{Stripes, fragment_at}
+use Rattle.sealed.specs.Packed.{packed, held_by, parities_by, AreParitiesOf}
+use Rattle.sealed.proofs.Packing.{packed_count}
 use Rattle.sealed.proofs.Places.{stripe_begins}
-use Rattle.sealed.proofs.Whole.{same_stripe, stripe_kept, stripe_added}
+use Rattle.sealed.proofs.Whole.{packed_whole, packed_others}
 use Rattle.sealed.proofs.sealing.all_stripes.Goals as goal
 
-pub held_by-requires-clause-begins : goal.held_by-requires-clause-begins
-held_by-requires-clause-begins c =
-    let size : c.from.result * c.args.w ≡ stripe_size c.args.code c.args.w = ap (λ n. n * c.args.w) (c.from.ensures ∙ c.data_fragments.ensures) in
-    subst (λ s. s * c.loop-j.j < length c.args.bytes.now) (sym size) (stripe_begins c.args.code c.args.w c.requires.width.0 c.loop-j.j (length c.args.bytes.now) (omega (arith, c.requires.count)))
+pub returns-clause-count : goal.returns-clause-count
+returns-clause-count c =
+    IfOk-weaker c.from_packed.result _ _
+    (λ s same. ap length (same ∙ c.new-packed.ensures) ∙ packed_count c.args.code c.args.width c.args.bytes c.in_ok-last.last c.in_ok-parities-2.parities c.args.count) c.from_packed.ensures
 
-pub loop-j-preserved : goal.loop-j-preserved
-loop-j-preserved c =
-    let w : ℕ = c.args.w in
-    let j : ℕ = c.loop-j.j in
-    let held : List ℕ = c.in_ok-held.held in
-    let fragments_of : Arc Stripe Global → List (Option (List ℕ)) = λ a. a.value.fragments in
-    let long : length c.loop-j.items.items ≡ j = omega (arith, c.loop-j.items.ok, c.loop-j.invariant.long) in
-    let size : c.from.result * w ≡ stripe_size c.args.code w = ap (λ n. n * w) (c.from.ensures ∙ c.data_fragments.ensures) in
-    let same : (f : ℕ) → f < fragment_count c.args.code → fragment c.args.code w held 0 f ≡ fragment c.args.code w c.args.bytes.now j f =
-    same_stripe c.args.code w j held c.args.bytes.now c.requires.bytes (c.in_ok-held.ensures.long ∙ size)
-    (subst (λ (s : ℕ). (i : ℕ) → i < s → slice_index_or held i 0 ≡ slice_index_or c.args.bytes.now (s * j + i) 0) size c.in_ok-held.ensures.bytes) in
-    let kept = stripe_kept fragments_of c.loop-j.items.items c.push.new.self.items c.in_ok-new.field-0 j c.in_ok-push.ensures.items long in
-    let added = stripe_added fragments_of c.loop-j.items.items c.push.new.self.items c.in_ok-new.field-0 j c.in_ok-push.ensures.items long in
-    let row : (f : ℕ) → slice_index_or c.in_ok-new.field-0.value.fragments f None ≡ slice_index_or c.in_ok-stripe.stripe.fragments f None =
-    λ f. ap (λ (s : Stripe). slice_index_or s.fragments f None) c.in_ok-new.ensures.ok in
-    record {
-      long = omega (arith, c.in_ok-push.ensures.len, c.loop-j.invariant.long);
-      present = λ k f l inside. elim (cases_lt k j) [
-        | inl before ↦ kept k f before ∙ c.loop-j.invariant.present k f before inside
-        | inr last ↦
-            (let at : k ≡ j = omega arith in
-            added k f at ∙ row f ∙ c.in_ok-stripe.ensures.present f inside ∙ ap (λ x. Some x) (same f inside)
-            ∙ ap (λ i. Some (fragment c.args.code w c.args.bytes.now i f)) (let back : j ≡ k = omega arith in back))
-      ];
-      others = λ k f l past. elim (cases_lt k j) [
-        | inl before ↦ kept k f before ∙ c.loop-j.invariant.others k f before past
-        | inr last ↦ added k f (omega arith) ∙ row f ∙ c.in_ok-stripe.ensures.others f past
-      ];
-    }
+pub returns-clause-present : goal.returns-clause-present
+returns-clause-present c =
+    let code = c.args.code in
+    let w : ℕ = c.get-w.result in
+    let b : List ℕ = c.args.bytes in
+    let last : List ℕ = c.in_ok-last.last in
+    let parities : List ℕ = c.in_ok-parities-2.parities in
+    let wide : w ≡ c.args.width = c.get-w.ensures.value in
+    let size : c.from.result * w ≡ stripe_size code w = ap (λ n. n * w) (c.from.ensures ∙ c.data_fragments.ensures) in
+    let count : c.args.count ≡ stripe_count code w (length b) = c.requires.count.0 ∙ ap (λ n. stripe_count code n (length b)) (sym wide) in
+    let begins : (j : ℕ) → j < c.args.count → stripe_size code w * j < length b = λ j l. stripe_begins code w c.get-w.ensures.range.0 j (length b) (omega arith) in
+    let long : (j : ℕ) → stripe_size code w * j < length b → length (held_by (stripe_size code w) b last j) ≡ stripe_size code w =
+    subst (λ n. (j : ℕ) → n * j < length b → length (held_by n b last j) ≡ n) size c.in_ok-last.ensures.long in
+    let bytes : (j i : ℕ) → stripe_size code w * j < length b → i < stripe_size code w
+    → slice_index_or (held_by (stripe_size code w) b last j) i 0 ≡ slice_index_or b (stripe_size code w * j + i) 0 =
+    subst (λ n. (j i : ℕ) → n * j < length b → i < n → slice_index_or (held_by n b last j) i 0 ≡ slice_index_or b (n * j + i) 0) size c.in_ok-last.ensures.bytes in
+    let are : (j : ℕ) → j < c.args.count → AreParitiesOf code w (held_by (stripe_size code w) b last j) (parities_by w parities j) =
+    λ j l.
+    subst (λ h. AreParitiesOf code w h (parities_by w parities j)) (ap₂ (λ (x y : List ℕ). held_by (stripe_size code w) x y j) c.as_slice.ensures c.as_slice-2.ensures)
+    (subst (λ xs. AreParitiesOf code w (held_by (stripe_size code w) c.as_slice.result.now c.as_slice-2.result.now j) (parities_by w xs j)) (sym c.in_ok-parities-2.ensures.ok)
+    (c.in_ok-parities.ensures.parities j l)) in
+    let whole : (j f : ℕ) → j < c.args.count → f < fragment_count code → fragment_at (packed code c.args.width b last parities c.args.count) j f ≡ Some (fragment code c.args.width b j f) =
+    subst (λ n. (j f : ℕ) → j < c.args.count → f < fragment_count code → fragment_at (packed code n b last parities c.args.count) j f ≡ Some (fragment code n b j f)) wide
+    (packed_whole code w b last parities c.args.count begins long bytes are c.requires.bytes) in
+    IfOk-weaker c.from_packed.result _ _ (λ s same j f l inside. ap (λ (t : Stripes). fragment_at t j f) (same ∙ c.new-packed.ensures) ∙ whole j f l inside) c.from_packed.ensures
+
+pub returns-clause-others : goal.returns-clause-others
+returns-clause-others c =
+    IfOk-weaker c.from_packed.result _ _
+    (λ s same j f l past.
+    ap (λ (t : Stripes). fragment_at t j f) (same ∙ c.new-packed.ensures)
+    ∙ packed_others c.args.code c.args.width c.args.bytes c.in_ok-last.last c.in_ok-parities-2.parities c.args.count j f l past)
+    c.from_packed.ensures

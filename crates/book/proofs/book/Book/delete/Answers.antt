@@ -14,5 +14,5 @@ returns-clause-ok c =
     (c.answer_delete-answer.ensures ∙ ap (reply_for delete_reply) c.remove.ensures.value ∙ ap (λ s. reply_for delete_reply (sealed_at s c.args.name)) c.self.view_is)
     (ap (λ (s : Contents). s.width) c.self.view_is)
     (ap (λ (s : Contents). s.base) c.self.view_is)
-    (λ q. c.remove.ensures.updates.0 q ∙ ap (λ s. cond (is_at (name_cmp c.args.name) q) None (sealed_at s q)) c.self.view_is)
+    (λ q. c.remove.ensures.updates q ∙ ap (λ s. cond (is_at (name_cmp c.args.name) q) None (sealed_at s q)) c.self.view_is)
     (cc)

@@ -12,15 +12,15 @@ use Rattle.book.proofs.book.Book.install.Goals as goal
 pub returns-clause-ok : goal.returns-clause-ok
 returns-clause-ok c =
     let entries : c.self.inside.journal.entries.items ≡ c.args.self.now.entries = ap (λ (s : Contents). s.entries) c.self.view_is in
-    let P : Catalogue → Type 0 = λ old. Replaces (λ w x. repair_reply w x c.args.stripe c.args.fragment) (Mends c.args.stripe c.args.fragment (note_of c.in-Ok.answer)) old c.install_in.new.catalogue.entries c.args.name (note_of c.in-Ok.answer) in
+    let P : Catalogue → Type 0 = λ old. Replaces (λ w x. repair_reply w x c.args.stripe c.args.fragment) (Mends c.args.stripe c.args.fragment (note_of c.in-Ok.answer)) old c.install.new.self c.args.name (note_of c.in-Ok.answer) in
     carries_repair c.args.self.now _ c.args.who c.args.name c.args.stripe c.args.fragment c.in-Ok.answer
     (subst P (ap (λ (s : Contents). s.catalogue) c.self.view_is) c.in-Ok.ensures.ok)
     (ap (λ (s : Contents). s.width) c.self.view_is)
     (ap (λ (s : Contents). s.base) c.self.view_is)
     (cc)
 
-pub install_in-requires : goal.install_in-requires
-install_in-requires c =
+pub install-requires : goal.install-requires
+install-requires c =
     let P : Catalogue → Type 0 = λ x. IfSome (value_at x c.args.name) (Serves c.args.version c.args.stripe c.args.fragment c.args.bytes) in
     subst P (ap (λ (s : Contents). s.catalogue) (sym c.self.view_is))
     (known_serves c.args.self.now c.requires.known.0 c.args.name c.args.version c.args.stripe c.args.fragment c.args.bytes c.requires.known.1 c.requires.known.2)

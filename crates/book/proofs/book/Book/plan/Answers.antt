@@ -11,6 +11,6 @@ use Rattle.book.proofs.book.Book.plan.Goals as goal
 
 pub returns : goal.returns
 returns c h told =
-    let catalogue : c.self.inside.catalogue.entries ≡ c.args.self.now.catalogue = ap (λ (s : Contents). s.catalogue) c.self.view_is in
+    let catalogue : c.self.inside.catalogue ≡ c.args.self.now.catalogue = ap (λ (s : Contents). s.catalogue) c.self.view_is in
     let P : Catalogue → Type 0 = λ entries. IsStrictlySortedBy name_cmp (keys_of entries) in
-    c.in_ok-items.ensures.value ∙ ap (flat_map items_lacked) catalogue ∙ plan_is c.args.self.now h (subst P catalogue c.items_in.ensures.rising) told
+    c.in_ok-items.ensures.value ∙ ap (flat_map items_lacked) catalogue ∙ plan_is c.args.self.now h (subst P catalogue c.in_ok-items.ensures.rising) told

@@ -1,8 +1,11 @@
-use Rattle.std.proofs.Common.{◌≡◌, ◌≤◌, ap, ◌∙◌, ◌+◌, arith, length, cond, Some}
+use Rattle.std.proofs.Common.{◌≡◌, ◌≤◌, ap, sym, subst, ◌∙◌, ◌+◌, arith, length, cond, Some}
 use Rattle.std.specs.BTreeMap.{is_at}
 use Rattle.history.specs.Names.{name_cmp}
 use Rattle.std.specs.Prelude.{count_by}
 use Rattle.std.proofs.lemmas.List.Sums.{count_by-le-length}
+use Rattle.sealed.specs.declared.value.Sealed.{Sealed}
+use Rattle.sealed.specs.Blob.{nothing}
+use Rattle.sealed.specs.Sealed.{StandsFor}
 use Rattle.history.specs.History.{is_put}
 use Rattle.history.specs.Base.{Checkpoint}
 use Rattle.book.specs.Contents.{Contents, sealed_at}
@@ -13,6 +16,14 @@ pub overflow_add-version : goal.overflow_add-version
 overflow_add-version c =
     let few : count_by is_put c.self.inside.journal.entries.items ≤ length c.self.inside.journal.entries.items = count_by-le-length is_put c.self.inside.journal.entries.items in
     omega (arith, c.self.invariant, few, c.self.inside.journal.fits, c.self.inside.journal.small)
+
+pub insert-requires : goal.insert-requires
+insert-requires c =
+    let stands = c.requires.stands in (
+      stands.0,
+      subst (λ (s : Sealed). StandsFor s stands.0 nothing) (sym (c.in-Ok.ensures.ok ∙ c.with_version.ensures))
+          (record { bytes = stands.1.bytes; length_is = stands.1.length_is; fragments = stands.1.fragments }),
+    )
 
 pub returns-clause-ok : goal.returns-clause-ok
 returns-clause-ok c b stands =
@@ -25,5 +36,4 @@ returns-clause-ok c b stands =
     (ap (λ (s : Contents). s.width) c.self.view_is)
     base
     (cc)
-    (λ q. c.in-Ok-insert.ensures.updates.0 q
-    ∙ (λ i. cond (is_at (name_cmp c.args.name) q) (Some ((c.whole.ensures ∙ c.in-Ok.ensures.ok ∙ c.with_version.ensures) i)) (sealed_at (c.self.view_is i) q)))
+    (λ q. c.in-Ok-insert.ensures.ok q ∙ (λ i. cond (is_at (name_cmp c.args.name) q) (Some ((c.in-Ok.ensures.ok ∙ c.with_version.ensures) i)) (sealed_at (c.self.view_is i) q)))

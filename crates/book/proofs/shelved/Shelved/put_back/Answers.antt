@@ -25,3 +25,10 @@ returns-in-Ok-clause-ok c =
     is_with c.args.self.now t c.args.stripe c.args.f c.args.bytes
     (subst (λ (v : Sealed). IsChanged v c.args.stripe c.args.f (Some c.args.bytes) t) c.self.view_is c.in-Ok.ensures.ok)
     c.requires.own
+
+pub returns-in-Ok-clause-fewer : goal.returns-in-Ok-clause-fewer
+returns-in-Ok-clause-fewer c =
+    let s = c.args.self.now in
+    let t = c.put_back_in.new.sealed.value in
+    let changed : IsChanged s c.args.stripe c.args.f (Some c.args.bytes) t = subst (λ (v : Sealed). IsChanged v c.args.stripe c.args.f (Some c.args.bytes) t) c.self.view_is c.in-Ok.ensures.ok in
+    omega (arith, with_one_less s t c.args.stripe c.args.f c.self.inside.lost c.args.bytes (c.self.invariant ∙ ap lacked_count c.self.view_is) changed c.requires.stripe_below c.requires.f_below c.requires.gone, c.self.invariant ∙ ap lacked_count c.self.view_is)

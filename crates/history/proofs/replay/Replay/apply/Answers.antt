@@ -1,4 +1,4 @@
-use Rattle.history.specs.Kept.{views_of}
+use Rattle.history.specs.Metadata.{views_of}
 use Rattle.history.proofs.Replaying.{deleted_at, hidden, rise_without, seen_in}
 use Rattle.history.proofs.replay.Replay.apply.Goals as goal
 

@@ -1,7 +1,7 @@
 use Rattle.std.proofs.Common.{◌≡◌, ℕ, ◌+◌, drop, refl, sym, ap, ◌∙◌, subst, arith, []}
 use Rattle.std.proofs.Math.ListN.{drop_of_length-le}
 use Rattle.std.proofs.lemmas.Bool.{false≢true}
-use Rattle.history.specs.Kept.{views_of}
+use Rattle.history.specs.Metadata.{views_of}
 use Rattle.history.specs.Views.{Views, IsNoted, AreNoted, all_next}
 use Rattle.history.proofs.Shapes.{noted_at, next_at}
 use Rattle.history.proofs.replay.Replay.follow.Goals as goal

@@ -1,6 +1,6 @@
 use Rattle.std.proofs.Common.{◌≡◌, drop}
 use Rattle.std.specs.Prelude.{◌↔◌}
-use Rattle.history.specs.Kept.{views_of}
+use Rattle.history.specs.Metadata.{views_of}
 use Rattle.history.specs.Views.{AreNoted, all_next}
 use Rattle.history.proofs.replay.Replay.follow.Given as goal
 

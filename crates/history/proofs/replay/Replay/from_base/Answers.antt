@@ -5,8 +5,8 @@ use Rattle.std.specs.BTreeMap.{insert_entry}
 use Rattle.std.proofs.lemmas.Simd.{map-map}
 use Rattle.history.specs.Names.{name_cmp}
 use Rattle.history.specs.Base.{Outline}
-use Rattle.history.specs.Kept.{outline_kept}
-use Rattle.history.specs.declared.kept.Kept.{Kept}
+use Rattle.history.specs.Metadata.{outline_kept}
+use Rattle.history.specs.declared.metadata.BlobMetadata.{BlobMetadata}
 use Rattle.history.proofs.Outlining.{kept_next}
 use Rattle.history.proofs.replay.Replay.from_base.Goals as goal
 
@@ -21,7 +21,7 @@ loop-name-preserved-in-Ok c =
     let whole : es ++ (n, k) ∷ rest ≡ all = search rules in
     let same : c.insert.new.self.entries ≡ insert_entry name_cmp es n k =
     c.in-Ok.ensures.entries ∙ (λ i. insert_entry name_cmp es (c.duplicate-in-loop-name.ensures i) (c.in_ok-kept.ensures.copy i)) in
-    ap (λ (l : List (List ℕ × Kept)). l ++ rest) same ∙ kept_next all es rest n k s whole
+    ap (λ (l : List (List ℕ × BlobMetadata)). l ++ rest) same ∙ kept_next all es rest n k s whole
 
 pub loop-name-preserved-in-Ok-2 : goal.loop-name-preserved-in-Ok-2
 loop-name-preserved-in-Ok-2 c =
@@ -34,4 +34,4 @@ loop-name-preserved-in-Ok-2 c =
     let whole : es ++ (n, k) ∷ rest ≡ all = search rules in
     let same : c.insert.new.self.entries ≡ insert_entry name_cmp es n k =
     c.in-Ok.ensures.entries ∙ (λ i. insert_entry name_cmp es (c.duplicate-in-loop-name.ensures i) (c.in_ok-kept.ensures.copy i)) in
-    ap (λ (l : List (List ℕ × Kept)). l ++ rest) same ∙ kept_next all es rest n k s whole
+    ap (λ (l : List (List ℕ × BlobMetadata)). l ++ rest) same ∙ kept_next all es rest n k s whole

@@ -1,25 +1,77 @@
-use Rattle.std.proofs.Common.{◌<◌, ◌&&◌, ◌==◌, length, cond, ap, ◌∙◌, arith}
-use Rattle.std.proofs.lemmas.List.{length-map}
+use Rattle.std.proofs.Common.{◌≡◌, ◌<◌, ◌&&◌, ◌==◌, ℕ, List, [], Option, Some, length, get_or, cond, refl, sym, ap, ◌∙◌, arith}
+use Rattle.std.specs.Prelude.{slice_set}
+use Rattle.std.proofs.lemmas.List.{length-set, set-get_or}
 use Rattle.std.proofs.lemmas.Result.{on_ok_weaker, on_err_weaker}
+use Rattle.sealed.specs.declared.stripes.Stripe.{Stripe}
 use Rattle.sealed.specs.Stripes.{Stripes, fragment_at}
-use Rattle.sealed.proofs.Changing.{slot_changed, row_kept}
+use Rattle.sealed.specs.Packed.{own_or, laid_over}
+use Rattle.sealed.proofs.Packing.{laid_count, laid_seen, laid_change, laid_same}
 use Rattle.sealed.proofs.stripes.Stripes.set.Goals as goal
 
-pub returns-clause-ok : goal.returns-clause-ok
-returns-clause-ok c =
-    let items = c.self.inside.items.items in
-    let there : c.args.j < length items = omega (arith, c.requires.j_below, ap length c.self.view_is, length-map items (λ a. a.value.fragments)) in
-    let inside : c.args.f < length c.index_mut.result.now.value.fragments = omega (arith, c.requires.f_below, c.index_mut.result.now.value.sixteen) in
+pub index_mut-requires : goal.index_mut-requires
+index_mut-requires c = omega (arith, c.requires.j_below, ap length c.self.view_is, laid_count (λ a. a.value.fragments) c.self.inside.own.items c.self.inside.packed)
+
+pub returns-in-Some-clause-count : goal.returns-in-Some-clause-count
+returns-in-Some-clause-count c =
+    let own = c.self.inside.own.items in
+    let new = c.set_slot.new.stripe in
+    laid_count (λ a. a.value.fragments) (slice_set own c.args.j (Some new)) c.self.inside.packed ∙ length-set own c.args.j (Some new)
+    ∙ sym (laid_count (λ a. a.value.fragments) own c.self.inside.packed) ∙ ap length c.self.view_is
+
+pub returns-in-Some-clause-ok : goal.returns-in-Some-clause-ok
+returns-in-Some-clause-ok c =
+    let own = c.self.inside.own.items in
+    let packed : Stripes = c.self.inside.packed in
+    let j : ℕ = c.args.j in
+    let f : ℕ = c.args.f in
+    let new = c.set_slot.new.stripe in
+    let there : j < length own = omega (arith, c.requires.j_below, ap length c.self.view_is, laid_count (λ a. a.value.fragments) own packed) in
+    let row : get_or (laid_over (λ a. a.value.fragments) own packed) j [] ≡ c.in-Some.stripe.value.fragments =
+    laid_seen (λ a. a.value.fragments) own packed _ refl j there c.index_mut.result.now c.index_mut.ensures.value ∙ ap (λ o. own_or (λ a. a.value.fragments) o (get_or packed j [])) c.in-Some.is in
+    let inside : f < length (get_or (laid_over (λ a. a.value.fragments) own packed) j []) = omega (arith, ap length row, c.in-Some.stripe.value.sixteen, c.requires.f_below) in
     on_ok_weaker c.set_slot.result
     (λ changed i g.
-    slot_changed items (λ a. a.value.fragments) c.args.j c.index_mut.result.now c.set_slot.new.stripe there c.index_mut.ensures.value c.args.f c.args.slot inside changed i g
-    ∙ ap (λ (t : Stripes). cond ((i == c.args.j) && (g == c.args.f)) c.args.slot (fragment_at t i g)) c.self.view_is)
+    laid_change (λ a. a.value.fragments) own packed j f new c.args.slot there inside (changed ∙ ap (λ (r : List (Option (List ℕ))). slice_set r f c.args.slot) (sym row)) i g
+    ∙ ap (λ (t : Stripes). cond ((i == j) && (g == f)) c.args.slot (fragment_at t i g)) c.self.view_is)
     c.set_slot.ensures.ok
 
-pub returns-clause-err : goal.returns-clause-err
-returns-clause-err c =
-    let items = c.self.inside.items.items in
-    let there : c.args.j < length items = omega (arith, c.requires.j_below, ap length c.self.view_is, length-map items (λ a. a.value.fragments)) in
-    on_err_weaker c.set_slot.result
-    (λ same. row_kept items (λ a. a.value.fragments) c.args.j c.index_mut.result.now c.set_slot.new.stripe there c.index_mut.ensures.value same ∙ c.self.view_is)
-    c.set_slot.ensures.err
+pub returns-in-Some-clause-err : goal.returns-in-Some-clause-err
+returns-in-Some-clause-err c =
+    let own = c.self.inside.own.items in
+    let packed : Stripes = c.self.inside.packed in
+    let j : ℕ = c.args.j in
+    let there : j < length own = omega (arith, c.requires.j_below, ap length c.self.view_is, laid_count (λ a. a.value.fragments) own packed) in
+    let row : get_or (laid_over (λ a. a.value.fragments) own packed) j [] ≡ c.in-Some.stripe.value.fragments =
+    laid_seen (λ a. a.value.fragments) own packed _ refl j there c.index_mut.result.now c.index_mut.ensures.value ∙ ap (λ o. own_or (λ a. a.value.fragments) o (get_or packed j [])) c.in-Some.is in
+    on_err_weaker c.set_slot.result (λ same. laid_same (λ a. a.value.fragments) own packed j c.set_slot.new.stripe there (same ∙ sym row) ∙ c.self.view_is) c.set_slot.ensures.err
+
+pub stripe-requires : goal.stripe-requires
+stripe-requires c = omega (arith, c.requires.j_below, ap length c.self.view_is, laid_count (λ a. a.value.fragments) c.self.inside.own.items c.self.inside.packed, c.self.invariant)
+
+pub returns-clause-count : goal.returns-clause-count
+returns-clause-count c =
+    let own = c.self.inside.own.items in
+    let found = c.index_mut.result.now in
+    let new = c.in_ok-new.field-0 in
+    laid_count (λ a. a.value.fragments) (slice_set (slice_set own c.args.j found) c.args.j (Some new)) c.self.inside.packed
+    ∙ length-set (slice_set own c.args.j found) c.args.j (Some new) ∙ length-set own c.args.j found
+    ∙ sym (laid_count (λ a. a.value.fragments) own c.self.inside.packed) ∙ ap length c.self.view_is
+
+pub returns-clause-ok : goal.returns-clause-ok
+returns-clause-ok c i g =
+    let own = c.self.inside.own.items in
+    let packed : Stripes = c.self.inside.packed in
+    let j : ℕ = c.args.j in
+    let f : ℕ = c.args.f in
+    let found = c.index_mut.result.now in
+    let new = c.in_ok-new.field-0 in
+    let there : j < length own = omega (arith, c.requires.j_below, ap length c.self.view_is, laid_count (λ a. a.value.fragments) own packed) in
+    let back : slice_set own j found ≡ own = ap (slice_set own j) c.index_mut.ensures.value ∙ set-get_or own j found in
+    let row : get_or (laid_over (λ a. a.value.fragments) own packed) j [] ≡ c.in_ok-stripe.stripe.fragments =
+    laid_seen (λ a. a.value.fragments) own packed _ refl j there found c.index_mut.ensures.value ∙ ap (λ o. own_or (λ a. a.value.fragments) o (get_or packed j [])) c.in_default.is ∙ sym c.in_ok-stripe.ensures in
+    let inside : f < length (get_or (laid_over (λ a. a.value.fragments) own packed) j []) = omega (arith, ap length row, c.in_ok-stripe.stripe.sixteen, c.requires.f_below) in
+    let changed : new.value.fragments ≡ slice_set (get_or (laid_over (λ a. a.value.fragments) own packed) j []) f c.args.slot =
+    ap (λ (s : Stripe). s.fragments) c.in_ok-new.ensures.ok ∙ c.put.ensures ∙ ap (λ (r : List (Option (List ℕ))). slice_set r f c.args.slot) (sym row) in
+    ap (λ o. fragment_at (laid_over (λ a. a.value.fragments) (slice_set o j (Some new)) packed) i g) back
+    ∙ laid_change (λ a. a.value.fragments) own packed j f new c.args.slot there inside changed i g
+    ∙ ap (λ (t : Stripes). cond ((i == j) && (g == f)) c.args.slot (fragment_at t i g)) c.self.view_is

@@ -5,6 +5,7 @@ use Rattle.sealed.proofs.value.Sealed.left.Given as goal
 
 abbrev pub invariant-loop-f : goal.invariant-loop-f
 invariant-loop-f l = record {
-  sixteen : length l.fragments ≡ 16;
-  seen : (g : ℕ) → g < l.f → option_map (λ x. x.now) (get_or l.fragments g None) ≡ fragment_at l.self.stripes l.stripe g;
+  code : l.left.code ≡ l.self.code;
+  sixteen : length l.left.fragments ≡ 16;
+  seen : (g : ℕ) → g < l.f → option_map (λ x. x.now) (get_or l.left.fragments g None) ≡ fragment_at l.self.stripes l.stripe g;
 }

@@ -1,10 +1,10 @@
 use Rattle.std.proofs.Common.{IfSome, ap, sym, subst, ◌∙◌}
 use Rattle.requests.specs.Between.{MayFollow}
 use Rattle.shared.specs.Passes.{Which, Shows, shows}
-use Rattle.shared.specs.Calls.{made_by, Called}
+use Rattle.shared.specs.Calls.{Called}
 use Rattle.requests.specs.Requests.{operation_of, CanMake}
 use Rattle.requests.proofs.Between.{goes_follows}
-use Rattle.shared.proofs.Steps.{Stepped, left_base, stepped, answered, call_goes_on, called}
+use Rattle.shared.proofs.Steps.{made_by, Stepped, left_base, stepped, answered, call_goes_on, called}
 use Rattle.requests.proofs.Requests.{request_fits, never_too_long}
 use Rattle.shared.proofs.Requests.{can_make_inside}
 use Rattle.shared.proofs.Grants.{all_granted, wanted_for}

@@ -1,8 +1,7 @@
-use Rattle.std.proofs.Common.{◌≡◌, [], None, refl, subst, ◌∙◌}
-use Rattle.shared.specs.Passes.{Shows, shows}
+use Rattle.std.proofs.Common.{[], None, refl, subst}
+use Rattle.shared.specs.Passes.{shows}
 use Rattle.shared.specs.Deeds.{Takes}
-use Rattle.shared.specs.Calls.{Looked}
-use Rattle.shared.proofs.Steps.{Stepped, left_base, stepped, same_goes_on, looked, takes, unchanged}
+use Rattle.shared.proofs.Steps.{Stepped, stepped, same_goes_on, takes, unchanged}
 use Rattle.shared.proofs.Looks.{planned}
 use Rattle.shared.proofs.store.Store.plan.Given as given
 use Rattle.shared.proofs.store.Store.plan.Goals as goal
@@ -23,22 +22,9 @@ leave-requires-clause-follows g c =
 pub invariant_of-pass : goal.invariant_of-pass
 invariant_of-pass g c = (steps g c).pass
 
-pub returns-clause-looked : goal.returns-clause-looked
-returns-clause-looked g c =
-    subst (λ v. Looked v (shows c.leave.new.seat c.pass.inside.who)) c.pass.view_is (looked c.pass.inside.seat c.leave.new.seat c.enter-inside.result.value 0 c.pass.inside.who (steps g c))
-
 pub returns-clause-ok : goal.returns-clause-ok
 returns-clause-ok g c =
     planned c.plan.result c.map_err-plan.result c.pass.inside.seat c.leave.new.seat c.enter-inside.result.value _ (steps g c) c.map_err-plan.ensures.variant c.map_err-plan.ensures.cases c.plan.ensures
-
-pub returns-clause-alone : goal.returns-clause-alone
-returns-clause-alone g c =
-    let l = c.leave.ensures in
-    let P : Shows → Type 0 = λ v. v.room ≡ 64 → (shows c.leave.new.seat c.pass.inside.who).trimmed ≡ v.trimmed in
-    subst P c.pass.view_is
-    (λ all.
-    left_base c.enter-inside.new.seat c.leave.new.seat c.enter-inside.result.value c.enter-inside.result.value (record { same = l.kept; list = l.list; own = l.own }) refl
-    ∙ ((steps g c).lone all).1)
 
 pub returns-clause-takes : goal.returns-clause-takes
 returns-clause-takes g c =

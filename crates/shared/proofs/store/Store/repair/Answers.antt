@@ -19,4 +19,4 @@ make-requires-clause-can g c =
 pub returns-clause-called : goal.returns-clause-called
 returns-clause-called g c =
     let is = c.in-Rebuildable.ensures.found in
-    looks_then_called c.args.pass.now c.look.new.pass c.make.new.pass c.args.name c.args.stripe c.args.fragment c.make.result is.looked is.takes is.base c.make.ensures.called
+    looks_then_called c.args.pass.now c.look.new.pass c.make.new.pass c.args.name c.args.stripe c.args.fragment c.make.result is.takes c.make.ensures.called

@@ -1,6 +1,6 @@
 use Rattle.std.proofs.Common.{◌≡◌, length, ◌≤◌, ◌++◌}
 use Rattle.std.specs.Vec.{vec_capacity}
-use Rattle.shared.specs.Runs.{asked, Runs, AreTrims}
+use Rattle.shared.specs.Paced.{AreLetThrough}
 use Rattle.shared.specs.Serving.{asks_of, Serves}
 use Rattle.shared.proofs.store.Store.run.Given as goal
 
@@ -10,6 +10,5 @@ invariant-loop-job g l =
     × (length l.done.items ≡ length l.yielded)
     × (l.yielded ++ l.job-iterator.rest.items ≡ l.fn.jobs.items)
     × (length l.fn.jobs.items ≤ vec_capacity l.done)
-    × Runs l.fn.pass (asked l.yielded) l.done.items l.pass
-    × AreTrims l.pass.seen l.yielded l.done.items
     × Serves l.fn.pass (asks_of l.yielded) l.done.items l.pass
+    × AreLetThrough (g.P.Pace.may_answer l.fn.pace) l.yielded

@@ -1,11 +1,10 @@
-use Rattle.std.proofs.Common.{◌≡◌, [], IfSome, sym, subst}
+use Rattle.std.proofs.Common.{[], IfSome, sym, subst}
 use Rattle.requests.specs.Between.{MayFollow}
-use Rattle.shared.specs.Passes.{Shows, shows}
+use Rattle.shared.specs.Passes.{shows}
 use Rattle.shared.specs.Deeds.{trim_deed, Takes}
-use Rattle.shared.specs.Calls.{Looked, GivesUpAlone}
 use Rattle.requests.proofs.Between.{goes_follows}
-use Rattle.shared.proofs.Steps.{Stepped, stepped, looked}
-use Rattle.shared.proofs.Looks.{given_by, trim_goes_on, takes_trim, trims, trims_alone}
+use Rattle.shared.proofs.Steps.{Stepped, stepped}
+use Rattle.shared.proofs.Looks.{given_by, trim_goes_on, takes_trim}
 use Rattle.shared.proofs.store.Store.trim.Given as given
 use Rattle.shared.proofs.store.Store.trim.Goals as goal
 
@@ -27,26 +26,6 @@ steps g c =
 
 pub invariant_of-pass : goal.invariant_of-pass
 invariant_of-pass g c = (steps g c).pass
-
-pub returns-clause-looked : goal.returns-clause-looked
-returns-clause-looked g c =
-    subst (λ v. Looked v (shows c.leave.new.seat c.pass.inside.who)) c.pass.view_is (looked c.pass.inside.seat c.leave.new.seat c.enter-inside.result.value (given_by c.trim-result.result) c.pass.inside.who (steps g c))
-
-pub returns-clause-ok : goal.returns-clause-ok
-returns-clause-ok g c =
-    let t = c.trim-result.ensures in
-    let l = c.leave.ensures in
-    trims c.trim-result.result c.pass.inside.seat c.enter-inside.new.seat c.leave.new.seat c.enter-inside.result.value _ c.pass.inside.who c.args.keep
-    (record { same = l.kept; list = l.list; own = l.own }) (steps g c) t.answer t.trimmed
-
-pub returns-clause-alone : goal.returns-clause-alone
-returns-clause-alone g c =
-    let t = c.trim-result.ensures in
-    let l = c.leave.ensures in
-    let P : Shows → Type 0 = λ v. v.room ≡ 64 → GivesUpAlone v c.trim-result.result (shows c.leave.new.seat c.pass.inside.who) in
-    subst P c.pass.view_is
-    (trims_alone c.trim-result.result c.pass.inside.seat c.enter-inside.new.seat c.leave.new.seat c.enter-inside.result.value _ c.pass.inside.who
-    (record { same = l.kept; list = l.list; own = l.own }) (steps g c) t.trimmed t.err)
 
 pub returns-clause-takes : goal.returns-clause-takes
 returns-clause-takes g c =

@@ -15,5 +15,5 @@ returns-in-Ok-clause-called c =
 pub returns-in-Err-clause-called : goal.returns-in-Err-clause-called
 returns-in-Err-clause-called c =
     subst (λ r. Called c.args.pass.now (put c.args.name c.args.code c.args.bytes) r c.args.pass.now) (sym c.refuse.ensures.refused)
-    (refused_put c.args.pass.now c.args.name c.args.code c.args.bytes c.self.inside.width c.in-Err.fault c.refuse.ensures.legal c.refuse.ensures.agrees
+    (refused_put c.args.pass.now c.args.name c.args.code c.args.bytes c.self.inside.width c.in-Err.fault c.refuse.ensures.agrees
     (ap (λ (s : Which). s.width) (c.self.view_is ∙ sym c.requires)) c.in-Err.ensures.err (λ long. c.seal_as.ensures.too_long.0 (c.in-Err.is ∙ ap Err long)))

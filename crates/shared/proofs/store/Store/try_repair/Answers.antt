@@ -20,7 +20,7 @@ try_make-requires-clause-can c =
 pub returns-clause-called : goal.returns-clause-called
 returns-clause-called c =
     let is = c.in-Rebuildable.ensures.found in
-    looks_then_called c.args.pass.now c.try_look.new.pass c.try_make.new.pass c.args.name c.args.stripe c.args.fragment c.try_make.result is.looked is.takes is.base c.try_make.ensures.called
+    looks_then_called c.args.pass.now c.try_look.new.pass c.try_make.new.pass c.args.name c.args.stripe c.args.fragment c.try_make.result is.takes c.try_make.ensures.called
 
 pub returns-clause-busy : goal.returns-clause-busy
 returns-clause-busy c = λ busy.

@@ -1,0 +1,98 @@
+#!/usr/bin/env python3
+"""Measures the library beside the same in plain Rust: bench/library.py [--times N] [--millis M] [--folder FOLDER] [CLIENTS ..]
+
+It needs rustc. The clients of bench/clients are a crate over `shared`: their files, and those of the crates below, are copied into FOLDER,
+where `rt` proves and builds them, at first in some 6 minutes. bench/store.rs is the plain store. Each is run N times (9 without the option) for M
+milliseconds (500), in turn, and the greatest number of calls a second counts. CLIENTS are earlier builds of the clients, to be run beside.
+"""
+
+import argparse
+import os
+import shutil
+import subprocess
+import sys
+import tempfile
+
+TOP = os.path.dirname(os.path.dirname(os.path.abspath(__file__)))
+sys.path.insert(0, os.path.join(TOP, "tools"))
+import build  # noqa: E402
+
+CLIENTS = os.path.join(TOP, "bench", "clients")
+PARTS = ("src", "specs", "proofs", os.path.join("out", "rlib"))
+
+
+def copied(name, folder):
+    """Proves a crate, where it isn't yet, and copies its files and its library."""
+    build.build(name, False)
+    for part in PARTS:
+        kept, to = os.path.join(TOP, "crates", name, part), os.path.join(folder, "crates", name, part)
+        shutil.rmtree(to, ignore_errors=True)
+        if os.path.isdir(kept):
+            shutil.copytree(kept, to)
+
+
+def built(folder):
+    """The clients, proved and built in a repository of their own."""
+    names = build.below("shared")
+    for name in names:
+        copied(name, folder)
+    source = os.path.join(folder, "crates", "clients", "src")
+    os.makedirs(source, exist_ok=True)
+    for name in os.listdir(CLIENTS):
+        shutil.copy(os.path.join(CLIENTS, name), os.path.join(source, name.replace(".rattle", ".rt")))
+    shutil.copy(os.path.join(TOP, "HANDLES"), folder)
+    with open(os.path.join(TOP, "crates.txt"), encoding="utf-8") as lines:
+        rows = [line for line in lines if line.partition(":")[0].partition(" ")[0] in names]
+    with open(os.path.join(folder, "crates.txt"), "w", encoding="utf-8") as lines:
+        lines.writelines([*rows, "clients: anyhow shared\n"])
+    ran = subprocess.run(["rt", "run", "--", "trims"], cwd=os.path.dirname(source), stdout=subprocess.PIPE, stderr=subprocess.STDOUT, text=True)
+    program = os.path.join(os.path.dirname(source), "out", "clients")
+    if ran.returncode != 0 or not os.path.exists(program):
+        sys.exit(ran.stdout + "the clients are not built")
+    return program
+
+
+def plain(folder):
+    """The plain store, compiled."""
+    program = os.path.join(folder, "store")
+    subprocess.run(["rustc", "-O", "--edition", "2021", "-o", program, os.path.join(TOP, "bench", "store.rs")], check=True)
+    return program
+
+
+def told(program, *words):
+    """What a run prints, as numbers by their names."""
+    printed = subprocess.run([program, *words], stdout=subprocess.PIPE, check=True, text=True).stdout.split()
+    return dict(zip(printed[::2], map(int, printed[1::2])))
+
+
+def rate(program, calls, threads, millis):
+    """Million calls a second."""
+    run = told(program, calls, str(threads), str(millis))
+    if run["failed"] or (run["bytes"] == 0) != (calls == "reads"):
+        sys.exit(f"{program}: {run}")
+    return run["calls"] * 1000 / run["nanos"]
+
+
+def main():
+    parser = argparse.ArgumentParser(description=__doc__.splitlines()[0])
+    parser.add_argument("--times", type=int, default=9)
+    parser.add_argument("--millis", type=int, default=500)
+    parser.add_argument("--folder", default=os.path.join(tempfile.gettempdir(), "lrcstore_clients"))
+    parser.add_argument("clients", nargs="*")
+    given = parser.parse_args()
+    os.makedirs(given.folder, exist_ok=True)
+    programs = [*given.clients, built(given.folder), plain(given.folder)]
+    for calls in ("reads", "walks"):
+        for threads in (1, 4):
+            runs = [[rate(program, calls, threads, given.millis) for program in programs] for _ in range(given.times)]
+            most = [max(column) for column in zip(*runs)]
+            ratios = ", ".join(f"{one:.2f} ({one / most[-1]:.2f})" for one in most[:-1])
+            print(f"{calls} by {threads}: {ratios}; plain {most[-1]:.2f} million a second", flush=True)
+    for program in programs[:-1]:
+        trims = [told(program, "trims") for _ in range(given.times)]
+        mean, greatest = min(run["mean"] for run in trims), sorted(run["greatest"] for run in trims)
+        print(f"a trim among 30,000 names: {mean / 1000:.1f} microseconds in the mean, at most {greatest[0] / 1000:.1f} to {greatest[-1] / 1000:.1f}")
+
+
+if __name__ == "__main__":
+    main()

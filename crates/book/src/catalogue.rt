@@ -1,0 +1,207 @@
+//! The sealed blobs by name.
+ghost use Rattle.std.specs.Prelude.{◌≡◌, List, ℕ, [], None, Some, true, false, cond, IfOk, IfErr, IfSome, OnOk, OnErr};
+ghost use Rattle.std.specs.BTreeMap.{is_at};
+ghost use Rattle.std.specs.BTreeSet.{contains};
+ghost use Rattle.std.specs.List.{flat_map};
+ghost use Rattle.std.specs.List.Sorted.{IsStrictlySortedBy};
+ghost use Rattle.std.specs.Map.{keys_of};
+ghost use Rattle.std.specs.Option.{option_map};
+ghost use Rattle.sealed.specs.Blob.{nothing};
+ghost use Rattle.sealed.specs.Sealed.{StandsFor};
+ghost use Rattle.history.specs.Names.{name_cmp};
+ghost use Rattle.history.specs.Views.{lose_reply, repair_reply};
+ghost use Rattle.book.specs.Catalogue.{lacks_at};
+ghost use Rattle.book.specs.Known.{Serves};
+ghost use Rattle.book.specs.Losing.{Loses, Mends, Replaces, value_at};
+ghost use Rattle.book.specs.Notes.{note_of};
+ghost use Rattle.book.specs.Plan.{items_lacked};
+
+use crate::install::install_in;
+use crate::lose::lose_in;
+use crate::plan::Item;
+use crate::repair::repair_in;
+use crate::shelved::Shelved;
+use crate::{Answer, Bytes, Fault, Name, Sealed};
+use std::alloc::{AllocError, Global};
+use std::collections::{BTreeMap, BTreeSet};
+use std::marker::Model;
+use std::sync::Arc;
+
+/// The sealed blobs by name, and beside them the names of those that lack a fragment: what is lost is listed without a look at the others.
+#[derive(Drop)]
+pub(crate) struct Catalogue {
+    blobs: BTreeMap<Name, Shelved>,
+    lacking: BTreeSet<Name>,
+}
+
+impl Model for Catalogue {
+    ghost use Rattle.book.specs.Losing.{Catalogue as Blobs};
+
+    ghost Value = { Blobs };
+
+    ghost use Rattle.std.specs.Prelude.{◌≡◌, List, ℕ};
+    ghost use Rattle.std.specs.BTreeSet.{contains};
+    ghost use Rattle.history.specs.Names.{name_cmp};
+    ghost use Rattle.book.specs.Catalogue.{lacks_at};
+
+    ghost view = { λ c. c.blobs.entries };
+
+    ghost invariant = { λ c. (n : List ℕ) → contains name_cmp c.lacking n ≡ lacks_at c.blobs.entries n };
+}
+
+impl Catalogue {
+    /// No blob.
+    pub fn new(alloc: Global) -> Catalogue
+        ensures { result ≡ [] }
+    {
+        Catalogue {
+            blobs: BTreeMap::new(alloc),
+            lacking: BTreeSet::new(alloc),
+        }
+    }
+
+    /// The blob of a name.
+    pub fn get(&self, name: &Name) -> Option<&Shelved>
+        ensures { option_map (λ s. s.now) result ≡ value_at self.now name.now }
+    {
+        self.blobs.get(name)
+    }
+
+    /// Gives a name a blob of which nothing is lost, in place of the one that it had. After a refusal of memory the catalogue is as it was.
+    pub fn insert(&mut self, name: &Name, sealed: Arc<Sealed>) -> Result<(), AllocError>
+        requires { (b : List ℕ) × StandsFor sealed.value b nothing }
+        ensures ok { OnOk result ((q : List ℕ) → value_at self.new q ≡ cond (is_at (name_cmp name.now) q) (Some sealed.value) (value_at self.old q)) }
+        ensures err { OnErr result (self.new ≡ self.old) }
+    {
+        let Ok(_) = self.blobs.insert(name.duplicate(), Shelved::whole(sealed)) else {
+            return Err(AllocError);
+        };
+        self.lacking.remove(name);
+        Ok(())
+    }
+
+    /// Takes a name out, and its blob.
+    pub fn remove(&mut self, name: &Name) -> Option<Shelved>
+        ensures value { result ≡ value_at self.old name.now }
+        ensures updates { (q : List ℕ) → value_at self.new q ≡ cond (is_at (name_cmp name.now) q) None (value_at self.old q) }
+    {
+        self.lacking.remove(name);
+        self.blobs.remove(name)
+    }
+
+    /// Loses a fragment of a name's blob. The only fault is `NoMemory`. After it the catalogue is as it was.
+    pub fn lose(
+        &mut self,
+        alloc: Global,
+        name: &Name,
+        stripe: u64,
+        fragment: u64,
+    ) -> Result<Answer, Fault>
+        ensures ok { IfOk result (λ a. Replaces (λ w x. lose_reply w x stripe fragment) (Loses stripe fragment (note_of a)) self.old self.new name.now (note_of a)) }
+        ensures faults { IfErr result (λ e. e ≡ Fault.NoMemory) }
+        ensures err { OnErr result (self.new ≡ self.old) }
+    {
+        if self.lacking.insert(name.duplicate()).is_err() {
+            return Err(Fault::NoMemory);
+        }
+        let answer = lose_in(&mut self.blobs, alloc, name, stripe, fragment);
+        settle(&mut self.lacking, &self.blobs, name);
+        answer
+    }
+
+    /// Rebuilds a lost fragment of a name's blob. The only fault is `NoMemory`. After it the catalogue is as it was.
+    pub fn repair(
+        &mut self,
+        alloc: Global,
+        name: &Name,
+        stripe: u64,
+        fragment: u64,
+    ) -> Result<Answer, Fault>
+        ensures ok { IfOk result (λ a. Replaces (λ w x. repair_reply w x stripe fragment) (Mends stripe fragment (note_of a)) self.old self.new name.now (note_of a)) }
+        ensures faults { IfErr result (λ e. e ≡ Fault.NoMemory) }
+        ensures err { OnErr result (self.new ≡ self.old) }
+    {
+        let answer = repair_in(&mut self.blobs, alloc, name, stripe, fragment);
+        settle(&mut self.lacking, &self.blobs, name);
+        answer
+    }
+
+    /// Does as `repair` does, but puts back these bytes where the blob has this version. The only fault is `NoMemory`. After it the catalogue is as it was.
+    pub fn install(
+        &mut self,
+        alloc: Global,
+        name: &Name,
+        version: u64,
+        stripe: u64,
+        fragment: u64,
+        bytes: Bytes,
+    ) -> Result<Answer, Fault>
+        requires { IfSome (value_at self.old name.now) (Serves version stripe fragment bytes) }
+        ensures ok { IfOk result (λ a. Replaces (λ w x. repair_reply w x stripe fragment) (Mends stripe fragment (note_of a)) self.old self.new name.now (note_of a)) }
+        ensures faults { IfErr result (λ e. e ≡ Fault.NoMemory) }
+        ensures err { OnErr result (self.new ≡ self.old) }
+    {
+        let answer = install_in(
+            &mut self.blobs,
+            alloc,
+            name,
+            version,
+            stripe,
+            fragment,
+            bytes,
+        );
+        settle(&mut self.lacking, &self.blobs, name);
+        answer
+    }
+
+    /// The lost fragments of all blobs, by name, then by stripe, then by fragment. It looks only at blobs that lack some.
+    pub fn list_lost(&self, alloc: Global) -> Result<Vec<Item>, AllocError>
+        ensures value { IfOk result (λ items. items.items ≡ flat_map items_lacked self.now) }
+        ensures rising { IsStrictlySortedBy name_cmp (keys_of self.now) }
+    {
+        list_lacking(&self.blobs, &self.lacking, alloc)
+    }
+}
+
+/// The lost fragments of the blobs of these names, which are those that lack some.
+fn list_lacking(
+    blobs: &BTreeMap<Name, Shelved>,
+    lacking: &BTreeSet<Name>,
+    alloc: Global,
+) -> Result<Vec<Item>, AllocError>
+    requires { (q : List ℕ) → contains name_cmp lacking.now q ≡ lacks_at blobs.now.entries q }
+    ensures value { IfOk result (λ items. items.items ≡ flat_map items_lacked blobs.now.entries) }
+    ensures rising { IsStrictlySortedBy name_cmp (keys_of blobs.now.entries) }
+{
+    let mut items = Vec::new(alloc);
+    if blobs.len() == 0 {
+        return Ok(items);
+    }
+    for name in lacking {
+        if let Some(shelved) = blobs.get(name) {
+            shelved.list_lost(name, &mut items)?;
+        }
+    }
+    Ok(items)
+}
+
+/// Takes the name out of those that lack a fragment, unless its blob does.
+fn settle(lacking: &mut BTreeSet<Name>, blobs: &BTreeMap<Name, Shelved>, name: &Name)
+    requires own { lacks_at blobs.now.entries name.now ≡ true → contains name_cmp lacking.old name.now ≡ true }
+    requires others { (q : List ℕ) → is_at (name_cmp name.now) q ≡ false → contains name_cmp lacking.old q ≡ lacks_at blobs.now.entries q }
+    ensures { (q : List ℕ) → contains name_cmp lacking.new q ≡ lacks_at blobs.now.entries q }
+{
+    if !is_lacking(blobs, name) {
+        lacking.remove(name);
+    }
+}
+
+/// Whether the blob of a name lacks a fragment.
+fn is_lacking(blobs: &BTreeMap<Name, Shelved>, name: &Name) -> bool
+    ensures { result ≡ lacks_at blobs.now.entries name.now }
+{
+    match blobs.get(name) {
+        Some(shelved) => shelved.lacks_some(),
+        None => false,
+    }
+}

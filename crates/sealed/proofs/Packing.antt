@@ -1,0 +1,221 @@
+-- Stripes as they are sealed, and those that stand in the place of some.
+use Rattle.std.proofs.Common.{◌≡◌, ℕ, ◌+◌, ◌-◌, ◌*◌, ◌<◌, ◌≤◌, [], List, length, get_or, Option, None, Some, cond, refl, sym, ap, ap₂, ◌∙◌, subst, arith, inl, inr}
+use Rattle.std.specs.Option.{option_map}
+use Rattle.std.specs.Prelude.{slice_range, slice_set, ◌&&◌, ◌==◌}
+use Rattle.std.proofs.Math.Nat.{mul-le-mul_right}
+use Rattle.std.proofs.lemmas.Bool.{cases_lt, cases_eq}
+use Rattle.std.proofs.lemmas.Grind.{common_steps}
+use Rattle.std.proofs.lemmas.List.{ext_get_or, get_or_past, get_or_default, length-set, get_or-set_same, get_or-set_other, set-get_or}
+use Rattle.std.proofs.lemmas.List.FromFn.{length-map-range_with_len, get_or-map-range_with_len}
+use Rattle.lrc_code.specs.declared.Code.{Code}
+use Rattle.lrc_code.specs.declared.Code.TheVariants.{Wide, Small}
+use Rattle.lrc_code.specs.Code.{data_count, fragment_count}
+use Rattle.sealed.specs.Layout.{stripe_size}
+use Rattle.sealed.specs.Stripes.{Stripes, fragment_at}
+use Rattle.sealed.specs.Packed.{held_by, parities_by, part_of, parts_of, packed, ArePacked, own_or, laid_over}
+use Rattle.sealed.proofs.Counting.{few_fragments, parity_count}
+use Rattle.sealed.proofs.Ranges.{length_of_range}
+use Rattle.sealed.proofs.Changing.{set_at}
+
+-- ---- the slots of a stripe
+pub part_data : (code : Code) (w : ℕ) (held parities : List ℕ) (f : ℕ) → f < data_count code → part_of code w held parities f ≡ Some (slice_range held (w * f) (w * f + w))
+part_data code w held parities f l = grind (arith, common_steps)
+
+pub part_parity : (code : Code) (w : ℕ) (held parities : List ℕ) (f k : ℕ) → f ≡ data_count code + k → k < 4
+    → part_of code w held parities f ≡ Some (slice_range parities (w * k) (w * k + w))
+part_parity Wide w held parities f k at l =
+    let part : ℕ → Option (List ℕ) = λ i. Some (slice_range parities (w * i) (w * i + w)) in
+    let e : part_of Wide w held parities f ≡ part (f - 12) = grind (arith, common_steps) in
+    e ∙ ap part (let e : f - 12 ≡ k = omega arith in e)
+part_parity Small w held parities f k at l =
+    let part : ℕ → Option (List ℕ) = λ i. Some (slice_range parities (w * i) (w * i + w)) in
+    let e : part_of Small w held parities f ≡ part (f - 6) = grind (arith, common_steps) in
+    e ∙ ap part (let e : f - 6 ≡ k = omega arith in e)
+
+pub part_none : (code : Code) (w : ℕ) (held parities : List ℕ) (f : ℕ) → fragment_count code ≤ f → part_of code w held parities f ≡ None
+part_none Wide w held parities f l = grind (arith, common_steps)
+part_none Small w held parities f l = grind (arith, common_steps)
+
+pub part_at : (code : Code) (w : ℕ) (held parities : List ℕ) (f : ℕ) → get_or (parts_of code w held parities) f None ≡ part_of code w held parities f
+part_at code w held parities f =
+    elim (cases_lt f 16) [
+      | inl below ↦ get_or-map-range_with_len (part_of code w held parities) 0 16 f f None below (omega arith)
+      | inr past ↦
+          get_or_past (parts_of code w held parities) f None (let e = length-map-range_with_len (part_of code w held parities) 0 16 in omega arith)
+          ∙ sym (part_none code w held parities f (let few = few_fragments code in omega arith))
+    ]
+
+-- sixteen slots that are those of a stripe
+pub all_parts : (code : Code) (w : ℕ) (held parities : List ℕ) (slots : List (Option (List ℕ))) → length slots ≡ 16
+    → ((f : ℕ) → get_or slots f None ≡ part_of code w held parities f) → slots ≡ parts_of code w held parities
+all_parts code w held parities slots long at =
+    ext_get_or None slots (parts_of code w held parities) (long ∙ sym (length-map-range_with_len (part_of code w held parities) 0 16))
+    (λ f l. at f ∙ sym (part_at code w held parities f))
+
+-- a data fragment ends inside the bytes that the stripe holds
+pub slice_inside : (code : Code) (w f : ℕ) → f < data_count code → w * f + w ≤ stripe_size code w
+slice_inside code w f l =
+    let most : (f + 1) * w ≤ data_count code * w = mul-le-mul_right w (omega arith) in
+    let e : (f + 1) * w ≡ w * f + w = omega arith in
+    omega arith
+
+-- ---- the first stripes
+-- the n-th of equal parts ends where the next one begins
+pub part_ends : (size j n : ℕ) → j < n → size * j + size ≤ size * n
+part_ends size j n l =
+    let more : (j + 1) * size ≤ n * size = mul-le-mul_right size (omega arith) in
+    let e : (j + 1) * size ≡ size * j + size = omega arith in
+    let s : n * size ≡ size * n = omega arith in
+    omega arith
+
+pub parts_fit : (w j : ℕ) → w ≤ 65536 → j < 4096 → 4 * w * j + 4 * w ≤ 1073741824
+parts_fit w j narrow few = let ends : 4 * w * j + 4 * w ≤ 4 * w * 4096 = part_ends (4 * w) j 4096 few in omega arith
+
+module _ (code : Code) (w : ℕ) (blob last parities : List ℕ) (count : ℕ) where
+  pub packed_count : length (packed code w blob last parities count) ≡ count
+  unfolding packed
+  packed_count = length-map-range_with_len (λ j. parts_of code w (held_by (stripe_size code w) blob last j) (parities_by w parities j)) 0 count
+
+  pub packed_row : (j : ℕ) → j < count → get_or (packed code w blob last parities count) j [] ≡ parts_of code w (held_by (stripe_size code w) blob last j) (parities_by w parities j)
+  unfolding packed
+  packed_row j l =
+      get_or-map-range_with_len (λ j. parts_of code w (held_by (stripe_size code w) blob last j) (parities_by w parities j)) 0 count j j [] l (omega arith)
+
+  pub packed_at : (j f : ℕ) → j < count
+      → fragment_at (packed code w blob last parities count) j f ≡ part_of code w (held_by (stripe_size code w) blob last j) (parities_by w parities j) f
+  packed_at j f l =
+      ap (λ (row : List (Option (List ℕ))). get_or row f None) (packed_row j l)
+      ∙ part_at code w (held_by (stripe_size code w) blob last j) (parities_by w parities j) f
+
+-- what is found of stripe j by its place
+module _ (code : Code) (w : ℕ) (blob last parities : List ℕ) (count : ℕ) (are : ArePacked code w blob last parities count) (stripes : Stripes)
+    (seen : packed code w blob last parities count ≡ stripes) (j : ℕ) (below : j < length stripes) (v d : ℕ) (wide : v ≡ w) (counted : d ≡ data_count code) where
+  inside : j < count
+  inside = let long = packed_count code w blob last parities count in let same = ap length seen in omega arith
+
+  pub few : j < 4096
+  few = let few = are.few in let l = inside in omega arith
+
+  abbrev pub held_here : List ℕ
+  held_here = held_by (d * v) blob last j
+
+  abbrev pub parities_here : List ℕ
+  parities_here = parities_by v parities j
+
+  size : d * v ≡ stripe_size code w
+  size = ap₂ (λ a b. a * b) counted wide
+
+  pub begins_inside : d * v * j ≤ length blob
+  begins_inside = let l = are.begin j inside in let same : d * v * j ≡ stripe_size code w * j = ap (λ n. n * j) size in omega arith
+
+  pub parities_inside : 4 * v * j + 4 * v ≤ length parities
+  parities_inside =
+      let ends : 4 * w * j + 4 * w ≤ 4 * w * count = part_ends (4 * w) j count inside in
+      let long : length parities ≡ 4 * w * count = are.complete in
+      subst (λ n. 4 * n * j + 4 * n ≤ length parities) (sym wide) (omega arith)
+
+  pub held_long : length held_here ≡ stripe_size code v
+  held_long = ap (λ n. length (held_by n blob last j)) size ∙ are.hold j inside ∙ ap (stripe_size code) (sym wide)
+
+  pub part_inside : (f : ℕ) → f < d → v * f + v ≤ length held_here
+  part_inside f l = let ends : v * f + v ≤ stripe_size code v = slice_inside code v f (omega arith) in let long = held_long in omega arith
+
+  pub parities_long : length parities_here ≡ 4 * v
+  parities_long =
+      length_of_range parities (4 * v * j) (4 * v * j + 4 * v) parities_inside ∙ (let e : 4 * v * j + 4 * v - 4 * v * j ≡ 4 * v = omega arith in e)
+
+  pub row_seen : get_or stripes j [] ≡ parts_of code v held_here parities_here
+  row_seen =
+      sym (ap (λ (t : Stripes). get_or t j []) seen) ∙ packed_row code w blob last parities count j inside
+      ∙ ap₂ (λ (n m : ℕ). parts_of code n (held_by m blob last j) (parities_by n parities j)) (sym wide) (sym size)
+
+  pub part_seen : (f : ℕ) → fragment_at stripes j f ≡ part_of code v held_here parities_here f
+  part_seen f = ap (λ (row : List (Option (List ℕ))). get_or row f None) row_seen ∙ part_at code v held_here parities_here f
+
+  pub first_seen : (f : ℕ) → f < d → fragment_at stripes j f ≡ Some (slice_range held_here (v * f) (v * f + v))
+  first_seen f l = part_seen f ∙ part_data code v held_here parities_here f (omega arith)
+
+  pub second_seen : (f : ℕ) → d ≤ f → f - d < 4 → fragment_at stripes j f ≡ Some (slice_range parities_here (v * (f - d)) (v * (f - d) + v))
+  second_seen f from l = part_seen f ∙ part_parity code v held_here parities_here f (f - d) (omega arith) l
+
+  pub none_seen : (f : ℕ) → d ≤ f → 4 ≤ f - d → fragment_at stripes j f ≡ None
+  none_seen f from past = part_seen f ∙ part_none code v held_here parities_here f (let four = parity_count code in omega arith)
+
+-- ---- stripes in the place of some
+module _ {A : Type 0} (row : A → List (Option (List ℕ))) where
+  pub laid_count : (own : List (Option A)) (stripes : Stripes) → length (laid_over row own stripes) ≡ length own
+  unfolding laid_over
+  laid_count own stripes = length-map-range_with_len (λ j. own_or row (get_or own j None) (get_or stripes j [])) 0 (length own)
+
+  pub laid_row : (own : List (Option A)) (stripes : Stripes) (j : ℕ) → j < length own → get_or (laid_over row own stripes) j [] ≡ own_or row (get_or own j None) (get_or stripes j [])
+  unfolding laid_over
+  laid_row own stripes j l = get_or-map-range_with_len (λ j. own_or row (get_or own j None) (get_or stripes j [])) 0 (length own) j j [] l (omega arith)
+
+  pub laid_seen : (own : List (Option A)) (stripes seen : Stripes) → laid_over row own stripes ≡ seen → (j : ℕ) → j < length own → (found : Option A) → found ≡ get_or own j found
+      → get_or seen j [] ≡ own_or row found (get_or stripes j [])
+  laid_seen own stripes seen same j l found at =
+      sym (ap (λ (t : Stripes). get_or t j []) same) ∙ laid_row own stripes j l ∙ ap (λ (o : Option A). own_or row o (get_or stripes j [])) (get_or_default own j None found l ∙ sym at)
+
+  -- none of them has one of its own
+  pub laid_none : (own : List (Option A)) (stripes : Stripes) → length own ≡ length stripes → ((j : ℕ) → j < length own → get_or own j None ≡ None) → laid_over row own stripes ≡ stripes
+  laid_none own stripes long none =
+      ext_get_or [] (laid_over row own stripes) stripes (laid_count own stripes ∙ long)
+      (λ j l. let inside : j < length own = (let e = laid_count own stripes in omega arith) in
+      laid_row own stripes j inside ∙ ap (λ (o : Option A). own_or row o (get_or stripes j [])) (none j inside))
+
+  own_alike : (a b : Option A) (stripe : List (Option (List ℕ))) → option_map row a ≡ option_map row b → own_or row a stripe ≡ own_or row b stripe
+  own_alike None None stripe e = refl
+  own_alike None (Some b) stripe e = absurd (let no : None ≡ Some (row b) = e in cc)
+  own_alike (Some a) None stripe e = absurd (let no : Some (row a) ≡ None = e in cc)
+  own_alike (Some a) (Some b) stripe e = let same : Some (row a) ≡ Some (row b) = e in cc
+
+  -- they have the same ones of their own
+  pub laid_alike : (own other : List (Option A)) (stripes : Stripes) → length own ≡ length other
+      → ((j : ℕ) → j < length own → option_map row (get_or own j None) ≡ option_map row (get_or other j None)) → laid_over row own stripes ≡ laid_over row other stripes
+  laid_alike own other stripes long alike =
+      let count : length (laid_over row own stripes) ≡ length own = laid_count own stripes in
+      let count_other : length (laid_over row other stripes) ≡ length other = laid_count other stripes in
+      ext_get_or [] (laid_over row own stripes) (laid_over row other stripes) (omega arith)
+      (λ j l.
+      laid_row own stripes j (omega arith)
+      ∙ own_alike (get_or own j None) (get_or other j None) (get_or stripes j []) (alike j (omega arith))
+      ∙ sym (laid_row other stripes j (omega arith)))
+
+  -- one of them gets one of its own
+  pub laid_set : (own : List (Option A)) (stripes : Stripes) (j : ℕ) (new : A) → j < length own
+      → laid_over row (slice_set own j (Some new)) stripes ≡ slice_set (laid_over row own stripes) j (row new)
+  laid_set own stripes j new here =
+      let old : Stripes = laid_over row own stripes in
+      let now : List (Option A) = slice_set own j (Some new) in
+      let long : length now ≡ length own = length-set own j (Some new) in
+      let count : length old ≡ length own = laid_count own stripes in
+      let count_now : length (laid_over row now stripes) ≡ length now = laid_count now stripes in
+      let count_set : length (slice_set old j (row new)) ≡ length old = length-set old j (row new) in
+      let here_at : get_or (laid_over row now stripes) j [] ≡ get_or (slice_set old j (row new)) j [] =
+      laid_row now stripes j (omega arith)
+      ∙ ap (λ (o : Option A). own_or row o (get_or stripes j [])) (get_or-set_same own j (Some new) None here)
+      ∙ sym (get_or-set_same old j (row new) [] (omega arith)) in
+      ext_get_or [] (laid_over row now stripes) (slice_set old j (row new)) (omega arith)
+      (λ i l. elim (cases_eq i j) [
+        | inl same ↦ subst (λ k. get_or (laid_over row now stripes) k [] ≡ get_or (slice_set old j (row new)) k []) (sym same) here_at
+        | inr other ↦
+            laid_row now stripes i (omega arith)
+            ∙ ap (λ (o : Option A). own_or row o (get_or stripes i [])) (get_or-set_other own j i (Some new) None other)
+            ∙ sym (laid_row own stripes i (omega arith))
+            ∙ sym (get_or-set_other old j i (row new) [] other)
+      ])
+
+  -- and one slot of it changes
+  pub laid_change : (own : List (Option A)) (stripes : Stripes) (j f : ℕ) (new : A) (x : Option (List ℕ)) → j < length own
+      → f < length (get_or (laid_over row own stripes) j []) → row new ≡ slice_set (get_or (laid_over row own stripes) j []) f x
+      → (i g : ℕ) → fragment_at (laid_over row (slice_set own j (Some new)) stripes) i g ≡ cond ((i == j) && (g == f)) x (fragment_at (laid_over row own stripes) i g)
+  laid_change own stripes j f new x here inside changed i g =
+      let old : Stripes = laid_over row own stripes in
+      ap (λ (t : Stripes). fragment_at t i g) (laid_set own stripes j new here ∙ ap (slice_set old j) changed)
+      ∙ set_at old j f i g x (let count = laid_count own stripes in omega arith) inside
+
+  -- or none does
+  pub laid_same : (own : List (Option A)) (stripes : Stripes) (j : ℕ) (new : A) → j < length own → row new ≡ get_or (laid_over row own stripes) j []
+      → laid_over row (slice_set own j (Some new)) stripes ≡ laid_over row own stripes
+  laid_same own stripes j new here same =
+      laid_set own stripes j new here ∙ ap (slice_set (laid_over row own stripes) j) same ∙ set-get_or (laid_over row own stripes) j []

@@ -1,0 +1,53 @@
+-- The stripes of a blob as they are sealed: slices of the blob's bytes and of the parities of all its stripes.
+use Rattle.std.specs.Prelude.{◌≡◌, ℕ, ◌+◌, ◌-◌, ◌*◌, ◌<◌, ◌≤◌, List, Option, None, Some, [], map, length, nat_lt, slice_range, slice_index_or, if◌then◌else◌}
+use Rattle.std.specs.List.{range_with_len}
+use Rattle.lrc_code.specs.declared.Code.{Code}
+use Rattle.lrc_code.specs.Code.{data_count, fragment_count}
+use Rattle.sealed.specs.Layout.{stripe_size}
+use Rattle.sealed.specs.Stripes.{Stripes}
+use Rattle.sealed.specs.Blob.{fragment}
+
+-- the bytes that stripe j holds: those of the blob that stand there, and the last ones, filled up, where they are fewer
+abbrev pub held_by : ℕ → List ℕ → List ℕ → ℕ → List ℕ
+held_by size blob last j = if nat_lt (length blob) (size * j + size) then last else slice_range blob (size * j) (size * j + size)
+
+-- the four parities of stripe j, one after the other
+abbrev pub parities_by : ℕ → List ℕ → ℕ → List ℕ
+parities_by w parities j = slice_range parities (4 * w * j) (4 * w * j + 4 * w)
+
+-- they are those of the stripe that holds these bytes
+pub record AreParitiesOf (code : Code) (w : ℕ) (held parities : List ℕ) : Type 0 where
+  pub long : length parities ≡ 4 * w
+  pub each : (k : ℕ) → k < 4 → slice_range parities (w * k) (w * k + w) ≡ fragment code w held 0 (data_count code + k)
+
+-- the fragment f of the stripe that holds these bytes and has these parities
+abbrev pub part_of : Code → ℕ → List ℕ → List ℕ → ℕ → Option (List ℕ)
+part_of code w held parities f =
+    if nat_lt f (data_count code) then Some (slice_range held (w * f) (w * f + w))
+    else if nat_lt f (fragment_count code) then Some (slice_range parities (w * (f - data_count code)) (w * (f - data_count code) + w))
+    else None
+
+-- its sixteen slots
+abbrev pub parts_of : Code → ℕ → List ℕ → List ℕ → List (Option (List ℕ))
+parts_of code w held parities = map (part_of code w held parities) (range_with_len 0 16)
+
+-- the first stripes, as many as `count`
+unfoldable pub packed : Code → ℕ → List ℕ → List ℕ → List ℕ → ℕ → Stripes
+packed code w blob last parities count =
+    map (λ j. parts_of code w (held_by (stripe_size code w) blob last j) (parities_by w parities j)) (range_with_len 0 count)
+
+-- the three lists are long enough for so many stripes
+pub record ArePacked (code : Code) (w : ℕ) (blob last parities : List ℕ) (count : ℕ) : Type 0 where
+  pub few : count ≤ 4096
+  pub begin : (j : ℕ) → j < count → stripe_size code w * j < length blob
+  pub hold : (j : ℕ) → j < count → length (held_by (stripe_size code w) blob last j) ≡ stripe_size code w
+  pub complete : length parities ≡ 4 * w * count
+
+-- a stripe of its own, or else this one
+abbrev pub own_or : {A : Type 0} → (A → List (Option (List ℕ))) → Option A → List (Option (List ℕ)) → List (Option (List ℕ))
+own_or row (Some own) stripe = row own
+own_or row None stripe = stripe
+
+-- the stripes of a list, but for those that have one of their own
+unfoldable pub laid_over : {A : Type 0} → (A → List (Option (List ℕ))) → List (Option A) → Stripes → Stripes
+laid_over row own stripes = map (λ j. own_or row (slice_index_or own j None) (slice_index_or stripes j [])) (range_with_len 0 (length own))

@@ -1,0 +1,187 @@
+//! The stripes of a blob as they are sealed.
+ghost use Rattle.std.specs.Prelude.{◌≡◌, ◌+◌, ◌*◌, ◌<◌, ◌≤◌, ◌&&◌, ℕ, None, Some, [], length, nat_lt, is_none, slice_index_or, IfOk};
+ghost use Rattle.std.specs.Option.{option_map};
+ghost use Rattle.lrc_code.specs.Code.{fragment_count, is_lost};
+ghost use Rattle.sealed.specs.Layout.{stripe_size};
+ghost use Rattle.sealed.specs.Stripes.{fragment_at};
+ghost use Rattle.sealed.specs.Packed.{packed, held_by, parities_by, part_of, ArePacked};
+
+use crate::{Stripe, Width};
+use bytes::Bytes;
+use lrc_code::{Code, LostSet, NoMemory};
+use std::marker::Model;
+
+/// The stripes of a blob, nothing lost. None of them has handles of its own: what is theirs is found by its place. Contracts see the fragments of each.
+#[derive(Drop)]
+pub(crate) struct Packed {
+    code: Code,
+    width: Width,
+    count: usize,
+    blob: Bytes,
+    last: Bytes,
+    parities: Bytes,
+}
+
+impl Model for Packed {
+    ghost use Rattle.std.specs.Prelude.{List, Option, ℕ};
+    ghost use Rattle.sealed.specs.Packed.{packed, ArePacked};
+
+    ghost Value = { List (List (Option (List ℕ))) };
+
+    ghost view = { λ p. packed p.code p.width p.blob p.last p.parities p.count };
+
+    ghost invariant = { λ p. ArePacked p.code p.width p.blob p.last p.parities p.count };
+}
+
+impl Packed {
+    /// So many stripes of a blob's bytes, of the last ones, filled up, where they are fewer than a stripe holds, and of the parities of all.
+    pub(crate) fn new(
+        code: Code,
+        width: Width,
+        blob: Bytes,
+        last: Bytes,
+        parities: Bytes,
+        count: usize,
+    ) -> Packed
+        requires { ArePacked code width blob last parities count }
+        ensures { result ≡ packed code width blob last parities count }
+    {
+        Packed {
+            code,
+            width,
+            count,
+            blob,
+            last,
+            parities,
+        }
+    }
+
+    /// How many stripes there are.
+    #[tactic(auto, using(crate::proofs::Packing::packed_count))]
+    pub(crate) fn len(&self) -> usize
+        ensures { result ≡ length self.now }
+    {
+        self.count
+    }
+
+    /// The bytes of a fragment, or `None` for a slot that is no fragment of the code.
+    pub(crate) fn fragment(&self, j: usize, f: usize) -> Option<&[u8]>
+        requires j_below { j < length self.now }
+        requires f_below { f < 16 }
+        ensures { option_map (λ x. x.now) result ≡ fragment_at self.now j f }
+    {
+        let w = self.width.get() as usize;
+        let data = usize::from(self.code.data_fragments());
+        if f < data {
+            let held = held_in(self.blob.as_slice(), self.last.as_slice(), data * w, j);
+            return Some(&held[w * f..w * f + w]);
+        }
+        let k = f - data;
+        if k < 4 {
+            let parities = parities_in(self.parities.as_slice(), w, j);
+            return Some(&parities[w * k..w * k + w]);
+        }
+        None
+    }
+
+    /// The slots of each stripe that are `None`: those that are no fragment of the code.
+    pub(crate) fn lost(&self) -> LostSet
+        ensures { (j f : ℕ) → j < length self.now → is_lost result f ≡ (nat_lt f 16 && is_none (fragment_at self.now j f)) }
+    {
+        match self.code {
+            Code::Wide => LostSet::empty(),
+            Code::Small => LostSet::of_bits(0xfc00),
+        }
+    }
+
+    /// A stripe with handles of its own, which share the bytes.
+    pub(crate) fn stripe(&self, j: usize) -> Result<Stripe, NoMemory>
+        requires { j < length self.now }
+        ensures { IfOk result (λ s. s.fragments ≡ slice_index_or self.now j []) }
+    {
+        let w = self.width.get() as usize;
+        let size = usize::from(self.code.data_fragments()) * w;
+        let held = shared_held(&self.blob, &self.last, size, j)?;
+        let parities = shared_parities(&self.parities, w, j)?;
+        handles(self.code, w, &held, &parities)
+    }
+
+    /// The same stripes, which share the bytes.
+    pub(crate) fn share(&self) -> Result<Packed, NoMemory>
+        ensures { IfOk result (λ p. p ≡ self.now) }
+    {
+        Ok(Packed {
+            code: self.code,
+            width: self.width,
+            count: self.count,
+            blob: self.blob.clone()?,
+            last: self.last.clone()?,
+            parities: self.parities.clone()?,
+        })
+    }
+}
+
+/// The bytes that stripe `j` holds, of `size` bytes each.
+pub(crate) fn held_in<'a>(blob: &'a [u8], last: &'a [u8], size: usize, j: usize) -> &'a [u8]
+    requires { size * j ≤ length blob.now }
+    ensures { result.now ≡ held_by size blob.now last.now j }
+{
+    let start = size * j;
+    if blob.len() - start < size {
+        return last;
+    }
+    &blob[start..start + size]
+}
+
+/// One more owner of them.
+fn shared_held(blob: &Bytes, last: &Bytes, size: usize, j: usize) -> Result<Bytes, NoMemory>
+    requires { size * j ≤ length blob.now }
+    ensures { IfOk result (λ held. held ≡ held_by size blob.now last.now j) }
+{
+    let len = blob.len();
+    let start = size * j;
+    if len - start < size {
+        return Ok(last.clone()?);
+    }
+    blob.slice(start..start + size)
+}
+
+/// The four parities of stripe `j`, of `w` bytes each.
+fn parities_in(parities: &[u8], w: usize, j: usize) -> &[u8]
+    requires width { w ≤ 65536 }
+    requires inside { 4 * w * j + 4 * w ≤ length parities.now }
+    ensures { result.now ≡ parities_by w parities.now j }
+{
+    &parities[4 * w * j..4 * w * j + 4 * w]
+}
+
+/// One more owner of them.
+fn shared_parities(parities: &Bytes, w: usize, j: usize) -> Result<Bytes, NoMemory>
+    requires width { w ≤ 65536 }
+    requires few { j < 4096 }
+    requires inside { 4 * w * j + 4 * w ≤ length parities.now }
+    ensures { IfOk result (λ four. four ≡ parities_by w parities.now j) }
+{
+    parities.slice(4 * w * j..4 * w * j + 4 * w)
+}
+
+/// The stripe that holds these bytes and has these parities, with a handle of each fragment.
+fn handles(code: Code, w: usize, held: &Bytes, parities: &Bytes) -> Result<Stripe, NoMemory>
+    requires width { w ≤ 65536 }
+    requires long { length held.now ≡ stripe_size code w }
+    requires parities { length parities.now ≡ 4 * w }
+    ensures { IfOk result (λ s. (f : ℕ) → slice_index_or s.fragments f None ≡ part_of code w held.now parities.now f) }
+{
+    let data = usize::from(code.data_fragments());
+    let mut fragments: [Option<Bytes>; 16] = [
+        None, None, None, None, None, None, None, None, None, None, None, None, None, None, None,
+        None,
+    ];
+    for f in 0..data {
+        fragments[f] = Some(held.slice(w * f..w * f + w)?);
+    }
+    for k in 0..4usize {
+        fragments[data + k] = Some(parities.slice(w * k..w * k + w)?);
+    }
+    Ok(Stripe::new(fragments))
+}
