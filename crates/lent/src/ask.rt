@@ -1,8 +1,9 @@
 //! Asking for a range.
-ghost use Rattle.std.specs.Prelude.{◌≡◌, ◌+◌, ◌<◌, ◌≤◌, ℕ, false, IfOk, OnErr, MatchBool};
+ghost use Rattle.std.specs.Prelude.{◌≡◌, ◌+◌, ◌/◌, ◌<◌, ◌≤◌, ℕ, false, IfOk, OnErr, MatchBool};
 ghost use Rattle.lrc_code.specs.Code.{data_count, Open};
 ghost use Rattle.sealed.specs.Layout.{stripe_count};
 ghost use Rattle.sealed.specs.Sealed.{absent_in};
+ghost use Rattle.lent.specs.Cut.{cut_end};
 ghost use Rattle.lent.specs.Range.{is_outside, IsReadable, IsUnreadable};
 ghost use Rattle.lent.specs.Asked.{IsAnswer};
 
@@ -10,6 +11,7 @@ use crate::cut::{met_by, place_of};
 use crate::{Asked, Grant};
 use lrc_code::{LostSet, NoMemory, is_alone_in};
 use sealed::Sealed;
+use std::ops::Range;
 use std::sync::Arc;
 
 impl Grant {
@@ -29,11 +31,17 @@ impl Grant {
         if start > blob.len || len > blob.len - start {
             return Ok(Asked::OutOfRange);
         }
-        if !is_readable(blob, start, len) {
+        let met = met_by(blob, start, len);
+        if !is_readable(blob, start, len, &met) {
             return Ok(Asked::Unrecoverable);
         }
         match Arc::try_clone(sealed) {
-            Ok(sealed) => Ok(Asked::Granted(Grant { sealed, start, len })),
+            Ok(sealed) => Ok(Asked::Granted(Grant {
+                sealed,
+                start,
+                len,
+                met,
+            })),
             Err(error) => Err(error),
         }
     }
@@ -41,11 +49,12 @@ impl Grant {
 
 /// Whether no byte of the range stands in an open fragment. It is judged stripe by stripe.
 #[tactic(auto, using(sealed::proofs::Counting::some_data, sealed::proofs::Counting::few_data))]
-fn is_readable(sealed: &Sealed, start: u64, len: u64) -> bool
-    requires { start + len ≤ sealed.now.len }
+fn is_readable(sealed: &Sealed, start: u64, len: u64, met: &Range<u64>) -> bool
+    requires inside { start + len ≤ sealed.now.len }
+    requires first { met.now.start ≡ start / sealed.now.width }
+    requires last { met.now.end ≡ cut_end sealed.now.width start len }
     ensures { MatchBool result (IsReadable sealed.now start len) (IsUnreadable sealed.now start len) }
 {
-    let met = met_by(sealed, start, len);
     let mut k = met.start;
     while k < met.end {
         let (stripe, from) = place_of(sealed.code, k);

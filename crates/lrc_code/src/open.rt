@@ -30,12 +30,16 @@ pub(crate) fn is_only_lost_of_second(code: Code, lost: LostSet, f: u8) -> bool
     is_only_lost(lost, code.second_group(), f)
 }
 
-/// Whether `f` is alone lost in its group, so that it is the sum of the others of the group: what `rebuild_local` asks for.
+/// Whether `f` is alone lost in its group, so that it is the sum of the others of the group: what `rebuild_local` asks for. Where nothing else is lost, it is
+/// told without counting: each fragment but the two global parities is in a group.
 #[tactic(auto, unfolding(crate::specs::Code::is_alone))]
 pub fn is_alone_in(code: Code, lost: LostSet, f: u8) -> bool
     requires { f < 16 }
     ensures { result ≡ is_alone code (is_lost lost) f }
 {
+    if lost == LostSet::empty().with(f) {
+        return f < code.data_fragments() + 2;
+    }
     is_only_lost_of_first(code, lost, f) || is_only_lost_of_second(code, lost, f)
 }
 

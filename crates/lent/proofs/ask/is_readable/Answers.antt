@@ -21,7 +21,7 @@ pub has_open-requires-clause-stripe_below : goal.has_open-requires-clause-stripe
 has_open-requires-clause-stripe_below c =
     let s = c.args.sealed.now in
     subst (λ n. n < stripe_count s.code s.width s.len) (sym c.place_of-stripe.ensures.stripe)
-    (stripe_met s.code s.width s.shaped.wide c.args.start c.args.len c.loop-k.k s.len (record { first = c.loop-k.invariant.begun; last = omega (arith, c.met_by-met.ensures.end, c.loop-k-test.true) }) c.requires)
+    (stripe_met s.code s.width s.shaped.wide c.args.start c.args.len c.loop-k.k s.len (record { first = c.loop-k.invariant.begun; last = omega (arith, c.requires.last, c.loop-k-test.true) }) c.requires.inside)
 
 pub returns-then-has_open : goal.returns-then-has_open
 returns-then-has_open c =
@@ -34,10 +34,10 @@ returns-then-has_open c =
     let inside : f < data_count code = omega (arith, found.2, c.min-count.ensures, c.from.ensures, c.data_fragments.ensures) in
     let at = stands_at (data_count code) c.loop-k.k c.place_of-stripe.result.0 r f c.place_of-stripe.ensures.stripe c.place_of-stripe.ensures.fragment found.1 inside in
     has_open code s.width s.shaped.wide c.args.start c.args.len (absent_in s) u
-    (record { first = omega (arith, c.loop-k.invariant.begun); last = omega (arith, found.1, found.2, c.min-count.ensures, c.met_by-met.ensures.end, c.loop-k-test.true) })
+    (record { first = omega (arith, c.loop-k.invariant.begun); last = omega (arith, found.1, found.2, c.min-count.ensures, c.requires.last, c.loop-k-test.true) })
     (subst (λ g. Open code (absent_in s (u / data_count code)) g) (sym at.1) (subst (λ j. Open code (absent_in s j) f) (sym at.0) found.3))
 
 pub returns : goal.returns
 returns c =
     let s = c.args.sealed.now in
-    has_none s.code s.width s.shaped.wide c.args.start c.args.len (absent_in s) (λ k met. c.loop-k.invariant.closed k met.first (omega (arith, met.last, c.met_by-met.ensures.end, c.loop-k-test.false)))
+    has_none s.code s.width s.shaped.wide c.args.start c.args.len (absent_in s) (λ k met. c.loop-k.invariant.closed k met.first (omega (arith, met.last, c.requires.last, c.loop-k-test.false)))
