@@ -3,12 +3,13 @@
 
 It needs rustc. The clients of bench/clients are a crate over `shared`: their files, and those of the crates below, are copied into FOLDER,
 where `rt` proves and builds them, at first in some 6 minutes. bench/store.rs is the plain store. Each is run N times (9 without the option) for M
-milliseconds (500), in turn, and the greatest number of calls a second counts. CLIENTS are earlier builds of the clients, to be run beside.
+milliseconds (500), in turn; the greatest number of calls a second is told, and the median. CLIENTS are earlier builds of the clients, to be run beside.
 """
 
 import argparse
 import os
 import shutil
+import statistics
 import subprocess
 import sys
 import tempfile
@@ -85,9 +86,10 @@ def main():
     for calls in ("reads", "walks"):
         for threads in (1, 4):
             runs = [[rate(program, calls, threads, given.millis) for program in programs] for _ in range(given.times)]
-            most = [max(column) for column in zip(*runs)]
-            ratios = ", ".join(f"{one:.2f} ({one / most[-1]:.2f})" for one in most[:-1])
-            print(f"{calls} by {threads}: {ratios}; plain {most[-1]:.2f} million a second", flush=True)
+            for word, of in (("at most", max), ("median", statistics.median)):
+                rates = [of(column) for column in zip(*runs)]
+                ratios = ", ".join(f"{one:.2f} ({one / rates[-1]:.2f})" for one in rates[:-1])
+                print(f"{calls} by {threads}, {word}: {ratios}; plain {rates[-1]:.2f} million a second", flush=True)
     for program in programs[:-1]:
         trims = [told(program, "trims") for _ in range(given.times)]
         mean, greatest = min(run["mean"] for run in trims), sorted(run["greatest"] for run in trims)

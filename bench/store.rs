@@ -1,5 +1,5 @@
 //! The library's store in plain Rust, to measure it by, with the calls of bench/clients: one mutex, a hash map and reference counts, nothing proved, and a journal
-//! that is cleared when it is full, without being judged.
+//! that is cleared when it is full, without being judged. Its width is given at run time, and its entries can hold each call and each note.
 //!
 //! store reads|walks THREADS MILLIS    rustc -O --edition 2021 store.rs
 
@@ -13,7 +13,6 @@ use std::time::{Duration, Instant};
 use std::{array, env, thread};
 
 const LIMIT: usize = 65_536;
-const WIDTH: usize = 64;
 const DATA: usize = 12;
 const LEN: u64 = 256;
 
@@ -31,6 +30,7 @@ struct Stripe {
 #[derive(Clone)]
 struct Blob {
     version: u64,
+    width: usize,
     len: u64,
     lost: u64,
     stripes: Vec<Arc<Stripe>>,
@@ -64,15 +64,15 @@ impl Stripe {
 }
 
 /// The parts of a range: stripe, fragment, from, to.
-fn cut(start: u64, len: u64) -> impl Iterator<Item = (usize, usize, usize, usize)> {
+fn cut(width: usize, start: u64, len: u64) -> impl Iterator<Item = (usize, usize, usize, usize)> {
     let (start, end) = (start as usize, (start + len) as usize);
-    let pieces = if start == end { 0..0 } else { start / WIDTH..(end - 1) / WIDTH + 1 };
-    pieces.map(move |k| (k / DATA, k % DATA, start.saturating_sub(k * WIDTH), WIDTH.min(end - k * WIDTH)))
+    let pieces = if start == end { 0..0 } else { start / width..(end - 1) / width + 1 };
+    pieces.map(move |k| (k / DATA, k % DATA, start.saturating_sub(k * width), width.min(end - k * width)))
 }
 
 impl Blob {
     fn is_readable(&self, start: u64, len: u64) -> bool {
-        self.lost == 0 || cut(start, len).all(|(j, f, ..)| self.stripes[j].has(f))
+        self.lost == 0 || cut(self.width, start, len).all(|(j, f, ..)| self.stripes[j].has(f))
     }
 }
 
@@ -80,20 +80,28 @@ impl Blob {
 
 #[allow(dead_code)]
 enum Call {
+    Put(Name, Code, u64),
     Read(Name, u64, u64),
     Lose(Name, u64, u64),
     Repair(Name, u64, u64),
+    Delete(Name),
+    Stat(Name),
 }
 
 #[allow(dead_code)]
 enum Note {
+    Stored(u64),
+    NoName,
     OutOfRange,
     Unrecoverable(u64),
     Granted(u64),
     Lost(u64),
+    NoFragment,
     AlreadyLost,
     Repaired(u64),
     NotLost,
+    Deleted(u64),
+    Shape { version: u64, len: u64, stripes: u64, lost: u64 },
 }
 
 #[allow(dead_code)]
@@ -152,7 +160,7 @@ impl Book {
         let note = if blob.stripes[0].fragments[fragment].is_some() {
             Note::NotLost
         } else {
-            let made = made.unwrap_or_else(|| blob.stripes[0].rebuild(fragment, 0, WIDTH));
+            let made = made.unwrap_or_else(|| blob.stripes[0].rebuild(fragment, 0, blob.width));
             set(blob, fragment, Some(made.into()));
             Note::Repaired(blob.version)
         };
@@ -173,7 +181,7 @@ fn set(blob: &mut Arc<Blob>, fragment: usize, bytes: Option<Arc<[u8]>>) {
 fn repair(store: &Mutex<Book>, who: u32, name: &Name, fragment: usize) -> Result<(), Full> {
     let blob = store.lock().unwrap().names[name].clone();
     let is_lost = blob.stripes[0].fragments[fragment].is_none();
-    let made = is_lost.then(|| blob.stripes[0].rebuild(fragment, 0, WIDTH));
+    let made = is_lost.then(|| blob.stripes[0].rebuild(fragment, 0, blob.width));
     drop(blob);
     store.lock().unwrap().repair(who, name, fragment, made)
 }
@@ -183,7 +191,7 @@ fn repair(store: &Mutex<Book>, who: u32, name: &Name, fragment: usize) -> Result
 /// How many bytes the pieces of a range have. What is lost is built.
 fn walk(blob: &Blob, start: u64, len: u64) -> u64 {
     let mut bytes = 0;
-    for (j, f, from, to) in cut(start, len) {
+    for (j, f, from, to) in cut(blob.width, start, len) {
         let stripe = &blob.stripes[j];
         bytes += match &stripe.fragments[f] {
             Some(fragment) => black_box(&fragment[from..to]).len(),
@@ -228,8 +236,9 @@ fn main() {
     let (is_walk, threads) = (words[1] == "walks", words[2].parse::<u32>().unwrap());
     let mut name = [0; 33];
     name[0] = b'a';
-    let stripe = Stripe { fragments: array::from_fn(|f| (f != 0).then(|| Arc::from([7; WIDTH]))), lost: 1 };
-    let blob = Blob { version: 1, len: (DATA * WIDTH) as u64, lost: 1, stripes: vec![Arc::new(stripe)] };
+    let width = black_box(64);
+    let stripe = Stripe { fragments: array::from_fn(|f| (f != 0).then(|| Arc::from(vec![7; width]))), lost: 1 };
+    let blob = Blob { version: 1, width, len: (DATA * width) as u64, lost: 1, stripes: vec![Arc::new(stripe)] };
     let names = HashMap::from([(name, Arc::new(blob))]);
     let store = Mutex::new(Book { names, journal: Vec::with_capacity(LIMIT) });
     let start = Instant::now();

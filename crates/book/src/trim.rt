@@ -33,9 +33,10 @@ impl Book {
         let n = count - keep;
         let journal = &self.journal;
         let given_up = &journal.entries[..n as usize];
-        let Ok(()) = self.base.advance(alloc, given_up, self.width) else {
-            return Err(Fault::NoMemory);
-        };
+        let changes = journal.changes(alloc, n as usize)?;
+        self.base
+            .advance(alloc, given_up, changes.as_slice(), self.width)?;
+        drop(changes);
         self.journal.give_up(n as usize);
         Ok(n)
     }

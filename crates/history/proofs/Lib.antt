@@ -11,5 +11,6 @@ pub mod Shapes
 pub mod Rising
 pub mod Outlining
 pub mod Framing
+pub mod Changing
 pub mod Following
 pub mod Settling

@@ -2,9 +2,10 @@
 ghost use Rattle.std.specs.Prelude.{◌≡◌, ◌≤◌, ◌+◌, ◌^◌, map, length, count_by, OnOk, OnErr};
 ghost use Rattle.history.specs.Base.{Outlines, empty_base};
 ghost use Rattle.history.specs.History.{History, IsLegalFrom, after_all, entry_of, is_put};
+ghost use Rattle.history.specs.Parts.{changes_of};
 ghost use Rattle.history.specs.State.{State};
 
-use crate::note::{changes_in, count_puts};
+use crate::note::count_puts;
 use crate::replay::Replay;
 use crate::settle::{fill, make_room, take_out};
 use crate::{BlobMetadata, Entry, Name};
@@ -66,15 +67,18 @@ impl Base {
     }
 
     /// Takes in these calls more, which were made on a book of this width: the base then outlines the state after them, from each state that it outlined
-    /// and from which they are legal. It looks at no name but theirs, and copies the lost pairs of no blob that they can't change.
+    /// and from which they are legal. `changes` are those of them that can change something: it looks at no others and at no name but theirs, and copies the lost
+    /// pairs of no blob that they can't change.
     ///
     /// `AllocError` where memory is refused, and then the base is as it was.
     pub fn advance(
         &mut self,
         alloc: Global,
         entries: &[Entry],
+        changes: &[&Entry],
         width: Width,
     ) -> Result<(), AllocError>
+        requires changes { map (λ e. e.now) changes.now ≡ changes_of entries.now }
         requires room { self.old.trimmed + length entries.now ≤ 2 ^ 63 }
         requires puts { self.old.puts ≤ self.old.trimmed }
         ensures trimmed { OnOk result (self.new.trimmed ≡ self.old.trimmed + length entries.now) }
@@ -82,8 +86,6 @@ impl Base {
         ensures outlines { OnOk result ((s : State) (h : History) → Outlines self.old s → IsLegalFrom width s h → map entry_of h ≡ entries.now → Outlines self.new (after_all s h)) }
         ensures err { OnErr result (self.new ≡ self.old) }
     {
-        let changes = changes_in(alloc, entries)?;
-        let changes = changes.as_slice();
         let mut part = Replay::part(alloc, &self.names, self.puts, changes, width)?;
         part.take_in(alloc, changes)?;
         make_room(alloc, &mut self.names, &part.names)?;

@@ -1,7 +1,9 @@
 //! The journal, whose room is made at once.
-ghost use Rattle.std.specs.Prelude.{◌≡◌, ◌<◌, ◌≤◌, [], ◌∷◌, ◌++◌, ◌==◌, drop, length, vec_len, IfOk};
+ghost use Rattle.std.specs.Prelude.{◌≡◌, ◌<◌, ◌≤◌, [], ◌∷◌, ◌++◌, ◌==◌, drop, take, map, length, vec_len, IfOk};
 ghost use Rattle.std.specs.Vec.{vec_capacity};
+ghost use Rattle.history.specs.Parts.{changes_of};
 
+use crate::note::changes_in;
 use crate::{Entry, Limit};
 use std::alloc::{AllocError, Global};
 
@@ -10,6 +12,9 @@ use std::alloc::{AllocError, Global};
 pub struct Journal {
     pub entries: Vec<Entry>,
     pub limit: Limit,
+    /// How many entries there are up to the last one that can change something, with it.
+    changing: usize,
+    ghost idle: { changes_of (drop changing entries.items) ≡ [] },
     ghost fits: { vec_len entries ≤ limit },
     ghost room: { limit ≤ vec_capacity entries },
     ghost small: { limit ≤ 1048576 },
@@ -21,7 +26,11 @@ impl Journal {
         ensures { IfOk result (λ j. (j.entries.items ≡ []) × (j.limit ≡ limit)) }
     {
         let entries = Vec::with_capacity(alloc, limit.get() as usize)?;
-        Ok(Journal { entries, limit })
+        Ok(Journal {
+            entries,
+            limit,
+            changing: 0,
+        })
     }
 
     /// Whether there are as many entries as the limit.
@@ -37,9 +46,21 @@ impl Journal {
         ensures entries { self.new.entries.items ≡ self.old.entries.items ++ entry ∷ [] }
         ensures limit { self.new.limit ≡ self.old.limit }
     {
+        let can_change = entry.call.can_change();
         let Ok(()) = self.entries.push(entry) else {
             unreachable!();
         };
+        if can_change {
+            self.changing = self.entries.len();
+        }
+    }
+
+    /// Those of the first `n` entries that can change something. It looks at none behind the last such entry of the journal.
+    pub fn changes(&self, alloc: Global, n: usize) -> Result<Vec<&Entry>, AllocError>
+        requires { n ≤ length self.now.entries.items }
+        ensures { IfOk result (λ changes. map (λ e. e.now) changes.items ≡ changes_of (take n self.now.entries.items)) }
+    {
+        changes_in(alloc, &self.entries[..n.min(self.changing)])
     }
 
     /// Gives up the first `n` entries. The room stays.
@@ -51,5 +72,6 @@ impl Journal {
         let kept = self.entries.len() - n;
         self.entries.rotate_left(n);
         self.entries.truncate(kept);
+        self.changing = self.changing.saturating_sub(n);
     }
 }

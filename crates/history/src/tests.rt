@@ -1,4 +1,5 @@
 use super::*;
+use crate::note::changes_in;
 use lrc_code::Code;
 use sealed::Width;
 use std::alloc::Global;
@@ -134,9 +135,10 @@ fn a_base_knows_what_was_lost(rt: HostRuntime) -> Result<(), Fail> {
     };
     note(&mut entries, put, Note::Stored(1))?;
     let (mut stored, mut lost) = (Base::empty(alloc), Base::empty(alloc));
-    stored.advance(alloc, &entries, width)?;
-    lost.advance(alloc, &entries, width)?;
-    lost.advance(alloc, &first_loss(alloc, &name, Note::Lost(1))?, width)?;
+    stored.advance(alloc, &entries, &changes_in(alloc, &entries)?, width)?;
+    lost.advance(alloc, &entries, &changes_in(alloc, &entries)?, width)?;
+    let loss = first_loss(alloc, &name, Note::Lost(1))?;
+    lost.advance(alloc, &loss, &changes_in(alloc, &loss)?, width)?;
     assert_eq!(rt; (lost.trimmed, lost.puts, lost.names.len()), (2, 1, 1));
     for (noted, first, again) in [
         (Note::Lost(1), true, false),
@@ -164,10 +166,10 @@ fn a_base_forgets_a_deleted_name(rt: HostRuntime) -> Result<(), Fail> {
         len: 12,
     };
     note(&mut stored, put, Note::Stored(1))?;
-    base.advance(alloc, &stored, width)?;
+    base.advance(alloc, &stored, &changes_in(alloc, &stored)?, width)?;
     assert_eq!(rt; (base.trimmed, base.puts, base.names.len()), (1, 1, 1));
     note(&mut deleted, Call::Delete { name }, Note::Deleted(1))?;
-    base.advance(alloc, &deleted, width)?;
+    base.advance(alloc, &deleted, &changes_in(alloc, &deleted)?, width)?;
     assert_eq!(rt; (base.trimmed, base.puts, base.names.len()), (2, 1, 0));
     Ok(())
 }

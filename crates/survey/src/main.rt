@@ -193,6 +193,11 @@ fn row_for(code: Code, size: u32) -> Row
 struct Decimal(Option<u64>);
 
 impl fmt::Display for Decimal {
+    ghost use Rattle.std.specs.Prelude.{Some};
+    ghost use Rattle.survey.specs.Text.{thousandths_text};
+
+    ghost output = { λ number. Some (thousandths_text number.0) };
+
     fn fmt<W: fmt::Write>(&self, f: &mut fmt::Formatter<W>) -> fmt::Result {
         match self.0 {
             Some(value) => write!(f, "{:>3}.{:03}", value / 1000, value % 1000),
@@ -202,6 +207,11 @@ impl fmt::Display for Decimal {
 }
 
 impl fmt::Display for Row {
+    ghost use Rattle.std.specs.Prelude.{Some};
+    ghost use Rattle.survey.specs.Text.{row_text};
+
+    ghost output = { λ row. Some (row_text row) };
+
     fn fmt<W: fmt::Write>(&self, f: &mut fmt::Formatter<W>) -> fmt::Result {
         write!(
             f,

@@ -3,14 +3,16 @@
 //! A slice is passed as an address and a length, and a slice of slices as an array of such pairs and their number.
 #![tactic(auto)]
 
-ghost use Rattle.std.specs.Prelude.{◌≡◌, ℕ, ◌<◌, ◌≤◌, ◌++◌, ◌∷◌, [], All, IsTrue, EachIndex, length, map, slice_index, true, false};
+ghost use Rattle.std.specs.Prelude.{◌≡◌, ◌<◌, ◌≤◌, ◌↔◌, ◌++◌, ◌∷◌, [], All, IsTrue, EachIndex, length, map, slice_index};
 ghost use Rattle.kernels.specs.Lists.{combined, list_at, bytes_at};
-ghost use Rattle.lrc_code.specs.Code.{fragment_count};
-ghost use Rattle.lrc_code.specs.Stripe.{IsStripe, is_absent, Reaches};
+ghost use Rattle.lrc_code.specs.Stripe.{IsStripe};
+ghost use Rattle.timed_coder.specs.Timed.{fragment_left, IsLeft, IsAsked, ComesOf};
 
 use bytes::Bytes;
 use kernels::combine_lists;
-use lrc_code::{Code, Left, Plans, encode_in, encode_joined, encode_to, rebuild, rebuild_to};
+use lrc_code::{
+    Code, Left, LostSet, Plans, encode_in, encode_joined, encode_to, rebuild, rebuild_to,
+};
 use sealed::{Width, seal};
 use std::alloc::Global;
 
@@ -82,30 +84,41 @@ pub extern "C" fn timed_combine(
     combine_lists(target, coefficients, sources);
 }
 
-/// What is left of a stripe: the fragments whose bits are not set.
-fn left_of<'a>(fragments: &[&'a [u8]], lost: u16) -> Left<'a> {
-    let mut slots: [Option<&'a [u8]>; 16] = [None; 16];
-    for i in 0..16 {
-        if lost >> i & 1 == 0 && i < fragments.len() {
-            slots[i] = Some(fragments[i]);
-        }
-    }
-    Left {
-        code: Code::Wide,
-        fragments: slots,
+/// Fragment `i`, or None where it is lost or there is no such.
+fn left_at<'a>(fragments: &[&'a [u8]], lost: LostSet, i: u8) -> Option<&'a [u8]>
+    requires { i < 16 }
+    ensures { result ≡ fragment_left fragments.now lost i }
+{
+    if lost.left(i) {
+        fragments.get(usize::from(i)).copied()
+    } else {
+        None
     }
 }
 
-/// Whether a fragment can be asked for.
+/// What is left of a stripe of the wide code.
+fn left_of<'a>(fragments: &[&'a [u8]], lost: LostSet) -> Left<'a>
+    ensures { IsLeft fragments.now lost result }
+{
+    let mut left = Left {
+        code: Code::Wide,
+        fragments: [None; 16],
+    };
+    for i in 0..16u8 {
+        left.fragments[usize::from(i)] = left_at(fragments, lost, i);
+    }
+    left
+}
+
+/// Whether a fragment can be asked for: it is absent, and those that are present have `w` bytes or more.
 fn is_asked(left: &Left, f: usize, w: usize) -> bool
-    ensures inside { IsTrue result → f < fragment_count left.now.code }
-    ensures absent { IsTrue result → is_absent left.now.fragments f ≡ true }
-    ensures long { IsTrue result → (i : ℕ) → i < fragment_count left.now.code → is_absent left.now.fragments i ≡ false → Reaches left.now.fragments w i }
+    ensures { IsTrue result ↔ IsAsked left.now f w }
 {
     f < usize::from(left.code.fragments()) && left.fragments[f].is_none() && left.reaches(w)
 }
 
-/// `rebuild_to` of fragment `f`, where the fragments whose bits are set are lost.
+/// `rebuild_to` of fragment `f`, where the fragments whose bits are set are lost. Whether the fragment is absent, the others are as long as `bytes`, and it isn't
+/// open; else `bytes` are as they were.
 #[unsafe(no_mangle)]
 pub extern "C" fn timed_rebuild_to(
     bytes: &mut [u8],
@@ -114,18 +127,20 @@ pub extern "C" fn timed_rebuild_to(
     f: usize,
     reps: u32,
 ) -> bool
-    ensures { length bytes.new ≡ length bytes.old }
+    ensures long { length bytes.new ≡ length bytes.old }
+    ensures rebuilt { (left : Left) × IsLeft fragments.now lost left × ComesOf left f (length bytes.old) result bytes.old bytes.new }
 {
-    let left = left_of(fragments, lost);
+    let left = left_of(fragments, LostSet::of_bits(lost));
     let w = bytes.len();
     if !is_asked(&left, f, w) {
         return false;
     }
-    let mut done = true;
-    for _ in 0..reps {
-        done &= rebuild_to(&left, f, 0, w, bytes);
+    for _ in 1..reps {
+        if !rebuild_to(&left, f, 0, w, bytes) {
+            return false;
+        }
     }
-    done
+    rebuild_to(&left, f, 0, w, bytes)
 }
 
 /// `rebuild` of fragment `f`, or `Plans::rebuild` where `kept` is 1: bytes that are given back.
@@ -139,7 +154,7 @@ pub extern "C" fn timed_rebuild(
     kept: u8,
     reps: u32,
 ) -> bool {
-    let left = left_of(fragments, lost);
+    let left = left_of(fragments, LostSet::of_bits(lost));
     if !is_asked(&left, f, w) {
         return false;
     }

@@ -2,7 +2,6 @@
 //! It prints what it compared, and ends with status 1 at the first line that differs.
 #![tactic(auto)]
 
-mod hex;
 mod products;
 mod stripes;
 

@@ -1,7 +1,6 @@
 //! Stripes, and what is rebuilt of them.
 ghost use Rattle.std.specs.Prelude.{◌≡◌, All, IsTrue, length};
 
-use crate::hex;
 use anyhow::{Context, Result, bail, ensure};
 use lrc_code::{Code, Left, LostSet, NoMemory, Rebuild, encode_in, is_open_in, rebuild};
 use std::alloc::Global;
@@ -17,6 +16,14 @@ pub struct Comparison {
     stripes: u32,
     rebuilt: u32,
     open: u32,
+}
+
+/// The bytes of a text of two hexadecimal digits each: none for `-`.
+fn bytes_of(alloc: Global, text: &str) -> Result<Vec<u8>> {
+    if text == "-" {
+        return Ok(Vec::new(alloc));
+    }
+    Ok(hex::decode(alloc, text)?)
 }
 
 /// Whether each slice has `width` bytes.
@@ -66,7 +73,7 @@ impl Comparison {
     fn add_fragment(&mut self, alloc: Global, number: &str, bytes: &str) -> Result<()> {
         let number = number.parse::<usize>().context("no number")?;
         ensure!(number == self.fragments.len(), "not the next fragment");
-        self.fragments.push(hex::bytes(alloc, bytes)?)?;
+        self.fragments.push(bytes_of(alloc, bytes)?)?;
         if self.fragments.len() == usize::from(self.code.fragments()) {
             ensure!(self.is_encoded(alloc)?, "other parities");
             self.stripes = self.stripes.saturating_add(1);
@@ -108,7 +115,7 @@ impl Comparison {
             Ok(rebuilt) => {
                 ensure!(!is_open_in(left.code, self.lost, f), "said to be open");
                 ensure!(
-                    rebuilt.as_slice() == hex::bytes(alloc, bytes)?.as_slice(),
+                    rebuilt.as_slice() == bytes_of(alloc, bytes)?.as_slice(),
                     "other bytes"
                 );
                 self.rebuilt = self.rebuilt.saturating_add(1);

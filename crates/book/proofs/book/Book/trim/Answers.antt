@@ -20,9 +20,9 @@ invariant_of-self-2 c =
     let rest = ap (count_by is_put) c.give_up.ensures.entries in
     let few = count_by-le-length is_put (take n c.deref.result.now) in
     let taken = length-take n c.deref.result.now in (
-      omega (arith, c.self-2.invariant.0, c.in-Ok.ensures.puts, all, first, rest),
-      omega (arith, c.self-2.invariant.1, c.in-Ok.ensures.puts, c.in-Ok.ensures.trimmed, few),
-      omega (arith, c.in-Ok.ensures.trimmed, taken, c.if-self-count.false, ap (λ (b : Inside). b.base.trimmed) c.self-inside.view_is, ap (λ (s : Contents). s.base.trimmed) c.self.view_is, ap (λ (s : Contents). s.base.trimmed) c.self-2.view_is),
+      omega (arith, c.self-2.invariant.0, c.in_ok-advance.ensures.puts, all, first, rest),
+      omega (arith, c.self-2.invariant.1, c.in_ok-advance.ensures.puts, c.in_ok-advance.ensures.trimmed, few),
+      omega (arith, c.in_ok-advance.ensures.trimmed, taken, c.if-self-count.false, ap (λ (b : Inside). b.base.trimmed) c.self-inside.view_is, ap (λ (s : Contents). s.base.trimmed) c.self.view_is, ap (λ (s : Contents). s.base.trimmed) c.self-2.view_is),
     )
 
 pub returns-clause-told : goal.returns-clause-told
@@ -36,6 +36,6 @@ returns-clause-told c =
     let given : c.deref.result.now ≡ old.entries = c.deref.ensures.value ∙ entries in
     let all : n ≤ length c.deref.result.now = omega (arith, few, ap (λ (es : List Entry). length es) given) in
     tells_trimmed old _ n few
-    (λ s g outlined legal is. c.in-Ok.ensures.outlines s g (subst (λ (b : Checkpoint). Outlines b s) (sym base) outlined) (subst (λ w. IsLegalFrom w s g) (sym width) legal) (is ∙ ap (take n) (sym given)))
-    (omega (arith, c.in-Ok.ensures.trimmed, ap (λ (b : Checkpoint). b.trimmed) base, length-take-le n c.deref.result.now all)) (c.give_up.ensures.entries ∙ ap (drop n) entries) width
+    (λ s g outlined legal is. c.in_ok-advance.ensures.outlines s g (subst (λ (b : Checkpoint). Outlines b s) (sym base) outlined) (subst (λ w. IsLegalFrom w s g) (sym width) legal) (is ∙ ap (take n) (sym given)))
+    (omega (arith, c.in_ok-advance.ensures.trimmed, ap (λ (b : Checkpoint). b.trimmed) base, length-take-le n c.deref.result.now all)) (c.give_up.ensures.entries ∙ ap (drop n) entries) width
     (ap (λ (s : Contents). s.catalogue) c.self-2.view_is)

@@ -25,13 +25,13 @@ pub invariant_of-self-2 : goal.invariant_of-self-2
 invariant_of-self-2 c =
     let order = c.fill.ensures.ordered (c.take_out.ensures.ordered c.make_room.ensures.ordered) in (
       omega (arith, c.requires.room, ap (λ (b : Checkpoint). b.trimmed) c.self.view_is),
-      settled_rise c.self.inside.names c.make_room.new.names c.take_out.new.names c.fill.new.names c.take_in.new.self.names (map (λ x. x.now) c.as_slice-changes.result.now) c.in_ok-make_room.ensures.others c.take_out.ensures.names c.fill.ensures.names
+      settled_rise c.self.inside.names c.make_room.new.names c.take_out.new.names c.fill.new.names c.take_in.new.self.names (map (λ x. x.now) c.args.changes.now) c.in_ok-make_room.ensures.others c.take_out.ensures.names c.fill.ensures.names
           c.self.invariant.1 (c.in_ok-take_in.ensures.rising c.in_ok-part.ensures.rising) order,
     )
 
 -- the changes among the changes are all of them
-changes_same : {X : Type 0} (es : List Entry) (xs ys : List X) (f : X → Entry) → xs ≡ ys → map f ys ≡ changes_of es → changes_of (map f xs) ≡ changes_of es
-changes_same es xs ys f same is = ap (λ zs. changes_of (map f zs)) same ∙ ap changes_of is ∙ changes_twice es
+changes_same : (changes es : List Entry) → changes ≡ changes_of es → changes_of changes ≡ changes_of es
+changes_same changes es is = ap changes_of is ∙ changes_twice es
 
 -- and the puts that are counted among them are all puts
 counted : (changes es : List Entry) → changes_of changes ≡ changes_of es → count_by is_put changes ≡ count_by is_put es
@@ -39,7 +39,8 @@ counted changes es same = sym (puts_among changes) ∙ ap (count_by is_put) same
 
 pub returns-clause-puts : goal.returns-clause-puts
 returns-clause-puts c =
-    let all = counted (map (λ x. x.now) c.as_slice-changes.result.now) c.args.entries.now (changes_same c.args.entries.now c.as_slice-changes.result.now c.in_ok-changes.changes.items (λ x. x.now) c.as_slice-changes.ensures.value c.in_ok-changes.ensures) in
+    let changes = map (λ x. x.now) c.args.changes.now in
+    let all = counted changes c.args.entries.now (changes_same changes c.args.entries.now c.requires.changes) in
     omega (arith, ap (λ (b : Checkpoint). b.puts) c.self.view_is, c.count_puts.ensures, all)
 
 pub returns-clause-outlines : goal.returns-clause-outlines
@@ -47,8 +48,8 @@ returns-clause-outlines c =
     let w : ℕ = c.args.width in
     let base = c.args.self.now in
     let es = c.args.entries.now in
-    let changes = map (λ x. x.now) c.as_slice-changes.result.now in
-    let same = changes_same c.args.entries.now c.as_slice-changes.result.now c.in_ok-changes.changes.items (λ x. x.now) c.as_slice-changes.ensures.value c.in_ok-changes.ensures in
+    let changes = map (λ x. x.now) c.args.changes.now in
+    let same = changes_same changes es c.requires.changes in
     let alike = λ (q : List ℕ). sym (changed_alike changes q) ∙ ap (λ (cs : List Entry). is_changed cs q) same ∙ changed_alike es q in
     let old = c.self.inside.names in
     let now = c.fill.new.names in

@@ -1,0 +1,28 @@
+-- What is left of a stripe whose fragments stand in a list, and what comes of rebuilding one of them.
+use Rattle.std.specs.Prelude.{◌≡◌, ℕ, ◌<◌, ◌↔◌, Bool, true, false, List, Option, None, slice_get, cond}
+use Rattle.std.specs.Borrow.{Bor}
+use Rattle.lrc_code.specs.declared.Code.{Code}
+use Rattle.lrc_code.specs.declared.left.Left.{Left}
+use Rattle.lrc_code.specs.Code.{fragment_count, is_lost, Open}
+use Rattle.lrc_code.specs.Stripe.{slot, is_absent, Reaches, Rebuilds}
+
+-- fragment i of the list, or none where it is lost or there is no such
+abbrev pub fragment_left : List (Bor (List ℕ)) → ℕ → ℕ → Option (Bor (List ℕ))
+fragment_left fragments lost i = cond (is_lost lost i) None (slice_get fragments i)
+
+-- of a stripe of the wide code, these are left
+pub record IsLeft (fragments : List (Bor (List ℕ))) (lost : ℕ) (left : Left) : Type 0 where
+  pub wide : left.code ≡ Code.Wide
+  pub each : (i : ℕ) → i < 16 → slot left.fragments i ≡ fragment_left fragments lost i
+
+-- fragment f is absent, and those that are present have w bytes or more
+pub record IsAsked (left : Left) (f w : ℕ) : Type 0 where
+  pub inside : f < fragment_count left.code
+  pub absent : is_absent left.fragments f ≡ true
+  pub long : (i : ℕ) → i < fragment_count left.code → is_absent left.fragments i ≡ false → Reaches left.fragments w i
+
+-- its first w bytes are built, exactly where it is asked for and not open; else nothing is changed
+pub record ComesOf (left : Left) (f w : ℕ) (done : Bool) (old new : List ℕ) : Type 0 where
+  pub told : (done ≡ true) ↔ (IsAsked left f w × (Open left.code (is_absent left.fragments) f → ⊥))
+  pub built : done ≡ true → Rebuilds left.code left.fragments f 0 w new
+  pub kept : done ≡ false → new ≡ old
