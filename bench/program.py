@@ -107,9 +107,10 @@ def show(what, programs, figures):
 
 
 def compare(what, programs, less, more, options, times, folder):
-    """The processor time of one script as a ratio to that of another one."""
-    small, great = (least(programs, script, options, times, folder) for script in (less, more))
-    show(what, programs, [f"{a[0]:.3f} and {b[0]:.3f} s, {b[0] / a[0]:.2f} times" for a, b in zip(small, great)])
+    """The processor time of one script as a ratio to that of another one, both run in turn."""
+    rounds = [[least(programs, script, options, 1, folder) for script in (less, more)] for _ in range(times)]
+    small, great = ([min(one[which][k][0] for one in rounds) for k in range(len(programs))] for which in (0, 1))
+    show(what, programs, [f"{a:.3f} and {b:.3f} s, {b / a:.2f} times" for a, b in zip(small, great)])
 
 
 def main():
