@@ -1,6 +1,6 @@
 -- The step is a function: in each state an operation has one reply, which can be computed.
 use Rattle.std.proofs.Common.{◌≡◌, ℕ, zero, suc, ◌+◌, ◌*◌, ◌/◌, ◌%◌, ◌<◌, ◌≤◌, Bool, true, false, List, [], ◌∷◌, Option, None, Some, cond, length, refl, sym, ap, ◌∙◌, subst, arith, inl, inr}
-use Rattle.std.specs.Prelude.{MatchBool, nat_le, ◌↔◌}
+use Rattle.std.specs.Prelude.{MatchBool, MatchOption, nat_le, ◌↔◌}
 use Rattle.std.specs.Option.{option_map}
 use Rattle.std.specs.FinMap as finite
 use Rattle.std.specs.FinSet as set
@@ -20,7 +20,7 @@ use Rattle.sealed.specs.Blob.{Lost, nothing, lost_in, pair_cmp}
 use Rattle.lent.specs.Range.{is_outside, HasOpen}
 use Rattle.history.specs.Names.{name_cmp}
 use Rattle.history.specs.State.{State, Blob, empty_state}
-use Rattle.history.specs.Step.{Operation, put, read, lose, repair, delete, stat, IfHolds, IsReply, IsReadReply, IsLoseReply, IsRepairReply, IsDeleteReply, IsStatReply, is_no_fragment, stripes_of, after, with_lost}
+use Rattle.history.specs.Step.{Operation, put, read, lose, repair, delete, stat, IfHolds, IsReply, IsReadReply, IsLoseReply, IsRepairReply, is_no_fragment, stripes_of, after, with_lost}
 use Rattle.history.specs.History.{History, IsLegalFrom, IsLegal}
 use Rattle.history.specs.declared.note.Note.{Note}
 use Rattle.history.specs.declared.note.Note.TheVariants as note
@@ -94,11 +94,11 @@ module _ (w : ℕ) where
       match_first (lost_in blob.lost j f) _ m _ note.NotLost
       (if_is (open_test blob.code (lost_in blob.lost j) f) (Open blob.code (lost_in blob.lost j) f) (exact blob.code (lost_in blob.lost j) f (below_of (fragment_count blob.code) f (or_parts (nat_le (stripes_of w blob) j) _ inside).1)) m (note.Unrecoverable blob.version) (note.Repaired blob.version)))
 
-  delete_is : (x : Option Blob) (m : Note) → IsDeleteReply w x m ↔ (m ≡ delete_reply w (option_map view_of x))
+  delete_is : (x : Option Blob) (m : Note) → MatchOption x (m ≡ note.NoName) (λ blob. m ≡ note.Deleted blob.version) ↔ (m ≡ delete_reply w (option_map view_of x))
   delete_is None m = (λ e. e, λ e. e)
   delete_is (Some blob) m = (λ e. e, λ e. e)
 
-  stat_is : (x : Option Blob) (m : Note) → IsStatReply w x m ↔ (m ≡ stat_reply w (option_map view_of x))
+  stat_is : (x : Option Blob) (m : Note) → MatchOption x (m ≡ note.NoName) (λ blob. m ≡ note.Shape blob.version (length blob.bytes) (stripes_of w blob) (set.len blob.lost)) ↔ (m ≡ stat_reply w (option_map view_of x))
   stat_is None m = (λ e. e, λ e. e)
   stat_is (Some blob) m = (λ e. e, λ e. e)
 

@@ -1,5 +1,5 @@
 -- The six operations: the reply to each in a state, and the state after it.
-use Rattle.std.specs.Prelude.{◌≡◌, ℕ, ◌+◌, Bool, ◌⊎◌, ◌||◌, List, Option, None, Some, length, nat_le, MatchBool}
+use Rattle.std.specs.Prelude.{◌≡◌, ℕ, ◌+◌, Bool, ◌⊎◌, ◌||◌, List, Option, None, Some, length, nat_le, MatchBool, MatchOption}
 use Rattle.std.specs.FinMap as map
 use Rattle.std.specs.FinSet as set
 use Rattle.lrc_code.specs.declared.Code.{Code}
@@ -32,34 +32,23 @@ module _ (w : ℕ) where
   abbrev pub is_no_fragment : Blob → ℕ → ℕ → Bool
   is_no_fragment blob j f = nat_le (stripes_of blob) j || nat_le (fragment_count blob.code) f
 
-  -- the replies by what the name has
+  -- the replies to three of them by what the name has
   abbrev pub IsReadReply : Option Blob → ℕ → ℕ → Note → Type 0
-  IsReadReply None start len note = note ≡ NoName
-  IsReadReply (Some blob) start len note =
+  IsReadReply found start len note = MatchOption found (note ≡ NoName) (λ blob.
       MatchBool (is_outside (length blob.bytes) start len) (note ≡ OutOfRange)
-      (IfHolds (HasOpen blob.code w (lost_in blob.lost) start len) (note ≡ Unrecoverable blob.version) (note ≡ Granted blob.version))
+      (IfHolds (HasOpen blob.code w (lost_in blob.lost) start len) (note ≡ Unrecoverable blob.version) (note ≡ Granted blob.version)))
 
   abbrev pub IsLoseReply : Option Blob → ℕ → ℕ → Note → Type 0
-  IsLoseReply None j f note = note ≡ NoName
-  IsLoseReply (Some blob) j f note =
+  IsLoseReply found j f note = MatchOption found (note ≡ NoName) (λ blob.
       MatchBool (is_no_fragment blob j f) (note ≡ NoFragment)
-      (MatchBool (lost_in blob.lost j f) (note ≡ AlreadyLost) (note ≡ LostNow blob.version))
+      (MatchBool (lost_in blob.lost j f) (note ≡ AlreadyLost) (note ≡ LostNow blob.version)))
 
   abbrev pub IsRepairReply : Option Blob → ℕ → ℕ → Note → Type 0
-  IsRepairReply None j f note = note ≡ NoName
-  IsRepairReply (Some blob) j f note =
+  IsRepairReply found j f note = MatchOption found (note ≡ NoName) (λ blob.
       MatchBool (is_no_fragment blob j f) (note ≡ NoFragment)
       (MatchBool (lost_in blob.lost j f)
       (IfHolds (Open blob.code (lost_in blob.lost j) f) (note ≡ Unrecoverable blob.version) (note ≡ Repaired blob.version))
-      (note ≡ NotLost))
-
-  abbrev pub IsDeleteReply : Option Blob → Note → Type 0
-  IsDeleteReply None note = note ≡ NoName
-  IsDeleteReply (Some blob) note = note ≡ Deleted blob.version
-
-  abbrev pub IsStatReply : Option Blob → Note → Type 0
-  IsStatReply None note = note ≡ NoName
-  IsStatReply (Some blob) note = note ≡ Shape blob.version (length blob.bytes) (stripes_of blob) (set.len blob.lost)
+      (note ≡ NotLost)))
 
   -- the note is the object's reply to the operation in this state
   abbrev pub IsReply : State → Operation → Note → Type 0
@@ -67,8 +56,9 @@ module _ (w : ℕ) where
   IsReply s (read n start len) note = IsReadReply (map.get s.names n) start len note
   IsReply s (lose n j f) note = IsLoseReply (map.get s.names n) j f note
   IsReply s (repair n j f) note = IsRepairReply (map.get s.names n) j f note
-  IsReply s (delete n) note = IsDeleteReply (map.get s.names n) note
-  IsReply s (stat n) note = IsStatReply (map.get s.names n) note
+  IsReply s (delete n) note = MatchOption (map.get s.names n) (note ≡ NoName) (λ blob. note ≡ Deleted blob.version)
+  IsReply s (stat n) note =
+      MatchOption (map.get s.names n) (note ≡ NoName) (λ blob. note ≡ Shape blob.version (length blob.bytes) (stripes_of blob) (set.len blob.lost))
 
 -- the state in which the lost fragments of a name are changed
 abbrev pub with_lost : State → List ℕ → Option Blob → (Lost → Lost) → State

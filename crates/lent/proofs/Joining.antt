@@ -19,7 +19,8 @@ use Rattle.lent.specs.declared.part.Part.{Part}
 use Rattle.lent.specs.declared.piece.Piece.{Piece}
 use Rattle.lent.specs.declared.piece.Piece.TheVariants.{Lent, Built}
 use Rattle.lent.specs.Ahead.{Ahead}
-use Rattle.lent.specs.Cut.{IsCut, part_of, numbers_of, all_numbers}
+use Rattle.lent.specs.Cut.{IsCut, part_of, numbers_of, all_numbers, cut}
+use Rattle.lent.proofs.Cutting.{cut_is}
 use Rattle.lent.specs.Pieces.{IsPieceBy, IsPieceOf, bytes_of}
 use Rattle.lent.specs.Walk.{Gives, Joins}
 use Rattle.lent.specs.Spans.{span_of, spans_of}
@@ -79,10 +80,10 @@ joins old new piece gives below is_data inside b lost stands =
     (ap (λ (t : Sealed). map g (all_numbers t.code t.width new.parts)) (sym gives.same))
 
 -- the bytes of a cut are those of its range
-pub cut_bytes : (code : Code) (w start len : ℕ) (parts : List Part) (b : List ℕ) → IsCut code w start len parts → start + len ≤ length b
-    → map (λ i. slice_index_or b i 0) (all_numbers code w parts) ≡ slice_range b start (start + len)
-cut_bytes code w start len parts b is inside =
-    ap (map (λ i. slice_index_or b i 0)) is.covers
+pub cut_bytes : (code : Code) (w start len : ℕ) (b : List ℕ) → 1 ≤ w → start + len ≤ length b
+    → map (λ i. slice_index_or b i 0) (all_numbers code w (cut code w start len)) ≡ slice_range b start (start + len)
+cut_bytes code w start len b wide inside =
+    ap (map (λ i. slice_index_or b i 0)) (IsCut.covers (cut_is code w start len wide))
     ∙ sym (fill_from (λ i. slice_index_or b i 0) (slice_range b start (start + len)) start len (let e = length_of_range b start (start + len) inside in omega arith)
     (λ k l. item_of_range b start (start + len) k inside (omega arith)))
 

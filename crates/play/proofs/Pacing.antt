@@ -1,5 +1,5 @@
 -- A run that was paused was held back at one of its rows.
-use Rattle.std.proofs.Common.{◌≡◌, ◌⊎◌, inl, inr, ◌∙◌, ◌≤◌, ◌||◌, ℕ, ◌+◌, map, Bool, true, false, List, [], ◌∷◌, ◌++◌, None, Some, Ok, Err, not, refl, sym, ap, subst, arith, true≢false}
+use Rattle.std.proofs.Common.{◌≡◌, inl, inr, ◌∙◌, ◌≤◌, ◌||◌, ℕ, ◌+◌, Bool, true, false, List, [], ◌∷◌, ◌++◌, None, Some, Ok, Err, not, refl, sym, ap, subst, arith, true≢false}
 use Rattle.std.specs.Prelude.{◌==◌, if◌then◌else◌, Result, IfErr}
 use Rattle.std.specs.Result.{IsErrAnd}
 use Rattle.std.specs.List.{filter, list_any}

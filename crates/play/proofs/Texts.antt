@@ -1,14 +1,15 @@
 -- What is printed of a reply is the text of the deed that it tells.
-use Rattle.std.proofs.Common.{◌≡◌, ◌∙◌, ℕ, Bool, true, false, List, [], ◌∷◌, ◌++◌, Option, None, Some, MatchBool, refl, ap, sym, subst, ⊎_elim}
+use Rattle.std.proofs.Common.{◌≡◌, ◌∙◌, ℕ, Bool, true, false, List, [], ◌∷◌, ◌++◌, Option, None, Some, MatchBool, MatchOption, length, refl, ap, sym, subst, ⊎_elim}
 use Rattle.std.specs.Option.{option_map}
 use Rattle.std.specs.FinMap as finite
+use Rattle.std.specs.FinSet as set
 use Rattle.sealed.specs.declared.fault.Fault.TheVariants.{NoMemory, JournalFull, BadName, TooLong, Busy, BadWidth, NoPass}
 use Rattle.lent.specs.declared.grant.Grant.{Grant}
 use Rattle.history.specs.State.{Blob, State, empty_state}
 use Rattle.history.specs.Text.{note_text}
 use Rattle.history.specs.declared.note.Note.{Note}
 use Rattle.history.specs.declared.note.Note.TheVariants as note
-use Rattle.history.specs.Step.{Operation, put, read, lose, repair, delete, stat, IfHolds, IsLoseReply, IsRepairReply, IsDeleteReply, IsStatReply, is_no_fragment}
+use Rattle.history.specs.Step.{Operation, put, read, lose, repair, delete, stat, IfHolds, IsLoseReply, IsRepairReply, stripes_of, is_no_fragment}
 use Rattle.history.specs.History.{Event, History, state_of}
 use Rattle.history.proofs.Beginnings.{after_all-append}
 use Rattle.sealed.specs.Blob.{lost_in}
@@ -21,7 +22,8 @@ use Rattle.requests.specs.declared.jobs.Ask.{Ask}
 use Rattle.requests.specs.declared.jobs.Ask.TheVariants as ask
 use Rattle.requests.specs.declared.jobs.Reply.{Reply}
 use Rattle.requests.specs.declared.jobs.Reply.TheVariants.{Made, Refused, Trimmed}
-use Rattle.shared.specs.Runs.{operation_asked, IfReadGranted}
+use Rattle.shared.specs.Calls.{GrantedIn}
+use Rattle.shared.specs.Runs.{operation_asked}
 use Rattle.shared.specs.Serving.{keep_asked, deed_told, IfGrantedTo}
 use Rattle.transcript.specs.Lines.{IsLineFor, IsAnswerLine, line_text}
 use Rattle.play.specs.Runs.{IsAsked}
@@ -50,11 +52,11 @@ module _ (w v : ℕ) where
   not_repair (Some blob) j f is =
       neither_way (is_no_fragment w blob j f) _ _ (λ e. cc (e)) (neither_way (lost_in blob.lost j f) _ _ (neither_case _ _ _ (λ e. cc (e)) (λ e. cc (e))) (λ e. cc (e))) is
 
-  not_delete : (found : Option Blob) → IsDeleteReply w found (note.Granted v) → ⊥
+  not_delete : (found : Option Blob) → MatchOption found (note.Granted v ≡ note.NoName) (λ blob. note.Granted v ≡ note.Deleted blob.version) → ⊥
   not_delete None is = cc (is)
   not_delete (Some blob) is = cc (is)
 
-  not_stat : (found : Option Blob) → IsStatReply w found (note.Granted v) → ⊥
+  not_stat : (found : Option Blob) → MatchOption found (note.Granted v ≡ note.NoName) (λ blob. note.Granted v ≡ note.Shape blob.version (length blob.bytes) (stripes_of w blob) (set.len blob.lost)) → ⊥
   not_stat None is = cc (is)
   not_stat (Some blob) is = cc (is)
 
@@ -81,8 +83,12 @@ plain w before (read n start len) (note.Shape v len' stripes lost) none = refl
 noted_text : (w : ℕ) (before : List Act) (o : Operation) (m : Note) (reply : lines.Line) → ((v : ℕ) → m ≡ note.Granted v → ⊥) → reply ≡ line.Noted m → line_text reply ≡ printed.reply_text w (standing_of before) o m
 noted_text w before o m reply none is = ap line_text is ∙ sym (plain w before o m none)
 
+-- where it is a read, and the answer is a grant, it is one after this history
+abbrev GrantsIn : History → ℕ → Operation → Answer → Type 0
+GrantsIn h w o a = (n : List ℕ) (start len : ℕ) (g : Grant) → o ≡ read n start len → a ≡ answer.Granted g → GrantedIn h w n start len g
+
 granted_text : (w l : ℕ) (who : ℕ) (before : List Act) (o : Operation) (g : Grant) (reply : lines.Line) → Does w l (standing_of before) (called o (note_of (answer.Granted g)))
-    → IfReadGranted (events_in (before ++ act_of who (called o (note_of (answer.Granted g))))) w o (answer.Granted g) → IsAnswerLine (answer.Granted g) reply
+    → GrantsIn (events_in (before ++ act_of who (called o (note_of (answer.Granted g))))) w o (answer.Granted g) → IsAnswerLine (answer.Granted g) reply
     → line_text reply ≡ printed.reply_text w (standing_of before) o (note_of (answer.Granted g))
 granted_text w l who before (put n code b) g reply does there is = absurd (cc (does.1.1))
 granted_text w l who before (lose n j f) g reply does there is = absurd (not_lose w _ _ j f does.1)
@@ -94,7 +100,7 @@ granted_text w l who before (read n start len) g (line.Granted reading) does the
     let h : History = events_in before in
     let all : events_in (before ++ act_of who (called (read n start len) (note_of (answer.Granted g)))) ≡ h ++ e ∷ [] = events-append before _ in
     let same : state_of (events_in (before ++ act_of who (called (read n start len) (note_of (answer.Granted g))))) ≡ state_of h = ap state_of all ∙ after_all-append empty_state h (e ∷ []) in
-    reading_is (events_in (before ++ act_of who (called (read n start len) (note_of (answer.Granted g))))) w n start len g reading there is
+    reading_is (events_in (before ++ act_of who (called (read n start len) (note_of (answer.Granted g))))) w n start len g reading (there n start len g refl refl) is
     ∙ ap (λ (s : State). printed.granted_text w start len (finite.get s.names n)) same
 granted_text w l who before (read n start len) g (line.Noted m) does there is = absurd is
 granted_text w l who before (read n start len) g (line.Trimmed m) does there is = absurd is
@@ -103,7 +109,7 @@ granted_text w l who before (read n start len) g line.Full does there is = absur
 granted_text w l who before (read n start len) g line.TooLong does there is = absurd is
 
 answer_text : (w l : ℕ) (who : ℕ) (before : List Act) (o : Operation) (a : Answer) (reply : lines.Line) → Does w l (standing_of before) (called o (note_of a))
-    → IfReadGranted (events_in (before ++ act_of who (called o (note_of a)))) w o a → IsAnswerLine a reply → line_text reply ≡ printed.reply_text w (standing_of before) o (note_of a)
+    → GrantsIn (events_in (before ++ act_of who (called o (note_of a)))) w o a → IsAnswerLine a reply → line_text reply ≡ printed.reply_text w (standing_of before) o (note_of a)
 answer_text w l who before o (answer.Granted g) reply does there is = granted_text w l who before o g reply does there is
 answer_text w l who before o (answer.Stored v) reply does there is = noted_text w before o (note.Stored v) reply (λ v e. cc (e)) is
 answer_text w l who before o answer.NoName reply does there is = noted_text w before o note.NoName reply (λ v e. cc (e)) is
@@ -128,9 +134,9 @@ pub text_of : (w l who : ℕ) (a : Ask) (r : Reply) (deed : Deed) (before : List
     → IfGrantedTo (events_in (before ++ act_of who deed)) w (operation_asked a) r → IsLineFor (Replied r) reply → line_text reply ≡ deed_text w (standing_of before) deed
 text_of w l who a r deed before reply told does there is = by r (operation_asked a) (keep_asked a) told there is
   where
-    made : (o : Operation) (x : Answer) → called o (note_of x) ≡ deed → IfReadGranted (events_in (before ++ act_of who deed)) w o x → IsAnswerLine x reply → line_text reply ≡ deed_text w (standing_of before) deed
+    made : (o : Operation) (x : Answer) → called o (note_of x) ≡ deed → GrantsIn (events_in (before ++ act_of who deed)) w o x → IsAnswerLine x reply → line_text reply ≡ deed_text w (standing_of before) deed
     made o x e there is =
-        answer_text w l who before o x reply (subst (Does w l (standing_of before)) (sym e) does) (subst (λ (d : Deed). IfReadGranted (events_in (before ++ act_of who d)) w o x) (sym e) there) is
+        answer_text w l who before o x reply (subst (Does w l (standing_of before)) (sym e) does) (subst (λ (d : Deed). GrantsIn (events_in (before ++ act_of who d)) w o x) (sym e) there) is
         ∙ ap (λ (d : Deed). deed_text w (standing_of before) d) e
 
     refused : (d : Deed) (s : lines.Line) → d ≡ deed → reply ≡ s → line_text s ≡ deed_text w (standing_of before) d → line_text reply ≡ deed_text w (standing_of before) deed
@@ -145,7 +151,7 @@ text_of w l who a r deed before reply told does there is = by r (operation_asked
 
     by : (r : Reply) (o : Option Operation) (k : Option ℕ) → told_in o k r ≡ Some deed → IfGrantedTo (events_in (before ++ act_of who deed)) w o r → IsLineFor (Replied r) reply → line_text reply ≡ deed_text w (standing_of before) deed
     by (Made x) None k told there is = absurd (no_deed told)
-    by (Made x) (Some o) k told there is = made o x (some_deed told) there is
+    by (Made x) (Some o) k told there is = made o x (some_deed told) (λ n start len g o_is x_is. there n start len g (ap Some o_is) (ap Made x_is)) is
     by (Refused JournalFull) None k told there is = absurd (no_deed told)
     by (Refused JournalFull) (Some o) k told there is = refused (full o) line.Full (some_deed told) is refl
     by (Refused TooLong) None k told there is = absurd (no_deed told)

@@ -8,7 +8,7 @@ use Rattle.rounds.specs.declared.halt.Halt.{Halt}
 use Rattle.rounds.specs.declared.halt.Halt.TheVariants as halt
 use Rattle.std.specs.declared.io.ErrorKind.TheVariants.{OutOfMemory}
 use Rattle.play.specs.declared.fail.Fail.{Fail}
-use Rattle.play.specs.declared.fail.Fail.TheVariants.{Script, Read, Write, Memory, Start, Paused}
+use Rattle.play.specs.declared.fail.Fail.TheVariants.{Script, Read, Memory, Start, Paused}
 
 -- memory, a thread, or leave to go on was wanting
 abbrev pub IsWant : Fail → Type 0
@@ -25,11 +25,7 @@ IsAccepted workers text = AcceptedBefore workers (script_records text) (length (
 -- a refused script names the first refused row of the text
 abbrev pub Tells : ℕ → List ℕ → Fail → Type 0
 Tells workers text (Script error) = Explains workers (script_records text) error
-Tells workers text Read = Unit {0}
-Tells workers text Write = Unit {0}
-Tells workers text Memory = Unit {0}
-Tells workers text Start = Unit {0}
-Tells workers text Paused = Unit {0}
+Tells workers text fail = Unit {0}
 
 -- how a run fails that a round halted
 abbrev pub fail_by : Halt → Fail

@@ -13,6 +13,7 @@ use Rattle.script.specs.Numbers.{is_number, value}
 use Rattle.script.specs.declared.rows.Operation.{Operation}
 use Rattle.script.specs.declared.rows.Operation.TheVariants.{Put, PutSmall, Read, Lose, Repair, Delete, Stat, Trim, Mend}
 use Rattle.script.specs.Fields.{Record, a_field, b_field, is_number_in, is_worker, name_field, operation_field, operation_of, round_field, row_of, task_of, worker_field}
+use Rattle.script.proofs.Rounds.{round-at}
 use Rattle.script.specs.Script.{IsTidy, IsWorkerOf, HasWorker, breaks_mend, first_word, is_in_round, is_mend, is_mend_in_round, refused_at, AcceptedBefore, last_round, last_row, refusal, tests}
 
 -- each test passes
@@ -113,10 +114,11 @@ tidy-none = record { rises = λ k d l. absurd (omega arith); alone = refl }
 pub tidy-more : (workers : ℕ) (rows : List Row) (r : Record) → IsTidy rows → Passed workers rows r → IsTidy (rows ++ (row_of r ∷ []))
 tidy-more workers rows r t p =
     let last = last-of-more rows (row_of r) in
+    let round : last_round (rows ++ (row_of r ∷ [])) ≡ (row_of r).round = round-at (rows ++ (row_of r ∷ [])) _ (row_of r) last in
     let none = no-mend (list_any (is_in_round (row_of r).round) rows) (is_mend (row_of r).task) (list_any (is_mend_in_round (row_of r).round) rows) (in-round (row_of r).round rows) p.alone in
     record {
-      rises = rw last (All-push (λ row. row.round ≤ (row_of r).round) rows (row_of r) (λ k d l. let le = t.rises k d l in let up = p.rises in omega arith) (omega arith));
-      alone = rw (last, list_any-append, none, same (value (round_field r))) (or-false (is_mend (row_of r).task));
+      rises = rw round (All-push (λ row. row.round ≤ (row_of r).round) rows (row_of r) (λ k d l. let le = t.rises k d l in let up = p.rises in omega arith) (omega arith));
+      alone = rw (round, last, list_any-append, none, same (value (round_field r))) (or-false (is_mend (row_of r).task));
     }
 
 -- a record that stands among the first is refused as it is among them alone

@@ -94,18 +94,15 @@ are_numbers a b = is_number a && is_number b
 abbrev pub are_empty : List ℕ → List ℕ → Bool
 are_empty a b = (length a == 0) && (length b == 0)
 
--- the arguments that each operation takes
+-- the arguments that each operation takes: a delete, a stat and a `mend` none
 abbrev pub fits_arguments : Option Operation → List ℕ → List ℕ → Bool
 fits_arguments (Some Put) a b = are_bytes a b
 fits_arguments (Some PutSmall) a b = are_bytes a b
 fits_arguments (Some Read) a b = are_numbers a b
 fits_arguments (Some Lose) a b = are_numbers a b
 fits_arguments (Some Repair) a b = are_numbers a b
-fits_arguments (Some Delete) a b = are_empty a b
-fits_arguments (Some Stat) a b = are_empty a b
 fits_arguments (Some Trim) a b = is_number a && (length b == 0)
-fits_arguments (Some Mend) a b = are_empty a b
-fits_arguments None a b = true
+fits_arguments operation a b = are_empty a b
 
 -- what a record that is not refused asks for. One whose operation is none is refused
 abbrev pub task_of : Option Operation → List ℕ → List ℕ → List ℕ → Task
@@ -117,8 +114,7 @@ task_of (Some Repair) name a b = task.Make (ask.Repair name (value a) (value b))
 task_of (Some Delete) name a b = task.Make (ask.Delete name)
 task_of (Some Stat) name a b = task.Make (ask.Stat name)
 task_of (Some Trim) name a b = task.Make (ask.Trim (value a))
-task_of (Some Mend) name a b = task.Mend
-task_of None name a b = task.Mend
+task_of operation name a b = task.Mend
 
 -- the row that a record which is not refused stands for
 abbrev pub row_of : Record → Row

@@ -23,16 +23,9 @@ abbrev pub is_mend : Task → Bool
 is_mend task.Mend = true
 is_mend (task.Make a) = false
 
-abbrev pub last_row : List Row → Option Row
-last_row rows = slice_get rows (length rows - 1)
-
-abbrev pub round_of : Option Row → ℕ
-round_of None = 0
-round_of (Some row) = row.round
-
 -- the round of the last row, 0 where there is none
 abbrev pub last_round : List Row → ℕ
-last_round rows = round_of (last_row rows)
+last_round rows = slice_index_or (map (λ row. row.round) rows) (length rows - 1) 0
 
 -- a row of the round
 abbrev pub is_in_round : ℕ → Row → Bool
@@ -77,6 +70,9 @@ Tells refusal_is.NoMemory o = Unit {0}
 -- the word that refuses a record's name or arguments, if one does
 abbrev pub task_refusal : Option Operation → List ℕ → List ℕ → List ℕ → Option Word
 task_refusal o name a b = first_word ((not (fits_name o name), word.Name) ∷ (not (fits_arguments o a b), word.Argument) ∷ [])
+
+abbrev pub last_row : List Row → Option Row
+last_row rows = slice_get rows (length rows - 1)
 
 abbrev pub is_mend_row : Option Row → Bool
 is_mend_row None = false

@@ -1,5 +1,5 @@
 -- Looks before a repair, and repairs with bytes that were rebuilt outside.
-use Rattle.std.proofs.Common.{◌≡◌, ◌≢◌, ◌⊎◌, ℕ, ◌<◌, List, [], ◌∷◌, ◌++◌, length, Option, Some, None, Result, Ok, Err, refl, ap, sym, subst, ◌∙◌, ⊎_elim, append_assoc}
+use Rattle.std.proofs.Common.{◌≡◌, ◌≢◌, ◌⊎◌, ℕ, ◌<◌, List, [], ◌∷◌, ◌++◌, length, Option, Some, None, Result, Ok, Err, IfSome, refl, ap, sym, subst, ◌∙◌, ⊎_elim, append_assoc}
 use Rattle.std.proofs.lemmas.List.{append-nil}
 use Rattle.std.specs.FinMap as finite
 use Rattle.gate.specs.Places.{SeatState}
@@ -17,14 +17,14 @@ use Rattle.history.specs.History.{History, HasPut, state_of}
 use Rattle.book.specs.declared.answer.Answer.{Answer}
 use Rattle.book.specs.Contents.{Contents, sealed_at}
 use Rattle.book.specs.Known.{IsFragmentIn}
-use Rattle.book.specs.Serial.{Deed, Act, events_in, standing_of}
+use Rattle.book.specs.Serial.{Deed, Does, Act, events_in, standing_of}
 use Rattle.book.specs.Tells.{Represents, Correspond}
 use Rattle.book.proofs.Versions.{was_put}
 use Rattle.requests.specs.declared.kept.Kept.{Kept}
 use Rattle.requests.specs.declared.look.Look.{Look}
 use Rattle.requests.specs.declared.look.Look.TheVariants.{Done, Refused, Rebuildable}
 use Rattle.shared.specs.Passes.{Which, Shows, seen_of, width_of, trimmed_of, shows}
-use Rattle.shared.specs.Deeds.{deed_of, act_if, DoesIf, Takes}
+use Rattle.shared.specs.Deeds.{deed_of, act_if, Takes}
 use Rattle.shared.specs.Calls.{Called}
 use Rattle.requests.specs.Looks.{FoundIn}
 use Rattle.shared.specs.Mends.{IsKnown, Found}
@@ -101,7 +101,7 @@ takes_later u v w deed first then =
     record {
       stays = (then.stays.0 ∙ first.stays.0, then.stays.1 ∙ first.stays.1, then.stays.2 ∙ first.stays.2);
       others = first.others ++ then.others;
-      does = subst (λ (u : Which × List Act). DoesIf u.0.width u.0.limit (standing_of u.1) deed) (λ i. (first.stays.0 i, all i)) then.does;
+      does = subst (λ (u : Which × List Act). IfSome deed (Does u.0.width u.0.limit (standing_of u.1))) (λ i. (first.stays.0 i, all i)) then.does;
       acts = then.acts ∙ (λ i. all i ++ act_if (first.stays.1 i) deed);
       did = then.did ∙ (λ i. (first.did ∙ append-nil u.did) i ++ number_if (length (all i)) (act_if (first.stays.1 i) deed));
       agrees = then.agrees;
@@ -113,5 +113,5 @@ pub looks_then_called : (u v w : Shows) (n : List ℕ) (j f : ℕ) (r : Result A
 looks_then_called u v w n j f r first then = record {
   takes = takes_later u v w (deed_of (repair n j f) r) first then.takes;
   no_memory = then.no_memory;
-  outside = λ long. absurd (subst (λ (s : Result Answer Fault). DoesIf v.store.width v.store.limit (standing_of (v.acts ++ then.takes.others)) (deed_of (repair n j f) s)) long then.takes.does);
+  outside = λ long. absurd (subst (λ (s : Result Answer Fault). IfSome (deed_of (repair n j f) s) (Does v.store.width v.store.limit (standing_of (v.acts ++ then.takes.others)))) long then.takes.does);
 }

@@ -1,5 +1,5 @@
 -- What each job adds to a run, at its place.
-use Rattle.std.proofs.Common.{◌≡◌, ℕ, ◌+◌, ◌≤◌, List, [], ◌∷◌, ◌++◌, map, length, Option, Some, None, Result, Ok, Err, refl, ap, sym, subst, ◌∙◌, arith, append_assoc, append-nil, length-append}
+use Rattle.std.proofs.Common.{◌≡◌, ℕ, ◌+◌, ◌≤◌, List, [], ◌∷◌, ◌++◌, map, length, Option, Some, None, Result, Ok, Err, IfSome, refl, ap, sym, subst, ◌∙◌, arith, append_assoc, append-nil, length-append}
 use Rattle.std.specs.Option.{option_map}
 use Rattle.std.proofs.lemmas.List.{map-append}
 use Rattle.std.proofs.lemmas.Grind.{flat_map-append}
@@ -8,11 +8,12 @@ use Rattle.gate.specs.Events.{number_if}
 use Rattle.gate.proofs.Lists.{prefix_self, prefix_trans, prefix_length}
 use Rattle.sealed.specs.declared.fault.Fault.{Fault}
 use Rattle.sealed.specs.declared.fault.Fault.TheVariants.{NoMemory, JournalFull, BadName, TooLong, Busy, BadWidth, NoPass}
-use Rattle.history.specs.Step.{Operation}
+use Rattle.history.specs.Step.{Operation, read}
 use Rattle.history.specs.History.{History}
 use Rattle.book.specs.declared.answer.Answer.{Answer}
+use Rattle.book.specs.declared.answer.Answer.TheVariants.{Granted}
 use Rattle.book.specs.Notes.{note_of}
-use Rattle.book.specs.Serial.{Deed, called, full, too_long, trimmed, Act, act_of, events_in, standing_of}
+use Rattle.book.specs.Serial.{Deed, Does, called, full, too_long, trimmed, Act, act_of, events_in, standing_of}
 use Rattle.requests.specs.declared.jobs.Ask.{Ask}
 use Rattle.requests.specs.declared.jobs.Ask.TheVariants.{Put, Read, Lose, Repair, Delete, Stat, Trim}
 use Rattle.requests.specs.declared.jobs.Reply.{Reply}
@@ -20,9 +21,9 @@ use Rattle.requests.specs.declared.jobs.Reply.TheVariants.{Made, Refused, Trimme
 use Rattle.shared.specs.declared.run.Outcome.{Outcome}
 use Rattle.shared.specs.declared.run.Outcome.TheVariants as outcome
 use Rattle.shared.specs.Passes.{Which, Shows}
-use Rattle.shared.specs.Deeds.{deed_of, act_if, DoesIf, Takes}
+use Rattle.shared.specs.Deeds.{deed_of, act_if, Takes}
 use Rattle.shared.specs.Calls.{Called}
-use Rattle.shared.specs.Runs.{operation_asked, ComesOf, reply_of}
+use Rattle.shared.specs.Runs.{operation_asked, IfReadGranted, ComesOf, reply_of}
 use Rattle.shared.proofs.Steps.{act_called}
 use Rattle.shared.specs.Serving.{keep_asked, call_deed, keep_deed, outcome_deed, deed_told, IfGrantedTo, Turn, act_in, IsServed, AreServed, places_of, acts_in, Serves}
 
@@ -199,6 +200,16 @@ deed_there v w a x reply comes is = by x (operation_asked a) refl comes is
     by (outcome.Trimmed (Ok n)) None e comes is = (let k = keep_of a e in trimmed k.0 n, ap (λ p. keep_deed p (Ok n)) (keep_of a e).1)
     by (outcome.Trimmed (Err f)) None e comes is = absurd (no_reply is)
 
+-- of a read that was granted, the reply is a grant after this history
+read_there : (h : History) (w : ℕ) (o : Operation) (a : Answer) → IfReadGranted h w o a → IfGrantedTo h w (Some o) (Made a)
+read_there h w o a there n start len g asked made =
+    let same_operation : o ≡ read n start len = cc asked in
+    let same_answer : a ≡ Granted g = cc made in
+    subst (IfReadGranted h w (read n start len)) same_answer (subst (λ (p : Operation). IfReadGranted h w p a) same_operation there)
+
+none_there : (h : History) (w : ℕ) (o : Option Operation) (f : Fault) → IfGrantedTo h w o (Refused f)
+none_there h w o f n start len g asked made = absurd (cc made)
+
 -- a read is granted after what was done before, and itself
 granted_there : (v w : Shows) (a : Ask) (x : Outcome) (reply : Reply) → ComesOf v (operation_asked a) x w → reply_of x ≡ Some reply → IfGrantedTo w.seen w.store.width (operation_asked a) reply
 granted_there v w a x reply comes is = by x (operation_asked a) comes is
@@ -207,9 +218,9 @@ granted_there v w a x reply comes is = by x (operation_asked a) comes is
     to o r s e is = subst (IfGrantedTo w.seen w.store.width o) (some_reply e) is
 
     by : (x : Outcome) (o : Option Operation) → ComesOf v o x w → reply_of x ≡ Some reply → IfGrantedTo w.seen w.store.width o reply
-    by (outcome.Made (Ok answer)) (Some o) comes is = to (Some o) (Made answer) reply is comes.1
-    by (outcome.Made (Err JournalFull)) (Some o) comes is = to (Some o) (Refused JournalFull) reply is tt
-    by (outcome.Made (Err TooLong)) (Some o) comes is = to (Some o) (Refused TooLong) reply is tt
+    by (outcome.Made (Ok answer)) (Some o) comes is = to (Some o) (Made answer) reply is (read_there w.seen w.store.width o answer comes.1)
+    by (outcome.Made (Err JournalFull)) (Some o) comes is = to (Some o) (Refused JournalFull) reply is (none_there w.seen w.store.width (Some o) JournalFull)
+    by (outcome.Made (Err TooLong)) (Some o) comes is = to (Some o) (Refused TooLong) reply is (none_there w.seen w.store.width (Some o) TooLong)
     by (outcome.Made (Err NoMemory)) (Some o) comes is = absurd (no_reply is)
     by (outcome.Made (Err BadName)) (Some o) comes is = absurd (no_reply is)
     by (outcome.Made (Err Busy)) (Some o) comes is = absurd (no_reply is)
@@ -217,7 +228,7 @@ granted_there v w a x reply comes is = by x (operation_asked a) comes is
     by (outcome.Made (Err NoPass)) (Some o) comes is = absurd (no_reply is)
     by (outcome.Made r) None comes is = absurd comes
     by (outcome.Trimmed r) (Some o) comes is = absurd comes
-    by (outcome.Trimmed r) None comes is = tt
+    by (outcome.Trimmed r) None comes is = λ n start len g asked made. absurd (cc asked)
 
 -- an outcome with its reply
 pub serves_one : (v w : Shows) (a : Ask) (x : Outcome) (reply : Reply) → ComesOf v (operation_asked a) x w → Takes v (outcome_deed a x) w → reply_of x ≡ Some reply → Serves v (a ∷ []) (reply ∷ []) w
@@ -243,7 +254,7 @@ serves_one v w a x reply comes takes is =
           told = told;
           before = before;
           place_is = refl;
-          does = subst (λ (e : Option Deed). DoesIf v.store.width v.store.limit (standing_of before) e) d.1 takes.does;
+          does = subst (λ (e : Option Deed). IfSome e (Does v.store.width v.store.limit (standing_of before))) d.1 takes.does;
           stands = ([], append-nil (before ++ act_of v.who d.0) ∙ sym done);
           granted = subst (λ (u : History × ℕ). IfGrantedTo u.0 u.1 (operation_asked a) reply) (λ i. (seen i, ap (λ (s : Which). s.width) takes.stays.0 i)) (granted_there v w a x reply comes is);
         },

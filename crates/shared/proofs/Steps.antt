@@ -15,14 +15,14 @@ use Rattle.history.specs.Step.{Operation, IsReply}
 use Rattle.history.specs.History.{Event, History, IsLegal, state_of}
 use Rattle.history.proofs.Beginnings.{legal_rest}
 use Rattle.book.specs.Notes.{note_of}
-use Rattle.book.specs.Serial.{IsTooLong, Deed, Act, events_in, given_in, standing_of}
+use Rattle.book.specs.Serial.{IsTooLong, Deed, Does, Act, events_in, given_in, standing_of}
 use Rattle.book.specs.declared.answer.Answer.{Answer}
 use Rattle.book.specs.Contents.{Contents}
 use Rattle.book.specs.Tells.{Tells, CarriesOn}
 use Rattle.requests.specs.declared.kept.Kept.{Kept}
 use Rattle.requests.specs.Between.{MayFollow, TellsActs, acts_for}
 use Rattle.shared.specs.Passes.{Which, Shows, between_kept, acts_between_kept, acts_of, did_of, seen_of, made_of, width_of, limit_of, trimmed_of, shows, TellsAs, IsPass, Agrees, Stays}
-use Rattle.shared.specs.Deeds.{deed_of, act_if, DoesIf, Takes}
+use Rattle.shared.specs.Deeds.{deed_of, act_if, Takes}
 use Rattle.shared.specs.Calls.{Called, HasRoom, IsOutside}
 use Rattle.requests.proofs.Between.{GoesOn, between_is, acts_are, tells_more, told_length, events-append, events_for, below_unless, goes_follows}
 use Rattle.shared.proofs.Passes.{width_stays, limit_stays, trimmed_is, seen_is, agreed}
@@ -156,7 +156,7 @@ told_history p q x g n s = subst (Tells x.0.value) (events-append (acts_of p.lis
 
 -- a deed that is these events or gives up n calls
 pub takes : (p q : SeatState Kept) (x : Kept) (g : History) (n who : ℕ) (deed : Option Deed) (s : Stepped p q x g n) → act_if who deed ≡ acts_for g n
-    → DoesIf (width_of p.list) (limit_of p.list) (standing_of (acts_of p.list ++ s.others)) deed → Takes (shows p who) deed (shows q who)
+    → IfSome deed (Does (width_of p.list) (limit_of p.list) (standing_of (acts_of p.list ++ s.others))) → Takes (shows p who) deed (shows q who)
 takes p q x g n who deed s is does = record {
   stays = stays p q x g n who s;
   others = s.others;
@@ -259,7 +259,7 @@ last_reply w h e legal = (legal_rest w empty_state h (e ∷ []) legal).0
 
 -- what one thread does there
 does_call : (p q : SeatState Kept) (x : Kept) (who : ℕ) (o : Operation) (r : Result Answer Fault) (s : Stepped p q x (made_by who o r) 0) → IsFullIf x.0.value r → (r ≡ Err JournalFull → ¬ IsTooLong x.0.value.width o)
-    → (r ≡ Err TooLong → ⊥) → DoesIf (width_of p.list) (limit_of p.list) (standing_of (acts_of p.list ++ s.others)) (deed_of o r)
+    → (r ≡ Err TooLong → ⊥) → IfSome (deed_of o r) (Does (width_of p.list) (limit_of p.list) (standing_of (acts_of p.list ++ s.others)))
 does_call p q x who o (Ok a) s full short not_long =
     let acts = acts_of p.list ++ s.others in
     let same = same_store p q x (event who o a ∷ []) 0 s in
@@ -310,7 +310,7 @@ called p q x who o (Err e) s left full short not_long = record {
 
 -- ---- what is refused before the gate is entered
 -- a pass that stays as it is did this deed, which is no act
-pub takes_nothing : (v : Shows) (deed : Option Deed) → Agrees v → act_if v.who deed ≡ [] → DoesIf v.store.width v.store.limit (standing_of (v.acts ++ [])) deed → Takes v deed v
+pub takes_nothing : (v : Shows) (deed : Option Deed) → Agrees v → act_if v.who deed ≡ [] → IfSome deed (Does v.store.width v.store.limit (standing_of (v.acts ++ []))) → Takes v deed v
 takes_nothing v deed agrees none does = record {
   stays = (refl, refl, refl);
   others = [];

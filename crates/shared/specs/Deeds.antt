@@ -1,12 +1,12 @@
 -- What a pass does, as the store of one thread does it after all that was done before.
-use Rattle.std.specs.Prelude.{◌≡◌, ℕ, List, [], ◌++◌, length, Option, None, Some, Result, Ok, Err}
+use Rattle.std.specs.Prelude.{◌≡◌, ℕ, List, [], ◌++◌, length, Option, None, Some, Result, Ok, Err, IfSome}
 use Rattle.gate.specs.Events.{number_if}
 use Rattle.sealed.specs.declared.fault.Fault.{Fault}
 use Rattle.sealed.specs.declared.fault.Fault.TheVariants.{JournalFull, TooLong}
 use Rattle.history.specs.Step.{Operation}
 use Rattle.book.specs.declared.answer.Answer.{Answer}
 use Rattle.book.specs.Notes.{note_of}
-use Rattle.book.specs.Serial.{Deed, called, full, too_long, trimmed, Standing, Does, Act, act_of, standing_of}
+use Rattle.book.specs.Serial.{Deed, called, full, too_long, trimmed, Does, Act, act_of, standing_of}
 use Rattle.shared.specs.Passes.{Shows, Agrees, Stays}
 
 -- what a call did. With another fault it did nothing
@@ -25,16 +25,12 @@ abbrev pub act_if : ℕ → Option Deed → List Act
 act_if who None = []
 act_if who (Some deed) = act_of who deed
 
-abbrev pub DoesIf : ℕ → ℕ → Standing → Option Deed → Type 0
-DoesIf w limit s None = Unit {0}
-DoesIf w limit s (Some deed) = Does w limit s deed
-
 -- After the acts that the pass had seen, and those of others, one thread does this deed, if there is one. It is the last act that the pass shows, at a new own place, where it
 -- is one at all. While no other pass is out, there are no acts of others
 pub record Takes (v : Shows) (deed : Option Deed) (w : Shows) : Type 0 where
   pub stays : Stays v w
   pub others : List Act
-  pub does : DoesIf v.store.width v.store.limit (standing_of (v.acts ++ others)) deed
+  pub does : IfSome deed (Does v.store.width v.store.limit (standing_of (v.acts ++ others)))
   pub acts : w.acts ≡ (v.acts ++ others) ++ act_if v.who deed
   pub did : w.did ≡ v.did ++ number_if (length (v.acts ++ others)) (act_if v.who deed)
   pub agrees : Agrees w

@@ -6,9 +6,11 @@ use mathlib.Core.List.{IsPrefix}
 use Rattle.gate.specs.Events.{number_if}
 use Rattle.sealed.specs.declared.fault.Fault.{Fault}
 use Rattle.sealed.specs.declared.fault.Fault.TheVariants.{JournalFull, TooLong}
-use Rattle.history.specs.Step.{Operation}
+use Rattle.lent.specs.declared.grant.Grant.{Grant}
+use Rattle.history.specs.Step.{Operation, read}
 use Rattle.history.specs.History.{History}
 use Rattle.book.specs.declared.answer.Answer.{Answer}
+use Rattle.book.specs.declared.answer.Answer.TheVariants.{Granted}
 use Rattle.book.specs.Notes.{note_of}
 use Rattle.book.specs.Serial.{Deed, called, full, too_long, trimmed, Does, Act, act_of, events_in, standing_of}
 use Rattle.requests.specs.declared.jobs.Ask.{Ask}
@@ -20,7 +22,8 @@ use Rattle.shared.specs.declared.run.Outcome.{Outcome}
 use Rattle.shared.specs.declared.run.Outcome.TheVariants as outcome
 use Rattle.shared.specs.Passes.{Shows, Stays}
 use Rattle.shared.specs.Deeds.{deed_of, trim_deed, act_if}
-use Rattle.shared.specs.Runs.{operation_asked, IfReadGranted}
+use Rattle.shared.specs.Calls.{GrantedIn}
+use Rattle.shared.specs.Runs.{operation_asked}
 
 abbrev pub asks_of : List Job → List Ask
 asks_of jobs = map (λ job. job.ask) jobs
@@ -52,10 +55,9 @@ deed_told a (Refused TooLong) = option_map too_long (operation_asked a)
 deed_told a (Refused fault) = None
 deed_told a (Trimmed n) = option_map (λ keep. trimmed keep n) (keep_asked a)
 
--- where a read was granted after this history
+-- where a read was asked for, and the reply is a grant, it is one after this history
 abbrev pub IfGrantedTo : History → ℕ → Option Operation → Reply → Type 0
-IfGrantedTo h w (Some o) (Made answer) = IfReadGranted h w o answer
-IfGrantedTo h w asked reply = Unit {0}
+IfGrantedTo h w asked reply = (n : List ℕ) (start len : ℕ) (g : Grant) → asked ≡ Some (read n start len) → reply ≡ Made (Granted g) → GrantedIn h w n start len g
 
 -- what was asked for and the reply, after so many acts
 pub record Turn : Type 0 where

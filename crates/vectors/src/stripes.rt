@@ -1,5 +1,5 @@
 //! Stripes, and what is rebuilt of them.
-ghost use Rattle.std.specs.Prelude.{◌≡◌, All, IsTrue, length};
+ghost use Rattle.std.specs.Prelude.{◌≡◌, ◌↔◌, All, IsTrue, length};
 
 use anyhow::{Context, Result, bail, ensure};
 use lrc_code::{Code, Left, LostSet, NoMemory, Rebuild, encode_in, is_open_in, rebuild};
@@ -28,7 +28,7 @@ fn bytes_of(alloc: Global, text: &str) -> Result<Vec<u8>> {
 
 /// Whether each slice has `width` bytes.
 fn are_long(slices: &[&[u8]], width: usize) -> bool
-    ensures { IsTrue result → All (λ s. length s.now ≡ width) slices.now }
+    ensures { IsTrue result ↔ All (λ s. length s.now ≡ width) slices.now }
 {
     slices.iter().all(|slice| slice.len() == width)
 }
@@ -148,6 +148,11 @@ impl Comparison {
 }
 
 impl fmt::Display for Comparison {
+    ghost use Rattle.std.specs.Prelude.{Some};
+    ghost use Rattle.vectors.specs.Text.{comparison_text};
+
+    ghost output = { λ comparison. Some (comparison_text comparison) };
+
     fn fmt<W: fmt::Write>(&self, f: &mut fmt::Formatter<W>) -> fmt::Result {
         let stripes = self.stripes;
         let rebuilt = self.rebuilt;

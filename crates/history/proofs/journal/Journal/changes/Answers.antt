@@ -1,4 +1,4 @@
-use Rattle.std.proofs.Common.{◌≡◌, ℕ, List, map, take, ap, ◌∙◌, subst}
+use Rattle.std.proofs.Common.{◌≡◌, List, map, take, ap, ◌∙◌, subst}
 use Rattle.std.specs.Prelude.{IfOk}
 use Rattle.history.specs.Parts.{changes_of}
 use Rattle.history.specs.declared.note.Entry.{Entry}

@@ -1,15 +1,9 @@
 use Rattle.std.proofs.Common.{◌≡◌, ◌<◌, ◌^◌, ap, rules, arith}
 use Rattle.sealed.specs.declared.value.Sealed.{Sealed}
 use Rattle.lent.specs.declared.grant.Grant.{Grant}
-use Rattle.lent.proofs.Cutting.{cut_is}
 use Rattle.lent.proofs.Joining.{cut_bytes}
 use Rattle.lent.proofs.Giving.{few_parts}
 use Rattle.lent.proofs.grant.Grant.walk_with.Goals as goal
-
-pub returns-clause-cut : goal.returns-clause-cut
-returns-clause-cut c =
-    let g : Grant = c.args.self.now in
-    cut_is g.sealed.value.code g.sealed.value.width g.start g.len g.sealed.value.shaped.wide
 
 pub returns-clause-few : goal.returns-clause-few
 returns-clause-few c =
@@ -19,4 +13,4 @@ returns-clause-few c =
 pub returns-clause-bytes : goal.returns-clause-bytes
 returns-clause-bytes c b long =
     let g : Grant = c.args.self.now in
-    cut_bytes g.sealed.value.code g.sealed.value.width g.start g.len _ b (returns-clause-cut c) (omega (arith, g.inside, long))
+    cut_bytes g.sealed.value.code g.sealed.value.width g.start g.len b g.sealed.value.shaped.wide (omega (arith, g.inside, long))
