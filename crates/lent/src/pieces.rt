@@ -1,15 +1,15 @@
 //! How pieces are made.
-ghost use Rattle.std.specs.Prelude.{◌≡◌, ◌≢◌, ◌+◌, ◌<◌, ◌≤◌, [], None, IfOk, OnErr};
+ghost use Rattle.std.specs.Prelude.{◌≡◌, ◌+◌, ◌<◌, ◌≤◌, [], None, IfOk, OnErr};
 ghost use Rattle.lrc_code.specs.Code.{fragment_count, Open};
 ghost use Rattle.sealed.specs.Layout.{stripe_count};
 ghost use Rattle.sealed.specs.Stripes.{fragment_at};
 ghost use Rattle.sealed.specs.Sealed.{absent_in};
-ghost use Rattle.lent.specs.Pieces.{AreBytesOf, IsPieceOf, bytes_of};
+ghost use Rattle.lent.specs.Pieces.{IsPieceOf, bytes_of};
 
 use crate::{Part, Piece};
-use lrc_code::{NoMemory, Plans, Rebuild, rebuild};
+use lrc_code::{NoMemory, Plans};
 use sealed::Sealed;
-use std::alloc::{AllocError, Global};
+use std::alloc::Global;
 
 impl Piece<'_> {
     /// The bytes, lent or built.
@@ -47,7 +47,7 @@ pub(crate) fn piece_of<'a>(
 {
     match sealed.fragment(part.stripe, part.fragment) {
         Some(bytes) => Ok(Piece::Lent(&bytes[part.from..part.to])),
-        None => match build(alloc, sealed, part) {
+        None => match sealed.rebuild(alloc, part.stripe, part.fragment, part.from, part.to) {
             Ok(bytes) => Ok(Piece::Built(bytes)),
             Err(error) => Err(error),
         },
@@ -72,54 +72,16 @@ pub(crate) fn piece_by<'a>(
 {
     match sealed.fragment(part.stripe, part.fragment) {
         Some(bytes) => Ok(Piece::Lent(&bytes[part.from..part.to])),
-        None => match build_by(alloc, sealed, part, plans) {
+        None => match sealed.rebuild_with(
+            alloc,
+            plans,
+            part.stripe,
+            part.fragment,
+            part.from,
+            part.to,
+        ) {
             Ok(bytes) => Ok(Piece::Built(bytes)),
             Err(error) => Err(error),
         },
-    }
-}
-
-/// The bytes of a part of an absent fragment that is not open.
-fn build(alloc: Global, sealed: &Sealed, part: Part) -> Result<Vec<u8>, NoMemory>
-    requires stripe { part.stripe < stripe_count sealed.now.code sealed.now.width sealed.now.len }
-    requires fragment { part.fragment < fragment_count sealed.now.code }
-    requires absent { fragment_at sealed.now.stripes part.stripe part.fragment ≡ None }
-    requires closed { Open sealed.now.code (absent_in sealed.now part.stripe) part.fragment → ⊥ }
-    requires range { (part.from ≤ part.to) × (part.to ≤ sealed.now.width) }
-    ensures { IfOk result (λ bytes. AreBytesOf sealed.now part bytes.items) }
-{
-    let f = usize::from(part.fragment);
-    closed(rebuild(alloc, &sealed.left(part.stripe), f, part.from, part.to))
-}
-
-/// The same, by the recipes that `plans` keeps.
-fn build_by(
-    alloc: Global,
-    sealed: &Sealed,
-    part: Part,
-    plans: &mut Plans,
-) -> Result<Vec<u8>, NoMemory>
-    requires stripe { part.stripe < stripe_count sealed.now.code sealed.now.width sealed.now.len }
-    requires fragment { part.fragment < fragment_count sealed.now.code }
-    requires absent { fragment_at sealed.now.stripes part.stripe part.fragment ≡ None }
-    requires closed { Open sealed.now.code (absent_in sealed.now part.stripe) part.fragment → ⊥ }
-    requires range { (part.from ≤ part.to) × (part.to ≤ sealed.now.width) }
-    ensures ok { IfOk result (λ bytes. AreBytesOf sealed.now part bytes.items) }
-    ensures more { plans.old ≤ plans.new }
-    ensures one { plans.new ≤ plans.old + 1 }
-{
-    let f = usize::from(part.fragment);
-    closed(plans.rebuild(alloc, &sealed.left(part.stripe), f, part.from, part.to))
-}
-
-/// What was rebuilt of a fragment that is not open.
-fn closed(rebuilt: Result<Vec<u8>, Rebuild>) -> Result<Vec<u8>, NoMemory>
-    requires { rebuilt ≢ Err Rebuild.Open }
-    ensures { IfOk result (λ bytes. rebuilt ≡ Ok bytes) }
-{
-    match rebuilt {
-        Ok(bytes) => Ok(bytes),
-        Err(Rebuild::NoMemory) => Err(AllocError),
-        Err(Rebuild::Open) => unreachable!(),
     }
 }

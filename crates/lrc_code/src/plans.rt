@@ -79,8 +79,8 @@ impl Plans {
             .binary_search_by_key(&(code, lost, f), |plan| plan.key())
     }
 
-    /// The recipe that is kept for this fragment.
-    fn find(&self, code: Code, lost: LostSet, f: u8) -> Option<&Recipe>
+    /// The recipe that is kept for this fragment where these are lost, if there is one.
+    pub fn find(&self, code: Code, lost: LostSet, f: u8) -> Option<&Recipe>
         ensures { IfSome result (λ r. IsRecipe code (is_lost lost) f r.now.items) }
     {
         let i = self.search(code, lost, f).ok()?;
@@ -92,8 +92,8 @@ impl Plans {
         }
     }
 
-    /// Keeps a recipe, where memory allows it.
-    fn keep(&mut self, code: Code, lost: LostSet, f: u8, recipe: Recipe)
+    /// Keeps a recipe, where none is kept for this fragment and memory allows it.
+    pub fn keep(&mut self, code: Code, lost: LostSet, f: u8, recipe: Recipe)
         requires { IsRecipe code (is_lost lost) f recipe.items }
         ensures more { self.old ≤ self.new }
         ensures one { self.new ≤ self.old + 1 }

@@ -1,5 +1,5 @@
 -- Which fragments of a sealed value can be rebuilt, and what they are.
-use Rattle.std.specs.Prelude.{◌≡◌, ℕ, true, List}
+use Rattle.std.specs.Prelude.{◌≡◌, ℕ, true, List, slice_range}
 use Rattle.lrc_code.specs.Code.{Open}
 use Rattle.sealed.specs.declared.value.Sealed.{Sealed}
 use Rattle.sealed.specs.Layout.{HasFragment}
@@ -11,6 +11,10 @@ pub record IsRebuildable (s : Sealed) (j f : ℕ) : Type 0 where
   pub has : HasFragment s.code s.width s.len j f
   pub lost : absent_in s j f ≡ true
   pub closed : Open s.code (absent_in s j) f → ⊥
+
+-- the bytes are those at from..to of the fragment f of stripe j, in each blob that the value stands for
+abbrev pub IsPartOf : Sealed → ℕ → ℕ → ℕ → ℕ → List ℕ → Type 0
+IsPartOf s j f from to bytes = (b : List ℕ) (lost : Lost) → StandsFor s b lost → bytes ≡ slice_range (fragment s.code s.width b j f) from to
 
 -- the bytes are the fragment f of stripe j, in each blob that the value stands for
 abbrev pub IsFragmentOf : Sealed → ℕ → ℕ → List ℕ → Type 0

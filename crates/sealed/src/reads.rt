@@ -2,13 +2,12 @@
 ghost use Rattle.std.specs.Prelude.{◌≡◌, ◌<◌, ◌≤◌, ◌&&◌, ℕ, false, nat_lt};
 ghost use Rattle.std.specs.Option.{option_map};
 ghost use Rattle.lrc_code.specs.Code.{fragment_count, is_lost};
-ghost use Rattle.lrc_code.specs.Stripe.{slot};
 ghost use Rattle.sealed.specs.Layout.{stripe_count};
 ghost use Rattle.sealed.specs.Stripes.{fragment_at};
 ghost use Rattle.sealed.specs.Sealed.{absent_in};
 
 use crate::Sealed;
-use lrc_code::{Code, Left, LostSet};
+use lrc_code::{Code, LostSet};
 
 impl Sealed {
     /// The same blob under another version.
@@ -38,22 +37,6 @@ impl Sealed {
         ensures { option_map (λ x. x.now) result ≡ fragment_at self.now.stripes stripe f }
     {
         self.stripes.fragment(stripe as usize, usize::from(f))
-    }
-
-    /// What is left of a stripe.
-    pub fn left(&self, stripe: u64) -> Left<'_>
-        requires { stripe < stripe_count self.now.code self.now.width self.now.len }
-        ensures code { result.code ≡ self.now.code }
-        ensures fragments { (f : ℕ) → f < 16 → option_map (λ x. x.now) (slot result.fragments f) ≡ fragment_at self.now.stripes stripe f }
-    {
-        let mut left = Left {
-            code: self.code,
-            fragments: [None; 16],
-        };
-        for f in 0..16u8 {
-            left.fragments[usize::from(f)] = self.fragment(stripe, f);
-        }
-        left
     }
 
     /// The fragments that are absent in a stripe. The set has no number past those of the code.
