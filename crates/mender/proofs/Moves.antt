@@ -5,17 +5,17 @@ use lib.ListN.{get_elem?}
 use lib.Seq.{set-get_or}
 use Rattle.atomic_table.specs.Table.{State, Me, step, keeps, stepped, Allows, Splits, Joins}
 use Rattle.atomic_table.proofs.Lists.{set_again, set_here}
-use Rattle.mender.specs.declared.view.View.{View}
+use Rattle.mender.specs.declared.view.DrawerView.{DrawerView}
 use Rattle.gate.proofs.Lists.{at_inside, sum_at, sum-snoc, one_le, two_le, sum_alone, times-append, times-one}
 use Rattle.mender.specs.Drawn.{once_below}
 use Rattle.mender.specs.Rule.{Nothing, spent, draws_of, share_of, times_in, Kept, Known, drawn_more, Drew, Looked, kept_half, given_half, both}
 use Rattle.mender.proofs.Counts.{sum_le, none_drawn, once_below-suc, once_below-le, once_below-out}
 
 St : Type 0
-St = State Nothing View
+St = State Nothing DrawerView
 
 -- what the rule says of one drawer
-pub known : (s : State Nothing View) (k : Kept s) (id : ℕ) (v : View) → get_elem? s.views id ≡ some v → Known v
+pub known : (s : State Nothing DrawerView) (k : Kept s) (id : ℕ) (v : DrawerView) → get_elem? s.views id ≡ some v → Known v
 known s k id v at = record {
   once = λ n.
       let mine = one_le (times_in n) s.views id v at in
@@ -25,7 +25,7 @@ known s k id v at = record {
   few = let mine = one_le share_of s.views id v at in let shares = k.shares in omega arith;
   whole = λ full n.
       let shares = k.shares in
-      let idle : (j : ℕ) (u : View) → j ≢ id → get_elem? s.views j ≡ some u → length u.drawn ≡ 0 =
+      let idle : (j : ℕ) (u : DrawerView) → j ≢ id → get_elem? s.views j ≡ some u → length u.drawn ≡ 0 =
       λ j u other there. let le = two_le share_of s.views id j v u (λ e. other (sym e)) at there in omega arith in
       let sum = sum_alone (times_in n) s.views id v at (λ j u other there. none_drawn n u.drawn (idle j u other there)) in
       let draws = sum_alone draws_of s.views id v at idle in
@@ -33,11 +33,11 @@ known s k id v at = record {
       sym sum ∙ (k.once n ∙ ap (once_below n) word);
 }
 
-pub draws : (slots id : ℕ) (me : Me Nothing View) → 0 < me.0.allowance → Allows Kept slots id me 0 (λ n. (n + 1) % 2 ^ 64) (Drew (step slots 0 1 0 none) me)
+pub draws : (slots id : ℕ) (me : Me Nothing DrawerView) → 0 < me.0.allowance → Allows Kept slots id me 0 (λ n. (n + 1) % 2 ^ 64) (Drew (step slots 0 1 0 none) me)
 draws slots id me some_left s k long at small =
-    let v : View = me.0 in
+    let v : DrawerView = me.0 in
     let n : ℕ = get_or s.words 0 0 in
-    let w : View = drawn_more v n in
+    let w : DrawerView = drawn_more v n in
     let one_word = k.one_word in
     let count = k.count in
     let shares = k.shares in
@@ -69,21 +69,21 @@ draws slots id me some_left s k long at small =
       ),
     )
 
-pub splits : (id : ℕ) (v : View) → Splits Kept id v (kept_half v) (given_half v)
+pub splits : (id : ℕ) (v : DrawerView) → Splits Kept id v (kept_half v) (given_half v)
 splits id v s k at =
-    let left : View = kept_half v in
-    let right : View = given_half v in
-    let views : List View = set s.views id left in record {
+    let left : DrawerView = kept_half v in
+    let right : DrawerView = given_half v in
+    let views : List DrawerView = set s.views id left in record {
       one_word = k.one_word;
       count = let sum = sum_at draws_of s.views id v left at in let more = sum-snoc draws_of views right in let count = k.count in omega arith;
       once = λ n. let sum = sum_at (times_in n) s.views id v left at in let more = sum-snoc (times_in n) views right in let all = k.once n in omega arith;
       shares = let sum = sum_at share_of s.views id v left at in let more = sum-snoc share_of views right in let shares = k.shares in omega arith;
     }
 
-pub joins : (id : ℕ) (v : View) (other : ℕ) (w : View) → Joins Kept id v other w (both v w) spent
+pub joins : (id : ℕ) (v : DrawerView) (other : ℕ) (w : DrawerView) → Joins Kept id v other w (both v w) spent
 joins id v other w s k at apart there =
-    let all : View = both v w in
-    let views : List View = set s.views id all in
+    let all : DrawerView = both v w in
+    let views : List DrawerView = set s.views id all in
     let longer = length-append v.drawn w.drawn in record {
       one_word = k.one_word;
       count =
@@ -104,19 +104,19 @@ joins id v other w s k at apart there =
           omega arith;
     }
 
-pub looks : (slots id : ℕ) (me : Me Nothing View) → Allows Kept slots id me 0 (λ n. n) (Looked (step slots 0 0 0 none) me)
+pub looks : (slots id : ℕ) (me : Me Nothing DrawerView) → Allows Kept slots id me 0 (λ n. n) (Looked (step slots 0 0 0 none) me)
 looks slots id me s k long at small =
     let words : set s.words 0 (get_or s.words 0 0) ≡ s.words = set-get_or s.words 0 0 in
     let views : set s.views id me.0 ≡ s.views = set_again s.views id me.0 at in (
       me.0,
       keeps,
       tt,
-      subst (λ (x : List ℕ × List View). Kept record { words = x.0; homes = s.homes; views = x.1 }) (λ i. (sym words i, sym views i)) k,
+      subst (λ (x : List ℕ × List DrawerView). Kept record { words = x.0; homes = s.homes; views = x.1 }) (λ i. (sym words i, sym views i)) k,
       (refl, known s k id me.0 at),
     )
 
 -- who keeps the larger half knows as much
-pub known_kept : (v : View) → Known v → Known (kept_half v)
+pub known_kept : (v : DrawerView) → Known v → Known (kept_half v)
 known_kept v k = record {
   once = k.once;
   few = let few = k.few in omega arith;

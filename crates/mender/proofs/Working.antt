@@ -3,6 +3,8 @@ use Rattle.std.proofs.Common.{◌≡◌, ℕ, ◌-◌, ◌<◌, List, [], ◌∷
 use Rattle.std.proofs.lemmas.List.{map-append, length-map}
 use Rattle.std.proofs.lemmas.List.Elements.{All-append, All-nil}
 use Rattle.book.specs.declared.plan.Item.{Item}
+use Rattle.book.specs.Notes.{note_of}
+use Rattle.book.specs.Serial.{called, full}
 use Rattle.gate.specs.Places.{times}
 use Rattle.gate.proofs.Lists.{times-append}
 use Rattle.mender.specs.declared.done.Done.{Done}
@@ -18,7 +20,6 @@ use Rattle.shared.specs.Calls.{Called}
 use Rattle.shared.specs.Serving.{Serves}
 use Rattle.shared.proofs.Serving.{serves_append, serves_longer, serves_one, serves_refused}
 use Rattle.requests.specs.declared.jobs.Reply.TheVariants.{Made, Refused}
-use Rattle.shared.specs.declared.run.Outcome.TheVariants as outcome
 use Rattle.mender.proofs.Judged.{all_one, one_more}
 
 pub begun : (plan : List Item) (hand : Hand) → Worked plan hand hand [] []
@@ -88,14 +89,14 @@ asked_many done = length-map done (λ d. Made d.answer) ∙ sym (length-map done
 
 -- one repair, answered
 mended_one : (u w : Shows) (d : Done) → Called u (repair_of d.item) (Ok d.answer) w → AreMended u (d ∷ []) w
-mended_one u w d called = serves_one u w (ask_of d.item) (outcome.Made (Ok d.answer)) (Made d.answer) (called, tt) called.takes refl
+mended_one u w d made = serves_one u w (ask_of d.item) (Made d.answer) (called (repair_of d.item) (note_of d.answer)) refl made.takes (λ n start len g asked is. absurd (cc asked))
 
 -- a repair more was made
 pub mended_more : (v u w : Shows) (done items items' : List Done) (d : Done) (o : Operation) → AreMended v done u → Called u o (Ok d.answer) w → o ≡ repair_of d.item → items ≡ done → items' ≡ items ++ d ∷ []
     → AreMended v items' w
-mended_more v u w done items items' d o mended called same kept pushed =
+mended_more v u w done items items' d o mended made same kept pushed =
     let list : done ++ d ∷ [] ≡ items' = sym (pushed ∙ ap (λ l. l ++ d ∷ []) kept) in
-    let one : AreMended u (d ∷ []) w = mended_one u w d (subst (λ operation. Called u operation (Ok d.answer) w) same called) in
+    let one : AreMended u (d ∷ []) w = mended_one u w d (subst (λ operation. Called u operation (Ok d.answer) w) same made) in
     let both : Serves v (asks_of done ++ asks_of (d ∷ [])) (replies_of done ++ replies_of (d ∷ [])) w = serves_append v u w (asks_of done) _ (replies_of done) _ (asked_many done) mended one in
     let asks : asks_of done ++ asks_of (d ∷ []) ≡ asks_of (done ++ d ∷ []) = sym (map-append (λ e. ask_of e.item) done (d ∷ [])) in
     let replies : replies_of done ++ replies_of (d ∷ []) ≡ replies_of (done ++ d ∷ []) = sym (map-append (λ e. Made e.answer) done (d ∷ [])) in
@@ -104,9 +105,9 @@ mended_more v u w done items items' d o mended called same kept pushed =
 -- the repair of the item in hand met a full journal
 pub stopped_full : (plan : List Item) (old new : Hand) (v u w : Shows) (done items : List Done) (n : ℕ) (it : Item) (o : Operation) (f : Fault) → AreMended v done u → Called u o (Err f) w → o ≡ repair_of it
     → InHand plan old new done n it → items ≡ done → f ≡ JournalFull → StoppedFull plan old new v items w
-stopped_full plan old new v u w done items n it o f mended called same h kept full =
-    let refused : Called u (repair_of it) (Err JournalFull) w = subst (λ (x : Operation × Fault). Called u x.0 (Err x.1) w) (λ i. (same i, full i)) called in
-    let one : Serves u (ask_of it ∷ []) (Refused JournalFull ∷ []) w = serves_one u w (ask_of it) (outcome.Made (Err JournalFull)) (Refused JournalFull) (refused, tt) refused.takes refl in
+stopped_full plan old new v u w done items n it o f mended made same h kept is_full =
+    let refused : Called u (repair_of it) (Err JournalFull) w = subst (λ (x : Operation × Fault). Called u x.0 (Err x.1) w) (λ i. (same i, is_full i)) made in
+    let one : Serves u (ask_of it ∷ []) (Refused JournalFull ∷ []) w = serves_one u w (ask_of it) (Refused JournalFull) (full (repair_of it)) refl refused.takes (λ n start len g asked is. absurd (cc asked)) in
     subst (λ (l : List Done). StoppedFull plan old new v l w) (sym kept) (record {
       ticket = n;
       item = it;
@@ -117,8 +118,8 @@ stopped_full plan old new v u w done items n it o f mended called same h kept fu
 
 -- a repair was refused
 pub mended_no_more : (v u w : Shows) (done items : List Done) (o : Operation) (f : Fault) → AreMended v done u → Called u o (Err f) w → items ≡ done → AreMended v items w
-mended_no_more v u w done items o f mended called kept =
-    let longer : Serves v (asks_of done ++ []) (replies_of done) w = serves_longer v u w (asks_of done) [] (replies_of done) (asked_many done) mended (serves_refused u w [] o f called) in
+mended_no_more v u w done items o f mended made kept =
+    let longer : Serves v (asks_of done ++ []) (replies_of done) w = serves_longer v u w (asks_of done) [] (replies_of done) (asked_many done) mended (serves_refused u w [] o f made) in
     subst (λ l. AreMended v l w) (sym kept) (subst (λ l. Serves v l (replies_of done) w) (append-nil (asks_of done)) longer)
 
 pub did_more : (plan : List Item) (old new : Hand) (done items items' : List Done) (n : ℕ) (d : Done) (it : Item) → InHand plan old new done n it

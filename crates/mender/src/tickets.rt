@@ -3,7 +3,7 @@ ghost use Rattle.std.specs.Prelude.{◌≡◌, ◌+◌, ◌-◌, ◌/◌, ◌^�
 ghost use Rattle.gate.specs.Places.{times, AreApart};
 ghost use Rattle.mender.specs.Drawn.{IsWhole};
 
-use crate::view::{Draws, Halves, Joins, Looks, TicketRule, View};
+use crate::view::{Draws, Halves, Joins, Looks, TicketRule, DrawerView};
 use atomic_table::{Seat, Table};
 use std::alloc::{AllocError, Global};
 use std::marker::Model;
@@ -14,7 +14,7 @@ const ALL: u64 = 1 << 40;
 /// The numbers from 0 on, of which each is drawn once. It is one word and one kind of step, the `fetch_add` of `draw`. A clause sees which tickets they are.
 #[derive(Drop)]
 pub struct Tickets {
-    table: Table<(), View, (), TicketRule, Global>,
+    table: Table<(), DrawerView, (), TicketRule, Global>,
 }
 
 impl Model for Tickets {
@@ -32,7 +32,7 @@ impl Model for Tickets {
 /// drawers that were joined. Who drops a drawer drops its allowance.
 #[derive(Drop)]
 pub struct Drawer {
-    seat: Seat<(), View>,
+    seat: Seat<(), DrawerView>,
     allowance: u64,
 }
 

@@ -3,7 +3,7 @@ use atomic_table::{Join, Play, Split, TableRule};
 use std::collections::LinkedList;
 
 /// What a drawer knows: how many numbers it may still draw, and which it has drawn. No value of it is made.
-pub struct View {
+pub struct DrawerView {
     pub allowance: u64,
     pub drawn: LinkedList<u64>,
 }
@@ -11,7 +11,7 @@ pub struct View {
 /// The rule that the table keeps at every moment: the word is the count of all draws, and no two drawers hold one number.
 pub struct TicketRule;
 
-impl TableRule<(), View, ()> for TicketRule {
+impl TableRule<(), DrawerView, ()> for TicketRule {
     ghost use Rattle.mender.specs.Rule.{Kept, opening};
 
     ghost holds = { λ _. Kept };
@@ -22,7 +22,7 @@ impl TableRule<(), View, ()> for TicketRule {
 /// A number is drawn.
 pub(crate) struct Draws;
 
-impl Play<(), View> for Draws {
+impl Play<(), DrawerView> for Draws {
     ghost use Rattle.mender.specs.Rule.{Drew};
 
     ghost then = { Drew };
@@ -31,7 +31,7 @@ impl Play<(), View> for Draws {
 /// Half of the allowance goes to a new drawer.
 pub(crate) struct Halves;
 
-impl Split<View> for Halves {
+impl Split<DrawerView> for Halves {
     ghost use Rattle.mender.specs.Rule.{kept_half, given_half};
 
     ghost left = { kept_half };
@@ -42,7 +42,7 @@ impl Split<View> for Halves {
 /// A drawer takes in what another one had.
 pub(crate) struct Joins;
 
-impl Join<View> for Joins {
+impl Join<DrawerView> for Joins {
     ghost use Rattle.mender.specs.Rule.{both, spent};
 
     ghost both = { both };
@@ -53,7 +53,7 @@ impl Join<View> for Joins {
 /// A drawer learns what the rule says of it.
 pub(crate) struct Looks;
 
-impl Play<(), View> for Looks {
+impl Play<(), DrawerView> for Looks {
     ghost use Rattle.mender.specs.Rule.{Looked};
 
     ghost then = { Looked };

@@ -35,7 +35,7 @@ use Rattle.play.specs.Mends.{IsMender, AreMenders, IsEnded, AreEnded, TellsMend,
 use Rattle.play.specs.Runs.{Mends, round_in}
 use Rattle.play.specs.Lists.{Each, Pairs}
 use Rattle.play.specs.Accounts.{Placed, act_at, Stands, own_places, Account, steps_in, found_of, Settles, IsMendOf, FindsAll, IsRound, IsOf, IsBefore, IsGood, IsLater}
-use Rattle.transcript.specs.declared.outcome.Done.{Done}
+use Rattle.transcript.specs.declared.outcome.NumberedOutcome.{NumberedOutcome}
 use Rattle.transcript.specs.declared.outcome.RowOutcome.{RowOutcome}
 use Rattle.play.proofs.Buckets.{each-append, each-across, each-both, each-weaker, pairs-append, pairs-weaker}
 use Rattle.play.proofs.Parts.{MendPart, mend_part}
@@ -158,7 +158,7 @@ did_none acts who (p ∷ ps) fresh = (λ i. fresh.0.2 i ++ did_none acts (who + 
 
 -- ---- the mend as a round
 pub mend_round : (store : Which) (workers : ℕ) (rows : List Row) (round top base number : ℕ) (is : IsMendOf rows round top base number) (old dismissed hired renewed : Shows) (passes : List Shows) (plan : List Item) (tickets : TableId)
-    (works : List Work) (rans : List Ran) (outcome : RowOutcome) (done : List Done)
+    (works : List Work) (rans : List Ran) (outcome : RowOutcome) (done : List NumberedOutcome)
     → AreNew old.acts 1 passes → IsPrefix old.acts dismissed.acts → dismissed.did ≡ old.did ++ did_by passes → (hired.acts ≡ dismissed.acts) × (hired.did ≡ dismissed.did) → IsAllOwn hired → IsPrefix hired.acts renewed.acts
     → AreWorkers store (passes_of works) → AreNew hired.acts 1 (passes_of works) → AreMenders plan tickets works → DidAll works rans → AreEnded (outcomes_of rans) → HaveSeen renewed.acts (passes_back rans)
     → renewed.did ≡ hired.did ++ did_by (passes_back rans) → plan ≡ plan_of (standing_of hired.acts).state → length rans ≡ workers → TellsMend plan (outcomes_of rans) outcome → AreDrawnOnce (outcomes_of rans)

@@ -10,7 +10,7 @@ use Rattle.play.specs.Runs.{IsAsked, round_in}
 use Rattle.play.specs.Accounts.{Placed, Stands, own_places, Account, dones_in, numbers_in, steps_in, Settles, IsAccount, IsCallOf, RiseFrom, IsBefore, IsOf}
 use Rattle.play.specs.Noted.{noted}
 use Rattle.play.specs.declared.calls.Call.{Call}
-use Rattle.transcript.specs.declared.outcome.Done.{Done}
+use Rattle.transcript.specs.declared.outcome.NumberedOutcome.{NumberedOutcome}
 use Rattle.transcript.specs.declared.outcome.RowOutcome.TheVariants.{Replied}
 use Rattle.play.proofs.Buckets.{each-weaker, each-both}
 use Rattle.play.specs.Lists.{Each, Pairs}
@@ -53,7 +53,7 @@ module _ (w l workers : ℕ) (rows : List Row) (round top : ℕ) (acts : List Ac
       let low_row : base < c.number = rise.0 in
       record {
         accounts = one ∷ rest.accounts;
-        dones = ap (λ (l : List Done). one.done ∷ l) rest.dones;
+        dones = ap (λ (l : List NumberedOutcome). one.done ∷ l) rest.dones;
         numbers = ap (λ (l : List ℕ). c.number ∷ l) rest.numbers;
         right = (
           record {

@@ -21,7 +21,7 @@ use Rattle.play.specs.Runs.{round_in}
 use Rattle.play.specs.Lists.{Each, Pairs}
 use Rattle.play.specs.Accounts.{Placed, act_at, Stands, own_places, Account, dones_in, numbers_in, steps_in, earlier, HasDone, IsAccount, IsCallOf, IsMendOf, RiseFrom, IsGood, IsLater, IsNext, IsDone, IsRound, IsPlayed}
 use Rattle.play.specs.declared.calls.Call.{Call}
-use Rattle.transcript.specs.declared.outcome.Done.{Done}
+use Rattle.transcript.specs.declared.outcome.NumberedOutcome.{NumberedOutcome}
 use Rattle.play.proofs.Buckets.{each-append, each-across, each-both, each-weaker, pairs-append}
 
 pub played_none : (w l workers : ℕ) (rows : List Row) (acts : List Act) → IsPlayed w l workers rows 0 acts [] []
@@ -74,7 +74,7 @@ done_now w l base top before acts did xs ys places stand early a is =
     }
 
 -- one round more
-pub played_more : (w l workers : ℕ) (rows : List Row) (round base top : ℕ) (numbers : List ℕ) (before acts : List Act) (old_did new_did : List ℕ) (old new : List Done) → base ≤ top → IsPrefix before acts
+pub played_more : (w l workers : ℕ) (rows : List Row) (round base top : ℕ) (numbers : List ℕ) (before acts : List Act) (old_did new_did : List ℕ) (old new : List NumberedOutcome) → base ≤ top → IsPrefix before acts
     → IsPlayed w l workers rows base before old_did old → IsRound w l workers rows round top base numbers before acts old_did new_did old new → IsPlayed w l workers rows top acts new_did new
 played_more w l workers rows round base top numbers before acts old_did new_did old new le more p r =
     let xs = steps_in p.accounts in
@@ -90,7 +90,7 @@ played_more w l workers rows round base top numbers before acts old_did new_did 
     (inl (omega arith), inr (omega arith)) in
     record {
       accounts = p.accounts ++ r.accounts;
-      dones = r.dones ∙ ap (λ (l : List Done). l ++ dones_in r.accounts) p.dones ∙ sym (map-append (λ (a : Account). a.done) p.accounts r.accounts);
+      dones = r.dones ∙ ap (λ (l : List NumberedOutcome). l ++ dones_in r.accounts) p.dones ∙ sym (map-append (λ (a : Account). a.done) p.accounts r.accounts);
       right = each-append (IsAccount w workers rows) p.accounts r.accounts p.right r.right;
       places = r.places ∙ ap (λ (l : List ℕ). l ++ own_places ys) p.places ∙ sym (ap own_places all ∙ flat_map-append (λ (q : Placed). number_if (length q.before) (act_at q)) xs ys);
       stand = subst (Each (Stands w l acts)) (sym all) (each-append (Stands w l acts) xs ys (each-weaker (Stands w l before) (Stands w l acts) (stands_longer w l before acts more) xs p.stand) r.stand);
@@ -126,7 +126,7 @@ abbrev pub numbers_of : List Call → List ℕ
 numbers_of calls = map (λ (c : Call). c.number) calls
 
 -- the rows up to some row are done, and the calls of the rows behind it, up to this one, wait
-pub record Waits (w l workers : ℕ) (rows : List Row) (round number : ℕ) (acts : List Act) (did : List ℕ) (done : List Done) (calls : List Call) : Type 0 where
+pub record Waits (w l workers : ℕ) (rows : List Row) (round number : ℕ) (acts : List Act) (did : List ℕ) (done : List NumberedOutcome) (calls : List Call) : Type 0 where
   pub base : ℕ
   pub le : base ≤ number
   pub played : IsPlayed w l workers rows base acts did done
@@ -135,37 +135,37 @@ pub record Waits (w l workers : ℕ) (rows : List Row) (round number : ℕ) (act
   pub once : AreTold number (numbers_in done) (numbers_of calls)
 
 -- what is promised of calls that are made
-abbrev pub MakesRound : ℕ → ℕ → ℕ → List Call → List Act → List Act → List ℕ → List ℕ → List Done → List Done → Type 0
+abbrev pub MakesRound : ℕ → ℕ → ℕ → List Call → List Act → List Act → List ℕ → List ℕ → List NumberedOutcome → List NumberedOutcome → Type 0
 MakesRound w l workers calls before acts old_did new_did old new =
     (rows : List Row) (round top base : ℕ) → Each (IsCallOf workers rows round top) calls → RiseFrom base calls → IsRound w l workers rows round top base (numbers_of calls) before acts old_did new_did old new
 
 -- they are made
-pub made_all : (w l workers : ℕ) (rows : List Row) (round number : ℕ) (before acts : List Act) (old_did new_did : List ℕ) (old new : List Done) (calls : List Call) → Waits w l workers rows round number before old_did old calls
+pub made_all : (w l workers : ℕ) (rows : List Row) (round number : ℕ) (before acts : List Act) (old_did new_did : List ℕ) (old new : List NumberedOutcome) (calls : List Call) → Waits w l workers rows round number before old_did old calls
     → IsPrefix before acts → MakesRound w l workers calls before acts old_did new_did old new → IsPlayed w l workers rows number acts new_did new × AreTold number (numbers_in new) []
 made_all w l workers rows round number before acts old_did new_did old new calls waits more ran =
     let r = ran rows round number waits.base waits.are waits.rise in (
       played_more w l workers rows round waits.base number (numbers_of calls) before acts old_did new_did old new waits.le more waits.played r,
       λ k.
-          let both = ap (times k) (ap numbers_in r.dones ∙ map-append (λ (d : Done). d.number) old (dones_in r.accounts)) ∙ times-append k (numbers_in old) (numbers_in (dones_in r.accounts)) in
+          let both = ap (times k) (ap numbers_in r.dones ∙ map-append (λ (d : NumberedOutcome). d.number) old (dones_in r.accounts)) ∙ times-append k (numbers_in old) (numbers_in (dones_in r.accounts)) in
           let mine = r.once k in
           let all = waits.once k in
           omega (arith, both, mine, all),
     )
 
 -- the same, by a pool of so many
-pub made_last : (w l workers : ℕ) (rows : List Row) (round number : ℕ) (before acts : List Act) (old_did new_did : List ℕ) (old new : List Done) (pool : ℕ) (calls : List Call)
+pub made_last : (w l workers : ℕ) (rows : List Row) (round number : ℕ) (before acts : List Act) (old_did new_did : List ℕ) (old new : List NumberedOutcome) (pool : ℕ) (calls : List Call)
     → Waits w l workers rows round number before old_did old calls → IsPrefix before acts → pool ≡ workers → MakesRound w l pool calls before acts old_did new_did old new
     → IsPlayed w l workers rows number acts new_did new × AreTold number (numbers_in new) []
 made_last w l workers rows round number before acts old_did new_did old new pool calls waits more same ran =
     made_all w l workers rows round number before acts old_did new_did old new calls waits more (subst (λ n. MakesRound w l n calls before acts old_did new_did old new) same ran)
 
 -- none wait
-pub waits_none : (w l workers : ℕ) (rows : List Row) (round base number : ℕ) (acts : List Act) (did : List ℕ) (done : List Done) → base ≤ number → IsPlayed w l workers rows base acts did done
+pub waits_none : (w l workers : ℕ) (rows : List Row) (round base number : ℕ) (acts : List Act) (did : List ℕ) (done : List NumberedOutcome) → base ≤ number → IsPlayed w l workers rows base acts did done
     → AreTold number (numbers_in done) [] → Waits w l workers rows round number acts did done []
 waits_none w l workers rows round base number acts did done le played once = record { base = base; le = le; played = played; are = tt; rise = tt; once = once }
 
 -- one more waits
-pub waits_more : (w l workers : ℕ) (rows : List Row) (round number : ℕ) (acts : List Act) (did : List ℕ) (done : List Done) (calls : List Call) (c : Call) → Waits w l workers rows round number acts did done calls
+pub waits_more : (w l workers : ℕ) (rows : List Row) (round number : ℕ) (acts : List Act) (did : List ℕ) (done : List NumberedOutcome) (calls : List Call) (c : Call) → Waits w l workers rows round number acts did done calls
     → IsCallOf workers rows round (number + 1) c → c.number ≡ number + 1 → Waits w l workers rows round (number + 1) acts did done (calls ++ c ∷ [])
 waits_more w l workers rows round number acts did done calls c waits is at =
     let le : waits.base ≤ number = waits.le in
@@ -207,7 +207,7 @@ round_there done rest row rows number all is =
     at (x ∷ done) = at done
 
 -- what a row finds, once the calls of an earlier round are made
-pub record Finds (store : Which) (workers : ℕ) (rows : List Row) (row : Row) (number : ℕ) (round : ℕ) (pool : Pool) (done : List Done) (calls : List Call) : Type 0 where
+pub record Finds (store : Which) (workers : ℕ) (rows : List Row) (row : Row) (number : ℕ) (round : ℕ) (pool : Pool) (done : List NumberedOutcome) (calls : List Call) : Type 0 where
   pub ready : IsFresh store pool
   pub many : length pool.passes.items ≡ workers
   pub waits : Waits store.width store.limit workers rows row.round number pool.first.acts pool.first.did done calls
@@ -215,7 +215,7 @@ pub record Finds (store : Which) (workers : ℕ) (rows : List Row) (row : Row) (
   pub mends : row.task ≡ Mend → calls ≡ []
 
 -- the calls of the round before are made
-pub finds_made : (store : Which) (workers : ℕ) (rows : List Row) (row : Row) (number round current : ℕ) (old pool joined : Pool) (before done joined_done : List Done) (calls ready now : List Call)
+pub finds_made : (store : Which) (workers : ℕ) (rows : List Row) (row : Row) (number round current : ℕ) (old pool joined : Pool) (before done joined_done : List NumberedOutcome) (calls ready now : List Call)
     → Waits store.width store.limit workers rows round number old.first.acts old.first.did before calls → ready ≡ calls → IsFresh store pool → length old.passes.items ≡ workers
     → length pool.passes.items ≡ length old.passes.items → IsPrefix old.first.acts pool.first.acts
     → MakesRound store.width store.limit (length old.passes.items) ready old.first.acts pool.first.acts old.first.did pool.first.did before done
@@ -226,26 +226,26 @@ finds_made store workers rows row number round current old pool joined before do
     record {
       ready = subst (IsFresh store) (sym pool_is) is_ready;
       many = ap (λ (c : Pool). length c.passes.items) pool_is ∙ new_many ∙ old_many;
-      waits = subst (λ (u : Pool × (List Done × List Call)). Waits store.width store.limit workers rows row.round number u.0.first.acts u.0.first.did u.1.0 u.1.1) (λ i. (sym pool_is i, (sym done_is i, sym none i)))
+      waits = subst (λ (u : Pool × (List NumberedOutcome × List Call)). Waits store.width store.limit workers rows row.round number u.0.first.acts u.0.first.did u.1.0 u.1.1) (λ i. (sym pool_is i, (sym done_is i, sym none i)))
           (waits_none store.width store.limit workers rows row.round number number pool.first.acts pool.first.did done (omega arith) made.0 made.1);
       current = current_is;
       mends = λ task. none;
     }
 
 -- the round goes on
-pub finds_same : (store : Which) (workers : ℕ) (rows : List Row) (row : Row) (number round current : ℕ) (pool joined : Pool) (done joined_done : List Done) (calls now : List Call)
+pub finds_same : (store : Which) (workers : ℕ) (rows : List Row) (row : Row) (number round current : ℕ) (pool joined : Pool) (done joined_done : List NumberedOutcome) (calls now : List Call)
     → Waits store.width store.limit workers rows round number pool.first.acts pool.first.did done calls → IsFresh store pool → length pool.passes.items ≡ workers → joined ≡ pool → joined_done ≡ done → now ≡ calls
     → current ≡ round → round ≡ row.round → (row.task ≡ Mend → ⊥) → Finds store workers rows row number current joined joined_done now
 finds_same store workers rows row number round current pool joined done joined_done calls now waits is_ready many pool_is done_is calls_is current_is same no_mend = record {
   ready = subst (IsFresh store) (sym pool_is) is_ready;
   many = ap (λ (c : Pool). length c.passes.items) pool_is ∙ many;
-  waits = subst (λ (u : Pool × (List Done × (List Call × ℕ))). Waits store.width store.limit workers rows u.1.1.1 number u.0.first.acts u.0.first.did u.1.0 u.1.1.0) (λ i. (sym pool_is i, (sym done_is i, (sym calls_is i, same i)))) waits;
+  waits = subst (λ (u : Pool × (List NumberedOutcome × (List Call × ℕ))). Waits store.width store.limit workers rows u.1.1.1 number u.0.first.acts u.0.first.did u.1.0 u.1.1.0) (λ i. (sym pool_is i, (sym done_is i, (sym calls_is i, same i)))) waits;
   current = current_is ∙ same;
   mends = λ task. absurd (no_mend task);
 }
 
 -- a call's row
-pub makes_call : (store : Which) (workers : ℕ) (rows done_rows rest : List Row) (row : Row) (ask : Ask) (number next round : ℕ) (pool : Pool) (done : List Done) (calls pushed : List Call)
+pub makes_call : (store : Which) (workers : ℕ) (rows done_rows rest : List Row) (row : Row) (ask : Ask) (number next round : ℕ) (pool : Pool) (done : List NumberedOutcome) (calls pushed : List Call)
     → Finds store workers rows row number round pool done calls → number ≡ length done_rows → next ≡ number + 1 → rows ≡ done_rows ++ row ∷ rest → row.task ≡ Make ask → HasWorker workers row
     → pushed ≡ calls ++ record { number = next; worker = row.worker; ask = ask } ∷ [] → Waits store.width store.limit workers rows round next pool.first.acts pool.first.did done pushed
 makes_call store workers rows done_rows rest row ask number next round pool done calls pushed f at next_is all task one is =
@@ -258,12 +258,12 @@ makes_call store workers rows done_rows rest row ask number next round pool done
     subst (λ (u : ℕ × (ℕ × List Call)). Waits store.width store.limit workers rows u.0 u.1.0 pool.first.acts pool.first.did done u.1.1) (λ i. (sym f.current i, (sym next_is i, sym is i))) more
 
 -- what is promised of a mend
-abbrev pub MakesMend : ℕ → ℕ → ℕ → ℕ → List Act → List Act → List ℕ → List ℕ → List Done → List Done → Type 0
+abbrev pub MakesMend : ℕ → ℕ → ℕ → ℕ → List Act → List Act → List ℕ → List ℕ → List NumberedOutcome → List NumberedOutcome → Type 0
 MakesMend w l workers number before acts old_did new_did old new =
     (rows : List Row) (round top base : ℕ) → IsMendOf rows round top base number → IsRound w l workers rows round top base (number ∷ []) before acts old_did new_did old new
 
 -- a mend's row
-pub makes_mend : (store : Which) (workers : ℕ) (rows done_rows rest : List Row) (row : Row) (number next round : ℕ) (pool mended : Pool) (done new : List Done) (calls : List Call)
+pub makes_mend : (store : Which) (workers : ℕ) (rows done_rows rest : List Row) (row : Row) (number next round : ℕ) (pool mended : Pool) (done new : List NumberedOutcome) (calls : List Call)
     → Finds store workers rows row number round pool done calls → number ≡ length done_rows → next ≡ number + 1 → rows ≡ done_rows ++ row ∷ rest → row.task ≡ Mend → IsPrefix pool.first.acts mended.first.acts
     → MakesMend store.width store.limit (length pool.passes.items) next pool.first.acts mended.first.acts pool.first.did mended.first.did done new
     → Waits store.width store.limit workers rows round next mended.first.acts mended.first.did new calls
@@ -277,7 +277,7 @@ makes_mend store workers rows done_rows rest row number next round pool mended d
     let r = subst (λ n. IsRound store.width store.limit n rows row.round next w.base (next ∷ []) pool.first.acts mended.first.acts pool.first.did mended.first.did done new) f.many (ran rows row.round next w.base mend) in
     let played = played_more store.width store.limit workers rows row.round w.base next (next ∷ []) pool.first.acts mended.first.acts pool.first.did mended.first.did done new (omega arith) more w.played r in
     let once : AreTold next (numbers_in new) [] = λ k.
-    let both = ap (times k) (ap numbers_in r.dones ∙ map-append (λ (d : Done). d.number) done (dones_in r.accounts)) ∙ times-append k (numbers_in done) (numbers_in (dones_in r.accounts)) in
+    let both = ap (times k) (ap numbers_in r.dones ∙ map-append (λ (d : NumberedOutcome). d.number) done (dones_in r.accounts)) ∙ times-append k (numbers_in done) (numbers_in (dones_in r.accounts)) in
     let mine = r.once k ∙ times-one k next in
     let before = w.once k in
     let no_calls : times k (numbers_of calls) ≡ 0 = ap (λ (l : List Call). times k (numbers_of l)) none in

@@ -25,7 +25,7 @@ use Rattle.play.specs.Runs.{steps_of, IsOne, IsRow, Mends, IsByWorker, is_full, 
 use Rattle.play.specs.Printed.{deed_text, is_noted, is_repaired, is_not_lost, is_gone, is_unrecoverable, mend_text, row_text, row_lines}
 use Rattle.transcript.specs.Lines.{AreLines, IsLineFor, line_text}
 use Rattle.play.specs.Accounts.{Placed, found_of, Account, dones_in, numbers_in, steps_in, earlier, HasDone, Settles, IsAccount, IsDone}
-use Rattle.transcript.specs.declared.outcome.Done.{Done}
+use Rattle.transcript.specs.declared.outcome.NumberedOutcome.{NumberedOutcome}
 use Rattle.transcript.specs.declared.line.Line.{Line}
 use Rattle.play.proofs.Buckets.{after, each-append, each-both, each-by_key, each-filter, each-weaker, by_key-all, by_key-one, filter-by_key, twice}
 use Rattle.play.proofs.Ordered.{key, keys_below, in_order_below, steps_at, Follow, follow, found_are, standing_is, goes_on, begins_at, each-map, all_each}
@@ -183,7 +183,7 @@ abbrev pub run_of : List Act → List Account → List Step
 run_of acts accounts = steps_at (ordered acts accounts)
 
 -- the line of what is told of a row
-pub record IsLineOf (w : ℕ) (rows : List Row) (steps : List Step) (d : Done) : Type 0 where
+pub record IsLineOf (w : ℕ) (rows : List Row) (steps : List Step) (d : NumberedOutcome) : Type 0 where
   pub before : ℕ
   pub row : Row
   pub number : d.number ≡ before + 1
@@ -291,7 +291,7 @@ row_at : (front rest : List Row) (row : Row) → slice_get (front ++ row ∷ res
 row_at [] rest row = refl
 row_at (x ∷ front) rest row = row_at front rest row
 
-pub lines_are : (w : ℕ) (rows : List Row) (steps : List Step) (front rest : List Row) (number : ℕ) (ds : List Done) (text : List ℕ) → rows ≡ front ++ rest → number ≡ length front + 1 → numbers_in ds ≡ range_with_len number (length rest)
+pub lines_are : (w : ℕ) (rows : List Row) (steps : List Step) (front rest : List Row) (number : ℕ) (ds : List NumberedOutcome) (text : List ℕ) → rows ≡ front ++ rest → number ≡ length front + 1 → numbers_in ds ≡ range_with_len number (length rest)
     → Each (IsLineOf w rows steps) ds → AreLines ds text → text ≡ row_lines w steps number rest
 lines_are w rows steps front [] number [] text all at same known lines = lines
 lines_are w rows steps front [] number (d ∷ ds) text all at same known lines = absurd (cc same)
@@ -310,13 +310,13 @@ pub each_all : {A : Type 0} (P : A → Type 0) (xs : List A) → All P xs → Ea
 each_all P [] all = tt
 each_all P (x ∷ xs) all = (All-head P x xs all, each_all P xs (All-tail P x xs all))
 
-pub lines_moved : (w : ℕ) (rows : List Row) (steps : List Step) (ds sorted : List Done) → IsPermutation ds sorted → Each (IsLineOf w rows steps) ds → Each (IsLineOf w rows steps) sorted
+pub lines_moved : (w : ℕ) (rows : List Row) (steps : List Step) (ds sorted : List NumberedOutcome) → IsPermutation ds sorted → Each (IsLineOf w rows steps) ds → Each (IsLineOf w rows steps) sorted
 lines_moved w rows steps ds sorted moved known = each_all (IsLineOf w rows steps) sorted (All-permutation (IsLineOf w rows steps) ds sorted moved (all_each (IsLineOf w rows steps) ds known))
 
 -- numbers that are told once and do not fall
-pub in_order_once : (n : ℕ) (ds sorted : List Done) → IsPermutation ds sorted → ((k : ℕ) → times k (numbers_in ds) ≡ once_later (n + 1) k) → Pairs (λ x y. x ≤ y) (numbers_in sorted) → numbers_in sorted ≡ range_with_len 1 n
+pub in_order_once : (n : ℕ) (ds sorted : List NumberedOutcome) → IsPermutation ds sorted → ((k : ℕ) → times k (numbers_in ds) ≡ once_later (n + 1) k) → Pairs (λ x y. x ≤ y) (numbers_in sorted) → numbers_in sorted ≡ range_with_len 1 n
 in_order_once n ds sorted moved once rise =
-    let same : (k : ℕ) → times k (numbers_in sorted) ≡ once_later (n + 1) k = λ k. sum_by-IsPermutation (λ q. cond {A = ℕ} (q == k) 1 0) (numbers_in ds) (numbers_in sorted) (IsPermutation-map (λ (d : Done). d.number) ds sorted moved) ∙ once k in
+    let same : (k : ℕ) → times k (numbers_in sorted) ≡ once_later (n + 1) k = λ k. sum_by-IsPermutation (λ q. cond {A = ℕ} (q == k) 1 0) (numbers_in ds) (numbers_in sorted) (IsPermutation-map (λ (d : NumberedOutcome). d.number) ds sorted moved) ∙ once k in
     in_order n 1 (numbers_in sorted) rise (record {
       inside = λ k low high. same k ∙ once_later-here (n + 1) k (omega (arith, low)) (omega (arith, high));
       low = λ k less. same k ∙ none k (omega (arith, less));

@@ -15,7 +15,7 @@ use Rattle.play.specs.Runs.{IsAsked, MayPrecede, Mends, round_in}
 use Rattle.transcript.specs.Lines.{IsLineFor, line_text}
 use Rattle.play.specs.Printed.{deed_text, mend_text}
 use Rattle.play.specs.declared.calls.Call.{Call}
-use Rattle.transcript.specs.declared.outcome.Done.{Done}
+use Rattle.transcript.specs.declared.outcome.NumberedOutcome.{NumberedOutcome}
 use Rattle.transcript.specs.declared.outcome.RowOutcome.{RowOutcome}
 use Rattle.transcript.specs.declared.line.Line.{Line}
 
@@ -39,11 +39,11 @@ own_places steps = flat_map (λ p. number_if (length p.before) (act_at p)) steps
 
 -- what is told of a row, its steps, and for a mend the acts that were done before it
 pub record Account : Type 0 where
-  pub done : Done
+  pub done : NumberedOutcome
   pub steps : List Placed
   pub found : Option (List Act)
 
-abbrev pub dones_in : List Account → List Done
+abbrev pub dones_in : List Account → List NumberedOutcome
 dones_in accounts = map (λ a. a.done) accounts
 
 abbrev pub steps_in : List Account → List Placed
@@ -77,7 +77,7 @@ pub record IsAccount (w workers : ℕ) (rows : List Row) (a : Account) : Type 0 
   pub of_row : Each (λ (p : Placed). p.step.row ≡ a.done.number) a.steps
 
 -- the numbers of the rows that are told of
-abbrev pub numbers_in : List Done → List ℕ
+abbrev pub numbers_in : List NumberedOutcome → List ℕ
 numbers_in done = map (λ d. d.number) done
 
 -- the steps of the rows before the one with this number
@@ -155,7 +155,7 @@ pub record IsNext (base top : ℕ) (before acts : List Act) (did : List ℕ) (st
   pub finds : (found : List Act) → a.found ≡ Some found → FindsAll before acts found did a.done.number steps
 
 -- what a round did of the rows with these numbers, between these acts and places: it is told of them behind what was told before
-pub record IsRound (w limit workers : ℕ) (rows : List Row) (round top base : ℕ) (numbers : List ℕ) (before acts : List Act) (old_did new_did : List ℕ) (old new : List Done) : Type 0 where
+pub record IsRound (w limit workers : ℕ) (rows : List Row) (round top base : ℕ) (numbers : List ℕ) (before acts : List Act) (old_did new_did : List ℕ) (old new : List NumberedOutcome) : Type 0 where
   pub accounts : List Account
   pub dones : new ≡ old ++ dones_in accounts
   pub right : Each (IsAccount w workers rows) accounts
@@ -173,7 +173,7 @@ pub record IsDone (w limit top : ℕ) (acts : List Act) (steps : List Placed) (a
   pub finds : (found : List Act) → a.found ≡ Some found → IsPrefix found acts × HasDone w limit found (earlier a.done.number steps)
 
 -- What the first rows did, up to this one, as far as it is told of: each account is that of a row, and the steps of all accounts are the acts that the pool has for its own
-pub record IsPlayed (w limit workers : ℕ) (rows : List Row) (top : ℕ) (acts : List Act) (did : List ℕ) (done : List Done) : Type 0 where
+pub record IsPlayed (w limit workers : ℕ) (rows : List Row) (top : ℕ) (acts : List Act) (did : List ℕ) (done : List NumberedOutcome) : Type 0 where
   pub accounts : List Account
   pub dones : done ≡ dones_in accounts
   pub right : Each (IsAccount w workers rows) accounts

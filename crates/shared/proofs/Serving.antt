@@ -1,7 +1,8 @@
 -- What each job adds to a run, at its place.
-use Rattle.std.proofs.Common.{◌≡◌, ℕ, ◌+◌, ◌≤◌, List, [], ◌∷◌, ◌++◌, map, length, Option, Some, None, Result, Ok, Err, IfSome, refl, ap, sym, subst, ◌∙◌, arith, append_assoc, append-nil, length-append}
+use Rattle.std.proofs.Common.{◌≡◌, ℕ, ◌+◌, ◌≤◌, List, [], ◌∷◌, ◌++◌, map, length, Option, Some, Result, Ok, Err, IfOk, refl, ap, sym, subst, ◌∙◌, arith, append_assoc, append-nil, length-append}
 use Rattle.std.specs.Option.{option_map}
 use Rattle.std.proofs.lemmas.List.{map-append}
+use Rattle.std.proofs.lemmas.Result.{IfOk-weaker}
 use Rattle.std.proofs.lemmas.Grind.{flat_map-append}
 use mathlib.Core.List.{IsPrefix}
 use Rattle.gate.specs.Events.{number_if}
@@ -10,22 +11,21 @@ use Rattle.sealed.specs.declared.fault.Fault.{Fault}
 use Rattle.sealed.specs.declared.fault.Fault.TheVariants.{NoMemory, JournalFull, BadName, TooLong, Busy, BadWidth, NoPass}
 use Rattle.history.specs.Step.{Operation, read}
 use Rattle.history.specs.History.{History}
+use Rattle.lent.specs.declared.grant.Grant.{Grant}
 use Rattle.book.specs.declared.answer.Answer.{Answer}
 use Rattle.book.specs.declared.answer.Answer.TheVariants.{Granted}
 use Rattle.book.specs.Notes.{note_of}
-use Rattle.book.specs.Serial.{Deed, Does, called, full, too_long, trimmed, Act, act_of, events_in, standing_of}
+use Rattle.book.specs.Serial.{Deed, called, full, too_long, trimmed, Act, act_of, events_in}
 use Rattle.requests.specs.declared.jobs.Ask.{Ask}
-use Rattle.requests.specs.declared.jobs.Ask.TheVariants.{Put, Read, Lose, Repair, Delete, Stat, Trim}
+use Rattle.requests.specs.declared.jobs.Ask.TheVariants.{Trim}
 use Rattle.requests.specs.declared.jobs.Reply.{Reply}
 use Rattle.requests.specs.declared.jobs.Reply.TheVariants.{Made, Refused, Trimmed}
-use Rattle.shared.specs.declared.run.Outcome.{Outcome}
-use Rattle.shared.specs.declared.run.Outcome.TheVariants as outcome
 use Rattle.shared.specs.Passes.{Which, Shows}
 use Rattle.shared.specs.Deeds.{deed_of, act_if, Takes}
-use Rattle.shared.specs.Calls.{Called}
-use Rattle.shared.specs.Runs.{operation_asked, IfReadGranted, ComesOf, reply_of}
+use Rattle.shared.specs.Calls.{Called, GrantedIn, IfGranted}
+use Rattle.shared.specs.Runs.{operation_asked, reply_for}
 use Rattle.shared.proofs.Steps.{act_called}
-use Rattle.shared.specs.Serving.{keep_asked, call_deed, keep_deed, outcome_deed, deed_told, IfGrantedTo, Turn, act_in, IsServed, AreServed, places_of, acts_in, Serves}
+use Rattle.shared.specs.Serving.{deed_told, IfGrantedTo, Turn, act_in, IsServed, AreServed, places_of, acts_in, Serves}
 
 -- ---- what was served stays served
 served-longer : (w l : ℕ) (acts later : List Act) (who : ℕ) (t : Turn) → IsPrefix acts later → IsServed w l acts who t → IsServed w l later who t
@@ -131,161 +131,82 @@ serves_longer v u w asks more replies many one rest =
     subst (λ l. Serves v (asks ++ more) l w) (append-nil replies) (serves_append v u w asks more replies [] many one rest)
 
 -- ---- one job
-some_reply : {a b : Reply} → Some a ≡ Some b → a ≡ b
-some_reply e = cc (e)
-
-no_reply : {a : Reply} → ◌≡◌ {A = Option Reply} None (Some a) → ⊥
-no_reply e = cc (e)
-
-made_told : (a : Answer) (o : Option Operation) → call_deed o (Ok a) ≡ option_map (λ o. called o (note_of a)) o
-made_told a None = refl
-made_told a (Some o) = refl
-
-full_told : (o : Option Operation) → call_deed o (Err JournalFull) ≡ option_map full o
-full_told None = refl
-full_told (Some o) = refl
-
-long_told : (o : Option Operation) → call_deed o (Err TooLong) ≡ option_map too_long o
-long_told None = refl
-long_told (Some o) = refl
-
-keep_told : (n : ℕ) (keep : Option ℕ) → keep_deed keep (Ok n) ≡ option_map (λ keep. trimmed keep n) keep
-keep_told n None = refl
-keep_told n (Some keep) = refl
-
-with_reply : (a : Ask) (x : Outcome) (r s : Reply) → Some r ≡ Some s → outcome_deed a x ≡ deed_told a r → outcome_deed a x ≡ deed_told a s
-with_reply a x r s e is = subst (λ (t : Reply). outcome_deed a x ≡ deed_told a t) (some_reply e) is
-
--- a reply tells what came of its job
-told_by : (a : Ask) (x : Outcome) (reply : Reply) → reply_of x ≡ Some reply → outcome_deed a x ≡ deed_told a reply
-told_by a (outcome.Made (Ok answer)) reply is = with_reply a (outcome.Made (Ok answer)) (Made answer) reply is (made_told answer (operation_asked a))
-told_by a (outcome.Made (Err JournalFull)) reply is = with_reply a (outcome.Made (Err JournalFull)) (Refused JournalFull) reply is (full_told (operation_asked a))
-told_by a (outcome.Made (Err TooLong)) reply is = with_reply a (outcome.Made (Err TooLong)) (Refused TooLong) reply is (long_told (operation_asked a))
-told_by a (outcome.Made (Err NoMemory)) reply is = absurd (no_reply is)
-told_by a (outcome.Made (Err BadName)) reply is = absurd (no_reply is)
-told_by a (outcome.Made (Err Busy)) reply is = absurd (no_reply is)
-told_by a (outcome.Made (Err BadWidth)) reply is = absurd (no_reply is)
-told_by a (outcome.Made (Err NoPass)) reply is = absurd (no_reply is)
-told_by a (outcome.Trimmed (Ok n)) reply is = with_reply a (outcome.Trimmed (Ok n)) (Trimmed n) reply is (keep_told n (keep_asked a))
-told_by a (outcome.Trimmed (Err e)) reply is = absurd (no_reply is)
-
--- what is no call is a trim
-keep_of : (a : Ask) → operation_asked a ≡ None → (keep : ℕ) × (keep_asked a ≡ Some keep)
-keep_of (Trim keep) is = (keep, refl)
-keep_of (Put name code bytes) is = absurd (cc (is))
-keep_of (Read name start len) is = absurd (cc (is))
-keep_of (Lose name j f) is = absurd (cc (is))
-keep_of (Repair name j f) is = absurd (cc (is))
-keep_of (Delete name) is = absurd (cc (is))
-keep_of (Stat name) is = absurd (cc (is))
-
--- a reply tells a deed
-deed_of_call : (o : Operation) (r : Result Answer Fault) (reply : Reply) → reply_of (outcome.Made r) ≡ Some reply → (d : Deed) × (deed_of o r ≡ Some d)
-deed_of_call o (Ok answer) reply is = (called o (note_of answer), refl)
-deed_of_call o (Err JournalFull) reply is = (full o, refl)
-deed_of_call o (Err TooLong) reply is = (too_long o, refl)
-deed_of_call o (Err NoMemory) reply is = absurd (no_reply is)
-deed_of_call o (Err BadName) reply is = absurd (no_reply is)
-deed_of_call o (Err Busy) reply is = absurd (no_reply is)
-deed_of_call o (Err BadWidth) reply is = absurd (no_reply is)
-deed_of_call o (Err NoPass) reply is = absurd (no_reply is)
-
-deed_there : (v w : Shows) (a : Ask) (x : Outcome) (reply : Reply) → ComesOf v (operation_asked a) x w → reply_of x ≡ Some reply → (d : Deed) × (outcome_deed a x ≡ Some d)
-deed_there v w a x reply comes is = by x (operation_asked a) refl comes is
-  where
-    by : (x : Outcome) (o : Option Operation) → operation_asked a ≡ o → ComesOf v o x w → reply_of x ≡ Some reply → (d : Deed) × (outcome_deed a x ≡ Some d)
-    by (outcome.Made r) (Some o) e comes is = (let d = deed_of_call o r reply is in d.0, ap (λ p. call_deed p r) e ∙ (deed_of_call o r reply is).1)
-    by (outcome.Made r) None e comes is = absurd comes
-    by (outcome.Trimmed r) (Some o) e comes is = absurd comes
-    by (outcome.Trimmed (Ok n)) None e comes is = (let k = keep_of a e in trimmed k.0 n, ap (λ p. keep_deed p (Ok n)) (keep_of a e).1)
-    by (outcome.Trimmed (Err f)) None e comes is = absurd (no_reply is)
-
--- of a read that was granted, the reply is a grant after this history
-read_there : (h : History) (w : ℕ) (o : Operation) (a : Answer) → IfReadGranted h w o a → IfGrantedTo h w (Some o) (Made a)
-read_there h w o a there n start len g asked made =
-    let same_operation : o ≡ read n start len = cc asked in
-    let same_answer : a ≡ Granted g = cc made in
-    subst (IfReadGranted h w (read n start len)) same_answer (subst (λ (p : Operation). IfReadGranted h w p a) same_operation there)
-
-none_there : (h : History) (w : ℕ) (o : Option Operation) (f : Fault) → IfGrantedTo h w o (Refused f)
-none_there h w o f n start len g asked made = absurd (cc made)
-
--- a read is granted after what was done before, and itself
-granted_there : (v w : Shows) (a : Ask) (x : Outcome) (reply : Reply) → ComesOf v (operation_asked a) x w → reply_of x ≡ Some reply → IfGrantedTo w.seen w.store.width (operation_asked a) reply
-granted_there v w a x reply comes is = by x (operation_asked a) comes is
-  where
-    to : (o : Option Operation) (r s : Reply) → Some r ≡ Some s → IfGrantedTo w.seen w.store.width o r → IfGrantedTo w.seen w.store.width o s
-    to o r s e is = subst (IfGrantedTo w.seen w.store.width o) (some_reply e) is
-
-    by : (x : Outcome) (o : Option Operation) → ComesOf v o x w → reply_of x ≡ Some reply → IfGrantedTo w.seen w.store.width o reply
-    by (outcome.Made (Ok answer)) (Some o) comes is = to (Some o) (Made answer) reply is (read_there w.seen w.store.width o answer comes.1)
-    by (outcome.Made (Err JournalFull)) (Some o) comes is = to (Some o) (Refused JournalFull) reply is (none_there w.seen w.store.width (Some o) JournalFull)
-    by (outcome.Made (Err TooLong)) (Some o) comes is = to (Some o) (Refused TooLong) reply is (none_there w.seen w.store.width (Some o) TooLong)
-    by (outcome.Made (Err NoMemory)) (Some o) comes is = absurd (no_reply is)
-    by (outcome.Made (Err BadName)) (Some o) comes is = absurd (no_reply is)
-    by (outcome.Made (Err Busy)) (Some o) comes is = absurd (no_reply is)
-    by (outcome.Made (Err BadWidth)) (Some o) comes is = absurd (no_reply is)
-    by (outcome.Made (Err NoPass)) (Some o) comes is = absurd (no_reply is)
-    by (outcome.Made r) None comes is = absurd comes
-    by (outcome.Trimmed r) (Some o) comes is = absurd comes
-    by (outcome.Trimmed r) None comes is = λ n start len g asked made. absurd (cc asked)
-
--- an outcome with its reply
-pub serves_one : (v w : Shows) (a : Ask) (x : Outcome) (reply : Reply) → ComesOf v (operation_asked a) x w → Takes v (outcome_deed a x) w → reply_of x ≡ Some reply → Serves v (a ∷ []) (reply ∷ []) w
-serves_one v w a x reply comes takes is =
-    let d = deed_there v w a x reply comes is in
-    let told : deed_told a reply ≡ Some d.0 = sym (told_by a x reply is) ∙ d.1 in
+-- the reply tells a deed that was done, and where it grants a read, the grant is of what was done before, and of itself
+pub serves_one : (v w : Shows) (a : Ask) (reply : Reply) (d : Deed) → deed_told a reply ≡ Some d → Takes v (Some d) w → IfGrantedTo w.seen w.store.width (operation_asked a) reply
+    → Serves v (a ∷ []) (reply ∷ []) w
+serves_one v w a reply d told takes granted =
     let before : List Act = v.acts ++ takes.others in
-    let act : act_if v.who (outcome_deed a x) ≡ act_of v.who d.0 = ap (act_if v.who) d.1 in
-    let done : w.acts ≡ before ++ act_of v.who d.0 = takes.acts ∙ ap (λ l. before ++ l) act in
     let t : Turn = record { place = length before; ask = a; reply = reply } in
-    let seen : w.seen ≡ events_in (before ++ act_of v.who d.0) = takes.agrees.seen_is ∙ ap events_in done in
+    let seen : w.seen ≡ events_in (before ++ act_of v.who d) = takes.agrees.seen_is ∙ ap events_in takes.acts in
     let long : length before ≡ length v.acts + length takes.others = length-append v.acts takes.others in
     record {
       stays = takes.stays;
-      acts = (takes.others ++ act_if v.who (outcome_deed a x), sym (append_assoc v.acts takes.others (act_if v.who (outcome_deed a x))) ∙ sym takes.acts);
+      acts = (takes.others ++ act_of v.who d, sym (append_assoc v.acts takes.others (act_of v.who d)) ∙ sym takes.acts);
       turns = t ∷ [];
       asked = ([], refl);
       replied = refl;
       each = (
         omega arith,
         record {
-          deed = d.0;
+          deed = d;
           told = told;
           before = before;
           place_is = refl;
-          does = subst (λ (e : Option Deed). IfSome e (Does v.store.width v.store.limit (standing_of before))) d.1 takes.does;
-          stands = ([], append-nil (before ++ act_of v.who d.0) ∙ sym done);
-          granted = subst (λ (u : History × ℕ). IfGrantedTo u.0 u.1 (operation_asked a) reply) (λ i. (seen i, ap (λ (s : Which). s.width) takes.stays.0 i)) (granted_there v w a x reply comes is);
+          does = takes.does;
+          stands = ([], append-nil (before ++ act_of v.who d) ∙ sym takes.acts);
+          granted = subst (λ (u : History × ℕ). IfGrantedTo u.0 u.1 (operation_asked a) reply) (λ i. (seen i, ap (λ (s : Which). s.width) takes.stays.0 i)) granted;
         },
         tt,
       );
-      did = takes.did ∙ ap (λ l. v.did ++ l) (ap (λ l. number_if (length before) l) (ap (act_if v.who) (told_by a x reply is)) ∙ sym (append-nil (number_if (length before) (act_in v.who t))));
+      did = takes.did ∙ ap (λ l. v.did ++ l) (ap (λ l. number_if (length before) l) (ap (act_if v.who) (sym told)) ∙ sym (append-nil (number_if (length before) (act_in v.who t))));
       lone = λ all.
-          takes.acts ∙ (λ i. (v.acts ++ takes.lone all i) ++ act_if v.who (told_by a x reply is i)) ∙ (λ i. append-nil v.acts i ++ act_in v.who t)
+          takes.acts ∙ (λ i. (v.acts ++ takes.lone all i) ++ act_if v.who (sym told i)) ∙ (λ i. append-nil v.acts i ++ act_in v.who t)
           ∙ ap (λ l. v.acts ++ l) (sym (append-nil (act_in v.who t)));
     }
 
-no_call : (o : Option Operation) (f : Fault) → reply_of (outcome.Made (Err f)) ≡ None → call_deed o (Err f) ≡ None
-no_call None f is = refl
-no_call (Some o) NoMemory is = refl
-no_call (Some o) BadName is = refl
-no_call (Some o) Busy is = refl
-no_call (Some o) BadWidth is = refl
-no_call (Some o) NoPass is = refl
-no_call (Some o) JournalFull is = absurd (cc (is))
-no_call (Some o) TooLong is = absurd (cc (is))
+-- a call by its reply
+serves_call : (v w : Shows) (a : Ask) (o : Operation) (r : Result Answer Fault) → operation_asked a ≡ Some o → Called v o r w
+    → IfOk r (λ answer. IfGrantedTo w.seen w.store.width (Some o) (Made answer)) → IfOk (reply_for r) (λ reply. Serves v (a ∷ []) (reply ∷ []) w)
+serves_call v w a o (Ok answer) asked made granted =
+    serves_one v w a (Made answer) (called o (note_of answer)) (ap (option_map (λ p. called p (note_of answer))) asked) made.takes
+    (subst (λ (p : Option Operation). IfGrantedTo w.seen w.store.width p (Made answer)) (sym asked) granted)
+serves_call v w a o (Err JournalFull) asked made granted = serves_one v w a (Refused JournalFull) (full o) (ap (option_map full) asked) made.takes (λ n start len g read_asked is. absurd (cc is))
+serves_call v w a o (Err TooLong) asked made granted = serves_one v w a (Refused TooLong) (too_long o) (ap (option_map too_long) asked) made.takes (λ n start len g read_asked is. absurd (cc is))
+serves_call v w a o (Err NoMemory) asked made granted = tt
+serves_call v w a o (Err BadName) asked made granted = tt
+serves_call v w a o (Err Busy) asked made granted = tt
+serves_call v w a o (Err BadWidth) asked made granted = tt
+serves_call v w a o (Err NoPass) asked made granted = tt
 
-no_trim : (keep : Option ℕ) (f : Fault) → keep_deed keep (Err f) ≡ None
-no_trim None f = refl
-no_trim (Some keep) f = refl
+-- a read that was granted
+read_granted : (h : History) (w : ℕ) (n : List ℕ) (start len : ℕ) (answer : Answer) → IfGranted answer (GrantedIn h w n start len) → IfGrantedTo h w (Some (read n start len)) (Made answer)
+read_granted h w n start len answer there m begin many g asked made =
+    let same_answer : answer ≡ Granted g = cc made in
+    let same_read : read n start len ≡ read m begin many = cc asked in
+    subst (λ (o : Operation). GrantedOf o g) same_read (subst (λ (a : Answer). IfGranted a (GrantedIn h w n start len)) same_answer there)
+  where
+    GrantedOf : Operation → Grant → Type 0
+    GrantedOf (read n start len) g = GrantedIn h w n start len g
+    GrantedOf o g = Unit {0}
 
-no_deed : (a : Ask) (x : Outcome) → reply_of x ≡ None → outcome_deed a x ≡ None
-no_deed a (outcome.Made (Ok answer)) is = absurd (cc (is))
-no_deed a (outcome.Made (Err f)) is = no_call (operation_asked a) f is
-no_deed a (outcome.Trimmed (Ok n)) is = absurd (cc (is))
-no_deed a (outcome.Trimmed (Err f)) is = no_trim (keep_asked a) f
+-- the reply to a call that is no read
+pub serves_made : (v w : Shows) (a : Ask) (o : Operation) (r : Result Answer Fault) (x : Result Reply Fault) → operation_asked a ≡ Some o → x ≡ reply_for r → Called v o r w
+    → ((n : List ℕ) (start len : ℕ) → o ≡ read n start len → ⊥) → IfOk x (λ reply. Serves v (a ∷ []) (reply ∷ []) w)
+serves_made v w a o r x asked is made other = subst (λ (x : Result Reply Fault). IfOk x (λ reply. Serves v (a ∷ []) (reply ∷ []) w)) (sym is) (serves_call v w a o r asked made (by r))
+  where
+    by : (r : Result Answer Fault) → IfOk r (λ answer. IfGrantedTo w.seen w.store.width (Some o) (Made answer))
+    by (Ok answer) = λ n start len g read_asked granted. absurd (other n start len (cc read_asked))
+    by (Err fault) = tt
 
--- an outcome with no reply
-pub serves_stopped : (v w : Shows) (a : Ask) (x : Outcome) (asks : List Ask) → Takes v (outcome_deed a x) w → reply_of x ≡ None → Serves v asks [] w
-serves_stopped v w a x asks takes is = serves_none v w asks (outcome_deed a x) (ap (act_if v.who) (no_deed a x is)) takes
+-- the reply to a read
+pub serves_read : (v w : Shows) (a : Ask) (n : List ℕ) (start len : ℕ) (r : Result Answer Fault) (x : Result Reply Fault) → operation_asked a ≡ Some (read n start len) → x ≡ reply_for r
+    → Called v (read n start len) r w → IfOk r (λ answer. IfGranted answer (GrantedIn w.seen w.store.width n start len)) → IfOk x (λ reply. Serves v (a ∷ []) (reply ∷ []) w)
+serves_read v w a n start len r x asked is made granted =
+    subst (λ (x : Result Reply Fault). IfOk x (λ reply. Serves v (a ∷ []) (reply ∷ []) w)) (sym is)
+    (serves_call v w a (read n start len) r asked made
+    (IfOk-weaker r (λ answer. IfGranted answer (GrantedIn w.seen w.store.width n start len)) (λ answer. IfGrantedTo w.seen w.store.width (Some (read n start len)) (Made answer))
+    (λ answer there. read_granted w.seen w.store.width n start len answer there) granted))
+
+-- a trim
+pub serves_trim : (v w : Shows) (keep n : ℕ) → Takes v (Some (trimmed keep n)) w → Serves v (Trim keep ∷ []) (Trimmed n ∷ []) w
+serves_trim v w keep n takes = serves_one v w (Trim keep) (Trimmed n) (trimmed keep n) refl takes (λ m start len g asked is. absurd (cc asked))

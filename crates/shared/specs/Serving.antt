@@ -1,15 +1,13 @@
 -- Runs of jobs, as the store of one thread does them, each at its place.
-use Rattle.std.specs.Prelude.{◌≡◌, ℕ, ◌+◌, ◌≤◌, List, [], ◌∷◌, ◌++◌, map, length, Option, Some, None, Result}
+use Rattle.std.specs.Prelude.{◌≡◌, ℕ, ◌+◌, ◌≤◌, List, [], ◌∷◌, ◌++◌, map, length, Option, Some, None}
 use Rattle.std.specs.List.{flat_map}
 use Rattle.std.specs.Option.{option_map}
 use mathlib.Core.List.{IsPrefix}
 use Rattle.gate.specs.Events.{number_if}
-use Rattle.sealed.specs.declared.fault.Fault.{Fault}
 use Rattle.sealed.specs.declared.fault.Fault.TheVariants.{JournalFull, TooLong}
 use Rattle.lent.specs.declared.grant.Grant.{Grant}
 use Rattle.history.specs.Step.{Operation, read}
 use Rattle.history.specs.History.{History}
-use Rattle.book.specs.declared.answer.Answer.{Answer}
 use Rattle.book.specs.declared.answer.Answer.TheVariants.{Granted}
 use Rattle.book.specs.Notes.{note_of}
 use Rattle.book.specs.Serial.{Deed, called, full, too_long, trimmed, Does, Act, act_of, events_in, standing_of}
@@ -18,10 +16,8 @@ use Rattle.requests.specs.declared.jobs.Ask.TheVariants as ask
 use Rattle.requests.specs.declared.jobs.Job.{Job}
 use Rattle.requests.specs.declared.jobs.Reply.{Reply}
 use Rattle.requests.specs.declared.jobs.Reply.TheVariants.{Made, Refused, Trimmed}
-use Rattle.shared.specs.declared.run.Outcome.{Outcome}
-use Rattle.shared.specs.declared.run.Outcome.TheVariants as outcome
 use Rattle.shared.specs.Passes.{Shows, Stays}
-use Rattle.shared.specs.Deeds.{deed_of, trim_deed, act_if}
+use Rattle.shared.specs.Deeds.{act_if}
 use Rattle.shared.specs.Calls.{GrantedIn}
 use Rattle.shared.specs.Runs.{operation_asked}
 
@@ -34,20 +30,7 @@ keep_asked (ask.Trim keep) = Some keep
 keep_asked other = None
 
 -- ---- one job
--- what was done of what was asked for
-abbrev pub call_deed : Option Operation → Result Answer Fault → Option Deed
-call_deed None r = None
-call_deed (Some o) r = deed_of o r
-
-abbrev pub keep_deed : Option ℕ → Result ℕ Fault → Option Deed
-keep_deed None r = None
-keep_deed (Some keep) r = trim_deed keep r
-
-abbrev pub outcome_deed : Ask → Outcome → Option Deed
-outcome_deed a (outcome.Made r) = call_deed (operation_asked a) r
-outcome_deed a (outcome.Trimmed r) = keep_deed (keep_asked a) r
-
--- the same, as the reply tells it
+-- what was done, as the reply tells it
 abbrev pub deed_told : Ask → Reply → Option Deed
 deed_told a (Made answer) = option_map (λ o. called o (note_of answer)) (operation_asked a)
 deed_told a (Refused JournalFull) = option_map full (operation_asked a)

@@ -1,21 +1,14 @@
 //! Running jobs in order.
-ghost use Rattle.std.specs.Prelude.{◌≡◌, ◌⊎◌, ◌<◌, [], None, length, IfOk, IfErr};
-ghost use Rattle.shared.specs.Deeds.{Takes};
+ghost use Rattle.std.specs.Prelude.{◌≡◌, ◌⊎◌, ◌<◌, List, [], ◌∷◌, length, IfOk, IfErr, OnErr};
+ghost use Rattle.requests.specs.declared.jobs.Ask.{Ask};
 ghost use Rattle.shared.specs.Paced.{AreLetThrough, AsksMemory, HasNotBegun, StoppedAt};
-ghost use Rattle.shared.specs.Runs.{operation_asked, ComesOf, reply_of};
-ghost use Rattle.shared.specs.Serving.{asks_of, outcome_deed, Serves};
+ghost use Rattle.shared.specs.Runs.{reply_for};
+ghost use Rattle.shared.specs.Serving.{asks_of, Serves};
 
 use crate::{Ask, Cause, Job, Pace, Pass, Reply, Stopped, Store};
 use book::{Answer, Fault};
 use std::alloc::Global;
 use std::sync::Wait;
-
-/// What came of a call, or of a trim.
-#[derive(Drop)]
-pub enum Outcome {
-    Made(Result<Answer, Fault>),
-    Trimmed(Result<u64, Fault>),
-}
 
 impl Store {
     /// Does what is asked for, row by row, each between its `before` and its `after`, and gives the replies. A call that is refused for a full journal, or as a blob that is too
@@ -52,9 +45,9 @@ impl Store {
                     cause: Cause::Paused,
                 });
             }
-            let outcome = self.serve(rt, alloc, pass, ask);
+            let served = self.serve(rt, alloc, pass, ask);
             pace.after(row);
-            let Some(reply) = reply_to(outcome) else {
+            let Ok(reply) = served else {
                 return Err(Stopped {
                     done,
                     cause: Cause::NoMemory,
@@ -65,47 +58,52 @@ impl Store {
         Ok(done)
     }
 
-    /// Does what is asked for.
-    fn serve<R: Wait>(&self, rt: &R, alloc: Global, pass: &mut Pass, ask: Ask) -> Outcome
+    /// Does what is asked for, and gives the reply. After a fault nothing was done, and the run stops.
+    fn serve<R: Wait>(
+        &self,
+        rt: &R,
+        alloc: Global,
+        pass: &mut Pass,
+        ask: Ask,
+    ) -> Result<Reply, Fault>
         requires { pass.old.store ≡ self.now }
-        ensures comes { ComesOf pass.old (operation_asked ask) result pass.new }
-        ensures takes { Takes pass.old (outcome_deed ask result) pass.new }
-        ensures wants { reply_of result ≡ None → AsksMemory ask }
+        ensures ok { IfOk result (λ reply. Serves pass.old (ask ∷ []) (reply ∷ []) pass.new) }
+        ensures err { OnErr result ((asks : List Ask) → Serves pass.old asks [] pass.new) }
+        ensures wants { OnErr result (AsksMemory ask) }
     {
         match ask {
             Ask::Put { name, code, bytes } => {
-                Outcome::Made(self.put_as(rt, alloc, pass, name, bytes, code))
+                reply_to(self.put_as(rt, alloc, pass, name, bytes, code))
             }
-            Ask::Read { name, start, len } => {
-                Outcome::Made(self.read(rt, pass, name, start, len))
-            }
+            Ask::Read { name, start, len } => reply_to(self.read(rt, pass, name, start, len)),
             Ask::Lose {
                 name,
                 stripe,
                 fragment,
-            } => Outcome::Made(self.lose(rt, alloc, pass, name, stripe, fragment)),
+            } => reply_to(self.lose(rt, alloc, pass, name, stripe, fragment)),
             Ask::Repair {
                 name,
                 stripe,
                 fragment,
-            } => Outcome::Made(self.repair(rt, alloc, pass, name, stripe, fragment)),
-            Ask::Delete { name } => Outcome::Made(self.delete(rt, pass, name)),
-            Ask::Stat { name } => Outcome::Made(self.stat(rt, pass, name)),
-            Ask::Trim { keep } => Outcome::Trimmed(self.trim(rt, alloc, pass, keep)),
+            } => reply_to(self.repair(rt, alloc, pass, name, stripe, fragment)),
+            Ask::Delete { name } => reply_to(self.delete(rt, pass, name)),
+            Ask::Stat { name } => reply_to(self.stat(rt, pass, name)),
+            Ask::Trim { keep } => match self.trim(rt, alloc, pass, keep) {
+                Ok(count) => Ok(Reply::Trimmed(count)),
+                Err(fault) => Err(fault),
+            },
         }
     }
 }
 
-/// The reply to an outcome, or `None` where the run stops.
-fn reply_to(outcome: Outcome) -> Option<Reply>
-    ensures { result ≡ reply_of outcome }
+/// The reply to a call, or the fault that stops the run.
+fn reply_to(made: Result<Answer, Fault>) -> Result<Reply, Fault>
+    ensures { result ≡ reply_for made }
 {
-    match outcome {
-        Outcome::Made(Ok(answer)) => Some(Reply::Made(answer)),
-        Outcome::Made(Err(Fault::JournalFull)) => Some(Reply::Refused(Fault::JournalFull)),
-        Outcome::Made(Err(Fault::TooLong)) => Some(Reply::Refused(Fault::TooLong)),
-        Outcome::Made(Err(_)) => None,
-        Outcome::Trimmed(Ok(count)) => Some(Reply::Trimmed(count)),
-        Outcome::Trimmed(Err(_)) => None,
+    match made {
+        Ok(answer) => Ok(Reply::Made(answer)),
+        Err(Fault::JournalFull) => Ok(Reply::Refused(Fault::JournalFull)),
+        Err(Fault::TooLong) => Ok(Reply::Refused(Fault::TooLong)),
+        Err(fault) => Err(fault),
     }
 }

@@ -6,10 +6,10 @@ use Rattle.history.specs.Text.{entry_text}
 use Rattle.history.specs.declared.note.Entry.{Entry}
 use Rattle.transcript.specs.Lines.{AreLines, IsLineFor, line_text}
 use Rattle.transcript.specs.Lines.{entry_lines}
-use Rattle.transcript.specs.declared.outcome.Done.{Done}
+use Rattle.transcript.specs.declared.outcome.NumberedOutcome.{NumberedOutcome}
 use Rattle.transcript.specs.declared.line.Line.{Line}
 
-pub lines-more : (done : List Done) (d : Done) (text : List ℕ) (reply : Line) → AreLines done text → IsLineFor d.outcome reply
+pub lines-more : (done : List NumberedOutcome) (d : NumberedOutcome) (text : List ℕ) (reply : Line) → AreLines done text → IsLineFor d.outcome reply
     → AreLines (done ++ d ∷ []) (text ++ (decimal d.number ++ (codes " " ++ (line_text reply ++ codes "\n"))))
 lines-more [] d text reply are is =
     let line = decimal d.number ++ (codes " " ++ (line_text reply ++ codes "\n")) in

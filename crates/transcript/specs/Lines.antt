@@ -16,7 +16,7 @@ use Rattle.book.specs.declared.answer.Answer.{Answer}
 use Rattle.book.specs.declared.answer.Answer.TheVariants as answer
 use Rattle.requests.specs.declared.jobs.Reply.TheVariants as made
 use Rattle.mender.specs.Line.{report_line}
-use Rattle.transcript.specs.declared.outcome.Done.{Done}
+use Rattle.transcript.specs.declared.outcome.NumberedOutcome.{NumberedOutcome}
 use Rattle.transcript.specs.declared.outcome.RowOutcome.{RowOutcome}
 use Rattle.transcript.specs.declared.outcome.RowOutcome.TheVariants as outcome
 use Rattle.transcript.specs.declared.line.Reading.{Reading}
@@ -75,7 +75,7 @@ IsLineFor (outcome.Mended report) line = line ≡ Mended report
 IsLineFor outcome.Full line = line ≡ Full
 
 -- one line for each row
-abbrev pub AreLines : List Done → List ℕ → Type 0
+abbrev pub AreLines : List NumberedOutcome → List ℕ → Type 0
 AreLines [] text = text ≡ []
 AreLines (d ∷ done) text =
     (line : Line) × (rest : List ℕ) × IsLineFor d.outcome line × AreLines done rest

@@ -6,5 +6,5 @@ mod outcome;
 mod text;
 
 pub use line::{Line, Reading};
-pub use outcome::{Done, RowOutcome};
+pub use outcome::{NumberedOutcome, RowOutcome};
 pub use text::print;

@@ -5,7 +5,7 @@ use requests::Reply;
 
 /// What became of one row: its number, from 1, and what came of it.
 #[derive(Drop)]
-pub struct Done {
+pub struct NumberedOutcome {
     pub number: u32,
     pub outcome: RowOutcome,
 }

@@ -4,7 +4,7 @@ ghost use Rattle.history.specs.Lawful.{IsLawfulFrom};
 ghost use Rattle.transcript.specs.Lines.{AreLines, entry_lines};
 
 use crate::line::line_for;
-use crate::outcome::Done;
+use crate::outcome::NumberedOutcome;
 use book::{Book, Entry, is_lawful_from};
 use lrc_code::Plans;
 use std::alloc::{AllocError, Global};
@@ -14,7 +14,7 @@ use std::alloc::{AllocError, Global};
 /// given up before, its caller's label, its call and its note.
 fn lines_of(
     alloc: Global,
-    done: Vec<Done>,
+    done: Vec<NumberedOutcome>,
     trimmed: u64,
     entries: &[Entry],
 ) -> Result<String, AllocError>
@@ -24,7 +24,7 @@ fn lines_of(
     let mut text = String::new(alloc);
     let mut plans = Plans::new(alloc);
     for one in done {
-        let Done { number, outcome } = one;
+        let NumberedOutcome { number, outcome } = one;
         let line = line_for(alloc, outcome, &mut plans)?;
         text.reserve(line.room())?;
         writeln!(text, "{number} {line}")?;
@@ -52,7 +52,7 @@ fn lawful_text(alloc: Global, book: &Book) -> Result<&'static str, AllocError>
 /// The printed text: a line for each row, where `history` is asked for one for each entry, then the number of calls that were made, and whether the journal is lawful.
 pub fn print(
     alloc: Global,
-    done: Vec<Done>,
+    done: Vec<NumberedOutcome>,
     book: &Book,
     history: bool,
 ) -> Result<String, AllocError>

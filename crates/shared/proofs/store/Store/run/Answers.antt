@@ -5,7 +5,7 @@ use Rattle.requests.specs.declared.jobs.Ask.{Ask}
 use Rattle.requests.specs.declared.jobs.Job.{Job}
 use Rattle.requests.specs.declared.jobs.Reply.{Reply}
 use Rattle.shared.specs.Serving.{asks_of, Serves}
-use Rattle.shared.proofs.Serving.{serves_nothing, serves_append, serves_longer, serves_one, serves_stopped}
+use Rattle.shared.proofs.Serving.{serves_nothing, serves_append, serves_longer}
 use Rattle.shared.proofs.store.Store.run.Goals as goal
 
 abbrev ask_of : Job → Ask
@@ -28,8 +28,8 @@ returns-then-not-before-clause-unfinished g c =
     let i = c.loop-job.invariant in
     inr (some_left c.loop-job.done.items c.loop-job.yielded c.loop-job.job-iterator.rest.items c.next.new.self.rest.items c.args.jobs.items c.in-Some.job i.1 i.2 c.in-Some.ensures.steps.0)
 
-pub returns-in_default-reply_to-clause-unfinished : goal.returns-in_default-reply_to-clause-unfinished
-returns-in_default-reply_to-clause-unfinished g c =
+pub returns-in_default-served-clause-unfinished : goal.returns-in_default-served-clause-unfinished
+returns-in_default-served-clause-unfinished g c =
     let i = c.loop-job.invariant in
     inr (some_left c.loop-job.done.items c.loop-job.yielded c.loop-job.job-iterator.rest.items c.next.new.self.rest.items c.args.jobs.items c.in-Some.job i.1 i.2 c.in-Some.ensures.steps.0)
 
@@ -45,13 +45,13 @@ returns-then-not-before-clause-serves_by_then g c =
     (serves_longer c.args.pass.now c.loop-job.pass c.loop-job.pass (asks_of c.loop-job.yielded) (asks_of rest) c.loop-job.done.items (asked_count c.loop-job.done.items c.loop-job.yielded i.1) i.4
     (serves_nothing c.loop-job.pass (asks_of rest)))
 
-pub returns-in_default-reply_to-clause-serves_by_then : goal.returns-in_default-reply_to-clause-serves_by_then
-returns-in_default-reply_to-clause-serves_by_then g c =
+pub returns-in_default-served-clause-serves_by_then : goal.returns-in_default-served-clause-serves_by_then
+returns-in_default-served-clause-serves_by_then g c =
     let i = c.loop-job.invariant in
     let rest = c.loop-job.job-iterator.rest.items in
-    subst (λ asks. Serves c.args.pass.now asks c.loop-job.done.items c.serve-outcome.new.pass) (all_asks c.loop-job.yielded rest c.args.jobs.items i.2)
-    (serves_longer c.args.pass.now c.loop-job.pass c.serve-outcome.new.pass (asks_of c.loop-job.yielded) (asks_of rest) c.loop-job.done.items (asked_count c.loop-job.done.items c.loop-job.yielded i.1) i.4
-    (serves_stopped c.loop-job.pass c.serve-outcome.new.pass c.in-Some.job.ask c.serve-outcome.result (asks_of rest) c.serve-outcome.ensures.takes (sym c.reply_to.ensures ∙ c.in_default-reply_to.is)))
+    subst (λ asks. Serves c.args.pass.now asks c.loop-job.done.items c.serve-served.new.pass) (all_asks c.loop-job.yielded rest c.args.jobs.items i.2)
+    (serves_longer c.args.pass.now c.loop-job.pass c.serve-served.new.pass (asks_of c.loop-job.yielded) (asks_of rest) c.loop-job.done.items (asked_count c.loop-job.done.items c.loop-job.yielded i.1) i.4
+    (c.in_default-served.ensures.err (asks_of rest)))
 
 pub returns-in_default-clause-cause : goal.returns-in_default-clause-cause
 returns-in_default-clause-cause g c = inl (record { none = c.new.ensures.items; memory = refl; pass = refl })
@@ -69,8 +69,8 @@ returns-then-not-before-clause-cause g c =
       cause = subst (g.P.Pace.may_answer c.args.pace.now c.in-Some.job.row) c.if-not-before.true c.before-in-loop-job.ensures;
     })
 
-pub returns-in_default-reply_to-clause-cause : goal.returns-in_default-reply_to-clause-cause
-returns-in_default-reply_to-clause-cause g c =
+pub returns-in_default-served-clause-cause : goal.returns-in_default-served-clause-cause
+returns-in_default-served-clause-cause g c =
     let i = c.loop-job.invariant in
     inr (record {
       before = c.loop-job.yielded;
@@ -79,7 +79,7 @@ returns-in_default-reply_to-clause-cause g c =
       jobs_are = sym i.2 ∙ ap (λ (l : List Job). c.loop-job.yielded ++ l) c.in-Some.ensures.steps.0;
       replies = i.1;
       let_through = i.5;
-      cause = (subst (g.P.Pace.may_answer c.args.pace.now c.in-Some.job.row) c.if-not-before.false c.before-in-loop-job.ensures, c.serve-outcome.ensures.wants (sym c.reply_to.ensures ∙ c.in_default-reply_to.is));
+      cause = (subst (g.P.Pace.may_answer c.args.pace.now c.in-Some.job.row) c.if-not-before.false c.before-in-loop-job.ensures, c.in_default-served.ensures.wants);
     })
 
 pub loop-job-preserved : goal.loop-job-preserved
@@ -87,19 +87,18 @@ loop-job-preserved g c =
     let i = c.loop-job.invariant in
     let yielded = c.loop-job.yielded in
     let job = c.in-Some.job in
-    let reply = c.in-Some-reply_to.reply in
+    let reply = c.in-Ok-served.reply in
     let items = c.push_reserved.ensures.items in
     let lengths : length c.push_reserved.new.self.items ≡ length (yielded ++ job ∷ []) =
     ap length items ∙ length-append c.loop-job.done.items (reply ∷ []) ∙ ap (λ (n : ℕ). n + 1) i.1 ∙ sym (length-append yielded (job ∷ [])) in
-    let one : Serves c.loop-job.pass (job.ask ∷ []) (reply ∷ []) c.serve-outcome.new.pass =
-    serves_one c.loop-job.pass c.serve-outcome.new.pass job.ask c.serve-outcome.result reply c.serve-outcome.ensures.comes c.serve-outcome.ensures.takes (sym c.reply_to.ensures ∙ c.in-Some-reply_to.is) in
-    let more : Serves c.args.pass.now (asks_of yielded ++ job.ask ∷ []) (c.loop-job.done.items ++ reply ∷ []) c.serve-outcome.new.pass =
-    serves_append c.args.pass.now c.loop-job.pass c.serve-outcome.new.pass (asks_of yielded) (job.ask ∷ []) c.loop-job.done.items (reply ∷ []) (asked_count c.loop-job.done.items yielded i.1) i.4 one in (
+    let one : Serves c.loop-job.pass (job.ask ∷ []) (reply ∷ []) c.serve-served.new.pass = c.in-Ok-served.ensures.ok in
+    let more : Serves c.args.pass.now (asks_of yielded ++ job.ask ∷ []) (c.loop-job.done.items ++ reply ∷ []) c.serve-served.new.pass =
+    serves_append c.args.pass.now c.loop-job.pass c.serve-served.new.pass (asks_of yielded) (job.ask ∷ []) c.loop-job.done.items (reply ∷ []) (asked_count c.loop-job.done.items yielded i.1) i.4 one in (
       one.stays.0 ∙ i.0,
       lengths,
       append_assoc yielded (job ∷ []) c.next.new.self.rest.items ∙ (ap (λ (l : List Job). yielded ++ l) (sym c.in-Some.ensures.steps.0) ∙ i.2),
       omega (arith, i.3, c.push_reserved.ensures.capacity),
-      subst (λ (replies : List Reply). Serves c.args.pass.now (asks_of (yielded ++ job ∷ [])) replies c.serve-outcome.new.pass) (sym items)
-          (subst (λ asks. Serves c.args.pass.now asks (c.loop-job.done.items ++ reply ∷ []) c.serve-outcome.new.pass) (sym (map-append ask_of yielded (job ∷ []))) more),
+      subst (λ (replies : List Reply). Serves c.args.pass.now (asks_of (yielded ++ job ∷ [])) replies c.serve-served.new.pass) (sym items)
+          (subst (λ asks. Serves c.args.pass.now asks (c.loop-job.done.items ++ reply ∷ []) c.serve-served.new.pass) (sym (map-append ask_of yielded (job ∷ []))) more),
       All-push (λ (one : Job). g.P.Pace.may_answer c.args.pace.now one.row true) yielded job i.5 (subst (g.P.Pace.may_answer c.args.pace.now job.row) c.if-not-before.false c.before-in-loop-job.ensures),
     )
