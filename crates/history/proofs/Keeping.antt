@@ -6,7 +6,6 @@ use Rattle.std.specs.BTreeMap.{is_at}
 use Rattle.std.specs.BTreeMap.Range.{IsLeBy, range_contains}
 use Rattle.std.specs.BTreeSet.{keys_between}
 use Rattle.std.specs.declared.ops.Bound.TheVariants.{Included}
-use Rattle.std.proofs.Math.Nat.{div-mul-le_self}
 use Rattle.std.proofs.lemmas.Nat.{le-div, div-mul-add}
 use Rattle.std.proofs.lemmas.Bool.{or_cases, or_left, or_right, or_parts, and_parts, cases_Bool, not-true, false≢true}
 use Rattle.std.proofs.lemmas.Grind.{common_steps}
@@ -17,7 +16,7 @@ use Rattle.lrc_code.proofs.Recoverable.{exact, not_open_left}
 use Rattle.lrc_code.proofs.Stripes.{open_same}
 use Rattle.sealed.specs.Layout.{HasFragment, stripe_count, stripe_of, fragment_of}
 use Rattle.sealed.specs.Blob.{pair_cmp}
-use Rattle.sealed.proofs.Counting.{some_data, data_is_counted, few_fragments}
+use Rattle.sealed.proofs.Counting.{some_data, data_is_counted, few_fragments, div_mono}
 use Rattle.sealed.proofs.Places.{fragment_inside, stripe_by_count, fragment_by_count}
 use Rattle.lent.specs.Range.{HasOpen}
 use Rattle.lent.proofs.Readable.{Meets, has_open}
@@ -91,9 +90,6 @@ by_fragment code w len j f r is =
           ]
       | inr none ↦ ap not none
     ])
-
-div_mono : (w a b : ℕ) → 1 ≤ w → a ≤ b → a / w ≤ b / w
-div_mono w a b some le = let under : a / w * w ≤ a = div-mul-le_self a w in le-div (a / w) b w some (omega arith)
 
 module _ (k : BlobMetadata) (w start len : ℕ) (some : 1 ≤ w) (bytes : 0 < len) where
   meets : (n : ℕ) → start / w ≤ n → n ≤ (start + len - 1) / w → Meets w start len n

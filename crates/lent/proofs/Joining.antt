@@ -5,8 +5,7 @@ use Rattle.std.specs.List.{range_with_len}
 use Rattle.std.proofs.lemmas.List.{map-append, ext_get_or}
 use Rattle.std.proofs.lemmas.List.FromFn.{length-map-range_with_len, get_or-map-range_with_len}
 use Rattle.lrc_code.specs.declared.Code.{Code}
-use Rattle.lrc_code.specs.declared.Code.TheVariants.{Wide, Small}
-use Rattle.lrc_code.specs.Code.{data_count, fragment_count}
+use Rattle.lrc_code.specs.Code.{data_count}
 use Rattle.lrc_code.specs.Column.{column}
 use Rattle.lrc_code.proofs.Columns.{column_data}
 use Rattle.sealed.specs.declared.value.Sealed.{Sealed}
@@ -14,6 +13,7 @@ use Rattle.sealed.specs.Layout.{byte_of, stripe_count}
 use Rattle.sealed.specs.Blob.{Lost, lost_in, data_at, fragment}
 use Rattle.sealed.specs.Stripes.{fragment_at}
 use Rattle.sealed.specs.Sealed.{StandsFor}
+use Rattle.sealed.proofs.Counting.{data_is_counted}
 use Rattle.sealed.proofs.Ranges.{length_of_range, item_of_range}
 use Rattle.lent.specs.declared.part.Part.{Part}
 use Rattle.lent.specs.declared.piece.Piece.{Piece}
@@ -24,10 +24,6 @@ use Rattle.lent.proofs.Cutting.{cut_is}
 use Rattle.lent.specs.Pieces.{IsPieceBy, IsPieceOf, bytes_of}
 use Rattle.lent.specs.Walk.{Gives, Joins}
 use Rattle.lent.specs.Spans.{span_of, spans_of}
-
-data_is_counted : (code : Code) → data_count code ≤ fragment_count code
-data_is_counted Wide = omega arith
-data_is_counted Small = omega arith
 
 fill_from : (g : ℕ → ℕ) (xs : List ℕ) (a n : ℕ) → length xs ≡ n → ((k : ℕ) → k < n → get_or xs k 0 ≡ g (a + k)) → xs ≡ map g (range_with_len a n)
 fill_from g xs a n long at =

@@ -1,10 +1,10 @@
 -- Open bytes of a range, by the data fragments that it meets.
 use Rattle.std.proofs.Common.{◌≡◌, ℕ, ◌+◌, ◌-◌, ◌*◌, ◌/◌, ◌%◌, ◌<◌, ◌≤◌, Bool, max, sym, ◌∙◌, ap, subst, arith}
 use Rattle.std.proofs.Math.Nat.{div-eq_of_lt-le, div-mul-le_self, lt-div-mul-add, mul-le-mul_right}
-use Rattle.std.proofs.lemmas.Nat.{le-div}
 use Rattle.lrc_code.specs.declared.Code.{Code}
 use Rattle.lrc_code.specs.Code.{data_count, Open}
 use Rattle.sealed.specs.Layout.{stripe_count, stripe_of, fragment_of}
+use Rattle.sealed.proofs.Counting.{div_mono}
 use Rattle.sealed.proofs.Places.{stripe_by_count, fragment_by_count, stripe_below}
 use Rattle.lent.specs.Range.{HasOpen}
 use Rattle.lent.specs.Cut.{cut_end}
@@ -19,9 +19,6 @@ some_met w start len k met = grind (arith, met.first, met.last)
 
 end_above : (w start len : ℕ) → 0 < len → (start + len - 1) / w < cut_end w start len
 end_above w start len some = grind arith
-
-div_mono : (w a b : ℕ) → 1 ≤ w → a ≤ b → a / w ≤ b / w
-div_mono w a b some le = let under : a / w * w ≤ a = div-mul-le_self a w in le-div (a / w) b w some (omega arith)
 
 -- the k-th data fragment is open
 abbrev pub OpenAt : Code → (ℕ → ℕ → Bool) → ℕ → Type 0

@@ -1,8 +1,8 @@
 //! All pieces of a range.
-ghost use Rattle.std.specs.Prelude.{◌≡◌, ◌+◌, ◌<◌, ◌⊎◌, ℕ, List, IfOk, OnErr, length, slice_range};
+ghost use Rattle.std.specs.Prelude.{◌≡◌, ◌<◌, ◌⊎◌, ℕ, List, IfOk, OnErr, length};
 ghost use Rattle.sealed.specs.Blob.{Lost};
 ghost use Rattle.sealed.specs.Sealed.{StandsFor};
-ghost use Rattle.lent.specs.Cut.{cut};
+ghost use Rattle.lent.specs.Granted.{cut_of, range_of};
 ghost use Rattle.lent.specs.Pieces.{joined};
 ghost use Rattle.lent.specs.Walk.{ArePieces, HasAbsent};
 
@@ -15,10 +15,9 @@ impl Grant {
     /// All pieces of the range, in order. Up to twelve of them ask for no memory but what is built: `NoMemory` comes only where there are more, or where
     /// the fragment of one is absent.
     pub fn collect(&self, alloc: Global) -> Result<SmallVec<Piece<'_>, 12>, NoMemory>
-        ensures pieces { IfOk result (λ pieces. ArePieces self.now.sealed.value (cut self.now.sealed.value.code self.now.sealed.value.width self.now.start self.now.len) pieces.items) }
-        ensures joined { IfOk result (λ pieces. (b : List ℕ) (lost : Lost) → StandsFor self.now.sealed.value b lost → joined pieces.items ≡ slice_range b self.now.start (self.now.start + self.now.len)) }
-        ensures err { OnErr result (let parts = cut self.now.sealed.value.code self.now.sealed.value.width self.now.start self.now.len in
-            HasAbsent self.now.sealed.value parts ⊎ (12 < length parts)) }
+        ensures pieces { IfOk result (λ pieces. ArePieces self.now.sealed.value (cut_of self.now) pieces.items) }
+        ensures joined { IfOk result (λ pieces. (b : List ℕ) (lost : Lost) → StandsFor self.now.sealed.value b lost → joined pieces.items ≡ range_of self.now b) }
+        ensures err { OnErr result (HasAbsent self.now.sealed.value (cut_of self.now) ⊎ (12 < length (cut_of self.now))) }
     {
         let mut pieces = SmallVec::new(alloc);
         let mut walk = self.walk();

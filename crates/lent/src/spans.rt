@@ -1,7 +1,7 @@
 //! The cut of a range, with the bytes that are there.
 ghost use Rattle.std.specs.Prelude.{◌≡◌, ◌≤◌, ◌<◌};
 ghost use Rattle.sealed.specs.Layout.{stripe_count};
-ghost use Rattle.lent.specs.Cut.{cut};
+ghost use Rattle.lent.specs.Granted.{cut_of};
 ghost use Rattle.lent.specs.Spans.{seen, span_of, spans_of};
 
 use crate::{Grant, Part, Span, Walk};
@@ -27,7 +27,7 @@ impl<'a> Model for Spans<'a> {
 impl Grant {
     /// The range from its first byte to its last, cut where fragments end. An empty range has no span. It asks for no memory.
     pub fn spans(&self) -> Spans<'_>
-        ensures { result ≡ spans_of self.now.sealed.value (cut self.now.sealed.value.code self.now.sealed.value.width self.now.start self.now.len) }
+        ensures { result ≡ spans_of self.now.sealed.value (cut_of self.now) }
     {
         Spans { walk: self.walk() }
     }

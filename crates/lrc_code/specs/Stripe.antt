@@ -38,6 +38,12 @@ byte_at fragments k i = slice_index (bytes_of (slot fragments i)) k
 abbrev pub Reaches : List (Option (Bor (List ℕ))) → ℕ → ℕ → Type 0
 Reaches fragments to i = (is_absent fragments i ≡ false) × (to ≤ length (bytes_of (slot fragments i)))
 
+-- the code has the fragment f, and every fragment that is present has the bytes from..to
+pub record HasRange (code : Code) (fragments : List (Option (Bor (List ℕ)))) (f from to : ℕ) : Type 0 where
+  pub below : f < fragment_count code
+  pub range : from ≤ to
+  pub long : (i : ℕ) → i < fragment_count code → is_absent fragments i ≡ false → Reaches fragments to i
+
 -- the stripe has the present bytes
 abbrev pub Agrees : Code → List (Option (Bor (List ℕ))) → (ℕ → List ℕ) → Type 0
 Agrees code fragments s = (i : ℕ) → i < fragment_count code → IfSome (slot fragments i) (λ x. s i ≡ x.now)

@@ -3,7 +3,7 @@
 ghost use Rattle.std.specs.Prelude.{◌≡◌, ℕ, ◌+◌, ◌-◌, ◌^◌, ◌<◌, ◌≤◌, ◌↔◌, true, false, min, IsTrue, IfOk, IfSome, MatchResult, length};
 ghost use Rattle.lrc_code.specs.Code.{fragment_count, is_lost, Open};
 ghost use Rattle.lrc_code.specs.Recipe.{IsRecipe};
-ghost use Rattle.lrc_code.specs.Stripe.{is_absent, Reaches, Rebuilds};
+ghost use Rattle.lrc_code.specs.Stripe.{is_absent, HasRange, Rebuilds};
 
 use crate::left::{Left, Rebuild};
 use crate::rebuilding::rebuild_by;
@@ -120,9 +120,7 @@ impl Plans {
         to: usize,
     ) -> Result<Vec<u8>, Rebuild>
         requires absent { is_absent left.now.fragments f ≡ true }
-        requires f_below { f < fragment_count left.now.code }
-        requires range { from ≤ to }
-        requires long { (i : ℕ) → i < fragment_count left.now.code → is_absent left.now.fragments i ≡ false → Reaches left.now.fragments to i }
+        requires inside { HasRange left.now.code left.now.fragments f from to }
         ensures open { (result ≡ Err Rebuild.Open) ↔ Open left.now.code (is_absent left.now.fragments) f }
         ensures length_of { IfOk result (λ v. length v.items ≡ to - from) }
         ensures ok { IfOk result (λ v. Rebuilds left.now.code left.now.fragments f from to v.items) }

@@ -3,7 +3,7 @@ ghost use Rattle.std.specs.Prelude.{◌≡◌, ◌+◌, ◌-◌, ◌/◌, ◌^�
 ghost use Rattle.gate.specs.Places.{times, AreApart};
 ghost use Rattle.mender.specs.Drawn.{IsWhole};
 
-use crate::view::{Draws, Halves, Joins, Looks, TicketRule, DrawerView};
+use crate::view::{DrawerView, Draws, Halves, Joins, Looks, TicketRule};
 use atomic_table::{Seat, Table};
 use std::alloc::{AllocError, Global};
 use std::marker::Model;

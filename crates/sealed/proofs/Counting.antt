@@ -1,6 +1,7 @@
 -- How many data fragments and stripes there are.
 use Rattle.std.proofs.Common.{◌≡◌, ◌≢◌, ℕ, ◌+◌, ◌-◌, ◌*◌, ◌/◌, ◌%◌, ◌<◌, ◌≤◌, min, refl, sym, ◌∙◌, ap, arith, inl, inr}
-use Rattle.std.proofs.lemmas.Nat.{div-mul-add}
+use Rattle.std.proofs.Math.Nat.{div-mul-le_self}
+use Rattle.std.proofs.lemmas.Nat.{div-mul-add, le-div}
 use Rattle.std.proofs.lemmas.Bool.{cases_eq}
 use Rattle.lrc_code.specs.declared.Code.{Code}
 use Rattle.lrc_code.specs.declared.Code.TheVariants.{Wide, Small}
@@ -25,6 +26,9 @@ few_fragments Small = omega arith
 pub parity_count : (code : Code) → fragment_count code ≡ data_count code + 4
 parity_count Wide = refl
 parity_count Small = refl
+
+pub div_mono : (w a b : ℕ) → 1 ≤ w → a ≤ b → a / w ≤ b / w
+div_mono w a b some le = let under : a / w * w ≤ a = div-mul-le_self a w in le-div (a / w) b w some (omega arith)
 
 -- a quotient that is rounded up, by dividing first
 pub rounded_up : (n d : ℕ) → 1 ≤ d → n / d + min 1 (n % d) ≡ (n + d - 1) / d

@@ -9,7 +9,7 @@ returns-in-Ok-clause-open c = (λ e. absurd (cc e), λ o. absurd (recipe_not_ope
 pub returns-in-Ok-clause-ok : goal.returns-in-Ok-clause-ok
 returns-in-Ok-clause-ok c =
     rebuilt c.args.left.now.code (is_absent c.args.left.now.fragments) c.args.left.now.fragments c.args.f c.args.from c.args.to c.args.recipe.now.items c.in-Ok.bytes.items
-    (λ i l. refl) c.requires.f_below c.requires.range c.requires.is_recipe c.in-Ok.ensures.long c.in-Ok.ensures.sums
+    (λ i l. refl) c.requires.inside.below c.requires.inside.range c.requires.is_recipe c.in-Ok.ensures.long c.in-Ok.ensures.sums
 
 pub returns-in-Err-clause-open : goal.returns-in-Err-clause-open
 returns-in-Err-clause-open c = (λ e. absurd (cc e), λ o. absurd (recipe_not_open _ _ _ _ c.requires.is_recipe o))
