@@ -1,0 +1,81 @@
+#!/usr/bin/env python3
+"""Runs rt ci, and says what each crate took of the processors: bench/gate_time.py [words for rt ci]
+
+Twice a second it reads the processor time of the provers that the run has started. It prints a table in the end: by
+crate the seconds for its proof, for that of its tests and for its must-fail edits. What ends within half a second of its
+start is not seen. The status is that of rt ci.
+"""
+
+import os
+import subprocess
+import sys
+import time
+
+KINDS = ("Proof", "Its tests", "Its edits")
+TICKS = os.sysconf("SC_CLK_TCK")
+
+
+def processes():
+    """Each process: its parent, when it began, and its seconds of the processors."""
+    found = {}
+    for pid in filter(str.isdigit, os.listdir("/proc")):
+        try:
+            with open(f"/proc/{pid}/stat") as file:
+                parts = file.read().rsplit(")", 1)[1].split()
+        except OSError:
+            continue
+        found[int(pid)] = int(parts[1]), int(parts[19]), (int(parts[11]) + int(parts[12])) / TICKS
+    return found
+
+
+def is_below(pid, top, found):
+    """Whether a process was started by another, or by one that it started."""
+    while pid in found and pid != top:
+        pid = found[pid][0]
+    return pid == top
+
+
+def work_of(pid):
+    """The crate that a prover is at, and the kind of its work, or None."""
+    try:
+        with open(f"/proc/{pid}/cmdline") as file:
+            words = file.read().split("\0")
+    except OSError:
+        return None
+    if not words[0].endswith("/rattle") or "--crate-name" not in words:
+        return None
+    is_edit = any("/rt-edits-" in word for word in words)
+    kind = KINDS[2] if is_edit else KINDS[1] if "--test" in words else KINDS[0]
+    return words[words.index("--crate-name") + 1], kind
+
+
+def watch(run):
+    """What each prover took, until the run ends: (crate, kind, seconds) by process."""
+    took = {}
+    while run.poll() is None:
+        found = processes()
+        for pid, (_, began, seconds) in found.items():
+            if is_below(pid, run.pid, found):
+                work = took[pid, began][:2] if (pid, began) in took else work_of(pid)
+                if work:
+                    took[pid, began] = *work, seconds
+        time.sleep(0.5)
+    return took.values()
+
+
+def main():
+    run = subprocess.Popen(["rt", "ci", *sys.argv[1:]])
+    sums = {}
+    for crate, kind, seconds in watch(run):
+        row = sums.setdefault(crate, dict.fromkeys(KINDS, 0.0))
+        row[kind] += seconds
+    print("| Crate | " + " | ".join(f"{kind}, s" for kind in KINDS) + " |")
+    print("|---" * 4 + "|")
+    for crate, row in sums.items():
+        print(f"| {crate} | " + " | ".join(f"{row[kind]:.0f}" for kind in KINDS) + " |")
+    whole = (sum(row[kind] for row in sums.values()) for kind in KINDS)
+    print("| all | " + " | ".join(f"{seconds:.0f}" for seconds in whole) + " |")
+    return run.returncode
+
+
+sys.exit(main())
