@@ -46,7 +46,7 @@ impl Book {
         ensures { option_map (λ a. a.now.value) result ≡ sealed_at self.now name.now }
     {
         match self.catalogue.get(name) {
-            Some(shelved) => Some(shelved.sealed()),
+            Some(stored) => Some(stored.sealed()),
             None => None,
         }
     }

@@ -20,7 +20,7 @@ use crate::install::install_in;
 use crate::lose::lose_in;
 use crate::plan::Item;
 use crate::repair::repair_in;
-use crate::shelved::Shelved;
+use crate::stored_blob::StoredBlob;
 use crate::{Answer, Bytes, Fault, Name, Sealed};
 use std::alloc::{AllocError, Global};
 use std::collections::{BTreeMap, BTreeSet};
@@ -30,7 +30,7 @@ use std::sync::Arc;
 /// The sealed blobs by name, and beside them the names of those that lack a fragment: what is lost is listed without a look at the others.
 #[derive(Drop)]
 pub(crate) struct Catalogue {
-    blobs: BTreeMap<Name, Shelved>,
+    blobs: BTreeMap<Name, StoredBlob>,
     lacking: BTreeSet<Name>,
 }
 
@@ -61,7 +61,7 @@ impl Catalogue {
     }
 
     /// The blob of a name.
-    pub fn get(&self, name: &Name) -> Option<&Shelved>
+    pub fn get(&self, name: &Name) -> Option<&StoredBlob>
         ensures { option_map (λ s. s.now) result ≡ value_at self.now name.now }
     {
         self.blobs.get(name)
@@ -73,7 +73,10 @@ impl Catalogue {
         ensures ok { OnOk result ((q : List ℕ) → value_at self.new q ≡ cond (is_at (name_cmp name.now) q) (Some sealed.value) (value_at self.old q)) }
         ensures err { OnErr result (self.new ≡ self.old) }
     {
-        let Ok(_) = self.blobs.insert(name.duplicate(), Shelved::whole(sealed)) else {
+        let Ok(_) = self
+            .blobs
+            .insert(name.duplicate(), StoredBlob::whole(sealed))
+        else {
             return Err(AllocError);
         };
         self.lacking.remove(name);
@@ -81,7 +84,7 @@ impl Catalogue {
     }
 
     /// Takes a name out, and its blob.
-    pub fn remove(&mut self, name: &Name) -> Option<Shelved>
+    pub fn remove(&mut self, name: &Name) -> Option<StoredBlob>
         ensures value { result ≡ value_at self.old name.now }
         ensures updates { (q : List ℕ) → value_at self.new q ≡ cond (is_at (name_cmp name.now) q) None (value_at self.old q) }
     {
@@ -165,7 +168,7 @@ impl Catalogue {
 
 /// The lost fragments of the blobs of these names, which are those that lack some.
 fn list_lacking(
-    blobs: &BTreeMap<Name, Shelved>,
+    blobs: &BTreeMap<Name, StoredBlob>,
     lacking: &BTreeSet<Name>,
     alloc: Global,
 ) -> Result<Vec<Item>, AllocError>
@@ -178,15 +181,15 @@ fn list_lacking(
         return Ok(items);
     }
     for name in lacking {
-        if let Some(shelved) = blobs.get(name) {
-            shelved.list_lost(name, &mut items)?;
+        if let Some(stored) = blobs.get(name) {
+            stored.list_lost(name, &mut items)?;
         }
     }
     Ok(items)
 }
 
 /// Takes the name out of those that lack a fragment, unless its blob does.
-fn settle(lacking: &mut BTreeSet<Name>, blobs: &BTreeMap<Name, Shelved>, name: &Name)
+fn settle(lacking: &mut BTreeSet<Name>, blobs: &BTreeMap<Name, StoredBlob>, name: &Name)
     requires own { lacks_at blobs.now.entries name.now ≡ true → contains name_cmp lacking.old name.now ≡ true }
     requires others { (q : List ℕ) → is_at (name_cmp name.now) q ≡ false → contains name_cmp lacking.old q ≡ lacks_at blobs.now.entries q }
     ensures { (q : List ℕ) → contains name_cmp lacking.new q ≡ lacks_at blobs.now.entries q }
@@ -197,11 +200,11 @@ fn settle(lacking: &mut BTreeSet<Name>, blobs: &BTreeMap<Name, Shelved>, name: &
 }
 
 /// Whether the blob of a name lacks a fragment.
-fn is_lacking(blobs: &BTreeMap<Name, Shelved>, name: &Name) -> bool
+fn is_lacking(blobs: &BTreeMap<Name, StoredBlob>, name: &Name) -> bool
     ensures { result ≡ lacks_at blobs.now.entries name.now }
 {
     match blobs.get(name) {
-        Some(shelved) => shelved.lacks_some(),
+        Some(stored) => stored.lacks_some(),
         None => false,
     }
 }

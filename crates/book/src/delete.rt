@@ -7,7 +7,7 @@ ghost use Rattle.book.specs.Tells.{CarriesOn};
 ghost use Rattle.history.specs.Views.{delete_reply};
 
 use crate::book::Book;
-use crate::shelved::Shelved;
+use crate::stored_blob::StoredBlob;
 use crate::{Answer, Call, Entry, Fault, Name};
 
 impl Book {
@@ -35,11 +35,11 @@ impl Book {
 }
 
 /// The answer to a deletion, by what the name had.
-fn answer_delete(removed: Option<Shelved>) -> Answer
+fn answer_delete(removed: Option<StoredBlob>) -> Answer
     ensures { note_of result ≡ reply_for delete_reply removed }
 {
     match removed {
-        Some(shelved) => Answer::Deleted(shelved.sealed().version),
+        Some(stored) => Answer::Deleted(stored.sealed().version),
         None => Answer::NoName,
     }
 }

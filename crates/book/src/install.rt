@@ -10,7 +10,7 @@ ghost use Rattle.book.specs.Notes.{note_of};
 ghost use Rattle.book.specs.Tells.{Tells, CarriesOn};
 
 use crate::book::Book;
-use crate::shelved::Shelved;
+use crate::stored_blob::StoredBlob;
 use crate::{Answer, Call, Entry, Fault, Name};
 use bytes::Bytes;
 use std::alloc::Global;
@@ -64,7 +64,7 @@ impl Book {
 
 /// Mends a lost fragment of a name's blob in the catalogue, with these bytes where the blob has this version. The only fault is `NoMemory`.
 pub(crate) fn install_in(
-    catalogue: &mut BTreeMap<Name, Shelved>,
+    catalogue: &mut BTreeMap<Name, StoredBlob>,
     alloc: Global,
     name: &Name,
     version: u64,
@@ -79,7 +79,7 @@ pub(crate) fn install_in(
     ensures err { OnErr result (catalogue.new.entries ≡ catalogue.old.entries) }
 {
     match catalogue.get_mut(name) {
-        Some(shelved) => shelved.install(alloc, version, stripe, fragment, bytes),
+        Some(stored) => stored.install(alloc, version, stripe, fragment, bytes),
         None => Ok(Answer::NoName),
     }
 }

@@ -7,7 +7,7 @@ ghost use Rattle.book.specs.Tells.{CarriesOn};
 ghost use Rattle.history.specs.Views.{lose_reply};
 
 use crate::book::Book;
-use crate::shelved::Shelved;
+use crate::stored_blob::StoredBlob;
 use crate::{Answer, Call, Entry, Fault, Name};
 use std::alloc::Global;
 use std::collections::BTreeMap;
@@ -54,7 +54,7 @@ impl Book {
 
 /// Loses a fragment of a name's blob in the catalogue. The only fault is `NoMemory`.
 pub(crate) fn lose_in(
-    catalogue: &mut BTreeMap<Name, Shelved>,
+    catalogue: &mut BTreeMap<Name, StoredBlob>,
     alloc: Global,
     name: &Name,
     stripe: u64,
@@ -65,7 +65,7 @@ pub(crate) fn lose_in(
     ensures err { OnErr result (catalogue.new.entries ≡ catalogue.old.entries) }
 {
     match catalogue.get_mut(name) {
-        Some(shelved) => shelved.lose(alloc, stripe, fragment),
+        Some(stored) => stored.lose(alloc, stripe, fragment),
         None => Ok(Answer::NoName),
     }
 }

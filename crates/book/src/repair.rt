@@ -8,7 +8,7 @@ ghost use Rattle.book.specs.Tells.{CarriesOn};
 ghost use Rattle.history.specs.Views.{repair_reply};
 
 use crate::book::Book;
-use crate::shelved::Shelved;
+use crate::stored_blob::StoredBlob;
 use crate::{Answer, Call, Entry, Fault, Name};
 use std::alloc::Global;
 use std::collections::BTreeMap;
@@ -56,7 +56,7 @@ impl Book {
 
 /// Rebuilds a lost fragment of a name's blob in the catalogue. The only fault is `NoMemory`.
 pub(crate) fn repair_in(
-    catalogue: &mut BTreeMap<Name, Shelved>,
+    catalogue: &mut BTreeMap<Name, StoredBlob>,
     alloc: Global,
     name: &Name,
     stripe: u64,
@@ -68,7 +68,7 @@ pub(crate) fn repair_in(
     ensures err { OnErr result (catalogue.new.entries ≡ catalogue.old.entries) }
 {
     match catalogue.get_mut(name) {
-        Some(shelved) => shelved.repair(alloc, stripe, fragment),
+        Some(stored) => stored.repair(alloc, stripe, fragment),
         None => Ok(Answer::NoName),
     }
 }

@@ -8,7 +8,7 @@ ghost use Rattle.book.specs.Tells.{CarriesOn};
 ghost use Rattle.history.specs.Views.{stat_reply};
 
 use crate::book::Book;
-use crate::shelved::Shelved;
+use crate::stored_blob::StoredBlob;
 use crate::{Answer, Call, Entry, Fault, Name};
 
 impl Book {
@@ -36,11 +36,11 @@ impl Book {
 }
 
 /// The answer to a question for the shape, by what the name has.
-fn answer_stat(found: Option<&Shelved>) -> Answer
+fn answer_stat(found: Option<&StoredBlob>) -> Answer
     ensures { note_of result ≡ reply_for stat_reply (option_copied found.entry) }
 {
     match found {
-        Some(shelved) => shelved.stat(),
+        Some(stored) => stored.stat(),
         None => Answer::NoName,
     }
 }

@@ -93,10 +93,7 @@ fn make(rt: &impl Abort, alloc: Global, book: &mut Book, name: &Name, step: Step
     match step {
         Step::Store => store(rt, alloc, book, name, b"MNOPQRSTUVWX"),
         Step::Lose(f) => book.lose(alloc, 1, copy, 0, f).expect(rt, "memory").note(),
-        Step::Repair(f) => book
-            .repair(alloc, 1, copy, 0, f)
-            .expect(rt, "memory")
-            .note(),
+        Step::Repair(f) => book.repair(alloc, 1, copy, 0, f).expect(rt, "room").note(),
         Step::Install => {
             let bytes = Bytes::from_static(b"A");
             book.install(alloc, 1, copy, 1, 0, 0, bytes)
@@ -233,8 +230,7 @@ fn trim_gives_up_the_beginning(rt: HostRuntime) {
     let trimmed = book.trim(alloc, 0).expect(&rt, "memory");
     let base = (book.base().trimmed, book.base().puts);
     assert_eq!(rt; (trimmed, book.entries().len(), base), (2, 0, (2, 1)));
-    let note = lose(&rt, alloc, &mut book, &name, 0, 0);
-    assert_eq!(rt; note, Note::AlreadyLost);
+    assert_eq!(rt; lose(&rt, alloc, &mut book, &name, 0, 0), Note::AlreadyLost);
     let lawful = is_lawful_from(alloc, book.base(), book.entries(), book.width());
     assert!(rt; lawful.expect(&rt, "memory"));
 }

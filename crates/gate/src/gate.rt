@@ -3,7 +3,7 @@ ghost use Rattle.std.specs.Prelude.{◌≡◌, ◌⊎◌, ◌+◌, ◌-◌, ◌<
 ghost use mathlib.Core.List.{IsPrefix};
 ghost use Rattle.gate.specs.Places.{last_of, IsChain, HasAll, AreApart};
 
-use crate::plays::{Cut, Enters, Hears, Leaves, Settles};
+use crate::steps::{EnterStep, JoinStep, LeaveStep, SettleStep, SplitStep};
 use crate::view::{Follows, GateRule, View};
 use atomic_table::Table;
 use std::alloc::{AllocError, Global};
@@ -93,7 +93,7 @@ impl<T: Follows> Gate<T> {
         let found = self
             .table
             .shared
-            .compare_exchange::<Enters>(&mut seat.table_seat, 0, 0, 1);
+            .compare_exchange::<EnterStep>(&mut seat.table_seat, 0, 0, 1);
         if found != 0 {
             return None;
         }
@@ -123,7 +123,7 @@ impl<T: Follows> Gate<T> {
         // Leave: the word goes to 0, and with it the list of all seats grows by this value, as a place of this seat (`list`, `own`).
         self.table
             .shared
-            .store::<Leaves>(&mut seat.table_seat, 0, 0);
+            .store::<LeaveStep>(&mut seat.table_seat, 0, 0);
     }
 
     /// Enters: it tries again until it is in. It may wait for ever.
@@ -230,7 +230,10 @@ impl<T: Follows> Seat<T> {
         ensures given { IfOk result (λ s. s ≡ record { gate = self.old.gate; list = self.old.list; own = []; room = 1; inside = false }) }
         ensures err { OnErr result (self.new ≡ self.old) }
     {
-        let table_seat = gate.table.shared.split_seat::<Cut>(&mut self.table_seat);
+        let table_seat = gate
+            .table
+            .shared
+            .split_seat::<SplitStep>(&mut self.table_seat);
         self.room -= 1;
         Ok(Seat {
             table_seat,
@@ -253,8 +256,10 @@ impl<T: Follows> Seat<T> {
         let Seat { table_seat, room } = other;
         gate.table
             .shared
-            .join_seat::<Hears>(&mut self.table_seat, table_seat);
-        gate.table.shared.load::<Settles>(&mut self.table_seat, 0);
+            .join_seat::<JoinStep>(&mut self.table_seat, table_seat);
+        gate.table
+            .shared
+            .load::<SettleStep>(&mut self.table_seat, 0);
         self.room += room;
     }
 }

@@ -3,7 +3,7 @@ ghost use Rattle.std.specs.Prelude.{◌≡◌, ℕ, ◌<◌, ◌≤◌, ◌↔�
 ghost use Rattle.std.specs.List.{filter};
 ghost use Rattle.lrc_code.specs.Code.{fragment_count, all_fragments, is_lost, excess_of, Open};
 ghost use Rattle.lrc_code.specs.Form.{IsOfForm, LeavesTwo};
-ghost use Rattle.lrc_code.specs.Way.{FirstOf, place_of};
+ghost use Rattle.lrc_code.specs.ParityCheck.{FirstOf, place_of};
 
 use crate::Code;
 use arrayvec::ArrayVec;

@@ -9,7 +9,7 @@ use Rattle.gate.specs.Places.{times}
 use Rattle.gate.proofs.Lists.{times-append}
 use Rattle.mender.specs.declared.done.Done.{Done}
 use Rattle.std.proofs.lemmas.Option.{slice_get-get_or, slice_get_within}
-use Rattle.mender.specs.Drawn.{Hand}
+use Rattle.mender.specs.Drawn.{DrawerState}
 use Rattle.mender.specs.Gathered.{tickets_of, IsOfPlan}
 use Rattle.mender.specs.Worked.{repair_of, replies_of, ask_of, asks_of, AreMended, Draws, Worked, Stopped, StoppedFull}
 use Rattle.history.specs.Step.{Operation}
@@ -22,7 +22,7 @@ use Rattle.shared.proofs.Serving.{serves_append, serves_longer, serves_one, serv
 use Rattle.requests.specs.declared.jobs.Reply.TheVariants.{Made, Refused}
 use Rattle.mender.proofs.Judged.{all_one, one_more}
 
-pub begun : (plan : List Item) (hand : Hand) → Worked plan hand hand [] []
+pub begun : (plan : List Item) (hand : DrawerState) → Worked plan hand hand [] []
 begun plan hand = record {
   draws = record { tickets = refl; allowance = omega arith; drawn = sym (append-nil hand.drawn) };
   of_plan = All-nil (IsOfPlan plan);
@@ -30,7 +30,7 @@ begun plan hand = record {
 }
 
 -- a number more was drawn
-pub drew : (plan : List Item) (old new new' : Hand) (done : List Done) (n : ℕ) → Worked plan old new done [] → 0 < new.allowance
+pub drew : (plan : List Item) (old new new' : DrawerState) (done : List Done) (n : ℕ) → Worked plan old new done [] → 0 < new.allowance
     → new' ≡ record new { allowance = new.allowance - 1; drawn = new.drawn ++ n ∷ [] } → Worked plan old new' done (n ∷ [])
 drew plan old new new' done n w some_left is = subst (λ h. Worked plan old h done (n ∷ [])) (sym is) record {
   draws = record {
@@ -47,7 +47,7 @@ drew plan old new new' done n w some_left is = subst (λ h. Worked plan old h do
 }
 
 -- a number that the drawer had not drawn has no result
-pub none_yet : (plan : List Item) (old new : Hand) (done : List Done) (n : ℕ) → Worked plan old new done [] → times n new.drawn ≡ 0 → times n (tickets_of done) ≡ 0
+pub none_yet : (plan : List Item) (old new : DrawerState) (done : List Done) (n : ℕ) → Worked plan old new done [] → times n new.drawn ≡ 0 → times n (tickets_of done) ≡ 0
 none_yet plan old new done n w fresh =
     let all : times n new.drawn ≡ times n (old.drawn ++ (tickets_of done ++ [])) = ap (times n) w.draws.drawn in
     let one = times-append n old.drawn (tickets_of done ++ []) in
@@ -55,7 +55,7 @@ none_yet plan old new done n w fresh =
     omega arith
 
 -- the ticket in hand has its result
-pub did : (plan : List Item) (old new : Hand) (done : List Done) (d : Done) → Worked plan old new done (d.ticket ∷ []) → IsOfPlan plan d → times d.ticket (tickets_of done) ≡ 0
+pub did : (plan : List Item) (old new : DrawerState) (done : List Done) (d : Done) → Worked plan old new done (d.ticket ∷ []) → IsOfPlan plan d → times d.ticket (tickets_of done) ≡ 0
     → Worked plan old new (done ++ d ∷ []) []
 did plan old new done d w of_plan none =
     let tickets : tickets_of (done ++ d ∷ []) ++ [] ≡ tickets_of done ++ d.ticket ∷ [] = append-nil (tickets_of (done ++ d ∷ [])) ∙ map-append (λ e. e.ticket) done (d ∷ []) in record {
@@ -68,12 +68,12 @@ pub found_at : (xs ys : List Item) (n : ℕ) (it : Item) → ys ≡ xs → n < l
 found_at xs ys n it same lt there = subst (λ l. slice_get l n ≡ Some it) same (slice_get-get_or ys n it lt ∙ ap Some (sym there))
 
 -- a ticket that was drawn just now, with the plan's item there, and no result yet
-pub record InHand (plan : List Item) (old new : Hand) (done : List Done) (n : ℕ) (it : Item) : Type 0 where
+pub record InHand (plan : List Item) (old new : DrawerState) (done : List Done) (n : ℕ) (it : Item) : Type 0 where
   pub there : slice_get plan n ≡ Some it
   pub none : times n (tickets_of done) ≡ 0
   pub after : Worked plan old new done (n ∷ [])
 
-pub in_hand : (plan ys : List Item) (old new new' : Hand) (done : List Done) (n : ℕ) (it : Item) → Worked plan old new done [] → 0 < new.allowance
+pub in_hand : (plan ys : List Item) (old new new' : DrawerState) (done : List Done) (n : ℕ) (it : Item) → Worked plan old new done [] → 0 < new.allowance
     → new' ≡ record new { allowance = new.allowance - 1; drawn = new.drawn ++ n ∷ [] } → times n new.drawn ≡ 0 → ys ≡ plan → n < length ys → it ≡ get_or ys n it → InHand plan old new' done n it
 in_hand plan ys old new new' done n it w some_left is fresh same lt here = record {
   there = found_at plan ys n it same lt here;
@@ -81,7 +81,7 @@ in_hand plan ys old new new' done n it w some_left is fresh same lt here = recor
   after = drew plan old new new' done n w some_left is;
 }
 
-pub stopped : (plan : List Item) (old new : Hand) (done items : List Done) (n : ℕ) (it : Item) → InHand plan old new done n it → items ≡ done → Stopped plan old new items
+pub stopped : (plan : List Item) (old new : DrawerState) (done items : List Done) (n : ℕ) (it : Item) → InHand plan old new done n it → items ≡ done → Stopped plan old new items
 stopped plan old new done items n it h kept = subst (Stopped plan old new) (sym kept) (n, slice_get_within plan n it h.there, h.none, h.after)
 
 asked_many : (done : List Done) → length (replies_of done) ≡ length (asks_of done)
@@ -103,7 +103,7 @@ mended_more v u w done items items' d o mended made same kept pushed =
     subst (λ l. AreMended v l w) list (subst (λ l. Serves v (asks_of (done ++ d ∷ [])) l w) replies (subst (λ l. Serves v l (replies_of done ++ replies_of (d ∷ [])) w) asks both))
 
 -- the repair of the item in hand met a full journal
-pub stopped_full : (plan : List Item) (old new : Hand) (v u w : Shows) (done items : List Done) (n : ℕ) (it : Item) (o : Operation) (f : Fault) → AreMended v done u → Called u o (Err f) w → o ≡ repair_of it
+pub stopped_full : (plan : List Item) (old new : DrawerState) (v u w : Shows) (done items : List Done) (n : ℕ) (it : Item) (o : Operation) (f : Fault) → AreMended v done u → Called u o (Err f) w → o ≡ repair_of it
     → InHand plan old new done n it → items ≡ done → f ≡ JournalFull → StoppedFull plan old new v items w
 stopped_full plan old new v u w done items n it o f mended made same h kept is_full =
     let refused : Called u (repair_of it) (Err JournalFull) w = subst (λ (x : Operation × Fault). Called u x.0 (Err x.1) w) (λ i. (same i, is_full i)) made in
@@ -122,7 +122,7 @@ mended_no_more v u w done items o f mended made kept =
     let longer : Serves v (asks_of done ++ []) (replies_of done) w = serves_longer v u w (asks_of done) [] (replies_of done) (asked_many done) mended (serves_refused u w [] o f made) in
     subst (λ l. AreMended v l w) (sym kept) (subst (λ l. Serves v l (replies_of done) w) (append-nil (asks_of done)) longer)
 
-pub did_more : (plan : List Item) (old new : Hand) (done items items' : List Done) (n : ℕ) (d : Done) (it : Item) → InHand plan old new done n it
+pub did_more : (plan : List Item) (old new : DrawerState) (done items items' : List Done) (n : ℕ) (d : Done) (it : Item) → InHand plan old new done n it
     → d.ticket ≡ n → d.item ≡ it → items ≡ done → items' ≡ items ++ d ∷ [] → Worked plan old new items' []
 did_more plan old new done items items' n d it h ticket same kept pushed =
     let list : items' ≡ done ++ d ∷ [] = pushed ∙ ap (λ l. l ++ d ∷ []) kept in

@@ -3,7 +3,7 @@ use Rattle.std.specs.Prelude.{◌≡◌, ℕ, ◌+◌, ◌^◌, nat_lt, cond, Li
 use Rattle.gate.specs.Places.{TableId, times}
 
 -- what a clause sees of a drawer: its tickets, how many of them it may still draw, and the numbers that it has drawn, with those of the drawers that it joined
-pub record Hand : Type 0 where
+pub record DrawerState : Type 0 where
   pub tickets : TableId
   pub allowance : ℕ
   pub drawn : List ℕ
@@ -17,5 +17,5 @@ abbrev pub AreFirst : List ℕ → ℕ → Type 0
 AreFirst numbers count = (n : ℕ) → times n numbers ≡ once_below n count
 
 -- where no other drawer may draw or has drawn, this one has drawn the numbers below the count of its draws, each once
-abbrev pub IsWhole : Hand → Type 0
+abbrev pub IsWhole : DrawerState → Type 0
 IsWhole hand = hand.allowance + length hand.drawn ≡ 2 ^ 40 → AreFirst hand.drawn (length hand.drawn)

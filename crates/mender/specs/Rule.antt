@@ -4,7 +4,7 @@ use Rattle.atomic_table.specs.Table.{State, Me, Step}
 use Rattle.atomic_table.specs.declared.shared.Seat.{Seat}
 use Rattle.mender.specs.declared.view.DrawerView.{DrawerView}
 use Rattle.gate.specs.Places.{times}
-use Rattle.mender.specs.Drawn.{Hand, once_below, AreFirst}
+use Rattle.mender.specs.Drawn.{DrawerState, once_below, AreFirst}
 
 -- what a slot would hold: the table has none
 abbrev pub Nothing : Type 0
@@ -72,7 +72,7 @@ abbrev pub both : DrawerView → DrawerView → DrawerView
 both v w = view (v.allowance + w.allowance) (v.drawn ++ w.drawn)
 
 -- what a clause sees of a drawer
-abbrev pub hand_of : Seat Nothing DrawerView → Hand
+abbrev pub hand_of : Seat Nothing DrawerView → DrawerState
 hand_of s = record { tickets = s.table_id; allowance = s.me.0.allowance; drawn = s.me.0.drawn }
 
 -- a drawer between two calls

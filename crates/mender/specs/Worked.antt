@@ -12,7 +12,7 @@ use Rattle.sealed.specs.declared.fault.Fault.TheVariants.{JournalFull}
 use Rattle.shared.specs.Passes.{Shows}
 use Rattle.shared.specs.Serving.{Serves}
 use Rattle.mender.specs.declared.done.Done.{Done}
-use Rattle.mender.specs.Drawn.{Hand}
+use Rattle.mender.specs.Drawn.{DrawerState}
 use Rattle.mender.specs.Gathered.{tickets_of, IsOfPlan}
 
 -- the repair of an item
@@ -35,23 +35,23 @@ abbrev pub AreMended : Shows → List Done → Shows → Type 0
 AreMended v done w = Serves v (asks_of done) (replies_of done) w
 
 -- the drawer drew just these numbers, in this order
-pub record Draws (old : Hand) (numbers : List ℕ) (new : Hand) : Type 0 where
+pub record Draws (old : DrawerState) (numbers : List ℕ) (new : DrawerState) : Type 0 where
   pub tickets : new.tickets ≡ old.tickets
   pub allowance : new.allowance + length numbers ≡ old.allowance
   pub drawn : new.drawn ≡ old.drawn ++ numbers
 
 -- the drawer drew the results' tickets, each once, and then the others; each result is of the plan
-pub record Worked (plan : List Item) (old new : Hand) (done : List Done) (others : List ℕ) : Type 0 where
+pub record Worked (plan : List Item) (old new : DrawerState) (done : List Done) (others : List ℕ) : Type 0 where
   pub draws : Draws old (tickets_of done ++ others) new
   pub of_plan : All (IsOfPlan plan) done
   pub once : (n : ℕ) → times n (tickets_of done) ≤ 1
 
 -- each ticket that was drawn has its result, but a last one past the plan's end; without such a one the allowance is 0
-abbrev pub Finished : List Item → Hand → Hand → List Done → Type 0
+abbrev pub Finished : List Item → DrawerState → DrawerState → List Done → Type 0
 Finished plan old new done = (Worked plan old new done [] × (new.allowance ≡ 0)) ⊎ ((n : ℕ) × (length plan ≤ n) × Worked plan old new done (n ∷ []))
 
 -- each ticket that was drawn has its result, but the one in hand, which is below the plan's length
-abbrev pub Stopped : List Item → Hand → Hand → List Done → Type 0
+abbrev pub Stopped : List Item → DrawerState → DrawerState → List Done → Type 0
 Stopped plan old new done = (n : ℕ) × (n < length plan) × (times n (tickets_of done) ≡ 0) × Worked plan old new done (n ∷ [])
 
 -- where a call was refused as the journal was full
@@ -59,7 +59,7 @@ abbrev pub IfFull : Fault → Type 0 → Type 0
 IfFull fault P = fault ≡ JournalFull → P
 
 -- the repair of the item in hand was refused, as the journal was full
-pub record StoppedFull (plan : List Item) (old new : Hand) (v : Shows) (done : List Done) (w : Shows) : Type 0 where
+pub record StoppedFull (plan : List Item) (old new : DrawerState) (v : Shows) (done : List Done) (w : Shows) : Type 0 where
   pub ticket : ℕ
   pub item : Item
   pub there : slice_get plan ticket ≡ Some item

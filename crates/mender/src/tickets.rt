@@ -3,7 +3,7 @@ ghost use Rattle.std.specs.Prelude.{◌≡◌, ◌+◌, ◌-◌, ◌/◌, ◌^�
 ghost use Rattle.gate.specs.Places.{times, AreApart};
 ghost use Rattle.mender.specs.Drawn.{IsWhole};
 
-use crate::view::{DrawerView, Draws, Halves, Joins, Looks, TicketRule};
+use crate::view::{DrawStep, DrawerView, HalveStep, JoinStep, LookStep, TicketRule};
 use atomic_table::{Seat, Table};
 use std::alloc::{AllocError, Global};
 use std::marker::Model;
@@ -37,9 +37,9 @@ pub struct Drawer {
 }
 
 impl Model for Drawer {
-    ghost use Rattle.mender.specs.Drawn.{Hand};
+    ghost use Rattle.mender.specs.Drawn.{DrawerState};
 
-    ghost Value = { Hand };
+    ghost Value = { DrawerState };
 
     ghost use Rattle.mender.specs.Rule.{hand_of, IsDrawer};
 
@@ -78,7 +78,10 @@ impl Tickets {
         if drawer.allowance == 0 {
             return None;
         }
-        let number = self.table.shared.fetch_add::<Draws>(&mut drawer.seat, 0, 1);
+        let number = self
+            .table
+            .shared
+            .fetch_add::<DrawStep>(&mut drawer.seat, 0, 1);
         drawer.allowance -= 1;
         Some(number)
     }
@@ -94,7 +97,7 @@ impl Drawer {
         ensures given { IfOk result (λ d. d ≡ record { tickets = self.old.tickets; allowance = self.old.allowance / 2; drawn = [] }) }
         ensures err { OnErr result (self.new ≡ self.old) }
     {
-        let seat = tickets.table.shared.split_seat::<Halves>(&mut self.seat);
+        let seat = tickets.table.shared.split_seat::<HalveStep>(&mut self.seat);
         let half = self.allowance / 2;
         self.allowance -= half;
         Ok(Drawer {
@@ -112,8 +115,8 @@ impl Drawer {
     {
         let Drawer { seat, allowance } = other;
         let shared = &tickets.table.shared;
-        shared.join_seat::<Joins>(&mut self.seat, seat);
-        shared.load::<Looks>(&mut self.seat, 0);
+        shared.join_seat::<JoinStep>(&mut self.seat, seat);
+        shared.load::<LookStep>(&mut self.seat, 0);
         self.allowance += allowance;
     }
 }

@@ -20,18 +20,18 @@ impl TableRule<(), DrawerView, ()> for TicketRule {
 }
 
 /// A number is drawn.
-pub(crate) struct Draws;
+pub(crate) struct DrawStep;
 
-impl Play<(), DrawerView> for Draws {
+impl Play<(), DrawerView> for DrawStep {
     ghost use Rattle.mender.specs.Rule.{Drew};
 
     ghost then = { Drew };
 }
 
 /// Half of the allowance goes to a new drawer.
-pub(crate) struct Halves;
+pub(crate) struct HalveStep;
 
-impl Split<DrawerView> for Halves {
+impl Split<DrawerView> for HalveStep {
     ghost use Rattle.mender.specs.Rule.{kept_half, given_half};
 
     ghost left = { kept_half };
@@ -40,9 +40,9 @@ impl Split<DrawerView> for Halves {
 }
 
 /// A drawer takes in what another one had.
-pub(crate) struct Joins;
+pub(crate) struct JoinStep;
 
-impl Join<DrawerView> for Joins {
+impl Join<DrawerView> for JoinStep {
     ghost use Rattle.mender.specs.Rule.{both, spent};
 
     ghost both = { both };
@@ -51,9 +51,9 @@ impl Join<DrawerView> for Joins {
 }
 
 /// A drawer learns what the rule says of it.
-pub(crate) struct Looks;
+pub(crate) struct LookStep;
 
-impl Play<(), DrawerView> for Looks {
+impl Play<(), DrawerView> for LookStep {
     ghost use Rattle.mender.specs.Rule.{Looked};
 
     ghost then = { Looked };

@@ -9,7 +9,7 @@ use Rattle.gate.specs.Places.{TableId, times}
 use Rattle.shared.specs.Passes.{Shows, Which}
 use Rattle.book.specs.declared.plan.Item.{Item}
 use Rattle.mender.specs.declared.done.Done.{Done}
-use Rattle.mender.specs.Drawn.{Hand, IsWhole, AreFirst}
+use Rattle.mender.specs.Drawn.{DrawerState, IsWhole, AreFirst}
 use Rattle.mender.specs.Gathered.{IsComplete}
 use Rattle.mender.specs.Worked.{Draws, Finished}
 use Rattle.mender.specs.Mended.{Left, HasFinished, joined, results_of, with_hand}
@@ -67,11 +67,11 @@ ended-more (x ∷ os) o all last = (all.0, ended-more os o all.1 last)
 
 -- ---- the workers are back
 -- a worker's drawer is of these tickets still, with its allowance and its draws making up what it was given
-record Holds (tickets : TableId) (given : ℕ) (drawer : Hand) : Type 0 where
+record Holds (tickets : TableId) (given : ℕ) (drawer : DrawerState) : Type 0 where
   pub drawer_of : drawer.tickets ≡ tickets
   pub shares : drawer.allowance + length drawer.drawn ≡ given
 
-holds-draws : (tickets : TableId) (old new : Hand) (numbers : List ℕ) → Draws old numbers new → old.tickets ≡ tickets → old.drawn ≡ [] → Holds tickets old.allowance new
+holds-draws : (tickets : TableId) (old new : DrawerState) (numbers : List ℕ) → Draws old numbers new → old.tickets ≡ tickets → old.drawn ≡ [] → Holds tickets old.allowance new
 holds-draws tickets old new numbers draws of none =
     let fewer = draws.allowance in
     let drawn : length new.drawn ≡ length (old.drawn ++ numbers) = ap length draws.drawn in
@@ -79,12 +79,12 @@ holds-draws tickets old new numbers draws of none =
     let nothing : length old.drawn ≡ 0 = ap length none in
     record { drawer_of = draws.tickets ∙ of; shares = omega arith }
 
-holds-same : (tickets : TableId) (old new : Hand) → new ≡ old → old.tickets ≡ tickets → old.drawn ≡ [] → Holds tickets old.allowance new
+holds-same : (tickets : TableId) (old new : DrawerState) → new ≡ old → old.tickets ≡ tickets → old.drawn ≡ [] → Holds tickets old.allowance new
 holds-same tickets old new same of none =
     let nothing : length old.drawn ≡ 0 = ap length none in
     subst (Holds tickets old.allowance) (sym same) (record { drawer_of = of; shares = omega arith })
 
-holds-finished : (plan : List Item) (tickets : TableId) (old new : Hand) (done : List Done) → Finished plan old new done → old.tickets ≡ tickets → old.drawn ≡ []
+holds-finished : (plan : List Item) (tickets : TableId) (old new : DrawerState) (done : List Done) → Finished plan old new done → old.tickets ≡ tickets → old.drawn ≡ []
     → Holds tickets old.allowance new
 holds-finished plan tickets old new done finished of none = ⊎_elim
     (λ t. holds-draws tickets old new _ t.0.draws of none)
@@ -136,21 +136,21 @@ pool-more : (outcomes : List Outcome) (o : Outcome) → all_left (outcomes ++ o 
 pool-more outcomes o = sym (flat_map_more left_of [] outcomes o)
 
 -- a drawer that took in the drawers of these outcomes, and knows of its draws
-pub record HasJoined (first : Hand) (outcomes : List Outcome) (drawer : Hand) : Type 0 where
+pub record HasJoined (first : DrawerState) (outcomes : List Outcome) (drawer : DrawerState) : Type 0 where
   pub joins : drawer ≡ joined first (all_left outcomes)
   pub whole : IsWhole drawer
 
-pub joined-none : (first : Hand) → first.drawn ≡ [] → HasJoined first [] first
+pub joined-none : (first : DrawerState) → first.drawn ≡ [] → HasJoined first [] first
 joined-none first none =
     let nothing : length first.drawn ≡ 0 = ap length none in
     record { joins = refl; whole = λ full n. ap (times n) none ∙ sym (once_below-out n (length first.drawn) (omega arith)) }
 
-pub joined-more : (first : Hand) (outcomes : List Outcome) (old new other : Hand) (m : Mended) → HasJoined first outcomes old → new ≡ with_hand old other → IsWhole new
+pub joined-more : (first : DrawerState) (outcomes : List Outcome) (old new other : DrawerState) (m : Mended) → HasJoined first outcomes old → new ≡ with_hand old other → IsWhole new
     → HasJoined first (outcomes ++ outcome.Mended other m ∷ []) new
 joined-more first outcomes old new other m has is whole =
     let left : Left = left_with other (results_in m) in
     record {
-      joins = is ∙ ap (λ (hand : Hand). with_hand hand other) has.joins ∙ sym (joined-snoc first (all_left outcomes) left) ∙ sym (ap (joined first) (pool-more outcomes (outcome.Mended other m)));
+      joins = is ∙ ap (λ (hand : DrawerState). with_hand hand other) has.joins ∙ sym (joined-snoc first (all_left outcomes) left) ∙ sym (ap (joined first) (pool-more outcomes (outcome.Mended other m)));
       whole = whole;
     }
 
@@ -163,7 +163,7 @@ pub all-none : (plan : List Item) → AreAll plan [] []
 all-none plan = record { finished = All-nil (HasFinished plan); results = refl }
 
 -- one more that did not stop
-pub all-more : (plan : List Item) (outcomes : List Outcome) (all more : List Done) (other : Hand) (m : Mended) → AreAll plan outcomes all
+pub all-more : (plan : List Item) (outcomes : List Outcome) (all more : List Done) (other : DrawerState) (m : Mended) → AreAll plan outcomes all
     → HasFinished plan (left_with other (results_in m)) → more ≡ all ++ results_in m → AreAll plan (outcomes ++ outcome.Mended other m ∷ []) more
 all-more plan outcomes all more other m are one is =
     let left : Left = left_with other (results_in m) in
@@ -174,18 +174,18 @@ all-more plan outcomes all more other m are one is =
     }
 
 -- Their results are complete
-pub mend-complete : (plan : List Item) (first drawer : Hand) (outcomes : List Outcome) (all : List Done) → first.drawn ≡ [] → first.allowance + given_before outcomes ≡ 2 ^ 40
+pub mend-complete : (plan : List Item) (first drawer : DrawerState) (outcomes : List Outcome) (all : List Done) → first.drawn ≡ [] → first.allowance + given_before outcomes ≡ 2 ^ 40
     → first.allowance + length plan ≤ 2 ^ 40 → HasJoined first outcomes drawer → AreAll plan outcomes all → IsComplete plan all
 mend-complete plan first drawer outcomes all none shares room has are = subst (IsComplete plan) (sym are.results)
     (complete_joined plan first (all_left outcomes) none shares room are.finished (subst IsWhole has.joins has.whole))
 
 -- ---- all draws
-joined-drawn : (first : Hand) (os : List Outcome) → (joined first (all_left os)).drawn ≡ first.drawn ++ drawn_by os
+joined-drawn : (first : DrawerState) (os : List Outcome) → (joined first (all_left os)).drawn ≡ first.drawn ++ drawn_by os
 joined-drawn first [] = sym (append-nil first.drawn)
 joined-drawn first (outcome.Called r ∷ os) = joined-drawn first os
 joined-drawn first (outcome.Mended drawer m ∷ os) = joined-drawn (with_hand first drawer) os ∙ append_assoc first.drawn drawer.drawn (drawn_by os)
 
-joined-shares : (first : Hand) (os : List Outcome) → (joined first (all_left os)).allowance + length (joined first (all_left os)).drawn ≡ first.allowance + length first.drawn + given_before os
+joined-shares : (first : DrawerState) (os : List Outcome) → (joined first (all_left os)).allowance + length (joined first (all_left os)).drawn ≡ first.allowance + length first.drawn + given_before os
 joined-shares first [] = omega arith
 joined-shares first (outcome.Called r ∷ os) = joined-shares first os
 joined-shares first (outcome.Mended drawer m ∷ os) =
@@ -195,12 +195,12 @@ joined-shares first (outcome.Mended drawer m ∷ os) =
     omega (arith, rest, both, sum)
 
 -- the tickets that were drawn are the first ones, each once
-pub drawn-once : (first drawer : Hand) (outcomes : List Outcome) → first.drawn ≡ [] → first.allowance + given_before outcomes ≡ 2 ^ 40 → HasJoined first outcomes drawer → AreDrawnOnce outcomes
+pub drawn-once : (first drawer : DrawerState) (outcomes : List Outcome) → first.drawn ≡ [] → first.allowance + given_before outcomes ≡ 2 ^ 40 → HasJoined first outcomes drawer → AreDrawnOnce outcomes
 drawn-once first drawer outcomes none shares has =
     let nothing : length first.drawn ≡ 0 = ap length none in
-    let drawn : drawer.drawn ≡ drawn_by outcomes = ap (λ (h : Hand). h.drawn) has.joins ∙ joined-drawn first outcomes ∙ ap (λ l. l ++ drawn_by outcomes) none in
+    let drawn : drawer.drawn ≡ drawn_by outcomes = ap (λ (h : DrawerState). h.drawn) has.joins ∙ joined-drawn first outcomes ∙ ap (λ l. l ++ drawn_by outcomes) none in
     let all = joined-shares first outcomes in
-    let same = ap (λ (h : Hand). h.allowance + length h.drawn) has.joins in
+    let same = ap (λ (h : DrawerState). h.allowance + length h.drawn) has.joins in
     subst (λ l. AreFirst l (length l)) drawn (has.whole (omega (arith, all, same, shares, nothing)))
 
 pub or-none : (b : Bool) → (b || false) ≡ b

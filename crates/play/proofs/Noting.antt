@@ -9,9 +9,9 @@ use Rattle.rounds.specs.declared.work.Work.{Work}
 use Rattle.rounds.specs.Pools.{passes_of, outcomes_of}
 use Rattle.play.specs.Jobs.{rows_for, HaveRows}
 use Rattle.play.specs.Noted.{noted}
-use Rattle.play.specs.declared.calls.Call.{Call}
+use Rattle.play.specs.declared.calls.RowCall.{RowCall}
 
-pub rows-more : (who : ℕ) (calls : List Call) (xs : List (List ℕ)) (ns : List ℕ) → HaveRows who calls xs → ns ≡ rows_for (who + length xs) calls → HaveRows who calls (xs ++ ns ∷ [])
+pub rows-more : (who : ℕ) (calls : List RowCall) (xs : List (List ℕ)) (ns : List ℕ) → HaveRows who calls xs → ns ≡ rows_for (who + length xs) calls → HaveRows who calls (xs ++ ns ∷ [])
 rows-more who calls [] ns have is = let e : who + 0 ≡ who = omega arith in (rw e at is, tt)
 rows-more who calls (x ∷ xs) ns have is =
     let e : who + length (x ∷ xs) ≡ who + 1 + length xs = omega arith in

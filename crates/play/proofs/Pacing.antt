@@ -23,7 +23,7 @@ use Rattle.rounds.specs.Rounds.{IsPacedErrand, ArePaced}
 use Rattle.gate.specs.Places.{TableId}
 use Rattle.book.specs.declared.plan.Item.{Item}
 use Rattle.script.specs.declared.rows.Row.{Row}
-use Rattle.play.specs.declared.calls.Call.{Call}
+use Rattle.play.specs.declared.calls.RowCall.{RowCall}
 use Rattle.play.specs.Accounts.{IsCallOf}
 use Rattle.play.specs.Jobs.{job_of, HasJobs, HaveJobs}
 use Rattle.play.specs.Lists.{Each}
@@ -87,12 +87,12 @@ pub round_held : (AreWorks : List Work → Type 0) (may_answer : ℕ → Bool �
 round_held AreWorks may_answer rows within round = works_held may_answer rows round.works round.rans (within round.works round.are) round.paced (paused_of _ (list_any is_paused (outcomes_of round.rans)) round.ends)
 
 -- ---- of calls, and of a mend
-errand_within : (rows who : ℕ) (calls : List Call) (errand : Errand) → Each (λ (c : Call). IsWithin rows c.number) calls → HasJobs who calls errand → AsksWithin rows errand
+errand_within : (rows who : ℕ) (calls : List RowCall) (errand : Errand) → Each (λ (c : RowCall). IsWithin rows c.number) calls → HasJobs who calls errand → AsksWithin rows errand
 errand_within rows who calls (Calls jobs) all has =
-    subst (λ js. Each (λ (job : Job). IsWithin rows job.row) js) (sym has) (each-map job_of (λ (job : Job). IsWithin rows job.row) (filter (λ (c : Call). c.worker == who) calls) (each-filter (λ (c : Call). IsWithin rows c.number) (λ (c : Call). c.worker == who) calls all))
+    subst (λ js. Each (λ (job : Job). IsWithin rows job.row) js) (sym has) (each-map job_of (λ (job : Job). IsWithin rows job.row) (filter (λ (c : RowCall). c.worker == who) calls) (each-filter (λ (c : RowCall). IsWithin rows c.number) (λ (c : RowCall). c.worker == who) calls all))
 errand_within rows who calls (Mend m) all has = absurd has
 
-pub calls_within : (rows who : ℕ) (calls : List Call) (works : List Work) → Each (λ (c : Call). IsWithin rows c.number) calls → HaveJobs who calls works → AskWithin rows works
+pub calls_within : (rows who : ℕ) (calls : List RowCall) (works : List Work) → Each (λ (c : RowCall). IsWithin rows c.number) calls → HaveJobs who calls works → AskWithin rows works
 calls_within rows who calls [] all have = tt
 calls_within rows who calls (w ∷ ws) all have = (errand_within rows who calls w.errand all have.0, calls_within rows (who + 1) calls ws all have.1)
 
@@ -105,18 +105,18 @@ row_within rows row [] within are = tt
 row_within rows row (w ∷ ws) within are = (mend_within rows row w.errand within are.0, row_within rows row ws within are.1)
 
 -- the calls of the rows up to one that the script has
-pub calls_of_rows : (workers round top many : ℕ) (rows : List Row) (calls : List Call) → top ≤ many → Each (IsCallOf workers rows round top) calls → Each (λ (c : Call). IsWithin many c.number) calls
+pub calls_of_rows : (workers round top many : ℕ) (rows : List Row) (calls : List RowCall) → top ≤ many → Each (IsCallOf workers rows round top) calls → Each (λ (c : RowCall). IsWithin many c.number) calls
 calls_of_rows workers round top many rows [] le are = tt
 calls_of_rows workers round top many rows (c ∷ calls) le are =
     let number = are.0.number in
     let few : c.number ≤ top = are.0.few in
     ((omega (arith, number), omega (arith, few, le)), calls_of_rows workers round top many rows calls le are.1)
 
-pub calls_held : (may_answer : ℕ → Bool → Type 0) (passes : List Shows) (workers round top many : ℕ) (rows : List Row) (calls ready : List Call) → top ≤ many → Each (IsCallOf workers rows round top) calls → ready ≡ calls
+pub calls_held : (may_answer : ℕ → Bool → Type 0) (passes : List Shows) (workers round top many : ℕ) (rows : List Row) (calls ready : List RowCall) → top ≤ many → Each (IsCallOf workers rows round top) calls → ready ≡ calls
     → HasRound (λ works. (passes_of works ≡ passes) × HaveJobs 1 ready works) may_answer (Some halt.Paused) → HoldsBack may_answer many
 calls_held may_answer passes workers round top many rows calls ready le are same round_is =
     round_held (λ works. (passes_of works ≡ passes) × HaveJobs 1 ready works) may_answer many
-    (λ works is. calls_within many 1 ready works (subst (λ cs. Each (λ (c : Call). IsWithin many c.number) cs) (sym same) (calls_of_rows workers round top many rows calls le are)) is.1) round_is
+    (λ works is. calls_within many 1 ready works (subst (λ cs. Each (λ (c : RowCall). IsWithin many c.number) cs) (sym same) (calls_of_rows workers round top many rows calls le are)) is.1) round_is
 
 pub mend_held : (may_answer : ℕ → Bool → Type 0) (row many : ℕ) → 1 ≤ row → row ≤ many
     → HasRound (λ works. (plan : List Item) × (tickets : TableId) × AreMenders plan tickets works × AreForRow row works) may_answer (Some halt.Paused) → HoldsBack may_answer many

@@ -9,7 +9,7 @@ use Rattle.script.specs.declared.rows.Row.{Row}
 use Rattle.play.specs.Runs.{IsAsked, round_in}
 use Rattle.play.specs.Accounts.{Placed, Stands, own_places, Account, dones_in, numbers_in, steps_in, Settles, IsAccount, IsCallOf, RiseFrom, IsBefore, IsOf}
 use Rattle.play.specs.Noted.{noted}
-use Rattle.play.specs.declared.calls.Call.{Call}
+use Rattle.play.specs.declared.calls.RowCall.{RowCall}
 use Rattle.transcript.specs.declared.outcome.NumberedOutcome.{NumberedOutcome}
 use Rattle.transcript.specs.declared.outcome.RowOutcome.TheVariants.{Replied}
 use Rattle.play.proofs.Buckets.{each-weaker, each-both}
@@ -23,10 +23,10 @@ pub record IsCallPast (base top : ℕ) (a : Account) : Type 0 where
   pub none : a.found ≡ None
 
 -- what one worker did in a round
-pub record Part (w l workers : ℕ) (rows : List Row) (round top : ℕ) (acts : List Act) (who base low : ℕ) (mine : List Call) (turns : List Turn) : Type 0 where
+pub record Part (w l workers : ℕ) (rows : List Row) (round top : ℕ) (acts : List Act) (who base low : ℕ) (mine : List RowCall) (turns : List Turn) : Type 0 where
   pub accounts : List Account
-  pub dones : dones_in accounts ≡ noted (map (λ (c : Call). c.number) mine) (map (λ (t : Turn). t.reply) turns)
-  pub numbers : numbers_in (dones_in accounts) ≡ map (λ (c : Call). c.number) mine
+  pub dones : dones_in accounts ≡ noted (map (λ (c : RowCall). c.number) mine) (map (λ (t : Turn). t.reply) turns)
+  pub numbers : numbers_in (dones_in accounts) ≡ map (λ (c : RowCall). c.number) mine
   pub right : Each (IsAccount w workers rows) accounts
   pub are_calls : Each (IsCallPast base top) accounts
   pub places : own_places (steps_in accounts) ≡ places_of who turns
@@ -35,8 +35,8 @@ pub record Part (w l workers : ℕ) (rows : List Row) (round top : ℕ) (acts : 
   pub order : Pairs IsBefore (steps_in accounts)
 
 module _ (w l workers : ℕ) (rows : List Row) (round top : ℕ) (acts : List Act) (who : ℕ) where
-  pub part : (base low : ℕ) (mine : List Call) (turns : List Turn) → map (λ (t : Turn). t.ask) turns ≡ map (λ (c : Call). c.ask) mine → AreServed w l acts who low turns
-      → Each (λ (c : Call). IsCallOf workers rows round top c × (c.worker ≡ who)) mine → RiseFrom base mine → Part w l workers rows round top acts who base low mine turns
+  pub part : (base low : ℕ) (mine : List RowCall) (turns : List Turn) → map (λ (t : Turn). t.ask) turns ≡ map (λ (c : RowCall). c.ask) mine → AreServed w l acts who low turns
+      → Each (λ (c : RowCall). IsCallOf workers rows round top c × (c.worker ≡ who)) mine → RiseFrom base mine → Part w l workers rows round top acts who base low mine turns
   part base low [] [] same served calls rise = record { accounts = []; dones = refl; numbers = refl; right = tt; are_calls = tt; places = refl; stand = tt; are_of = tt; order = tt }
   part base low [] (t ∷ turns) same served calls rise = absurd (cc (same))
   part base low (c ∷ mine) [] same served calls rise = absurd (cc (same))

@@ -19,7 +19,7 @@ use Rattle.requests.specs.declared.jobs.Reply.{Reply}
 use Rattle.requests.specs.declared.jobs.Reply.TheVariants.{Refused}
 use Rattle.shared.specs.Serving.{Turn, deed_told}
 use Rattle.mender.specs.declared.done.Done.{Done}
-use Rattle.mender.specs.Drawn.{Hand}
+use Rattle.mender.specs.Drawn.{DrawerState}
 use Rattle.mender.specs.Gathered.{tickets_of, IsOfPlan}
 use Rattle.mender.specs.Mended.{Left, results_of}
 use Rattle.mender.specs.Worked.{repair_of, ask_of, asks_of, replies_of, Worked, Finished}
@@ -152,14 +152,14 @@ each_of_plan plan (d ∷ done) all = (All-head (IsOfPlan plan) d done all, each_
 past_none : (n m count : ℕ) → n < count → count ≤ m → times n (m ∷ []) ≡ 0
 past_none n m count below past = let other : (m == n) ≡ false = grind (arith, nat_tests, below, past) in times-one n m ∙ ap (λ b. cond {A = ℕ} b 1 0) other
 
-drawn_finished : (plan : List Item) (old new : Hand) (done : List Done) (others : List ℕ) → Worked plan old new done others → old.drawn ≡ [] → (n : ℕ) → times n others ≡ 0 → times n (tickets_of done) ≡ times n (new.drawn ++ [])
+drawn_finished : (plan : List Item) (old new : DrawerState) (done : List Done) (others : List ℕ) → Worked plan old new done others → old.drawn ≡ [] → (n : ℕ) → times n others ≡ 0 → times n (tickets_of done) ≡ times n (new.drawn ++ [])
 drawn_finished plan old new done others w none n past =
     let drawn : new.drawn ≡ tickets_of done ++ others = w.draws.drawn ∙ ap (λ l. l ++ (tickets_of done ++ others)) none in
     let both = ap (times n) (append-nil new.drawn ∙ drawn) ∙ times-append n (tickets_of done) others in
     omega (arith, both, past)
 
 -- a worker that finished
-took_finished : (plan : List Item) (old new : Hand) (done : List Done) (m : Mended) (others : List ℕ) (deeds : List Deed) → Worked plan old new done others → old.drawn ≡ [] → ((n : ℕ) → n < length plan → times n others ≡ 0)
+took_finished : (plan : List Item) (old new : DrawerState) (done : List Done) (m : Mended) (others : List ℕ) (deeds : List Deed) → Worked plan old new done others → old.drawn ≡ [] → ((n : ℕ) → n < length plan → times n others ≡ 0)
     → is_stopped (outcome.Mended new m) ≡ false → results_of (all_left (outcome.Mended new m ∷ [])) ≡ done → deeds ≡ map deed_in done → Took plan (outcome.Mended new m ∷ []) deeds
 took_finished plan old new done m others deeds w none past not_stopped results are = subst (Took plan (outcome.Mended new m ∷ [])) (sym are) (record {
   taken = map taken_in done;
@@ -171,7 +171,7 @@ took_finished plan old new done m others deeds w none past not_stopped results a
   results = λ no. (ap (map deed_in) (sym results), tickets_done done ∙ ap tickets_of (sym results));
 })
 
-pub took_ok : (plan : List Item) (old new : Hand) (done : List Done) (m : Mended) (deeds : List Deed) → Finished plan old new done → old.drawn ≡ [] → is_stopped (outcome.Mended new m) ≡ false
+pub took_ok : (plan : List Item) (old new : DrawerState) (done : List Done) (m : Mended) (deeds : List Deed) → Finished plan old new done → old.drawn ≡ [] → is_stopped (outcome.Mended new m) ≡ false
     → results_of (all_left (outcome.Mended new m ∷ [])) ≡ done → deeds ≡ map deed_in done → Took plan (outcome.Mended new m ∷ []) deeds
 took_ok plan old new done m deeds finished none not_stopped results are = ⊎_elim
     (λ t. took_finished plan old new done m [] deeds t.0 none (λ n below. refl) not_stopped results are)
@@ -179,7 +179,7 @@ took_ok plan old new done m deeds finished none not_stopped results are = ⊎_el
     finished
 
 -- and one that met a full journal
-pub took_full : (plan : List Item) (old new : Hand) (done : List Done) (m : Mended) (ticket : ℕ) (item : Item) (deeds : List Deed) → Worked plan old new done (ticket ∷ []) → slice_get plan ticket ≡ Some item → old.drawn ≡ []
+pub took_full : (plan : List Item) (old new : DrawerState) (done : List Done) (m : Mended) (ticket : ℕ) (item : Item) (deeds : List Deed) → Worked plan old new done (ticket ∷ []) → slice_get plan ticket ≡ Some item → old.drawn ≡ []
     → is_stopped (outcome.Mended new m) ≡ true → deeds ≡ map deed_in done ++ full (repair_of item) ∷ [] → Took plan (outcome.Mended new m ∷ []) deeds
 took_full plan old new done m ticket item deeds w there none stopped are = subst (Took plan (outcome.Mended new m ∷ [])) (sym are) (record {
   taken = map taken_in done ++ (ticket, item) ∷ [];

@@ -14,7 +14,7 @@ use Rattle.play.specs.Lists.{Each, Pairs}
 use Rattle.play.specs.Runs.{IsAsked, MayPrecede, Mends, round_in}
 use Rattle.transcript.specs.Lines.{IsLineFor, line_text}
 use Rattle.play.specs.Printed.{deed_text, mend_text}
-use Rattle.play.specs.declared.calls.Call.{Call}
+use Rattle.play.specs.declared.calls.RowCall.{RowCall}
 use Rattle.transcript.specs.declared.outcome.NumberedOutcome.{NumberedOutcome}
 use Rattle.transcript.specs.declared.outcome.RowOutcome.{RowOutcome}
 use Rattle.transcript.specs.declared.line.Line.{Line}
@@ -91,7 +91,7 @@ pub record HasDone (w limit : ℕ) (acts : List Act) (steps : List Placed) : Typ
 
 -- ---- a round
 -- the call is that of a row of the script, by one of so many workers, of this round, and no later one than `top`
-pub record IsCallOf (workers : ℕ) (rows : List Row) (round top : ℕ) (call : Call) : Type 0 where
+pub record IsCallOf (workers : ℕ) (rows : List Row) (round top : ℕ) (call : RowCall) : Type 0 where
   pub before : ℕ
   pub row : Row
   pub number : call.number ≡ before + 1
@@ -103,7 +103,7 @@ pub record IsCallOf (workers : ℕ) (rows : List Row) (round top : ℕ) (call : 
   pub in_round : round_in rows call.number ≡ round
 
 -- the calls' numbers rise, past this one
-abbrev pub RiseFrom : ℕ → List Call → Type 0
+abbrev pub RiseFrom : ℕ → List RowCall → Type 0
 RiseFrom base [] = Unit {0}
 RiseFrom base (c ∷ calls) = (base < c.number) × RiseFrom c.number calls
 

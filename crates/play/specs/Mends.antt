@@ -5,7 +5,7 @@ use Rattle.gate.specs.Places.{TableId}
 use Rattle.sealed.specs.declared.fault.Fault.TheVariants.{JournalFull}
 use Rattle.book.specs.declared.plan.Item.{Item}
 use Rattle.mender.specs.declared.done.Done.{Done}
-use Rattle.mender.specs.Drawn.{Hand, AreFirst}
+use Rattle.mender.specs.Drawn.{DrawerState, AreFirst}
 use Rattle.mender.specs.Gathered.{IsComplete, report_of}
 use Rattle.mender.specs.Mended.{Left, HasFinished, results_of}
 use Rattle.rounds.specs.declared.work.Errand.{Errand}
@@ -60,7 +60,7 @@ results_in (Worked (Ok done)) = done.items
 results_in m = []
 
 -- a worker at its end. Draws leave the sum of a drawer's allowance and its draws, so that this is the allowance that it was given
-abbrev pub left_with : Hand → List Done → Left
+abbrev pub left_with : DrawerState → List Done → Left
 left_with drawer done = record { given = drawer.allowance + length drawer.drawn; drawer = drawer; done = done }
 
 abbrev pub left_of : Outcome → List Left
@@ -71,7 +71,7 @@ abbrev pub all_left : List Outcome → List Left
 all_left outcomes = flat_map left_of outcomes
 
 -- a worker that did not stop has finished its part
-abbrev pub FinishedIfDone : List Item → Hand → Mended → Type 0
+abbrev pub FinishedIfDone : List Item → DrawerState → Mended → Type 0
 FinishedIfDone plan drawer (Worked (Ok done)) = HasFinished plan (left_with drawer done.items)
 FinishedIfDone plan drawer m = Unit {0}
 

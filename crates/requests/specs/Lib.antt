@@ -1,4 +1,4 @@
 pub mod Bytes
 pub mod Between
 pub mod Requests
-pub mod Looks
+pub mod Inspections

@@ -1,12 +1,12 @@
 //! What is asked of a store, as values: calls with all that they need, made on a book as it lies in the gate, and the jobs of a run.
 #![tactic(auto)]
 
+mod inspection;
 mod jobs;
 mod kept;
-mod look;
 mod request;
 
+pub use inspection::{Inspection, inspect};
 pub use jobs::{Ask, Cause, Job, Pace, Reply, Stopped};
 pub use kept::Kept;
-pub use look::{Look, look_in};
 pub use request::Request;

@@ -21,26 +21,26 @@ use Rattle.book.specs.Serial.{Deed, Does, Act, events_in, standing_of}
 use Rattle.book.specs.Tells.{Represents, Correspond}
 use Rattle.book.proofs.Versions.{was_put}
 use Rattle.requests.specs.declared.kept.Kept.{Kept}
-use Rattle.requests.specs.declared.look.Look.{Look}
-use Rattle.requests.specs.declared.look.Look.TheVariants.{Done, Refused, Rebuildable}
+use Rattle.requests.specs.declared.inspection.Inspection.{Inspection}
+use Rattle.requests.specs.declared.inspection.Inspection.TheVariants.{Done, Refused, Rebuildable}
 use Rattle.shared.specs.Passes.{Which, Shows, seen_of, width_of, trimmed_of, shows}
 use Rattle.shared.specs.Deeds.{deed_of, act_if, Takes}
 use Rattle.shared.specs.Calls.{Called}
-use Rattle.requests.specs.Looks.{FoundIn}
+use Rattle.requests.specs.Inspections.{FoundIn}
 use Rattle.shared.specs.Mends.{IsKnown, Found}
 use Rattle.requests.proofs.Between.{GoesOn}
 use Rattle.shared.proofs.Steps.{event, Stepped, told_history, takes, IsFullIf, call_goes_on, same_goes_on, room_seen, called}
 
--- the event of a repair, where the look made it
-abbrev pub events_at_look : Look → ℕ → Operation → History
-events_at_look (Done a) who o = event who o a ∷ []
-events_at_look look who o = []
+-- the event of a repair, where the inspection made it
+abbrev pub events_at_inspection : Inspection → ℕ → Operation → History
+events_at_inspection (Done a) who o = event who o a ∷ []
+events_at_inspection inspection who o = []
 
-pub look_goes_on : (l : Look) (old new : Contents) (who : ℕ) (n : List ℕ) (j f : ℕ) → (new.width ≡ old.width) × (new.limit ≡ old.limit) × (new.base ≡ old.base)
-    → FoundIn old new who n j f l → GoesOn old new (events_at_look l who (repair n j f)) 0
-look_goes_on (Done a) old new who n j f kept is = call_goes_on (Ok a) old new who (repair n j f) kept is tt
-look_goes_on (Refused e) old new who n j f kept is = same_goes_on old new is.0
-look_goes_on (Rebuildable s) old new who n j f kept is = same_goes_on old new is.0
+pub inspection_goes_on : (l : Inspection) (old new : Contents) (who : ℕ) (n : List ℕ) (j f : ℕ) → (new.width ≡ old.width) × (new.limit ≡ old.limit) × (new.base ≡ old.base)
+    → FoundIn old new who n j f l → GoesOn old new (events_at_inspection l who (repair n j f)) 0
+inspection_goes_on (Done a) old new who n j f kept is = call_goes_on (Ok a) old new who (repair n j f) kept is tt
+inspection_goes_on (Refused e) old new who n j f kept is = same_goes_on old new is.0
+inspection_goes_on (Rebuildable s) old new who n j f kept is = same_goes_on old new is.0
 
 known_by : (w : ℕ) (found : Option Sealed) (had : Option Blob) (s : Sealed) → found ≡ Some s → Correspond w found had → (blob : Blob) × (had ≡ Some blob) × Represents w s blob
 known_by w None had s is both = absurd (cc (is))
@@ -58,7 +58,7 @@ known p q x n s step found =
       put_is = was_put (width_of q.list) (seen_of q.list) step.legal n is.0 (ap (λ (g : History). finite.get (state_of g).names n) same ∙ is.1);
     }
 
--- why a look was refused, as a book says it of its calls
+-- why an inspection was refused, as a book says it of its calls
 refused_full : (e : Fault) (book : Contents) → ((e ≡ NoMemory) × (length book.entries ≢ book.limit)) ⊎ ((e ≡ JournalFull) × (length book.entries ≡ book.limit)) → IsFullIf book (Err e)
 refused_full e book is =
     ⊎_elim (λ (none : (e ≡ NoMemory) × (length book.entries ≢ book.limit)). ((λ there. absurd (other none.0 there)), (λ there. absurd (none.1 there))))
@@ -67,15 +67,15 @@ refused_full e book is =
     other : e ≡ NoMemory → ◌≡◌ {A = Result Answer Fault} (Err e) (Err JournalFull) → ⊥
     other none there = cc (none, there)
 
--- what a look in the book makes of a pass
-pub look_found : (p q : SeatState Kept) (x y : Kept) (who : ℕ) (n : List ℕ) (j f : ℕ) (l : Look) → Stepped p q x (events_at_look l who (repair n j f)) 0 → trimmed_of q.list ≡ x.0.value.base.trimmed → FoundIn x.0.value y.0.value who n j f l
+-- what an inspection of the book makes of a pass
+pub inspection_found : (p q : SeatState Kept) (x y : Kept) (who : ℕ) (n : List ℕ) (j f : ℕ) (l : Inspection) → Stepped p q x (events_at_inspection l who (repair n j f)) 0 → trimmed_of q.list ≡ x.0.value.base.trimmed → FoundIn x.0.value y.0.value who n j f l
     → Found (shows p who) n j f l (shows q who)
-look_found p q x y who n j f (Done a) step left is =
+inspection_found p q x y who n j f (Done a) step left is =
     called p q x who (repair n j f) (Ok a) step left ((λ e. absurd (cc (e))), (λ there. absurd (is.1 there))) (λ e. absurd (cc (e))) (λ e. cc (e))
-look_found p q x y who n j f (Refused e) step left is =
+inspection_found p q x y who n j f (Refused e) step left is =
     called p q x who (repair n j f) (Err e) step left (refused_full e x.0.value is.1) (λ full long. long)
     (λ long. ⊎_elim (λ (none : (e ≡ NoMemory) × (length x.0.value.entries ≢ x.0.value.limit)). cc (none.0, long)) (λ (there : (e ≡ JournalFull) × (length x.0.value.entries ≡ x.0.value.limit)). cc (there.0, long)) is.1)
-look_found p q x y who n j f (Rebuildable s) step left is = record {
+inspection_found p q x y who n j f (Rebuildable s) step left is = record {
   takes = takes p q x [] 0 who None step refl tt;
   room = room_seen p q x who step left is.3;
   known = known p q x n s.value step is.1;
@@ -93,7 +93,7 @@ known_fragment h w n s j f bytes k m is = record {
   is = is k.blob.bytes k.blob.lost k.represents.stands ∙ (λ i. fragment (k.represents.code i) (k.represents.width i) k.blob.bytes j f);
 }
 
--- a look, and then a deed
+-- an inspection, and then a deed
 pub takes_later : (u v w : Shows) (deed : Option Deed) → Takes u None v → Takes v deed w → Takes u deed w
 takes_later u v w deed first then =
     let between : (u.acts ++ first.others) ++ [] ≡ u.acts ++ first.others = append-nil (u.acts ++ first.others) in
@@ -108,7 +108,7 @@ takes_later u v w deed first then =
       lone = λ alone. (λ i. first.lone alone i ++ then.lone (first.stays.2 ∙ alone) i);
     }
 
--- a look, and then the repair
+-- an inspection, and then the repair
 pub looks_then_called : (u v w : Shows) (n : List ℕ) (j f : ℕ) (r : Result Answer Fault) → Takes u None v → Called v (repair n j f) r w → Called u (repair n j f) r w
 looks_then_called u v w n j f r first then = record {
   takes = takes_later u v w (deed_of (repair n j f) r) first then.takes;

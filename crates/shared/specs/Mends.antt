@@ -1,4 +1,4 @@
--- What a look before a repair finds.
+-- What the inspection before a repair finds.
 use Rattle.std.specs.Prelude.{◌≡◌, ◌⊎◌, ℕ, List, None, Ok, Err}
 use Rattle.sealed.specs.declared.value.Sealed.{Sealed}
 use Rattle.sealed.specs.Rebuilding.{IsRebuildable}
@@ -6,8 +6,8 @@ use Rattle.history.specs.State.{Blob}
 use Rattle.history.specs.Step.{repair}
 use Rattle.history.specs.History.{History, HasPut}
 use Rattle.book.specs.Tells.{Represents}
-use Rattle.requests.specs.declared.look.Look.{Look}
-use Rattle.requests.specs.declared.look.Look.TheVariants.{Done, Refused, Rebuildable}
+use Rattle.requests.specs.declared.inspection.Inspection.{Inspection}
+use Rattle.requests.specs.declared.inspection.Inspection.TheVariants.{Done, Refused, Rebuildable}
 use Rattle.shared.specs.Passes.{Shows}
 use Rattle.shared.specs.Deeds.{Takes}
 use Rattle.shared.specs.Calls.{Called, HasRoom}
@@ -30,7 +30,7 @@ abbrev pub FoundBusy : Shows → List ℕ → ℕ → ℕ → Shows → Type 0
 FoundBusy v n j f w = (w ≡ v) ⊎ ((s : Sealed) × CanMend v n j f s w)
 
 -- what a pass found
-abbrev pub Found : Shows → List ℕ → ℕ → ℕ → Look → Shows → Type 0
+abbrev pub Found : Shows → List ℕ → ℕ → ℕ → Inspection → Shows → Type 0
 Found v n j f (Done a) w = Called v (repair n j f) (Ok a) w
 Found v n j f (Refused e) w = Called v (repair n j f) (Err e) w
 Found v n j f (Rebuildable s) w = CanMend v n j f s.value w

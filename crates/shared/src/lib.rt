@@ -9,8 +9,8 @@ mod pass;
 mod plan;
 mod run;
 mod store;
-mod tries;
 mod trim;
+mod try_calls;
 
 pub use book::{
     Answer, Base, Book, Call, Entry, Fault, Item, Limit, Name, Note, Plan, is_lawful,

@@ -2,12 +2,12 @@
 ghost use Rattle.std.specs.Prelude.{◌≡◌, ◌≢◌, ◌⊎◌, IfErr};
 ghost use Rattle.history.specs.Step.{repair as repair_of};
 ghost use Rattle.shared.specs.Calls.{Called};
-ghost use Rattle.requests.specs.Looks.{IfRefused};
+ghost use Rattle.requests.specs.Inspections.{IfRefused};
 ghost use Rattle.shared.specs.Mends.{Found, FoundBusy};
 
 use crate::{Pass, Store};
 use book::{Answer, Fault, Name};
-use requests::{Look, Request, look_in};
+use requests::{Inspection, Request, inspect};
 use std::alloc::Global;
 use std::sync::Wait;
 
@@ -31,10 +31,10 @@ impl Store {
         ensures called { Called pass.old (repair_of name stripe fragment) result pass.new }
         ensures faults { IfErr result (λ e. (e ≡ Fault.NoMemory) ⊎ (e ≡ Fault.JournalFull)) }
     {
-        let sealed = match self.look(rt, alloc, pass, &name, stripe, fragment) {
-            Look::Done(answer) => return Ok(answer),
-            Look::Refused(fault) => return Err(fault),
-            Look::Rebuildable(sealed) => sealed,
+        let sealed = match self.inspect(rt, alloc, pass, &name, stripe, fragment) {
+            Inspection::Done(answer) => return Ok(answer),
+            Inspection::Refused(fault) => return Err(fault),
+            Inspection::Rebuildable(sealed) => sealed,
         };
         let Ok(bytes) = sealed.rebuild_fragment(alloc, stripe, fragment) else {
             return Err(Fault::NoMemory);
@@ -72,10 +72,10 @@ impl Store {
         ensures busy { result ≡ Err Fault.Busy → FoundBusy pass.old name stripe fragment pass.new }
         ensures lone { pass.old.room ≡ 64 → result ≢ Err Fault.Busy }
     {
-        let sealed = match self.try_look(alloc, pass, &name, stripe, fragment) {
-            Look::Done(answer) => return Ok(answer),
-            Look::Refused(fault) => return Err(fault),
-            Look::Rebuildable(sealed) => sealed,
+        let sealed = match self.try_inspect(alloc, pass, &name, stripe, fragment) {
+            Inspection::Done(answer) => return Ok(answer),
+            Inspection::Refused(fault) => return Err(fault),
+            Inspection::Rebuildable(sealed) => sealed,
         };
         let Ok(bytes) = sealed.rebuild_fragment(alloc, stripe, fragment) else {
             return Err(Fault::NoMemory);
@@ -96,8 +96,8 @@ impl Store {
         )
     }
 
-    /// Enters, looks and leaves.
-    fn look<R: Wait>(
+    /// Enters, inspects and leaves.
+    fn inspect<R: Wait>(
         &self,
         rt: &R,
         alloc: Global,
@@ -105,37 +105,37 @@ impl Store {
         name: &Name,
         stripe: u64,
         fragment: u64,
-    ) -> Look
+    ) -> Inspection
         requires { pass.old.store ≡ self.now }
         ensures found { Found pass.old name.now stripe fragment result pass.new }
         ensures faults { IfRefused result (λ e. (e ≡ Fault.NoMemory) ⊎ (e ≡ Fault.JournalFull)) }
     {
         let mut inside = self.gate.enter(rt, &mut pass.seat);
-        let look = look_in(&mut inside.value, alloc, pass.who, name, stripe, fragment);
+        let inspection = inspect(&mut inside.value, alloc, pass.who, name, stripe, fragment);
         self.gate.leave(&mut pass.seat, inside);
-        look
+        inspection
     }
 
     /// The same, if nobody is inside. Else `Busy`, and the pass is as it was.
-    fn try_look(
+    fn try_inspect(
         &self,
         alloc: Global,
         pass: &mut Pass,
         name: &Name,
         stripe: u64,
         fragment: u64,
-    ) -> Look
+    ) -> Inspection
         requires { pass.old.store ≡ self.now }
         ensures found { Found pass.old name.now stripe fragment result pass.new }
         ensures faults { IfRefused result (λ e. (e ≡ Fault.Busy) ⊎ (e ≡ Fault.NoMemory) ⊎ (e ≡ Fault.JournalFull)) }
-        ensures busy { result ≡ Look.Refused Fault.Busy → pass.new ≡ pass.old }
-        ensures lone { pass.old.room ≡ 64 → result ≢ Look.Refused Fault.Busy }
+        ensures busy { result ≡ Inspection.Refused Fault.Busy → pass.new ≡ pass.old }
+        ensures lone { pass.old.room ≡ 64 → result ≢ Inspection.Refused Fault.Busy }
     {
         let Some(mut inside) = self.gate.try_enter(&mut pass.seat) else {
-            return Look::Refused(Fault::Busy);
+            return Inspection::Refused(Fault::Busy);
         };
-        let look = look_in(&mut inside.value, alloc, pass.who, name, stripe, fragment);
+        let inspection = inspect(&mut inside.value, alloc, pass.who, name, stripe, fragment);
         self.gate.leave(&mut pass.seat, inside);
-        look
+        inspection
     }
 }

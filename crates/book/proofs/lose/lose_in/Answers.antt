@@ -14,7 +14,7 @@ returns-in-Some-clause-ok c =
     (λ a. Replaces (λ w x. lose_reply w x c.args.stripe c.args.fragment) (Loses c.args.stripe c.args.fragment (note_of a)) c.args.catalogue.now.entries (c.get_mut.follows.lender c.lose.new.self).entries c.args.name.now (note_of a))
     (λ a is becomes.
     replaced_by (λ w x. lose_reply w x c.args.stripe c.args.fragment) (Loses c.args.stripe c.args.fragment (note_of a)) c.args.catalogue.now.entries _ c.args.name.now (note_of a)
-    c.in-Some.shelved.now c.lose.new.self c.in-Some.ensures.value is becomes
+    c.in-Some.stored.now c.lose.new.self c.in-Some.ensures.value is becomes
     ((c.get_mut.follows.holds c.lose.new.self).3 (is_some_at _ _ c.in-Some.ensures.value)).0)
     c.lose.ensures.answer c.lose.ensures.changed
 
@@ -23,5 +23,5 @@ returns-in-Some-clause-err c =
     at_err c.lose.result _ _
     (λ same.
     (c.get_mut.follows.holds c.lose.new.self).0 ∙ ap (set_value (is_at (name_cmp c.args.name.now)) c.args.catalogue.now.entries) same
-    ∙ same_value (is_at (name_cmp c.args.name.now)) c.args.catalogue.now.entries c.in-Some.shelved.now (sym c.in-Some.ensures.value))
+    ∙ same_value (is_at (name_cmp c.args.name.now)) c.args.catalogue.now.entries c.in-Some.stored.now (sym c.in-Some.ensures.value))
     c.lose.ensures.err

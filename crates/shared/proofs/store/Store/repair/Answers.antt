@@ -9,14 +9,14 @@ use Rattle.shared.proofs.store.Store.repair.Goals as goal
 pub make-requires-clause-can : goal.make-requires-clause-can
 make-requires-clause-can g c =
     let is = c.in-Rebuildable.ensures.found in
-    let w = c.look.new.pass.store.width in
-    subst (λ (v : ℕ). IsFragmentIn c.look.new.pass.seen w c.args.name v c.args.stripe c.args.fragment c.in-Ok.bytes) (ap (λ (s : Sealed). s.version) (c.deref.ensures ∙ sym c.deref-2.ensures))
-    (known_fragment c.look.new.pass.seen w c.args.name c.deref.result.now c.args.stripe c.args.fragment c.in-Ok.bytes
-    (subst (IsKnown c.look.new.pass.seen w c.args.name) (sym c.deref.ensures) is.known)
+    let w = c.inspect.new.pass.store.width in
+    subst (λ (v : ℕ). IsFragmentIn c.inspect.new.pass.seen w c.args.name v c.args.stripe c.args.fragment c.in-Ok.bytes) (ap (λ (s : Sealed). s.version) (c.deref.ensures ∙ sym c.deref-2.ensures))
+    (known_fragment c.inspect.new.pass.seen w c.args.name c.deref.result.now c.args.stripe c.args.fragment c.in-Ok.bytes
+    (subst (IsKnown c.inspect.new.pass.seen w c.args.name) (sym c.deref.ensures) is.known)
     (subst (λ (s : Sealed). IsRebuildable s c.args.stripe c.args.fragment) (sym c.deref.ensures) is.rebuildable)
     c.in-Ok.ensures.ok)
 
 pub returns-clause-called : goal.returns-clause-called
 returns-clause-called g c =
     let is = c.in-Rebuildable.ensures.found in
-    looks_then_called c.args.pass.now c.look.new.pass c.make.new.pass c.args.name c.args.stripe c.args.fragment c.make.result is.takes c.make.ensures.called
+    looks_then_called c.args.pass.now c.inspect.new.pass c.make.new.pass c.args.name c.args.stripe c.args.fragment c.make.result is.takes c.make.ensures.called

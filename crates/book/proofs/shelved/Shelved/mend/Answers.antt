@@ -1,8 +1,0 @@
-use Rattle.std.proofs.Common.{◌∙◌, ap}
-use Rattle.sealed.specs.declared.value.Sealed.{Sealed}
-use Rattle.book.proofs.Known.{replies_repaired}
-use Rattle.book.proofs.shelved.Shelved.mend.Goals as goal
-
-pub returns-in-Ok-clause-answer : goal.returns-in-Ok-clause-answer
-returns-in-Ok-clause-answer c =
-    replies_repaired c.args.self.now c.args.stripe c.args.fragment c.deref.result.now.version c.requires.rebuildable (ap (λ (s : Sealed). s.version) (c.deref.ensures ∙ c.self.view_is))

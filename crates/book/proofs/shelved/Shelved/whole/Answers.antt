@@ -1,6 +1,0 @@
-use Rattle.std.proofs.Common.{sym}
-use Rattle.book.proofs.Lacking.{none_lacked}
-use Rattle.book.proofs.shelved.Shelved.whole.Goals as goal
-
-pub invariant_of-result : goal.invariant_of-result
-invariant_of-result c = sym (none_lacked c.args.sealed.value c.requires.0 c.requires.1)

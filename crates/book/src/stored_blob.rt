@@ -1,0 +1,296 @@
+//! A sealed blob in the catalogue.
+ghost use Rattle.std.specs.Prelude.{◌≡◌, ◌<◌, ◌≤◌, ◌++◌, List, ℕ, Some, true, false, length, IfOk, IfErr, OnOk, OnErr};
+ghost use Rattle.std.specs.FinSet as set;
+ghost use Rattle.lrc_code.specs.Code.{fragment_count};
+ghost use Rattle.sealed.specs.Layout.{stripe_count};
+ghost use Rattle.sealed.specs.Blob.{nothing};
+ghost use Rattle.sealed.specs.Change.{IsChanged};
+ghost use Rattle.sealed.specs.Sealed.{StandsFor, absent_in};
+ghost use Rattle.sealed.specs.Rebuilding.{IsFragmentOf, IsRebuildable};
+ghost use Rattle.book.specs.Known.{Serves};
+ghost use Rattle.book.specs.Catalogue.{lacks_some};
+ghost use Rattle.book.specs.Lacking.{reply_for, lacks, lacked_count, seen_of};
+ghost use Rattle.book.specs.Losing.{IsWith, Loses, Mends};
+ghost use Rattle.book.specs.Notes.{note_of};
+ghost use Rattle.book.specs.Plan.{items_lacked};
+ghost use Rattle.history.specs.Views.{no_such, lose_reply, repair_reply, stat_reply};
+
+use crate::plan::Item;
+use crate::{Answer, Bytes, Fault, Name, Sealed};
+use std::alloc::{AllocError, Global};
+use std::marker::Model;
+use std::sync::Arc;
+
+/// A sealed blob, and how many of its fragments are lost: to tell this costs the same for each blob.
+#[derive(Drop)]
+pub struct StoredBlob {
+    sealed: Arc<Sealed>,
+    lost: u64,
+}
+
+impl Model for StoredBlob {
+    ghost use Rattle.sealed.specs.declared.value.Sealed.{Sealed as SealedValue};
+
+    ghost Value = { SealedValue };
+
+    ghost use Rattle.std.specs.Prelude.{◌≡◌};
+    ghost use Rattle.book.specs.Lacking.{lacked_count};
+
+    ghost view = { λ s. s.sealed.value };
+
+    ghost invariant = { λ s. s.lost ≡ lacked_count s.sealed.value };
+}
+
+impl StoredBlob {
+    /// A blob of which nothing is lost.
+    pub fn whole(sealed: Arc<Sealed>) -> StoredBlob
+        requires { (b : List ℕ) × StandsFor sealed.value b nothing }
+        ensures { result ≡ sealed.value }
+    {
+        StoredBlob { sealed, lost: 0 }
+    }
+
+    /// The sealed blob.
+    pub fn sealed(&self) -> &Arc<Sealed>
+        ensures { result.now.value ≡ self.now }
+    {
+        &self.sealed
+    }
+
+    /// The answer to a question for its shape.
+    pub fn stat(&self) -> Answer
+        ensures { note_of result ≡ reply_for stat_reply (Some self.now) }
+    {
+        Answer::Shape {
+            version: self.sealed.version,
+            len: self.sealed.len,
+            stripes: self.sealed.stripes.len() as u64,
+            lost: self.lost,
+        }
+    }
+
+    /// Whether a fragment is lost.
+    pub fn lacks_some(&self) -> bool
+        ensures { result ≡ lacks_some self.now }
+    {
+        self.lost > 0
+    }
+
+    /// Whether the blob has no such fragment.
+    fn is_no_fragment(&self, stripe: u64, fragment: u64) -> bool
+        ensures { result ≡ no_such self.now.width (seen_of self.now) stripe fragment }
+    {
+        !self.sealed.has_fragment(stripe, fragment)
+    }
+
+    /// Whether this fragment is lost.
+    fn is_lost(&self, stripe: u64, f: u8) -> bool
+        requires stripe_below { stripe < stripe_count self.now.code self.now.width self.now.len }
+        requires f_below { f < fragment_count self.now.code }
+        ensures value { result ≡ lacks self.now stripe f }
+        ensures absent { result ≡ absent_in self.now stripe f }
+    {
+        self.sealed.fragment(stripe, f).is_none()
+    }
+
+    /// Adds an item for each lost fragment, by stripe and then by fragment. `AllocError` where memory is refused.
+    pub fn list_lost(&self, name: &Name, items: &mut Vec<Item>) -> Result<(), AllocError>
+        ensures { OnOk result (items.new.items ≡ items.old.items ++ items_lacked (name.now, self.now)) }
+    {
+        if self.lost == 0 {
+            return Ok(());
+        }
+        let version = self.sealed.version;
+        for stripe in 0..self.sealed.stripes.len() as u64 {
+            for f in 0..self.sealed.code.fragments() {
+                if self.is_lost(stripe, f) {
+                    let name = name.duplicate();
+                    items.push(Item {
+                        name,
+                        version,
+                        stripe,
+                        f,
+                    })?;
+                }
+            }
+        }
+        Ok(())
+    }
+
+    /// Loses a fragment. The only fault is `NoMemory`. After it the blob is as it was.
+    pub fn lose(&mut self, alloc: Global, stripe: u64, fragment: u64) -> Result<Answer, Fault>
+        ensures answer { IfOk result (λ a. note_of a ≡ reply_for (λ w x. lose_reply w x stripe fragment) (Some self.old)) }
+        ensures changed { IfOk result (λ a. Loses stripe fragment (note_of a) self.old self.new) }
+        ensures faults { IfErr result (λ e. e ≡ Fault.NoMemory) }
+        ensures err { OnErr result (self.new ≡ self.old) }
+    {
+        if self.is_no_fragment(stripe, fragment) {
+            return Ok(Answer::NoFragment);
+        }
+        if self.is_lost(stripe, fragment as u8) {
+            return Ok(Answer::AlreadyLost);
+        }
+        let version = self.sealed.version;
+        match self.take_out(alloc, stripe, fragment as u8) {
+            Ok(()) => Ok(Answer::Lost(version)),
+            Err(error) => Err(error),
+        }
+    }
+
+    /// Takes out a fragment that is there.
+    fn take_out(&mut self, alloc: Global, stripe: u64, f: u8) -> Result<(), Fault>
+        requires stripe_below { stripe < stripe_count self.old.code self.old.width self.old.len }
+        requires f_below { f < fragment_count self.old.code }
+        requires there { absent_in self.old stripe f ≡ false }
+        ensures ok { OnOk result (IsWith (λ lost. set.insert lost (stripe, f)) self.old self.new) }
+        ensures faults { IfErr result (λ e. e ≡ Fault.NoMemory) }
+        ensures err { OnErr result (self.new ≡ self.old) }
+    {
+        match take_out_of(&mut self.sealed, alloc, stripe, f) {
+            Ok(()) => {
+                self.lost += 1;
+                Ok(())
+            }
+            Err(_) => Err(Fault::NoMemory),
+        }
+    }
+
+    /// Rebuilds a lost fragment. The only fault is `NoMemory`. After it the blob is as it was.
+    pub fn repair(&mut self, alloc: Global, stripe: u64, fragment: u64) -> Result<Answer, Fault>
+        ensures answer { IfOk result (λ a. note_of a ≡ reply_for (λ w x. repair_reply w x stripe fragment) (Some self.old)) }
+        ensures changed { IfOk result (λ a. Mends stripe fragment (note_of a) self.old self.new) }
+        ensures fewer { lacked_count self.new ≤ lacked_count self.old }
+        ensures faults { IfErr result (λ e. e ≡ Fault.NoMemory) }
+        ensures err { OnErr result (self.new ≡ self.old) }
+    {
+        if self.is_no_fragment(stripe, fragment) {
+            return Ok(Answer::NoFragment);
+        }
+        if !self.is_lost(stripe, fragment as u8) {
+            return Ok(Answer::NotLost);
+        }
+        if !self.sealed.is_rebuildable(stripe, fragment) {
+            return Ok(Answer::Unrecoverable(self.sealed.version));
+        }
+        match self.sealed.rebuild_fragment(alloc, stripe, fragment) {
+            Ok(bytes) => self.mend(alloc, stripe, fragment, bytes),
+            Err(_) => Err(Fault::NoMemory),
+        }
+    }
+
+    /// Does as `repair` does, but puts back these bytes where the blob has this version. The only fault is `NoMemory`. After it the blob is as it was.
+    pub fn install(
+        &mut self,
+        alloc: Global,
+        version: u64,
+        stripe: u64,
+        fragment: u64,
+        bytes: Bytes,
+    ) -> Result<Answer, Fault>
+        requires { Serves version stripe fragment bytes self.old }
+        ensures answer { IfOk result (λ a. note_of a ≡ reply_for (λ w x. repair_reply w x stripe fragment) (Some self.old)) }
+        ensures changed { IfOk result (λ a. Mends stripe fragment (note_of a) self.old self.new) }
+        ensures fewer { lacked_count self.new ≤ lacked_count self.old }
+        ensures faults { IfErr result (λ e. e ≡ Fault.NoMemory) }
+        ensures err { OnErr result (self.new ≡ self.old) }
+    {
+        if self.sealed.version != version || !self.sealed.is_rebuildable(stripe, fragment) {
+            return self.repair(alloc, stripe, fragment);
+        }
+        self.mend(alloc, stripe, fragment, bytes)
+    }
+
+    /// Mends a fragment by these bytes. The only fault is `NoMemory`. After it the blob is as it was.
+    fn mend(
+        &mut self,
+        alloc: Global,
+        stripe: u64,
+        fragment: u64,
+        bytes: Bytes,
+    ) -> Result<Answer, Fault>
+        requires rebuildable { IsRebuildable self.old stripe fragment }
+        requires long { length bytes ≡ self.old.width }
+        requires own { IsFragmentOf self.old stripe fragment bytes }
+        ensures answer { IfOk result (λ a. note_of a ≡ reply_for (λ w x. repair_reply w x stripe fragment) (Some self.old)) }
+        ensures changed { IfOk result (λ a. Mends stripe fragment (note_of a) self.old self.new) }
+        ensures fewer { lacked_count self.new ≤ lacked_count self.old }
+        ensures faults { IfErr result (λ e. e ≡ Fault.NoMemory) }
+        ensures err { OnErr result (self.new ≡ self.old) }
+    {
+        let version = self.sealed.version;
+        match self.put_back(alloc, stripe, fragment as u8, bytes) {
+            Ok(()) => Ok(Answer::Repaired(version)),
+            Err(error) => Err(error),
+        }
+    }
+
+    /// Puts back an absent fragment.
+    fn put_back(&mut self, alloc: Global, stripe: u64, f: u8, bytes: Bytes) -> Result<(), Fault>
+        requires stripe_below { stripe < stripe_count self.old.code self.old.width self.old.len }
+        requires f_below { f < fragment_count self.old.code }
+        requires gone { absent_in self.old stripe f ≡ true }
+        requires long { length bytes ≡ self.old.width }
+        requires own { IsFragmentOf self.old stripe f bytes }
+        ensures ok { OnOk result (IsWith (λ lost. set.remove lost (stripe, f)) self.old self.new) }
+        ensures fewer { lacked_count self.new ≤ lacked_count self.old }
+        ensures faults { IfErr result (λ e. e ≡ Fault.NoMemory) }
+        ensures err { OnErr result (self.new ≡ self.old) }
+    {
+        match put_back_in(&mut self.sealed, alloc, stripe, f, bytes) {
+            Ok(()) => {
+                self.lost -= 1;
+                Ok(())
+            }
+            Err(_) => Err(Fault::NoMemory),
+        }
+    }
+}
+
+/// Takes a fragment out of a value: in place where it has no other owner, and else out of a value of its own, which shares its stripes.
+fn take_out_of(sealed: &mut Arc<Sealed>, alloc: Global, stripe: u64, f: u8) -> Result<(), Fault>
+    requires stripe_below { stripe < stripe_count sealed.old.value.code sealed.old.value.width sealed.old.value.len }
+    requires f_below { f < fragment_count sealed.old.value.code }
+    ensures ok { OnOk result (IsChanged sealed.old.value stripe f None sealed.new.value) }
+    ensures faults { IfErr result (λ e. e ≡ Fault.NoMemory) }
+    ensures err { OnErr result (sealed.new.value ≡ sealed.old.value) }
+{
+    if let Some(own) = Arc::get_mut(sealed) {
+        return own.take_out(alloc, stripe, f);
+    }
+    let Ok(changed) = sealed.without(alloc, stripe, f) else {
+        return Err(Fault::NoMemory);
+    };
+    let Ok(changed) = Arc::new(alloc, changed) else {
+        return Err(Fault::NoMemory);
+    };
+    *sealed = changed;
+    Ok(())
+}
+
+/// Puts a fragment in, in the same way.
+fn put_back_in(
+    sealed: &mut Arc<Sealed>,
+    alloc: Global,
+    stripe: u64,
+    f: u8,
+    bytes: Bytes,
+) -> Result<(), Fault>
+    requires stripe_below { stripe < stripe_count sealed.old.value.code sealed.old.value.width sealed.old.value.len }
+    requires f_below { f < fragment_count sealed.old.value.code }
+    requires long { length bytes ≡ sealed.old.value.width }
+    ensures ok { OnOk result (IsChanged sealed.old.value stripe f (Some bytes) sealed.new.value) }
+    ensures faults { IfErr result (λ e. e ≡ Fault.NoMemory) }
+    ensures err { OnErr result (sealed.new.value ≡ sealed.old.value) }
+{
+    if let Some(own) = Arc::get_mut(sealed) {
+        return own.put_back(alloc, stripe, f, bytes);
+    }
+    let Ok(changed) = sealed.with(alloc, stripe, f, bytes) else {
+        return Err(Fault::NoMemory);
+    };
+    let Ok(changed) = Arc::new(alloc, changed) else {
+        return Err(Fault::NoMemory);
+    };
+    *sealed = changed;
+    Ok(())
+}

@@ -1,0 +1,21 @@
+use Rattle.std.proofs.Common.{sym, arith}
+use Rattle.lrc_code.specs.Code.{is_lost}
+use Rattle.lrc_code.proofs.Recoverable.{open_here}
+use Rattle.lrc_code.proofs.Checks.{determined_first, determined_second, one_group, alone_in_none}
+use Rattle.lrc_code.proofs.recipes.check_for.Goals as goal
+
+pub returns-then-is_only_lost_of_first-clause-exact : goal.returns-then-is_only_lost_of_first-clause-exact
+returns-then-is_only_lost_of_first-clause-exact c = (tt, determined_first _ _ _ c.requires.f_below (sym c.if-is_only_lost_of_first.ensures))
+
+pub returns-then-is_only_lost_of_first-clause-second : goal.returns-then-is_only_lost_of_first-clause-second
+returns-then-is_only_lost_of_first-clause-second c = λ h. absurd (one_group _ _ _ c.requires.f_below (sym c.if-is_only_lost_of_first.ensures) h)
+
+pub returns-then-is_only_lost_of_second-clause-exact : goal.returns-then-is_only_lost_of_second-clause-exact
+returns-then-is_only_lost_of_second-clause-exact c = (tt, determined_second _ _ _ c.requires.f_below (sym c.if-is_only_lost_of_second.ensures))
+
+pub returns-then-excess_in-gt2-clause-exact : goal.returns-then-excess_in-gt2-clause-exact
+returns-then-excess_in-gt2-clause-exact c =
+    open_here c.args.code (is_lost c.args.lost) c.args.f c.requires.f_below c.requires.f_lost (alone_in_none _ _ _ (sym c.if-is_only_lost_of_first.ensures) (sym c.if-is_only_lost_of_second.ensures)) (omega (arith, c.excess_in.ensures.value))
+
+pub global_check-requires-clause-not_alone : goal.global_check-requires-clause-not_alone
+global_check-requires-clause-not_alone c = alone_in_none _ _ _ (sym c.if-is_only_lost_of_first.ensures) (sym c.if-is_only_lost_of_second.ensures)

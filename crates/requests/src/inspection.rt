@@ -1,0 +1,67 @@
+//! The inspection of a book before a repair. What can be rebuilt is left to be rebuilt outside the gate.
+ghost use Rattle.std.specs.Prelude.{◌≡◌};
+ghost use Rattle.requests.specs.Inspections.{FoundIn};
+
+use crate::Kept;
+use book::{Answer, Book, Fault, Name};
+use sealed::Sealed;
+use std::alloc::Global;
+use std::sync::Arc;
+
+/// What the inspection before a repair finds.
+#[derive(Drop)]
+pub enum Inspection {
+    /// The repair was made, and answered so.
+    Done(Answer),
+    /// It was refused.
+    Refused(Fault),
+    /// The fragment can be rebuilt from this value, and nothing was done.
+    Rebuildable(Arc<Sealed>),
+}
+
+/// Looks at the book in the gate, and makes the repair there if it answers anything but `Repaired`. Else nothing is done, and the value is given to rebuild from.
+///
+/// Refused by `JournalFull` where the journal holds as many entries as its limit; else by `NoMemory` where memory is refused.
+pub fn inspect(
+    kept: &mut Kept,
+    alloc: Global,
+    who: u32,
+    name: &Name,
+    stripe: u64,
+    fragment: u64,
+) -> Inspection
+    ensures found { FoundIn kept.old.0.value kept.new.0.value who name.now stripe fragment result }
+    ensures kept { (kept.new.0.value.width ≡ kept.old.0.value.width) × (kept.new.0.value.limit ≡ kept.old.0.value.limit) × (kept.new.0.value.base ≡ kept.old.0.value.base) }
+{
+    let book: &mut Book = &mut kept.0;
+    inspect_book(book, alloc, who, name, stripe, fragment)
+}
+
+/// Looks at a book, and makes the repair there if it answers anything but `Repaired`.
+fn inspect_book(
+    book: &mut Book,
+    alloc: Global,
+    who: u32,
+    name: &Name,
+    stripe: u64,
+    fragment: u64,
+) -> Inspection
+    ensures found { FoundIn book.old book.new who name.now stripe fragment result }
+    ensures kept { (book.new.width ≡ book.old.width) × (book.new.limit ≡ book.old.limit) × (book.new.base ≡ book.old.base) }
+{
+    if book.is_full() {
+        return Inspection::Refused(Fault::JournalFull);
+    }
+    if let Some(sealed) = book.find(name) {
+        if sealed.is_rebuildable(stripe, fragment) {
+            return match Arc::try_clone(sealed) {
+                Ok(sealed) => Inspection::Rebuildable(sealed),
+                Err(_) => Inspection::Refused(Fault::NoMemory),
+            };
+        }
+    }
+    match book.repair(alloc, who, name.duplicate(), stripe, fragment) {
+        Ok(answer) => Inspection::Done(answer),
+        Err(fault) => Inspection::Refused(fault),
+    }
+}
