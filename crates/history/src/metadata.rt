@@ -14,7 +14,7 @@ use std::alloc::{AllocError, Global};
 use std::collections::BTreeSet;
 
 /// A blob of a name, without its bytes.
-#[derive(Drop)]
+#[derive(Debug, Drop)]
 pub struct BlobMetadata {
     /// The number of its put.
     pub version: u64,

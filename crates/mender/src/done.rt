@@ -4,7 +4,7 @@ ghost use Rattle.mender.specs.Answers.{IsOfRepair};
 use book::{Answer, Fault, Item};
 
 /// A ticket with its item, and what the item's repair answered: one of the five answers of a repair.
-#[derive(Drop)]
+#[derive(Debug, Drop)]
 pub struct Done {
     /// The number that was drawn.
     pub ticket: u64,
@@ -16,7 +16,7 @@ pub struct Done {
 }
 
 /// Why a worker stopped, and what it had done. The ticket that it had drawn last has no result, and its repair was not made.
-#[derive(Drop)]
+#[derive(Debug, Drop)]
 pub struct WorkFault {
     /// `NoMemory` or `JournalFull`.
     pub fault: Fault,

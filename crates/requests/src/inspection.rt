@@ -9,7 +9,7 @@ use std::alloc::Global;
 use std::sync::Arc;
 
 /// What the inspection before a repair finds.
-#[derive(Drop)]
+#[derive(Debug, Drop)]
 pub enum Inspection {
     /// The repair was made, and answered so.
     Done(Answer),

@@ -57,7 +57,7 @@ pub struct Job {
 }
 
 /// What came of a job.
-#[derive(Drop)]
+#[derive(Debug, Drop)]
 pub enum Reply {
     /// The call was made, and answered so.
     Made(Answer),
@@ -79,7 +79,7 @@ pub enum Cause {
 }
 
 /// A run that stopped.
-#[derive(Drop)]
+#[derive(Debug, Drop)]
 pub struct Stopped {
     /// The replies so far.
     pub done: Vec<Reply>,

@@ -40,6 +40,15 @@ fn one_stripe_filled_up(rt: HostRuntime) -> Result<(), Fail> {
 }
 
 #[test]
+fn a_blob_is_shown_by_its_shape(rt: HostRuntime) -> Result<(), Fail> {
+    let value = sealed(&rt, rt.alloc(), Bytes::from_static(b"HELLO"), 1);
+    let shown = format!(in rt.alloc(); "{value:?}")?;
+    let expected = "Sealed { version: 0, len: 5, width: Width { bytes: 1 }, code: Wide, .. }";
+    assert_eq!(rt; shown.as_str(), expected);
+    Ok(())
+}
+
+#[test]
 fn an_empty_blob_has_no_stripe(rt: HostRuntime) -> Result<(), Fail> {
     let value = sealed(&rt, rt.alloc(), Bytes::new(), 1);
     assert_eq!(rt; value.len, 0);
