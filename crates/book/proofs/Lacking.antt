@@ -6,12 +6,14 @@ use Rattle.std.specs.Ordering.{eq_by_cmp}
 use Rattle.std.proofs.lemmas.Bool.{and_parts, cases_Bool, cases_eq, false≢true}
 use Rattle.std.proofs.lemmas.Grind.{common_steps}
 use Rattle.lrc_code.specs.Code.{fragment_count}
+use Rattle.lrc_code.specs.Count.{count_below}
+use Rattle.lrc_code.proofs.Count.{count_same}
 use Rattle.sealed.proofs.Counting.{few_fragments}
 use Rattle.sealed.specs.declared.value.Sealed.{Sealed}
 use Rattle.sealed.specs.Layout.{stripe_count}
 use Rattle.sealed.specs.Blob.{Lost, nothing, lost_in, pair_cmp}
 use Rattle.sealed.specs.Sealed.{StandsFor, absent_in}
-use Rattle.book.specs.Lacking.{count_below, lacks, lacked_count, seen_of}
+use Rattle.book.specs.Lacking.{lacks, lacked_count, seen_of}
 use Rattle.history.specs.State.{Blob, IsLostInside}
 use Rattle.book.specs.Tells.{Represents}
 use Rattle.history.specs.Views.{view_of}
@@ -20,7 +22,7 @@ use Rattle.sealed.proofs.Changing.{pairs_total}
 use Rattle.book.proofs.Same.{same_lost}
 
 -- ---- counting
-one_at_most : (c n : ℕ) (b : Bool) → c ≤ n → c + cond b 1 0 ≤ n + 1
+one_at_most : (c n : ℕ) (b : Bool) → c ≤ n → cond b 1 0 + c ≤ n + 1
 one_at_most c n true l = omega arith
 one_at_most c n false l = omega arith
 
@@ -28,13 +30,9 @@ pub count_bound : (p : ℕ → Bool) (n : ℕ) → count_below p n ≤ n
 count_bound p zero = omega arith
 count_bound p (suc n) = (let l = one_at_most (count_below p n) n (p n) (count_bound p n) in omega arith)
 
-pub count_same : (p q : ℕ → Bool) (n : ℕ) → ((i : ℕ) → i < n → p i ≡ q i) → count_below p n ≡ count_below q n
-count_same p q zero same = refl
-count_same p q (suc n) same = λ t. count_same p q n (λ i l. same i (omega arith)) t + cond (same n (omega arith) t) 1 0
-
 pub count_none : (p : ℕ → Bool) (n : ℕ) → ((i : ℕ) → i < n → p i ≡ false) → count_below p n ≡ 0
 count_none p zero none = refl
-count_none p (suc n) none = λ t. count_none p n (λ i l. none i (omega arith)) t + cond (none n (omega arith) t) 1 0
+count_none p (suc n) none = λ t. cond (none n (omega arith) t) 1 0 + count_none p n (λ i l. none i (omega arith)) t
 
 -- one more number passes
 pub count_more : (p q : ℕ → Bool) (k n : ℕ) → k < n → p k ≡ false → q k ≡ true → ((i : ℕ) → i < n → i ≢ k → p i ≡ q i) → count_below q n ≡ count_below p n + 1
@@ -73,7 +71,7 @@ at_least_one lost p h =
       | inr some ↦ omega (arith, some)
     ]
 
-last_one : (b : Bool) (c m n : ℕ) → (b ≡ true → 1 ≤ n) → c ≡ m → m ≡ cond b (n - 1) n → c + cond b 1 0 ≡ n
+last_one : (b : Bool) (c m n : ℕ) → (b ≡ true → 1 ≤ n) → c ≡ m → m ≡ cond b (n - 1) n → cond b 1 0 + c ≡ n
 last_one true c m n some e is = (let s = some refl in omega arith)
 last_one false c m n some e is = omega arith
 

@@ -13,7 +13,8 @@ use Rattle.sealed.specs.Change.{IsChanged}
 use Rattle.sealed.specs.Rebuilding.{IsFragmentOf}
 use Rattle.sealed.proofs.Counting.{few_fragments}
 use Rattle.sealed.proofs.Changing.{without_stands, with_stands}
-use Rattle.book.specs.Lacking.{count_below, lacks, lacked_count}
+use Rattle.lrc_code.specs.Count.{count_below}
+use Rattle.book.specs.Lacking.{lacks, lacked_count}
 use Rattle.book.specs.Losing.{IsWith}
 use Rattle.history.proofs.Keeping.{is_lt}
 use Rattle.book.proofs.Lacking.{count_bound, count_more}

@@ -25,7 +25,8 @@ use Rattle.history.specs.History.{History, state_of}
 use Rattle.history.proofs.Inside.{lost_inside}
 use Rattle.history.proofs.Keeping.{same_truth, lt_of}
 use Rattle.book.specs.Contents.{Contents, sealed_at}
-use Rattle.book.specs.Lacking.{count_below, lacks, lacked_count, lacked_below}
+use Rattle.lrc_code.specs.Count.{count_below}
+use Rattle.book.specs.Lacking.{lacks, lacked_count, lacked_below}
 use Rattle.history.specs.Base.{pairs_of}
 use Rattle.book.specs.Plan.{items_for, plan_of, items_lacked}
 use Rattle.book.specs.Tells.{Tells, Represents, Correspond}
@@ -151,7 +152,7 @@ module _ (s : Sealed) (j : ℕ) where
   all_fragments (suc d) f e past = sym (numbered s j f (omega arith) false (none_past f past)) ∙ all_fragments d (f + 1) (omega arith) (omega arith)
 
 -- ---- nothing is listed of a value that lacks nothing
-none_listed : (b : Bool) (c : ℕ) (xs : List (ℕ × ℕ)) (k : ℕ × ℕ) → c + cond b 1 0 ≡ 0 → (c ≡ 0 → xs ≡ []) → cond b (xs ++ k ∷ []) xs ≡ []
+none_listed : (b : Bool) (c : ℕ) (xs : List (ℕ × ℕ)) (k : ℕ × ℕ) → cond b 1 0 + c ≡ 0 → (c ≡ 0 → xs ≡ []) → cond b (xs ++ k ∷ []) xs ≡ []
 none_listed true c xs k e before = absurd (omega arith)
 none_listed false c xs k e before = before (omega arith)
 

@@ -1,16 +1,12 @@
 -- What a sealed value lacks, and what the replies for it depend on.
 use Rattle.std.specs.Prelude.{ℕ, zero, suc, ◌+◌, ◌*◌, ◌/◌, ◌%◌, Bool, ◌&&◌, List, [], ◌∷◌, ◌++◌, Option, None, Some, cond, nat_lt, length}
 use Rattle.lrc_code.specs.Code.{fragment_count}
+use Rattle.lrc_code.specs.Count.{count_below}
 use Rattle.sealed.specs.declared.value.Sealed.{Sealed}
 use Rattle.sealed.specs.Sealed.{absent_in}
 use Rattle.history.specs.declared.note.Note.{Note}
 use Rattle.history.specs.declared.note.Note.TheVariants.{NoName}
 use Rattle.history.specs.Views.{View}
-
--- how many of the numbers below n pass
-abbrev pub count_below : (ℕ → Bool) → ℕ → ℕ
-count_below p zero = 0
-count_below p (suc n) = count_below p n + cond (p n) 1 0
 
 -- the value has such a fragment, and it is absent
 abbrev pub lacks : Sealed → ℕ → ℕ → Bool

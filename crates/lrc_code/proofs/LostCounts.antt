@@ -8,7 +8,7 @@ use Rattle.std.proofs.lemmas.Bool.{and_parts, or_cases}
 use Rattle.gf256.specs.Field.{product, carryless_product, reduced}
 use Rattle.lrc_code.specs.Code.{fragment_count, weight, weights, first_group, second_group, globals}
 use Rattle.lrc_code.proofs.Computed.{test_below, passes_below}
-use Rattle.lrc_code.proofs.Count.{count_below}
+use Rattle.lrc_code.specs.Count.{count_below}
 
 -- the lost fragments that are in equation e, and those in neither of the first two
 abbrev pub lost_in : Code → ℕ → (ℕ → Bool) → ℕ → Bool

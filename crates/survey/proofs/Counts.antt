@@ -14,8 +14,8 @@ count_more p n =
     ap (λ k. count_by p (range_with_len 0 k)) (add-one n) ∙ ap (count_by p) (range_more 0 n) ∙ sum_by-append (λ x. cond (p x) 1 0) (range_with_len 0 n) ((0 + n) ∷ [])
     ∙ ap (λ x. count_by p (range_with_len 0 n) + x) (zero-add (cond (p (0 + n)) 1 0) ∙ ap (λ x. cond (p x) 1 0) (zero-add n))
 
-pub count_below : (p : ℕ → Bool) (n : ℕ) → count_by p (range_with_len 0 n) ≤ n
-count_below p n = omega (arith, count_by-le-length p (range_with_len 0 n), length-range_with_len 0 n)
+pub count_at_most : (p : ℕ → Bool) (n : ℕ) → count_by p (range_with_len 0 n) ≤ n
+count_at_most p n = omega (arith, count_by-le-length p (range_with_len 0 n), length-range_with_len 0 n)
 
 -- a turn of a loop that counts
 byte_is : (b : Bool) → bool_byte b ≡ cond b 1 0
