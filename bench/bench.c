@@ -37,15 +37,15 @@ typedef struct {
     size_t length;
 } Slice;
 
+#define PARITIES uint8_t *, size_t, uint8_t *, size_t, uint8_t *, size_t, uint8_t *, size_t
 #define DECLARE(v)                                                                                                        \
-    void v##_timed_encode_to(const Slice *, size_t, uint8_t *, size_t, uint8_t *, size_t, uint8_t *, size_t, uint8_t *,    \
-                             size_t, uint32_t);                                                                           \
-    bool v##_timed_encode(const Slice *, size_t, size_t, uint32_t);                                                       \
-    bool v##_timed_encode_joined(const Slice *, size_t, size_t, uint32_t);                                                \
+    void v##_timed_encode_to(const Slice *, size_t, PARITIES, uint32_t);                                                  \
+    bool v##_timed_encode(const Slice *, size_t, PARITIES, uint32_t);                                                     \
+    bool v##_timed_encode_joined(const Slice *, size_t, PARITIES, uint32_t);                                              \
     void v##_timed_combine(uint8_t *, size_t, const uint8_t *, size_t, const Slice *, size_t, uint32_t);                  \
     bool v##_timed_rebuild_to(uint8_t *, size_t, const Slice *, size_t, uint16_t, size_t, uint32_t);                      \
-    bool v##_timed_rebuild(const Slice *, size_t, size_t, uint16_t, size_t, uint8_t, uint32_t);                           \
-    bool v##_timed_seal(const uint8_t *, size_t, uint32_t, uint32_t);
+    bool v##_timed_rebuild(uint8_t *, size_t, const Slice *, size_t, uint16_t, size_t, bool, uint32_t);                   \
+    bool v##_timed_seal(const uint8_t *, size_t, uint8_t *, size_t, uint64_t, uint8_t, uint32_t);
 DECLARE(v2)
 DECLARE(v3)
 
@@ -159,10 +159,9 @@ static void isal_global(long n) {
 // Fragment 0, where it alone is lost, and where fragment 1 is lost too.
 #define LOCAL 1
 #define GLOBAL 3
+#define MADE made[0], width, made[1], width, made[2], width, made[3], width
 #define CALLS(v)                                                                                                          \
-    static void v##_encode_to(long n) {                                                                                   \
-        v##_timed_encode_to(stripe, DATA, made[0], width, made[1], width, made[2], width, made[3], width, n);             \
-    }                                                                                                                     \
+    static void v##_encode_to(long n) { v##_timed_encode_to(stripe, DATA, MADE, n); }                                     \
     static void v##_encode_malloc(long n) {                                                                               \
         for (long j = 0; j < n; j++) {                                                                                    \
             uint8_t *p[4];                                                                                                \
@@ -172,16 +171,16 @@ static void isal_global(long n) {
             for (int i = 0; i < 4; i++) free(p[i]);                                                                       \
         }                                                                                                                 \
     }                                                                                                                     \
-    static void v##_encode(long n) { seen = v##_timed_encode(stripe, DATA, width, n); }                                   \
-    static void v##_encode_joined(long n) { seen = v##_timed_encode_joined(stripe, DATA, width, n); }                     \
+    static void v##_encode(long n) { seen = v##_timed_encode(stripe, DATA, MADE, n); }                                    \
+    static void v##_encode_joined(long n) { seen = v##_timed_encode_joined(stripe, DATA, MADE, n); }                      \
     static void v##_local_kernel(long n) { v##_timed_combine(made[0], width, ones, 6, group, 6, n); }                     \
     static void v##_local_to(long n) { seen = v##_timed_rebuild_to(made[0], width, stripe, FRAGMENTS, LOCAL, 0, n); }     \
-    static void v##_local(long n) { seen = v##_timed_rebuild(stripe, FRAGMENTS, width, LOCAL, 0, 0, n); }                 \
-    static void v##_local_kept(long n) { seen = v##_timed_rebuild(stripe, FRAGMENTS, width, LOCAL, 0, 1, n); }            \
+    static void v##_local(long n) { seen = v##_timed_rebuild(made[0], width, stripe, FRAGMENTS, LOCAL, 0, false, n); }    \
+    static void v##_local_kept(long n) { seen = v##_timed_rebuild(made[0], width, stripe, FRAGMENTS, LOCAL, 0, true, n); } \
     static void v##_global_kernel(long n) { v##_timed_combine(made[0], width, recipe, DATA, others, DATA, n); }           \
     static void v##_global_to(long n) { seen = v##_timed_rebuild_to(made[0], width, stripe, FRAGMENTS, GLOBAL, 0, n); }   \
-    static void v##_global(long n) { seen = v##_timed_rebuild(stripe, FRAGMENTS, width, GLOBAL, 0, 0, n); }               \
-    static void v##_global_kept(long n) { seen = v##_timed_rebuild(stripe, FRAGMENTS, width, GLOBAL, 0, 1, n); }
+    static void v##_global(long n) { seen = v##_timed_rebuild(made[0], width, stripe, FRAGMENTS, GLOBAL, 0, false, n); }  \
+    static void v##_global_kept(long n) { seen = v##_timed_rebuild(made[0], width, stripe, FRAGMENTS, GLOBAL, 0, true, n); }
 CALLS(v2)
 CALLS(v3)
 
@@ -224,13 +223,15 @@ static double time_of(Row *row, long reps) {
     return taken;
 }
 
+// A slot's seconds, and the turns that it has at least: what a call into memory of its own has made in its last turn, it copies.
 static const double SLOT = 0.0004;
+static const long TURNS = 32;
 
 static void run(Row *rows, int count, int w, int rounds) {
     for (int i = 0; i < count; i++) {
         double once = time_of(&rows[i], 1);
         for (long reps = 1; once * reps < SLOT / 4; reps *= 2) once = time_of(&rows[i], reps) / reps;
-        rows[i].reps = (long)(SLOT / once) + 1;
+        rows[i].reps = SLOT / once > TURNS ? (long)(SLOT / once) : TURNS;
         rows[i].best[w] = once;
     }
     for (int round = 0; round < rounds; round++)
@@ -262,7 +263,7 @@ static void require_same(const char *name, const uint8_t *bytes, const uint8_t *
 
 static void check(const Row *rows, int count, int lists, const int *wanted) {
     for (int i = 1; i < count; i++) {
-        if (strstr(rows[i].name, "malloc") || (rows[i].base == 2)) continue;
+        if (strstr(rows[i].name, "malloc")) continue;
         for (int k = 0; k < lists; k++) memset(made[k], 0x55, width);
         rows[i].call(1);
         for (int k = 0; k < lists; k++) require_same(rows[i].name, made[k], data[wanted[k]]);
@@ -293,11 +294,23 @@ static void isal_seal(void) {
 static void isal_blob(long n) {
     for (long j = 0; j < n; j++) isal_seal();
 }
-static void v2_blob(long n) { seen = v2_timed_seal(blob, stripes * DATA * width, width, n); }
-static void v3_blob(long n) { seen = v3_timed_seal(blob, stripes * DATA * width, width, n); }
+static void v2_blob(long n) { seen = v2_timed_seal(blob, stripes * DATA * width, copy, width, stripes - 1, 14, n); }
+static void v3_blob(long n) { seen = v3_timed_seal(blob, stripes * DATA * width, copy, width, stripes - 1, 14, n); }
 
 static Row blob_rows[] = {ROW("ISA-L, malloc", isal_blob, 0), ROW("v2 seal", v2_blob, 0), ROW("v3 seal", v3_blob, 0)};
 enum { BLOB_ROWS = sizeof blob_rows / sizeof(Row) };
+
+// The last stripe's fragment 14, as the calls show it, must be ISA-L's.
+static void check_blob(void) {
+    uint8_t *sources[DATA];
+    for (int i = 0; i < DATA; i++) sources[i] = blob + ((stripes - 1) * DATA + i) * width;
+    ec_encode_data(width, DATA, 4, encode_tables, sources, made);
+    for (int i = 1; i < BLOB_ROWS; i++) {
+        memset(copy, 0x55, width);
+        blob_rows[i].call(1);
+        require_same(blob_rows[i].name, copy, made[2]);
+    }
+}
 
 // The time of two calls in one, less that of one, so that what is made but once is left out: the coder copies the blob first.
 // Each is timed after the same call, since what was given back before changes how fast memory comes.
@@ -354,6 +367,6 @@ int main(int argc, char **argv) {
     blob = malloc(BLOB);
     if (!blob) return fputs("bench: no memory\n", stderr), 1;
     for (size_t i = 0; i < BLOB; i++) blob[i] = i * 2654435761u >> 24;
-    for (int w = 0; w < WIDTHS; w++) set_blob(widths[w]), run_blob(w, rounds < 50 ? rounds : 50);
+    for (int w = 0; w < WIDTHS; w++) set_blob(widths[w]), check_blob(), run_blob(w, rounds < 50 ? rounds : 50);
     print_blob();
 }

@@ -1,10 +1,22 @@
--- What is left of a stripe whose fragments stand in a list, and what comes of rebuilding one of them.
-use Rattle.std.specs.Prelude.{◌≡◌, ℕ, ◌<◌, ◌↔◌, Bool, true, false, List, Option, None, slice_get, cond}
+-- Parities into four lists, what is left of a stripe whose fragments stand in a list, and what comes of rebuilding one of them.
+use Rattle.std.specs.Prelude.{◌≡◌, ℕ, ◌<◌, ◌↔◌, ◌++◌, ◌∷◌, [], Bool, true, false, List, All, Option, None, length, map, slice_get, cond}
 use Rattle.std.specs.Borrow.{Bor}
 use Rattle.lrc_code.specs.declared.Code.{Code}
 use Rattle.lrc_code.specs.declared.left.Left.{Left}
 use Rattle.lrc_code.specs.Code.{fragment_count, is_lost, Open}
-use Rattle.lrc_code.specs.Stripe.{slot, is_absent, Reaches, Rebuilds}
+use Rattle.lrc_code.specs.Stripe.{IsStripe, list_at, slot, is_absent, Reaches, Rebuilds}
+
+-- twelve data fragments, and four lists as long as each
+pub record HaveRoom (sources : List (Bor (List ℕ))) (p q g h : List ℕ) : Type 0 where
+  pub count : length sources ≡ 12
+  pub same : All (λ s. length s.now ≡ length p) sources
+  pub second : length q ≡ length p
+  pub third : length g ≡ length p
+  pub fourth : length h ≡ length p
+
+-- the data fragments and the four lists are a stripe of the wide code
+abbrev pub AreStripe : List (Bor (List ℕ)) → List ℕ → List ℕ → List ℕ → List ℕ → Type 0
+AreStripe sources p q g h = IsStripe Code.Wide (length p) (list_at (map (λ s. s.now) sources ++ p ∷ q ∷ g ∷ h ∷ []))
 
 -- fragment i of the list, or none where it is lost or there is no such
 abbrev pub fragment_left : List (Bor (List ℕ)) → ℕ → ℕ → Option (Bor (List ℕ))

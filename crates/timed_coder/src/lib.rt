@@ -3,17 +3,21 @@
 //! A slice is passed as an address and a length, and a slice of slices as an array of such pairs and their number.
 #![tactic(auto)]
 
-ghost use Rattle.std.specs.Prelude.{◌≡◌, ◌<◌, ◌≤◌, ◌↔◌, ◌++◌, ◌∷◌, [], All, IsTrue, EachIndex, length, map, slice_index};
-ghost use Rattle.kernels.specs.Lists.{combined, list_at, bytes_at};
-ghost use Rattle.lrc_code.specs.Stripe.{IsStripe};
-ghost use Rattle.timed_coder.specs.Timed.{fragment_left, IsLeft, IsAsked, ComesOf};
+ghost use Rattle.std.specs.Prelude.{◌≡◌, ◌<◌, ◌≤◌, ◌↔◌, true, false, Err, All, IfOk, IfSome, IsTrue, EachIndex, length, map, slice_index};
+ghost use Rattle.kernels.specs.Lists.{combined, bytes_at};
+ghost use Rattle.lrc_code.specs.Code.{Open};
+ghost use Rattle.lrc_code.specs.Stripe.{Rebuilds, is_absent};
+ghost use Rattle.sealed.specs.Blob.{fragment, nothing};
+ghost use Rattle.sealed.specs.Layout.{HasFragment};
+ghost use Rattle.sealed.specs.Sealed.{StandsFor};
+ghost use Rattle.timed_coder.specs.Timed.{HaveRoom, AreStripe, fragment_left, IsLeft, IsAsked, ComesOf};
 
 use bytes::Bytes;
 use kernels::combine_lists;
 use lrc_code::{
-    Code, Left, LostSet, Plans, encode_in, encode_joined, encode_to, rebuild, rebuild_to,
+    Code, Left, LostSet, Plans, Rebuild, encode_in, encode_joined, encode_to, rebuild, rebuild_to,
 };
-use sealed::{Width, seal};
+use sealed::{Sealed, Width, seal};
 use std::alloc::Global;
 
 /// `encode_to` of twelve data fragments.
@@ -26,12 +30,8 @@ pub extern "C" fn timed_encode_to(
     fourth: &mut [u8],
     reps: u32,
 )
-    requires count { length sources.now ≡ 12 }
-    requires same { All (λ s. length s.now ≡ length first.old) sources.now }
-    requires same_second { length second.old ≡ length first.old }
-    requires same_third { length third.old ≡ length first.old }
-    requires same_fourth { length fourth.old ≡ length first.old }
-    ensures { IsStripe Code.Wide (length first.new) (list_at (map (λ s. s.now) sources.now ++ first.new ∷ second.new ∷ third.new ∷ fourth.new ∷ [])) }
+    requires { HaveRoom sources.now first.old second.old third.old fourth.old }
+    ensures { AreStripe sources.now first.new second.new third.new fourth.new }
 {
     for _ in 1..reps {
         encode_to(Code::Wide, sources, first, second, third, fourth);
@@ -39,30 +39,69 @@ pub extern "C" fn timed_encode_to(
     encode_to(Code::Wide, sources, first, second, third, fourth);
 }
 
-/// `encode_in` of twelve data fragments of `w` bytes, whose parities are given back. Whether there was memory for all.
+/// `encode_in` of twelve data fragments, each turn's parities into memory of their own; the lists have those of the last one. Whether there was memory
+/// for all; else the lists are as they were.
 #[unsafe(no_mangle)]
-pub extern "C" fn timed_encode(alloc: Global, sources: &[&[u8]], w: usize, reps: u32) -> bool
-    requires count { length sources.now ≡ 12 }
-    requires same { All (λ s. length s.now ≡ w) sources.now }
+#[tactic(auto, using(crate::proofs::Made::parity_length))]
+pub extern "C" fn timed_encode(
+    alloc: Global,
+    sources: &[&[u8]],
+    first: &mut [u8],
+    second: &mut [u8],
+    third: &mut [u8],
+    fourth: &mut [u8],
+    reps: u32,
+) -> bool
+    requires { HaveRoom sources.now first.old second.old third.old fourth.old }
+    ensures stripe { result ≡ true → AreStripe sources.now first.new second.new third.new fourth.new }
+    ensures kept { result ≡ false → (first.new ≡ first.old) × (second.new ≡ second.old) × (third.new ≡ third.old) × (fourth.new ≡ fourth.old) }
 {
-    let mut done = true;
-    for _ in 0..reps {
-        done &= encode_in(alloc, Code::Wide, sources, w).is_ok();
+    let w = first.len();
+    for _ in 1..reps {
+        if encode_in(alloc, Code::Wide, sources, w).is_err() {
+            return false;
+        }
     }
-    done
+    let Ok(parities) = encode_in(alloc, Code::Wide, sources, w) else {
+        return false;
+    };
+    first.copy_from_slice(&parities[0]);
+    second.copy_from_slice(&parities[1]);
+    third.copy_from_slice(&parities[2]);
+    fourth.copy_from_slice(&parities[3]);
+    true
 }
 
-/// `encode_joined` of twelve data fragments of `w` bytes, whose parities are given back. Whether there was memory for all.
+/// `encode_joined` of twelve data fragments, each turn's parities into memory of their own; the lists have those of the last one. Whether there was memory
+/// for all; else the lists are as they were.
 #[unsafe(no_mangle)]
-pub extern "C" fn timed_encode_joined(alloc: Global, sources: &[&[u8]], w: usize, reps: u32) -> bool
-    requires count { length sources.now ≡ 12 }
-    requires same { All (λ s. length s.now ≡ w) sources.now }
+pub extern "C" fn timed_encode_joined(
+    alloc: Global,
+    sources: &[&[u8]],
+    first: &mut [u8],
+    second: &mut [u8],
+    third: &mut [u8],
+    fourth: &mut [u8],
+    reps: u32,
+) -> bool
+    requires { HaveRoom sources.now first.old second.old third.old fourth.old }
+    ensures stripe { result ≡ true → AreStripe sources.now first.new second.new third.new fourth.new }
+    ensures kept { result ≡ false → (first.new ≡ first.old) × (second.new ≡ second.old) × (third.new ≡ third.old) × (fourth.new ≡ fourth.old) }
 {
-    let mut done = true;
-    for _ in 0..reps {
-        done &= encode_joined(alloc, Code::Wide, sources, w).is_ok();
+    let w = first.len();
+    for _ in 1..reps {
+        if encode_joined(alloc, Code::Wide, sources, w).is_err() {
+            return false;
+        }
     }
-    done
+    let Ok(parities) = encode_joined(alloc, Code::Wide, sources, w) else {
+        return false;
+    };
+    first.copy_from_slice(&parities[..w]);
+    second.copy_from_slice(&parities[w..2 * w]);
+    third.copy_from_slice(&parities[2 * w..3 * w]);
+    fourth.copy_from_slice(&parities[3 * w..]);
+    true
 }
 
 /// `combine_lists` of the lists.
@@ -143,50 +182,116 @@ pub extern "C" fn timed_rebuild_to(
     rebuild_to(&left, f, 0, w, bytes)
 }
 
-/// `rebuild` of fragment `f`, or `Plans::rebuild` where `kept` is 1: bytes that are given back.
+/// `rebuild` of fragment `f`, or `Plans::rebuild` of plans that are kept, each turn into memory of its own; `bytes` has what the last one made. Whether
+/// `timed_rebuild_to` could do it and there was memory for all; else `bytes` are as they were.
 #[unsafe(no_mangle)]
 pub extern "C" fn timed_rebuild(
     alloc: Global,
+    bytes: &mut [u8],
     fragments: &[&[u8]],
-    w: usize,
     lost: u16,
     f: usize,
-    kept: u8,
+    are_kept: bool,
     reps: u32,
-) -> bool {
+) -> bool
+    ensures long { length bytes.new ≡ length bytes.old }
+    ensures rebuilt { result ≡ true → (left : Left) × IsLeft fragments.now lost left × ComesOf left f (length bytes.old) true bytes.old bytes.new }
+    ensures kept { result ≡ false → bytes.new ≡ bytes.old }
+{
     let left = left_of(fragments, LostSet::of_bits(lost));
+    let w = bytes.len();
     if !is_asked(&left, f, w) {
         return false;
     }
     let mut plans = Plans::new(alloc);
-    let mut done = true;
-    for _ in 0..reps {
-        let made = if kept == 1 {
-            plans.rebuild(alloc, &left, f, 0, w)
-        } else {
-            rebuild(alloc, &left, f, 0, w)
-        };
-        done &= made.is_ok();
+    for _ in 1..reps {
+        if rebuild_in(alloc, &mut plans, &left, f, w, are_kept).is_err() {
+            return false;
+        }
     }
-    done
+    let Ok(rebuilt) = rebuild_in(alloc, &mut plans, &left, f, w, are_kept) else {
+        return false;
+    };
+    bytes.copy_from_slice(&rebuilt);
+    true
 }
 
-/// `seal` of a copy of the blob, in stripes of fragments of `w` bytes, which are given back. Whether there was memory for all, and
-/// `w` is a width.
+/// `rebuild` of the first `w` bytes of fragment `f`, or `Plans::rebuild` where the plans are kept.
+fn rebuild_in(
+    alloc: Global,
+    plans: &mut Plans,
+    left: &Left,
+    f: usize,
+    w: usize,
+    are_kept: bool,
+) -> Result<Vec<u8>, Rebuild>
+    requires { IsAsked left.now f w }
+    ensures open { (result ≡ Err Rebuild.Open) ↔ Open left.now.code (is_absent left.now.fragments) f }
+    ensures long { IfOk result (λ v. length v.items ≡ w) }
+    ensures built { IfOk result (λ v. Rebuilds left.now.code left.now.fragments f 0 w v.items) }
+{
+    if are_kept {
+        plans.rebuild(alloc, left, f, 0, w)
+    } else {
+        rebuild(alloc, left, f, 0, w)
+    }
+}
+
+/// The width of fragments of so many bytes, or None where there is none.
+fn width_of(bytes: usize) -> Option<Width>
+    ensures { IfSome result (λ w. w ≡ bytes) }
+{
+    Width::new(u32::try_from(bytes).ok()?)
+}
+
+/// `seal` of the blob, whose bytes the value shares, or None where it is too long or memory is wanted.
+fn seal_again(alloc: Global, blob: &Bytes, width: Width) -> Option<Sealed>
+    ensures stands { IfSome result (λ s. StandsFor s blob.now nothing) }
+    ensures shape { IfSome result (λ s. (s.width ≡ width) × (s.code ≡ Code.Wide)) }
+{
+    let shared = blob.slice(..blob.len()).ok()?;
+    match seal(alloc, shared, width) {
+        Ok(sealed) => Some(sealed),
+        Err(_) => None,
+    }
+}
+
+/// `seal` of a copy of the blob, in stripes of fragments as long as `bytes`, which has a fragment of the last turn's value. Whether that is a width, the
+/// blob has at most 4,096 stripes and this fragment, and there was memory for all; else `bytes` are as they were.
 #[unsafe(no_mangle)]
-pub extern "C" fn timed_seal(alloc: Global, blob: &[u8], w: u32, reps: u32) -> bool {
-    let Some(width) = Width::new(w) else {
+#[tactic(auto, using(crate::proofs::Made::all_there))]
+pub extern "C" fn timed_seal(
+    alloc: Global,
+    blob: &[u8],
+    bytes: &mut [u8],
+    stripe: u64,
+    f: u8,
+    reps: u32,
+) -> bool
+    ensures long { length bytes.new ≡ length bytes.old }
+    ensures sealed { result ≡ true → HasFragment Code.Wide (length bytes.old) (length blob.now) stripe f × (bytes.new ≡ fragment Code.Wide (length bytes.old) blob.now stripe f) }
+    ensures kept { result ≡ false → bytes.new ≡ bytes.old }
+{
+    let Some(width) = width_of(bytes.len()) else {
         return false;
     };
     let Ok(copy) = Bytes::copy_from_slice(alloc, blob) else {
         return false;
     };
-    let mut done = true;
-    for _ in 0..reps {
-        let Ok(again) = copy.slice(..copy.len()) else {
+    for _ in 1..reps {
+        if seal_again(alloc, &copy, width).is_none() {
             return false;
-        };
-        done &= seal(alloc, again, width).is_ok();
+        }
     }
-    done
+    let Some(sealed) = seal_again(alloc, &copy, width) else {
+        return false;
+    };
+    if !sealed.has_fragment(stripe, u64::from(f)) {
+        return false;
+    }
+    match sealed.fragment(stripe, f) {
+        Some(made) => bytes.copy_from_slice(made),
+        None => unreachable!(),
+    }
+    true
 }
