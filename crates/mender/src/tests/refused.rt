@@ -50,6 +50,11 @@ fn has_each<R: Wait + Abort>(
     Ok(())
 }
 
+/// Whether a call was refused for a full journal.
+fn is_full(called: Result<Answer, Fault>) -> bool {
+    matches!(called, Err(Fault::JournalFull))
+}
+
 /// Whether each of the six calls, a repair and a deletion among them, is refused for a full journal.
 fn are_refused<R: Wait>(
     rt: &R,
@@ -60,18 +65,33 @@ fn are_refused<R: Wait>(
     requires { pass.old.store ≡ store.now }
     ensures { pass.new.store ≡ store.now }
 {
+    let a = Name::new("a")?;
     let bytes = Bytes::from_static(b"MNOPQRSTUVWX");
-    let put = store.put(rt, alloc, pass, Name::new("a")?, bytes);
-    let read = store.read(rt, pass, Name::new("a")?, 0, 12);
-    let lost = store.lose(rt, alloc, pass, Name::new("a")?, 0, 1);
-    let repaired = store.repair(rt, alloc, pass, Name::new("a")?, 0, 0);
-    let deleted = store.delete(rt, pass, Name::new("a")?);
-    let told = store.stat(rt, pass, Name::new("a")?);
-    let mut all = true;
-    for result in [put, read, lost, repaired, deleted, told] {
-        all = all && matches!(result, Err(Fault::JournalFull));
-    }
-    Ok(all)
+    let put = is_full(store.put(rt, alloc, pass, a.duplicate(), bytes));
+    let read = is_full(store.read(rt, pass, a.duplicate(), 0, 12));
+    let lost = is_full(store.lose(rt, alloc, pass, a.duplicate(), 0, 1));
+    let repaired = is_full(store.repair(rt, alloc, pass, a.duplicate(), 0, 0));
+    let deleted = is_full(store.delete(rt, pass, a.duplicate()));
+    let told = is_full(store.stat(rt, pass, a));
+    Ok(put && read && lost && repaired && deleted && told)
+}
+
+/// Whether a call found no blob of its name.
+fn is_no_name(called: Result<Answer, Fault>) -> bool {
+    matches!(called, Ok(Answer::NoName))
+}
+
+/// Whether each call but a put finds no blob of this name.
+fn find_no_blob<R: Wait>(rt: &R, alloc: Global, store: &Store, pass: &mut Pass, name: &Name) -> bool
+    requires { pass.old.store ≡ store.now }
+    ensures { pass.new.store ≡ store.now }
+{
+    let read = is_no_name(store.read(rt, pass, name.duplicate(), 0, 12));
+    let lost = is_no_name(store.lose(rt, alloc, pass, name.duplicate(), 0, 1));
+    let repaired = is_no_name(store.repair(rt, alloc, pass, name.duplicate(), 0, 0));
+    let deleted = is_no_name(store.delete(rt, pass, name.duplicate()));
+    let told = is_no_name(store.stat(rt, pass, name.duplicate()));
+    read && lost && repaired && deleted && told
 }
 
 #[test]
@@ -104,14 +124,8 @@ fn a_full_journal_leaves_all_as_it_was(rt: HostRuntime) -> Result<(), Fail> {
 fn another_name_leaves_all_as_it_was(rt: HostRuntime) -> Result<(), Fail> {
     let alloc = rt.alloc();
     let (store, mut pass) = one_lost(&rt, alloc, 100)?;
-    let read = store.read(&rt, &mut pass, Name::new("b")?, 0, 12)?;
-    let lost = store.lose(&rt, alloc, &mut pass, Name::new("b")?, 0, 1)?;
-    let repaired = store.repair(&rt, alloc, &mut pass, Name::new("b")?, 0, 0)?;
-    let deleted = store.delete(&rt, &mut pass, Name::new("b")?)?;
-    let told = store.stat(&rt, &mut pass, Name::new("b")?)?;
-    for answer in [read, lost, repaired, deleted, told] {
-        assert!(rt; matches!(answer, Answer::NoName));
-    }
+    let b = Name::new("b")?;
+    assert!(rt; find_no_blob(&rt, alloc, &store, &mut pass, &b));
     assert!(rt; matches!(Name::new("B"), Err(Fault::BadName)));
     assert_eq!(rt; pass.room(), 64);
     let book = store.close(pass);
@@ -154,8 +168,8 @@ fn faults_are_told(rt: HostRuntime) -> Result<(), Fail> {
         (Fault::BadWidth, "not a width"),
         (Fault::NoPass, "no pass is left"),
     ];
-    for (fault, text) in faults {
-        assert_eq!(rt; format!(in rt.alloc(); "{fault}")?.as_str(), text);
+    for (fault, text) in &faults {
+        assert_eq!(rt; format!(in rt.alloc(); "{fault}")?.as_str(), *text);
     }
     Ok(())
 }
