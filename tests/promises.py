@@ -74,7 +74,7 @@ class Check:
     def __init__(self, text):
         self.crates, self.lines = sources.crates(), text.splitlines()
         self.rows, self.index = parse(self.lines, self.crates)
-        self.wrong, self.uncovered, self.unnamed_edits, self.unnamed_tests = [], [], [], []
+        self.wrong, self.uncovered, self.unnamed_edits, self.unnamed_tests, self.misnamed = [], [], [], [], []
         self.tests = {test for crate in self.crates.values() for test in crate.tests}
         self.check()
 
@@ -144,6 +144,7 @@ class Check:
                     self.uncovered.append((name, function, lacking))
             named = {edit for row in mine for edit in words(row.cells[2])} if mine else set()
             self.unnamed_edits += [(name, edit) for edit in crate.edits if edit not in named]
+            self.misnamed += [(name, file, wanted) for file, wanted in crate.misnamed]
             self.unnamed_tests += [(name, test) for test in crate.tests if test not in named_tests]
 
     def quiet_functions(self, row):
@@ -165,7 +166,9 @@ class Check:
             print(f"{crate}: no row has the edit `{edit}`")
         for crate, test in self.unnamed_tests:
             print(f"{crate}: no row has the test `{test}`")
-        return len(self.wrong) + len(self.uncovered) + len(self.unnamed_edits) + len(self.unnamed_tests)
+        for crate, file, wanted in self.misnamed:
+            print(f"crates/{crate}/must-fail/{file} is to be named {wanted}, by what it changes")
+        return sum(map(len, (self.wrong, self.uncovered, self.unnamed_edits, self.unnamed_tests, self.misnamed)))
 
 
 class Stubs:

@@ -60,6 +60,7 @@ class Crate:
     name: str
     functions: list = field(default_factory=list)
     edits: dict = field(default_factory=dict)
+    misnamed: list = field(default_factory=list)
     tests: list = field(default_factory=list)
     is_program: bool = False
 
@@ -165,6 +166,12 @@ def edit_target(edit, texts, functions):
     return path, inside[-1] if inside else None, pairs
 
 
+def edit_place(path, target):
+    """What stands before an edit's name: the function that it changes first, or its file. The gate tries a crate's edits in the order of their names, and proves what one of
+    them changed again where the next changes something else."""
+    return target.path().replace("::", ".") if target else os.path.basename(path)[: -len(".rt")]
+
+
 def crate(name):
     folder = os.path.join(CRATES, name)
     source = os.path.join(folder, "src")
@@ -184,7 +191,10 @@ def crate(name):
     edits = os.path.join(folder, "must-fail")
     for file in sorted(os.listdir(edits)) if os.path.isdir(edits) else []:
         if file.endswith(".edit"):
-            result.edits[file[: -len(".edit")]] = edit_target(read(os.path.join(edits, file)), texts, functions)
+            place, _, name = file[: -len(".edit")].rpartition(".")
+            result.edits[name] = path, target, _ = edit_target(read(os.path.join(edits, file)), texts, functions)
+            if place != edit_place(path, target):
+                result.misnamed.append((file, f"{edit_place(path, target)}.{name}.edit"))
     return result
 
 
