@@ -1,8 +1,9 @@
 //! A mend with each kind of answer.
 ghost use Rattle.std.specs.Prelude.{◌≡◌};
 
+use super::opened;
 use crate::{Gather, Report, gather, scrub, work};
-use book::{Fault, Limit, Name};
+use book::{Fault, Name};
 use bytes::Bytes;
 use shared::{Pass, Store};
 use std::alloc::Global;
@@ -40,8 +41,7 @@ fn change<R: Wait>(rt: &R, alloc: Global, store: &Store, pass: &mut Pass) -> Res
 #[test]
 fn a_mend_has_each_answer(rt: HostRuntime) -> Result<(), Fail> {
     let alloc = rt.alloc();
-    let limit = Limit::new(100).expect(&rt, "a limit");
-    let (store, mut pass) = Store::open(alloc, 1, limit)?;
+    let (store, mut pass) = opened(&rt, alloc, 100)?;
     four_lost(&rt, alloc, &store, &mut pass)?;
     let (plan, tickets, mut drawer) = scrub(&rt, alloc, &store, &mut pass)?;
     assert_eq!(rt; plan.items.len(), 4);

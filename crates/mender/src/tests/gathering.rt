@@ -44,28 +44,20 @@ fn the_first_fault_is_answered(rt: HostRuntime) -> Result<(), Fail> {
         gone: 0,
         unrecoverable: 0,
     };
-    let plan = [0, 6];
-    assert_eq!(rt; gathered(alloc, &plan, &[(0, 0), (1, 6)])?, Ok(mended(2)));
-    assert_eq!(rt; gathered(alloc, &plan, &[(1, 6), (0, 0)])?, Ok(mended(2)));
-    assert_eq!(rt; gathered(alloc, &plan, &[])?, Err(Gather::Missing));
-    assert_eq!(rt; gathered(alloc, &plan, &[(1, 6)])?, Err(Gather::Missing));
-    assert_eq!(rt;
-        gathered(alloc, &plan, &[(0, 0), (0, 0)])?,
-        Err(Gather::Twice)
-    );
-    assert_eq!(rt;
-        gathered(alloc, &plan, &[(0, 0), (5, 0)])?,
-        Err(Gather::Stranger)
-    );
-    assert_eq!(rt;
-        gathered(alloc, &plan, &[(0, 0), (0, 0), (5, 0)])?,
-        Err(Gather::Twice)
-    );
-    assert_eq!(rt; gathered(alloc, &plan, &[(0, 6)])?, Err(Gather::Stranger));
-    assert_eq!(rt;
-        gathered(alloc, &plan, &[(0, 0), (0, 6)])?,
-        Err(Gather::Stranger)
-    );
+    let cases: [(&[(u64, u8)], Result<Report, Gather>); 9] = [
+        (&[(0, 0), (1, 6)], Ok(mended(2))),
+        (&[(1, 6), (0, 0)], Ok(mended(2))),
+        (&[], Err(Gather::Missing)),
+        (&[(1, 6)], Err(Gather::Missing)),
+        (&[(0, 0), (0, 0)], Err(Gather::Twice)),
+        (&[(0, 0), (5, 0)], Err(Gather::Stranger)),
+        (&[(0, 0), (0, 0), (5, 0)], Err(Gather::Twice)),
+        (&[(0, 6)], Err(Gather::Stranger)),
+        (&[(0, 0), (0, 6)], Err(Gather::Stranger)),
+    ];
+    for (results, wanted) in &cases {
+        assert_eq!(rt; gathered(alloc, &[0, 6], results)?, *wanted);
+    }
     assert_eq!(rt; gathered(alloc, &[], &[])?, Ok(mended(0)));
     Ok(())
 }

@@ -2,10 +2,11 @@
 ghost use Rattle.std.specs.Prelude.{◌≡◌, ◌<◌, IfOk};
 ghost use Rattle.std.specs.List.{All};
 
+use super::{closed, fragment, opened};
 use crate::{Done, Drawer, Gather, Report, Tickets, WorkFault, gather, scrub, work};
-use book::{Answer, Fault, Limit, Name, Plan, is_lawful};
+use book::{Answer, Book, Fault, Name, Plan, is_lawful};
 use bytes::Bytes;
-use sealed::{Sealed, count_stripes, seal};
+use sealed::{Sealed, seal};
 use shared::{Pass, Store};
 use std::alloc::Global;
 use std::process::Abort;
@@ -57,7 +58,24 @@ impl Worker {
     }
 }
 
-/// So many workers, whose passes and drawers are split from the first ones, and perhaps one more who puts.
+/// A worker with this label, whose pass and drawer are split from the first ones.
+fn split_worker(
+    who: u32,
+    puts: bool,
+    store: &Store,
+    pass: &mut Pass,
+    tickets: &Tickets,
+    drawer: &mut Drawer,
+) -> Result<Worker, Fail>
+    requires { (pass.old.store ≡ store.now) × (drawer.old.tickets ≡ tickets.now) }
+    ensures first { (pass.new.store ≡ store.now) × (drawer.new.tickets ≡ tickets.now) }
+    ensures worker { IfOk result (λ w. (w.pass.store ≡ store.now) × (w.drawer.tickets ≡ tickets.now)) }
+{
+    let (pass, drawer) = (pass.split(store, who)?, drawer.split(tickets)?);
+    Ok(Worker { pass, drawer, puts })
+}
+
+/// So many workers, and perhaps one more who puts.
 fn crew(
     alloc: Global,
     count: u32,
@@ -74,12 +92,7 @@ fn crew(
 {
     let mut crew = Vec::new(alloc);
     for who in 0..count + u32::from(beside_puts) {
-        let worker = Worker {
-            pass: pass.split(store, who)?,
-            drawer: drawer.split(tickets)?,
-            puts: who == count,
-        };
-        crew.push(worker)?;
+        crew.push(split_worker(who, who == count, store, pass, tickets, drawer)?)?;
     }
     Ok(crew)
 }
@@ -168,7 +181,7 @@ fn two_lost<R: Wait + Abort>(
 ) -> Result<(Store, Pass, Name), Fault>
     ensures { IfOk result (λ r. r.1.store ≡ r.0) }
 {
-    let (store, mut pass) = Store::open(alloc, 1, Limit::new(limit).expect(rt, "a limit"))?;
+    let (store, mut pass) = opened(rt, alloc, limit)?;
     let name = Name::new("a")?;
     let bytes = Bytes::from_static(b"ABCDEFGHIJKL");
     store.put(rt, alloc, &mut pass, name.duplicate(), bytes)?;
@@ -193,8 +206,7 @@ fn any_number_of_workers_mends_all(rt: HostRuntime) -> Result<(), Fail> {
             panic!(rt; "no shape")
         };
         assert_eq!(rt; lost, 0);
-        assert_eq!(rt; pass.room(), 64);
-        let book = store.close(pass);
+        let book = closed(&rt, store, pass);
         assert_eq!(rt; book.entries().len(), 6);
         assert!(rt; is_lawful(alloc, book.entries(), book.width())?);
     }
@@ -267,14 +279,6 @@ fn put_often<R: Wait>(
     Ok(done)
 }
 
-/// A fragment of the only stripe, if it is there.
-fn fragment<'a>(rt: &impl Abort, sealed: &'a Sealed, f: u8) -> Option<&'a [u8]>
-    requires { f < 16 }
-{
-    assert!(rt; count_stripes(sealed.code, sealed.width, sealed.len) == 1);
-    sealed.fragment(0, f)
-}
-
 /// Whether each fragment that is there is that of the version's own bytes.
 fn is_its_own(rt: &impl Abort, alloc: Global, found: &Sealed) -> Result<bool, Fault> {
     let whole = seal(alloc, bytes_of(found.version), found.width)?;
@@ -287,20 +291,26 @@ fn is_its_own(rt: &impl Abort, alloc: Global, found: &Sealed) -> Result<bool, Fa
     Ok(true)
 }
 
+/// Whether each name has a blob, whose fragments are its own.
+fn are_their_own(rt: &impl Abort, alloc: Global, book: &Book) -> Result<bool, Fault> {
+    for text in &NAMES {
+        let found = book.find(&Name::new(text)?).expect(rt, "a blob");
+        if !is_its_own(rt, alloc, found)? {
+            return Ok(false);
+        }
+    }
+    Ok(true)
+}
+
 #[test]
 fn work_beside_puts(rt: HostRuntime) -> Result<(), Fail> {
     let alloc = rt.alloc();
-    let limit = Limit::new(200).expect(&rt, "a limit");
-    let (store, mut pass) = Store::open(alloc, 1, limit)?;
+    let (store, mut pass) = opened(&rt, alloc, 200)?;
     put_all(&rt, alloc, &store, &mut pass, 1)?;
     let report = mend(&rt, alloc, 2, true, &store, &mut pass)??;
     assert_eq!(rt; (report.gone, report.unrecoverable), (0, 0));
-    assert_eq!(rt; pass.room(), 64);
-    let book = store.close(pass);
+    let book = closed(&rt, store, pass);
     assert!(rt; is_lawful(alloc, book.entries(), book.width())?);
-    for text in NAMES {
-        let found = book.find(&Name::new(text)?).expect(&rt, "a blob");
-        assert!(rt; is_its_own(&rt, alloc, found)?);
-    }
+    assert!(rt; are_their_own(&rt, alloc, &book)?);
     Ok(())
 }

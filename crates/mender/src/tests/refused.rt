@@ -1,11 +1,13 @@
 //! What is left of a store by calls that are refused, and by repairs.
-ghost use Rattle.std.specs.Prelude.{◌≡◌, ◌<◌, IfOk};
+ghost use Rattle.std.specs.Prelude.{◌≡◌, IfOk};
 
-use book::{Answer, Book, Fault, Limit, Name};
+use super::{closed, fragment, opened};
+use book::{Answer, Book, Fault, Name};
 use bytes::Bytes;
-use sealed::{Sealed, count_stripes, seal};
+use sealed::seal;
 use shared::{Pass, Store};
 use std::alloc::Global;
+use std::ops::Range;
 use std::process::Abort;
 use std::sync::Wait;
 use std::test::Fail;
@@ -14,19 +16,11 @@ use std::test::Fail;
 fn one_lost<R: Wait + Abort>(rt: &R, alloc: Global, limit: u32) -> Result<(Store, Pass), Fault>
     ensures { IfOk result (λ r. r.1.store ≡ r.0) }
 {
-    let (store, mut pass) = Store::open(alloc, 1, Limit::new(limit).expect(rt, "a limit"))?;
+    let (store, mut pass) = opened(rt, alloc, limit)?;
     let bytes = Bytes::from_static(b"ABCDEFGHIJKL");
     store.put(rt, alloc, &mut pass, Name::new("a")?, bytes)?;
     store.lose(rt, alloc, &mut pass, Name::new("a")?, 0, 0)?;
     Ok((store, pass))
-}
-
-/// A fragment of the only stripe, if it is there.
-fn fragment<'a>(rt: &impl Abort, sealed: &'a Sealed, f: u8) -> Option<&'a [u8]>
-    requires { f < 16 }
-{
-    assert!(rt; count_stripes(sealed.code, sealed.width, sealed.len) == 1);
-    sealed.fragment(0, f)
 }
 
 /// That the book has `a` with each of its fragments as it was put, but for the first where that is lost.
@@ -94,27 +88,39 @@ fn find_no_blob<R: Wait>(rt: &R, alloc: Global, store: &Store, pass: &mut Pass, 
     read && lost && repaired && deleted && told
 }
 
+/// Whether a trim to one entry gives one up, and leaves the blob without its fragment.
+fn trim_leaves_the_blob<R: Wait>(
+    rt: &R,
+    alloc: Global,
+    store: &Store,
+    pass: &mut Pass,
+) -> Result<bool, Fault>
+    requires { pass.old.store ≡ store.now }
+    ensures { pass.new.store ≡ store.now }
+{
+    let trimmed = store.trim(rt, alloc, pass, 1)?;
+    let shape = store.stat(rt, pass, Name::new("a")?)?;
+    Ok(
+        trimmed == 1
+            && matches!(
+                shape,
+                Answer::Shape {
+                    version: 1,
+                    len: 12,
+                    stripes: 1,
+                    lost: 1
+                }
+            ),
+    )
+}
+
 #[test]
 fn a_full_journal_leaves_all_as_it_was(rt: HostRuntime) -> Result<(), Fail> {
     let alloc = rt.alloc();
     let (store, mut pass) = one_lost(&rt, alloc, 2)?;
     assert!(rt; are_refused(&rt, alloc, &store, &mut pass)?);
-    let trimmed = store.trim(&rt, alloc, &mut pass, 1)?;
-    assert_eq!(rt; trimmed, 1);
-    let shape = store.stat(&rt, &mut pass, Name::new("a")?)?;
-    assert!(rt;
-        matches!(
-            shape,
-            Answer::Shape {
-                version: 1,
-                len: 12,
-                stripes: 1,
-                lost: 1
-            }
-        )
-    );
-    assert_eq!(rt; pass.room(), 64);
-    let book = store.close(pass);
+    assert!(rt; trim_leaves_the_blob(&rt, alloc, &store, &mut pass)?);
+    let book = closed(&rt, store, pass);
     assert_eq!(rt; (book.base().trimmed, book.entries().len()), (1, 2));
     has_each(&rt, alloc, &book, true)
 }
@@ -127,10 +133,65 @@ fn another_name_leaves_all_as_it_was(rt: HostRuntime) -> Result<(), Fail> {
     let b = Name::new("b")?;
     assert!(rt; find_no_blob(&rt, alloc, &store, &mut pass, &b));
     assert!(rt; matches!(Name::new("B"), Err(Fault::BadName)));
-    assert_eq!(rt; pass.room(), 64);
-    let book = store.close(pass);
+    let book = closed(&rt, store, pass);
     assert_eq!(rt; book.entries().len(), 7);
     has_each(&rt, alloc, &book, true)
+}
+
+/// Loses these fragments of `a`.
+fn lose_each<R: Wait>(
+    rt: &R,
+    alloc: Global,
+    store: &Store,
+    pass: &mut Pass,
+    fragments: Range<u64>,
+) -> Result<(), Fault>
+    requires { pass.old.store ≡ store.now }
+    ensures { pass.new.store ≡ store.now }
+{
+    for f in fragments {
+        store.lose(rt, alloc, pass, Name::new("a")?, 0, f)?;
+    }
+    Ok(())
+}
+
+/// Whether each of these fragments of `a` is repaired.
+fn are_repaired<R: Wait>(
+    rt: &R,
+    alloc: Global,
+    store: &Store,
+    pass: &mut Pass,
+    fragments: Range<u64>,
+) -> Result<bool, Fault>
+    requires { pass.old.store ≡ store.now }
+    ensures { pass.new.store ≡ store.now }
+{
+    let mut all = true;
+    for f in fragments {
+        let answer = store.repair(rt, alloc, pass, Name::new("a")?, 0, f)?;
+        all &= matches!(answer, Answer::Repaired(1));
+    }
+    Ok(all)
+}
+
+/// Whether each of these fragments of `a` is repaired before the next is lost.
+fn come_back_in_turn<R: Wait>(
+    rt: &R,
+    alloc: Global,
+    store: &Store,
+    pass: &mut Pass,
+    fragments: Range<u64>,
+) -> Result<bool, Fault>
+    requires { pass.old.store ≡ store.now }
+    ensures { pass.new.store ≡ store.now }
+{
+    let mut all = true;
+    for f in fragments {
+        store.lose(rt, alloc, pass, Name::new("a")?, 0, f)?;
+        let answer = store.repair(rt, alloc, pass, Name::new("a")?, 0, f)?;
+        all &= matches!(answer, Answer::Repaired(1));
+    }
+    Ok(all)
 }
 
 /// Each of the sixteen fragments is lost and repaired, the four parities at once: each is again as it was put.
@@ -138,20 +199,11 @@ fn another_name_leaves_all_as_it_was(rt: HostRuntime) -> Result<(), Fail> {
 fn each_fragment_comes_back(rt: HostRuntime) -> Result<(), Fail> {
     let alloc = rt.alloc();
     let (store, mut pass) = one_lost(&rt, alloc, 100)?;
-    store.repair(&rt, alloc, &mut pass, Name::new("a")?, 0, 0)?;
-    for f in 1..12 {
-        store.lose(&rt, alloc, &mut pass, Name::new("a")?, 0, f)?;
-        store.repair(&rt, alloc, &mut pass, Name::new("a")?, 0, f)?;
-    }
-    for parity in 12..16 {
-        store.lose(&rt, alloc, &mut pass, Name::new("a")?, 0, parity)?;
-    }
-    for lost in 12..16 {
-        let answer = store.repair(&rt, alloc, &mut pass, Name::new("a")?, 0, lost)?;
-        assert!(rt; matches!(answer, Answer::Repaired(1)));
-    }
-    assert_eq!(rt; pass.room(), 64);
-    let book = store.close(pass);
+    assert!(rt; are_repaired(&rt, alloc, &store, &mut pass, 0..1)?);
+    assert!(rt; come_back_in_turn(&rt, alloc, &store, &mut pass, 1..12)?);
+    lose_each(&rt, alloc, &store, &mut pass, 12..16)?;
+    assert!(rt; are_repaired(&rt, alloc, &store, &mut pass, 12..16)?);
+    let book = closed(&rt, store, pass);
     assert_eq!(rt; book.entries().len(), 33);
     has_each(&rt, alloc, &book, false)
 }
