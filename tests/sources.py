@@ -167,8 +167,7 @@ def edit_target(edit, texts, functions):
 
 
 def edit_place(path, target):
-    """What stands before an edit's name: the function that it changes first, or its file. The gate tries a crate's edits in the order of their names, and proves what one of
-    them changed again where the next changes something else."""
+    """What stands before an edit's name: the function that it changes first, or its file."""
     return target.path().replace("::", ".") if target else os.path.basename(path)[: -len(".rt")]
 
 

@@ -1,5 +1,5 @@
 -- What a sealed value lacks, and what the replies for it depend on.
-use Rattle.std.specs.Prelude.{ℕ, zero, suc, ◌+◌, ◌*◌, ◌/◌, ◌%◌, Bool, ◌&&◌, List, [], ◌∷◌, ◌++◌, Option, None, Some, cond, nat_lt, length}
+use Rattle.std.specs.Prelude.{ℕ, zero, suc, ◌*◌, ◌/◌, ◌%◌, Bool, ◌&&◌, List, [], ◌∷◌, ◌++◌, Option, None, Some, cond, nat_lt, length}
 use Rattle.lrc_code.specs.Code.{fragment_count}
 use Rattle.lrc_code.specs.Count.{count_below}
 use Rattle.sealed.specs.declared.value.Sealed.{Sealed}

@@ -3,7 +3,7 @@ ghost use Rattle.std.specs.Prelude.{◌≡◌, ◌↔◌, length, IfOk, IfErr, O
 ghost use Rattle.book.specs.Lacking.{reply_for};
 ghost use Rattle.book.specs.Notes.{note_of};
 ghost use Rattle.history.specs.Step.{delete as delete_of};
-ghost use Rattle.book.specs.Tells.{CarriesOn};
+ghost use Rattle.book.specs.Tells.{CarriesOn, KeepsBase};
 ghost use Rattle.history.specs.Views.{delete_reply};
 
 use crate::book::Book;
@@ -19,7 +19,7 @@ impl Book {
     pub fn delete(&mut self, who: u32, name: Name) -> Result<Answer, Fault>
         ensures ok { IfOk result (CarriesOn self.old self.new who (delete_of name)) }
         ensures full { (result ≡ Err Fault.JournalFull) ↔ (length self.old.entries ≡ self.old.limit) }
-        ensures kept { (self.new.width ≡ self.old.width) × (self.new.limit ≡ self.old.limit) × (self.new.base ≡ self.old.base) }
+        ensures kept { KeepsBase self.old self.new }
         ensures faults { IfErr result (λ e. e ≡ Fault.JournalFull) }
         ensures err { OnErr result (self.new ≡ self.old) }
     {

@@ -1,5 +1,5 @@
 //! Mending by a fragment that was rebuilt elsewhere.
-ghost use Rattle.std.specs.Prelude.{◌≡◌, true, ◌⊎◌, ◌↔◌, length, IfSome, IfOk, IfErr, OnErr};
+ghost use Rattle.std.specs.Prelude.{◌≡◌, true, ◌↔◌, length, IfSome, IfOk, IfErr, OnErr};
 ghost use Rattle.history.specs.History.{History};
 ghost use Rattle.history.specs.Step.{repair as repair_of};
 ghost use Rattle.history.specs.Views.{repair_reply};
@@ -7,7 +7,7 @@ ghost use Rattle.book.specs.Known.{IsFragmentIn, Serves};
 ghost use Rattle.book.specs.Catalogue.{lacks_at};
 ghost use Rattle.book.specs.Losing.{Mends, Replaces, value_at};
 ghost use Rattle.book.specs.Notes.{note_of};
-ghost use Rattle.book.specs.Tells.{Tells, CarriesOn};
+ghost use Rattle.book.specs.Tells.{Tells, CarriesOn, IsCallFault, KeepsBase};
 
 use crate::book::Book;
 use crate::stored_blob::StoredBlob;
@@ -37,8 +37,8 @@ impl Book {
         requires known { (h : History) × Tells self.old h × IsFragmentIn h self.old.width name version stripe fragment bytes }
         ensures ok { IfOk result (CarriesOn self.old self.new who (repair_of name stripe fragment)) }
         ensures full { (result ≡ Err Fault.JournalFull) ↔ (length self.old.entries ≡ self.old.limit) }
-        ensures kept { (self.new.width ≡ self.old.width) × (self.new.limit ≡ self.old.limit) × (self.new.base ≡ self.old.base) }
-        ensures faults { IfErr result (λ e. (e ≡ Fault.NoMemory) ⊎ (e ≡ Fault.JournalFull)) }
+        ensures kept { KeepsBase self.old self.new }
+        ensures faults { IfErr result IsCallFault }
         ensures err { OnErr result (self.new ≡ self.old) }
     {
         if self.is_full() {

@@ -1,9 +1,9 @@
 //! Losing a fragment.
-ghost use Rattle.std.specs.Prelude.{◌≡◌, ◌⊎◌, ◌↔◌, length, IfOk, IfErr, OnErr};
+ghost use Rattle.std.specs.Prelude.{◌≡◌, ◌↔◌, length, IfOk, IfErr, OnErr};
 ghost use Rattle.book.specs.Losing.{Loses, Replaces};
 ghost use Rattle.book.specs.Notes.{note_of};
 ghost use Rattle.history.specs.Step.{lose as lose_of};
-ghost use Rattle.book.specs.Tells.{CarriesOn};
+ghost use Rattle.book.specs.Tells.{CarriesOn, IsCallFault, KeepsBase};
 ghost use Rattle.history.specs.Views.{lose_reply};
 
 use crate::book::Book;
@@ -30,8 +30,8 @@ impl Book {
     ) -> Result<Answer, Fault>
         ensures ok { IfOk result (CarriesOn self.old self.new who (lose_of name stripe fragment)) }
         ensures full { (result ≡ Err Fault.JournalFull) ↔ (length self.old.entries ≡ self.old.limit) }
-        ensures kept { (self.new.width ≡ self.old.width) × (self.new.limit ≡ self.old.limit) × (self.new.base ≡ self.old.base) }
-        ensures faults { IfErr result (λ e. (e ≡ Fault.NoMemory) ⊎ (e ≡ Fault.JournalFull)) }
+        ensures kept { KeepsBase self.old self.new }
+        ensures faults { IfErr result IsCallFault }
         ensures err { OnErr result (self.new ≡ self.old) }
     {
         if self.is_full() {

@@ -1,10 +1,10 @@
 //! Storing.
-ghost use Rattle.std.specs.Prelude.{◌≡◌, ◌⊎◌, ◌↔◌, ◌+◌, List, ℕ, length, count_by, IfOk, IfErr, OnErr};
+ghost use Rattle.std.specs.Prelude.{◌≡◌, ◌↔◌, ◌+◌, List, ℕ, length, count_by, IfOk, IfErr, OnErr};
 ghost use Rattle.sealed.specs.Blob.{nothing};
 ghost use Rattle.sealed.specs.Sealed.{StandsFor};
 ghost use Rattle.history.specs.History.{is_put};
 ghost use Rattle.history.specs.Step.{put as put_of};
-ghost use Rattle.book.specs.Tells.{CarriesOn};
+ghost use Rattle.book.specs.Tells.{CarriesOn, IsCallFault, KeepsBase};
 
 use crate::book::Book;
 use crate::{Answer, Call, Entry, Fault, Name, Note};
@@ -29,8 +29,8 @@ impl Book {
         ensures ok { IfOk result (λ a. (b : List ℕ) → StandsFor sealed b nothing → CarriesOn self.old self.new who (put_of name sealed.code b) a) }
         ensures answer { IfOk result (λ a. a ≡ Answer.Stored (self.old.base.puts + count_by is_put self.old.entries + 1)) }
         ensures full { (result ≡ Err Fault.JournalFull) ↔ (length self.old.entries ≡ self.old.limit) }
-        ensures kept { (self.new.width ≡ self.old.width) × (self.new.limit ≡ self.old.limit) × (self.new.base ≡ self.old.base) }
-        ensures faults { IfErr result (λ e. (e ≡ Fault.NoMemory) ⊎ (e ≡ Fault.JournalFull)) }
+        ensures kept { KeepsBase self.old self.new }
+        ensures faults { IfErr result IsCallFault }
         ensures err { OnErr result (self.new ≡ self.old) }
     {
         if self.is_full() {

@@ -1,10 +1,10 @@
 //! Reading.
-ghost use Rattle.std.specs.Prelude.{◌≡◌, ◌⊎◌, IfErr, ◌↔◌, length, IfOk, OnErr};
+ghost use Rattle.std.specs.Prelude.{◌≡◌, IfErr, ◌↔◌, length, IfOk, OnErr};
 ghost use Rattle.std.specs.Option.{option_map};
 ghost use Rattle.book.specs.Asked.{IsReadAnswer, IsGrantable};
 ghost use Rattle.book.specs.Contents.{sealed_at};
 ghost use Rattle.history.specs.Step.{read as read_of};
-ghost use Rattle.book.specs.Tells.{CarriesOn};
+ghost use Rattle.book.specs.Tells.{CarriesOn, IsCallFault, KeepsBase};
 
 use crate::book::Book;
 use crate::{Answer, Call, Entry, Fault, Name};
@@ -26,8 +26,8 @@ impl Book {
         ensures answer { IfOk result (IsReadAnswer (sealed_at self.old name) start len) }
         ensures full { (result ≡ Err Fault.JournalFull) ↔ (length self.old.entries ≡ self.old.limit) }
         ensures no_memory { result ≡ Err Fault.NoMemory → IsGrantable (sealed_at self.old name) start len }
-        ensures kept { (self.new.width ≡ self.old.width) × (self.new.limit ≡ self.old.limit) × (self.new.base ≡ self.old.base) }
-        ensures faults { IfErr result (λ e. (e ≡ Fault.NoMemory) ⊎ (e ≡ Fault.JournalFull)) }
+        ensures kept { KeepsBase self.old self.new }
+        ensures faults { IfErr result IsCallFault }
         ensures err { OnErr result (self.new ≡ self.old) }
     {
         if self.is_full() {

@@ -1,10 +1,10 @@
 //! Rebuilding a lost fragment.
-ghost use Rattle.std.specs.Prelude.{◌≡◌, true, ◌⊎◌, ◌↔◌, length, IfOk, IfErr, OnErr};
+ghost use Rattle.std.specs.Prelude.{◌≡◌, true, ◌↔◌, length, IfOk, IfErr, OnErr};
 ghost use Rattle.book.specs.Catalogue.{lacks_at};
 ghost use Rattle.book.specs.Losing.{Mends, Replaces};
 ghost use Rattle.book.specs.Notes.{note_of};
 ghost use Rattle.history.specs.Step.{repair as repair_of};
-ghost use Rattle.book.specs.Tells.{CarriesOn};
+ghost use Rattle.book.specs.Tells.{CarriesOn, IsCallFault, KeepsBase};
 ghost use Rattle.history.specs.Views.{repair_reply};
 
 use crate::book::Book;
@@ -32,8 +32,8 @@ impl Book {
     ) -> Result<Answer, Fault>
         ensures ok { IfOk result (CarriesOn self.old self.new who (repair_of name stripe fragment)) }
         ensures full { (result ≡ Err Fault.JournalFull) ↔ (length self.old.entries ≡ self.old.limit) }
-        ensures kept { (self.new.width ≡ self.old.width) × (self.new.limit ≡ self.old.limit) × (self.new.base ≡ self.old.base) }
-        ensures faults { IfErr result (λ e. (e ≡ Fault.NoMemory) ⊎ (e ≡ Fault.JournalFull)) }
+        ensures kept { KeepsBase self.old self.new }
+        ensures faults { IfErr result IsCallFault }
         ensures err { OnErr result (self.new ≡ self.old) }
     {
         if self.is_full() {

@@ -4,7 +4,7 @@ ghost use Rattle.std.specs.Option.{option_copied};
 ghost use Rattle.book.specs.Lacking.{reply_for};
 ghost use Rattle.book.specs.Notes.{note_of};
 ghost use Rattle.history.specs.Step.{stat as stat_of};
-ghost use Rattle.book.specs.Tells.{CarriesOn};
+ghost use Rattle.book.specs.Tells.{CarriesOn, KeepsBase};
 ghost use Rattle.history.specs.Views.{stat_reply};
 
 use crate::book::Book;
@@ -20,7 +20,7 @@ impl Book {
     pub fn stat(&mut self, who: u32, name: Name) -> Result<Answer, Fault>
         ensures ok { IfOk result (CarriesOn self.old self.new who (stat_of name)) }
         ensures full { (result ≡ Err Fault.JournalFull) ↔ (length self.old.entries ≡ self.old.limit) }
-        ensures kept { (self.new.width ≡ self.old.width) × (self.new.limit ≡ self.old.limit) × (self.new.base ≡ self.old.base) }
+        ensures kept { KeepsBase self.old self.new }
         ensures faults { IfErr result (λ e. e ≡ Fault.JournalFull) }
         ensures err { OnErr result (self.new ≡ self.old) }
     {

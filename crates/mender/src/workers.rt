@@ -1,7 +1,8 @@
 //! Workers who draw the tickets of a plan and mend its items.
-ghost use Rattle.std.specs.Prelude.{◌≡◌, ◌⊎◌, ◌≤◌, ◌^◌, [], length, None, IfOk, IfErr};
+ghost use Rattle.std.specs.Prelude.{◌≡◌, ◌≤◌, ◌^◌, [], length, None, IfOk, IfErr};
 ghost use Rattle.history.specs.History.{state_of};
 ghost use Rattle.book.specs.Plan.{plan_of};
+ghost use Rattle.book.specs.Tells.{IsCallFault};
 ghost use Rattle.shared.specs.Deeds.{Takes};
 ghost use Rattle.mender.specs.Worked.{Finished, Stopped, StoppedFull, IfFull, AreMended};
 
@@ -52,7 +53,7 @@ pub fn work<R: Wait>(
     ensures mended { IfOk result (λ done. AreMended pass.old done.items pass.new) }
     ensures err { IfErr result (λ stop. Stopped plan.now.items.items drawer.old drawer.new stop.done.items) }
     ensures mended_by_then { IfErr result (λ stop. AreMended pass.old stop.done.items pass.new) }
-    ensures faults { IfErr result (λ stop. (stop.fault ≡ Fault.NoMemory) ⊎ (stop.fault ≡ Fault.JournalFull)) }
+    ensures faults { IfErr result (λ stop. IsCallFault stop.fault) }
     ensures full { IfErr result (λ stop. stop.fault ≡ Fault.JournalFull → pass.new.store.limit ≤ length pass.new.seen) }
     ensures stopped_full { IfErr result (λ stop. IfFull stop.fault (StoppedFull plan.now.items.items drawer.old drawer.new pass.old stop.done.items pass.new)) }
 {

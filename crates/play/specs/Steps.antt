@@ -1,6 +1,6 @@
 -- The steps of a run: what the store of one thread does for the rows of a script.
-use Rattle.std.specs.Prelude.{ℕ, List, [], ◌∷◌, ◌++◌, All}
-use Rattle.std.specs.List.{fold}
+use Rattle.std.specs.Prelude.{ℕ, List, [], ◌∷◌, All}
+use Rattle.std.specs.List.{flat_map, fold}
 use Rattle.history.specs.History.{History}
 use Rattle.book.specs.Serial.{Standing, opening, Deed, Does, next, act_of, events_in}
 
@@ -31,5 +31,4 @@ AreDone w limit steps = All (λ (f : Found). Does w limit f.0 f.1.deed) (found s
 
 -- the calls that were answered, in order: the history
 abbrev pub calls_in : List Step → History
-calls_in [] = []
-calls_in (x ∷ xs) = events_in (act_of x.who x.deed) ++ calls_in xs
+calls_in steps = flat_map (λ (x : Step). events_in (act_of x.who x.deed)) steps

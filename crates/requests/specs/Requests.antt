@@ -1,7 +1,7 @@
 -- Calls as they are made on the book in the gate.
-use Rattle.std.specs.Prelude.{◌≡◌, ◌⊎◌, ℕ, List}
+use Rattle.std.specs.Prelude.{◌≡◌, ℕ, List}
 use Rattle.sealed.specs.declared.fault.Fault.{Fault}
-use Rattle.sealed.specs.declared.fault.Fault.TheVariants.{NoMemory, JournalFull}
+use Rattle.sealed.specs.declared.fault.Fault.TheVariants.{JournalFull}
 use Rattle.sealed.specs.Blob.{nothing}
 use Rattle.sealed.specs.Sealed.{StandsFor}
 use Rattle.history.specs.Step.{Operation, put, read, lose, repair, delete, stat}
@@ -10,7 +10,7 @@ use Rattle.book.specs.declared.answer.Answer.{Answer}
 use Rattle.book.specs.Asked.{IsReadAnswer, IsGrantable}
 use Rattle.book.specs.Contents.{Contents, sealed_at}
 use Rattle.book.specs.Known.{IsFragmentIn}
-use Rattle.book.specs.Tells.{Tells}
+use Rattle.book.specs.Tells.{IsCallFault, Tells}
 use Rattle.requests.specs.declared.request.Request.{Request}
 use Rattle.requests.specs.declared.request.Request.TheVariants.{Put, Read, Lose, Install, Delete, Stat}
 use Rattle.requests.specs.Bytes.{bytes_of}
@@ -44,4 +44,4 @@ MayWant book request = Unit {0}
 abbrev pub IsFaultOf : Request → Fault → Type 0
 IsFaultOf (Delete n) fault = fault ≡ JournalFull
 IsFaultOf (Stat n) fault = fault ≡ JournalFull
-IsFaultOf request fault = (fault ≡ NoMemory) ⊎ (fault ≡ JournalFull)
+IsFaultOf request fault = IsCallFault fault

@@ -1,5 +1,6 @@
 //! The inspection of a book before a repair. What can be rebuilt is left to be rebuilt outside the gate.
 ghost use Rattle.std.specs.Prelude.{◌≡◌};
+ghost use Rattle.book.specs.Tells.{KeepsBase};
 ghost use Rattle.requests.specs.Inspections.{FoundIn};
 
 use crate::Kept;
@@ -31,7 +32,7 @@ pub fn inspect(
     fragment: u64,
 ) -> Inspection
     ensures found { FoundIn kept.old.0.value kept.new.0.value who name.now stripe fragment result }
-    ensures kept { (kept.new.0.value.width ≡ kept.old.0.value.width) × (kept.new.0.value.limit ≡ kept.old.0.value.limit) × (kept.new.0.value.base ≡ kept.old.0.value.base) }
+    ensures kept { KeepsBase kept.old.0.value kept.new.0.value }
 {
     let book: &mut Book = &mut kept.0;
     inspect_book(book, alloc, who, name, stripe, fragment)
@@ -47,7 +48,7 @@ fn inspect_book(
     fragment: u64,
 ) -> Inspection
     ensures found { FoundIn book.old book.new who name.now stripe fragment result }
-    ensures kept { (book.new.width ≡ book.old.width) × (book.new.limit ≡ book.old.limit) × (book.new.base ≡ book.old.base) }
+    ensures kept { KeepsBase book.old book.new }
 {
     if book.is_full() {
         return Inspection::Refused(Fault::JournalFull);

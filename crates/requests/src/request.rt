@@ -1,6 +1,6 @@
 //! Calls as they are made on the book in the gate.
 ghost use Rattle.std.specs.Prelude.{◌≡◌, ◌↔◌, length, IfOk, IfErr, OnErr};
-ghost use Rattle.book.specs.Tells.{CarriesOn};
+ghost use Rattle.book.specs.Tells.{CarriesOn, KeepsBase};
 ghost use Rattle.requests.specs.Requests.{operation_of, CanMake, IsAnswerTo, MayWant, IsFaultOf};
 
 use crate::Kept;
@@ -61,7 +61,7 @@ impl Request {
         ensures answer { IfOk result (IsAnswerTo kept.old.0.value self) }
         ensures no_memory { result ≡ Err Fault.NoMemory → MayWant kept.old.0.value self }
         ensures full { (result ≡ Err Fault.JournalFull) ↔ (length kept.old.0.value.entries ≡ kept.old.0.value.limit) }
-        ensures kept { (kept.new.0.value.width ≡ kept.old.0.value.width) × (kept.new.0.value.limit ≡ kept.old.0.value.limit) × (kept.new.0.value.base ≡ kept.old.0.value.base) }
+        ensures kept { KeepsBase kept.old.0.value kept.new.0.value }
         ensures faults { IfErr result (IsFaultOf self) }
         ensures err { OnErr result (kept.new.0.value ≡ kept.old.0.value) }
     {
@@ -76,7 +76,7 @@ impl Request {
         ensures answer { IfOk result (IsAnswerTo book.old self) }
         ensures no_memory { result ≡ Err Fault.NoMemory → MayWant book.old self }
         ensures full { (result ≡ Err Fault.JournalFull) ↔ (length book.old.entries ≡ book.old.limit) }
-        ensures kept { (book.new.width ≡ book.old.width) × (book.new.limit ≡ book.old.limit) × (book.new.base ≡ book.old.base) }
+        ensures kept { KeepsBase book.old book.new }
         ensures faults { IfErr result (IsFaultOf self) }
         ensures err { OnErr result (book.new ≡ book.old) }
     {

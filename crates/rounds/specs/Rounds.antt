@@ -1,7 +1,7 @@
 -- What the workers of a round do.
 use Rattle.std.specs.Prelude.{◌≡◌, ◌⊎◌, ◌≤◌, ℕ, Bool, true, false, List, [], ◌∷◌, ◌++◌, length, Ok, Err}
 use Rattle.sealed.specs.declared.fault.Fault.{Fault}
-use Rattle.sealed.specs.declared.fault.Fault.TheVariants.{NoMemory, JournalFull}
+use Rattle.book.specs.Tells.{IsCallFault}
 use Rattle.shared.specs.Paced.{AreLetThrough, HasNotBegun, StoppedAt}
 use Rattle.shared.specs.Passes.{Shows, Which}
 use Rattle.shared.specs.Serving.{asks_of, Serves}
@@ -42,7 +42,7 @@ DidCalls v errand outcome w = ⊥
 
 -- a worker stops for want of memory, or at a full journal: then as many calls were seen as the limit
 abbrev pub IsStop : Fault → Shows → Type 0
-IsStop fault w = ((fault ≡ NoMemory) ⊎ (fault ≡ JournalFull)) × IfFull fault (w.store.limit ≤ length w.seen)
+IsStop fault w = IsCallFault fault × IfFull fault (w.store.limit ≤ length w.seen)
 
 -- just the repairs with a result were made, in order, each by a ticket that was drawn
 abbrev pub DidMend : Shows → Mending → Outcome → Shows → Type 0

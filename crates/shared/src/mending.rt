@@ -1,6 +1,7 @@
 //! Repairs. What can be rebuilt is rebuilt outside the gate, while others may be inside.
 ghost use Rattle.std.specs.Prelude.{◌≡◌, ◌≢◌, ◌⊎◌, IfErr};
 ghost use Rattle.history.specs.Step.{repair as repair_of};
+ghost use Rattle.book.specs.Tells.{IsCallFault};
 ghost use Rattle.shared.specs.Calls.{Called};
 ghost use Rattle.requests.specs.Inspections.{IfRefused};
 ghost use Rattle.shared.specs.Mends.{Found, FoundBusy};
@@ -29,7 +30,7 @@ impl Store {
     ) -> Result<Answer, Fault>
         requires { pass.old.store ≡ self.now }
         ensures called { Called pass.old (repair_of name stripe fragment) result pass.new }
-        ensures faults { IfErr result (λ e. (e ≡ Fault.NoMemory) ⊎ (e ≡ Fault.JournalFull)) }
+        ensures faults { IfErr result IsCallFault }
     {
         let sealed = match self.inspect(rt, alloc, pass, &name, stripe, fragment) {
             Inspection::Done(answer) => return Ok(answer),
@@ -68,7 +69,7 @@ impl Store {
     ) -> Result<Answer, Fault>
         requires { pass.old.store ≡ self.now }
         ensures called { Called pass.old (repair_of name stripe fragment) result pass.new }
-        ensures faults { IfErr result (λ e. (e ≡ Fault.Busy) ⊎ (e ≡ Fault.NoMemory) ⊎ (e ≡ Fault.JournalFull)) }
+        ensures faults { IfErr result (λ e. (e ≡ Fault.Busy) ⊎ IsCallFault e) }
         ensures busy { result ≡ Err Fault.Busy → FoundBusy pass.old name stripe fragment pass.new }
         ensures lone { pass.old.room ≡ 64 → result ≢ Err Fault.Busy }
     {
@@ -108,7 +109,7 @@ impl Store {
     ) -> Inspection
         requires { pass.old.store ≡ self.now }
         ensures found { Found pass.old name.now stripe fragment result pass.new }
-        ensures faults { IfRefused result (λ e. (e ≡ Fault.NoMemory) ⊎ (e ≡ Fault.JournalFull)) }
+        ensures faults { IfRefused result IsCallFault }
     {
         let mut inside = self.gate.enter(rt, &mut pass.seat);
         let inspection = inspect(&mut inside.value, alloc, pass.who, name, stripe, fragment);
@@ -127,7 +128,7 @@ impl Store {
     ) -> Inspection
         requires { pass.old.store ≡ self.now }
         ensures found { Found pass.old name.now stripe fragment result pass.new }
-        ensures faults { IfRefused result (λ e. (e ≡ Fault.Busy) ⊎ (e ≡ Fault.NoMemory) ⊎ (e ≡ Fault.JournalFull)) }
+        ensures faults { IfRefused result (λ e. (e ≡ Fault.Busy) ⊎ IsCallFault e) }
         ensures busy { result ≡ Inspection.Refused Fault.Busy → pass.new ≡ pass.old }
         ensures lone { pass.old.room ≡ 64 → result ≢ Inspection.Refused Fault.Busy }
     {

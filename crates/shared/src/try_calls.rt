@@ -3,6 +3,7 @@
 ghost use Rattle.std.specs.Prelude.{◌≡◌, ◌≢◌, ◌⊎◌, ◌↔◌, ◌<◌, length, IfOk, IfErr};
 ghost use Rattle.sealed.specs.Layout.{stripe_count};
 ghost use Rattle.history.specs.Step.{put as put_of, read as read_of, lose as lose_of, delete as delete_of, stat as stat_of};
+ghost use Rattle.book.specs.Tells.{IsCallFault};
 ghost use Rattle.shared.specs.Calls.{Called, CanGrant, GrantedIn, IfGranted};
 
 use crate::{Pass, Store};
@@ -25,7 +26,7 @@ impl Store {
         requires { pass.old.store ≡ self.now }
         ensures called { Called pass.old (put_of name Code.Wide bytes) result pass.new }
         ensures too_long { (result ≡ Err Fault.TooLong) ↔ (4096 < stripe_count Code.Wide self.now.width (length bytes)) }
-        ensures faults { IfErr result (λ e. (e ≡ Fault.Busy) ⊎ (e ≡ Fault.NoMemory) ⊎ (e ≡ Fault.JournalFull) ⊎ (e ≡ Fault.TooLong)) }
+        ensures faults { IfErr result (λ e. (e ≡ Fault.Busy) ⊎ IsCallFault e ⊎ (e ≡ Fault.TooLong)) }
         ensures busy { result ≡ Err Fault.Busy → pass.new ≡ pass.old }
         ensures lone { pass.old.room ≡ 64 → result ≢ Err Fault.Busy }
     {
@@ -44,7 +45,7 @@ impl Store {
         requires { pass.old.store ≡ self.now }
         ensures called { Called pass.old (put_of name code bytes) result pass.new }
         ensures too_long { (result ≡ Err Fault.TooLong) ↔ (4096 < stripe_count code self.now.width (length bytes)) }
-        ensures faults { IfErr result (λ e. (e ≡ Fault.Busy) ⊎ (e ≡ Fault.NoMemory) ⊎ (e ≡ Fault.JournalFull) ⊎ (e ≡ Fault.TooLong)) }
+        ensures faults { IfErr result (λ e. (e ≡ Fault.Busy) ⊎ IsCallFault e ⊎ (e ≡ Fault.TooLong)) }
         ensures busy { result ≡ Err Fault.Busy → pass.new ≡ pass.old }
         ensures lone { pass.old.room ≡ 64 → result ≢ Err Fault.Busy }
     {
@@ -73,7 +74,7 @@ impl Store {
         ensures called { Called pass.old (read_of name start len) result pass.new }
         ensures grant { IfOk result (λ a. IfGranted a (GrantedIn pass.new.seen self.now.width name start len)) }
         ensures no_memory { result ≡ Err Fault.NoMemory → CanGrant pass.new.seen self.now.width name start len }
-        ensures faults { IfErr result (λ e. (e ≡ Fault.Busy) ⊎ (e ≡ Fault.NoMemory) ⊎ (e ≡ Fault.JournalFull)) }
+        ensures faults { IfErr result (λ e. (e ≡ Fault.Busy) ⊎ IsCallFault e) }
         ensures busy { result ≡ Err Fault.Busy → pass.new ≡ pass.old }
         ensures lone { pass.old.room ≡ 64 → result ≢ Err Fault.Busy }
     {
@@ -91,7 +92,7 @@ impl Store {
     ) -> Result<Answer, Fault>
         requires { pass.old.store ≡ self.now }
         ensures called { Called pass.old (lose_of name stripe fragment) result pass.new }
-        ensures faults { IfErr result (λ e. (e ≡ Fault.Busy) ⊎ (e ≡ Fault.NoMemory) ⊎ (e ≡ Fault.JournalFull)) }
+        ensures faults { IfErr result (λ e. (e ≡ Fault.Busy) ⊎ IsCallFault e) }
         ensures busy { result ≡ Err Fault.Busy → pass.new ≡ pass.old }
         ensures lone { pass.old.room ≡ 64 → result ≢ Err Fault.Busy }
     {

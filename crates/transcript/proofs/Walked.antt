@@ -1,5 +1,5 @@
 -- The pieces of a walk, one after the other.
-use Rattle.std.proofs.Common.{◌≡◌, ◌∙◌, ◌+◌, ◌∷◌, ◌++◌, ℕ, Bool, true, false, cond, List, length, Option, Some, None, ap, refl, sym, append_assoc, subst, arith}
+use Rattle.std.proofs.Common.{◌≡◌, ◌∙◌, ◌+◌, ◌<◌, ◌^◌, ◌∷◌, ◌++◌, ℕ, Bool, true, false, cond, List, length, Option, Some, None, ap, refl, sym, append_assoc, subst, arith}
 use Rattle.std.specs.Prelude.{is_some, not, count_by}
 use Rattle.std.proofs.lemmas.List.Sums.{sum_by-cons}
 use Rattle.sealed.specs.declared.value.Sealed.{Sealed}
@@ -12,7 +12,8 @@ use Rattle.lent.specs.declared.piece.Piece.TheVariants.{Lent, Built}
 use Rattle.lent.specs.Ahead.{Ahead}
 use Rattle.lent.specs.Pieces.{bytes_of, IsPieceBy}
 use Rattle.lent.specs.Walk.{Gives, Joins, bytes_ahead}
-use Rattle.transcript.specs.Lines.{is_there}
+use Rattle.transcript.specs.Lines.{is_lent, is_there, TakesIn}
+use Rattle.transcript.specs.declared.line.Reading.{Reading}
 
 -- what is done and what lies ahead are the whole, for each blob that the value stands for
 abbrev pub IsSplit : Sealed → (List ℕ → List ℕ) → List ℕ → Ahead → Type 0
@@ -31,10 +32,6 @@ split-more s whole done more old new piece split gives joins is = (
 )
 
 -- ---- how many are lent, and how many built
-abbrev pub is_lent : Piece → Bool
-is_lent (Lent r) = true
-is_lent (Built v) = false
-
 there_is : (s : Sealed) (part : Part) (found : Option (List ℕ)) (piece : Piece) → IsPieceBy s part found piece → is_some found ≡ is_lent piece
 there_is s part (Some x) (Lent r) is = refl
 there_is s part None (Built v) is = refl
@@ -58,8 +55,28 @@ counts-one s old new piece same gives =
       all = let e : length old.parts ≡ length (gives.part ∷ new.parts) = ap length gives.next in omega arith;
     }
 
--- the piece was counted
-pub record Tallied (piece : Piece) (lent built more_lent more_built : ℕ) : Type 0 where
-  pub lent_is : more_lent ≡ lent + cond (is_lent piece) 1 0
-  pub built_is : more_built ≡ built + cond (not (is_lent piece)) 1 0
-  pub both : more_lent + more_built ≡ lent + built + 1
+-- what is read so far: with what lies ahead it makes up the whole, and all of its parts
+pub record IsReadSoFar (s : Sealed) (whole : List ℕ → List ℕ) (parts : List Part) (r : Reading) (ahead : Ahead) : Type 0 where
+  pub version : r.version ≡ s.version
+  pub split : IsSplit s whole r.bytes.items ahead
+  pub lent : r.lent + count_by (is_there s) ahead.parts ≡ count_by (is_there s) parts
+  pub built : r.built + count_by (λ p. not (is_there s p)) ahead.parts ≡ count_by (λ p. not (is_there s p)) parts
+  pub few : r.lent + r.built + length ahead.parts < 2 ^ 64
+
+one_of_two : (b : Bool) → cond b 1 0 + cond (not b) 1 0 ≡ 1
+one_of_two true = refl
+one_of_two false = refl
+
+-- with each piece more is read
+pub read_on : (s : Sealed) (whole : List ℕ → List ℕ) (parts : List Part) (r more : Reading) (old new : Ahead) (piece : Piece) → IsReadSoFar s whole parts r old
+    → Gives old new piece → Joins old new piece → TakesIn r piece more → IsReadSoFar s whole parts more new
+read_on s whole parts r more old new piece so_far gives joins takes =
+    let one = counts-one s old new piece so_far.split.0 gives in
+    let both = one_of_two (is_lent piece) in
+    record {
+      version = takes.version ∙ so_far.version;
+      split = split-more s whole r.bytes.items more.bytes.items old new piece so_far.split gives joins takes.bytes;
+      lent = omega (arith, takes.lent, one.lent, so_far.lent);
+      built = omega (arith, takes.built, one.built, so_far.built);
+      few = omega (arith, takes.lent, takes.built, both, one.all, so_far.few);
+    }

@@ -1,5 +1,5 @@
 -- The lines of a run, as they are printed from its replies.
-use Rattle.std.specs.Prelude.{◌≡◌, ℕ, ◌+◌, List, [], ◌∷◌, ◌++◌, Bool, is_some, length, not, count_by, slice_range, codes, decimal}
+use Rattle.std.specs.Prelude.{◌≡◌, ℕ, ◌+◌, List, [], ◌∷◌, ◌++◌, Bool, true, false, cond, is_some, length, not, count_by, slice_range, codes, decimal}
 use Rattle.hex.specs.Hex.{encode_lower}
 use Rattle.sealed.specs.Blob.{Lost}
 use Rattle.sealed.specs.Stripes.{fragment_at}
@@ -9,6 +9,9 @@ use Rattle.sealed.specs.declared.fault.Fault.TheVariants as fault
 use Rattle.lent.specs.Cut.{cut}
 use Rattle.lent.specs.declared.grant.Grant.{Grant}
 use Rattle.lent.specs.declared.part.Part.{Part}
+use Rattle.lent.specs.declared.piece.Piece.{Piece}
+use Rattle.lent.specs.declared.piece.Piece.TheVariants.{Lent, Built}
+use Rattle.lent.specs.Pieces.{bytes_of}
 use Rattle.history.specs.Text.{note_text, entry_text}
 use Rattle.history.specs.declared.note.Entry.{Entry}
 use Rattle.book.specs.Notes.{note_of}
@@ -55,6 +58,17 @@ pub record IsReadingOf (g : Grant) (r : Reading) : Type 0 where
   pub lent : r.lent ≡ count_by (is_there g.sealed.value) (cut g.sealed.value.code g.sealed.value.width g.start g.len)
   pub built : r.built ≡ count_by (λ p. not (is_there g.sealed.value p)) (cut g.sealed.value.code g.sealed.value.width g.start g.len)
   pub bytes : (b : List ℕ) (lost : Lost) → StandsFor g.sealed.value b lost → r.bytes.items ≡ slice_range b g.start (g.start + g.len)
+
+abbrev pub is_lent : Piece → Bool
+is_lent (Lent r) = true
+is_lent (Built v) = false
+
+-- one more piece is counted, and its bytes stand behind the others
+pub record TakesIn (r : Reading) (piece : Piece) (more : Reading) : Type 0 where
+  pub version : more.version ≡ r.version
+  pub lent : more.lent ≡ r.lent + cond (is_lent piece) 1 0
+  pub built : more.built ≡ r.built + cond (not (is_lent piece)) 1 0
+  pub bytes : more.bytes.items ≡ r.bytes.items ++ bytes_of piece
 
 -- the line to an answer
 abbrev pub IsReadBy : Grant → Line → Type 0

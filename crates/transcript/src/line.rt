@@ -1,7 +1,7 @@
 //! What is printed of a row.
-ghost use Rattle.std.specs.Prelude.{◌≡◌, ◌≤◌, ◌+◌, ◌*◌, IfOk, length};
+ghost use Rattle.std.specs.Prelude.{◌≡◌, ◌≤◌, ◌<◌, ◌+◌, ◌*◌, ◌^◌, IfOk, OnOk, length};
 ghost use Rattle.hex.specs.Hex.{encode_lower};
-ghost use Rattle.transcript.specs.Lines.{IsReadingOf, IsLineFor, byte_count};
+ghost use Rattle.transcript.specs.Lines.{IsReadingOf, IsLineFor, TakesIn, byte_count};
 
 use crate::outcome::RowOutcome;
 use book::{Answer, Fault, Note};
@@ -119,28 +119,36 @@ impl fmt::Display for Line {
     }
 }
 
+impl Reading {
+    /// Takes in the next piece: it is counted, and its bytes stand behind the others.
+    fn take_in(&mut self, piece: Piece) -> Result<(), AllocError>
+        requires { self.old.lent + self.old.built + 1 < 2 ^ 64 }
+        ensures { OnOk result (TakesIn self.old piece.entry self.new) }
+    {
+        match &piece {
+            Piece::Lent(_) => self.lent += 1,
+            Piece::Built(_) => self.built += 1,
+        }
+        self.bytes.extend_from_slice(piece.bytes())
+    }
+}
+
 /// Walks a grant to its end, by the recipes that are kept in `plans`.
 fn walked(alloc: Global, grant: &Grant, plans: &mut Plans) -> Result<Reading, AllocError>
     ensures ok { IfOk result (IsReadingOf grant.now) }
     ensures more { plans.old ≤ plans.new }
 {
-    let mut bytes = Vec::with_capacity(alloc, grant.len as usize)?;
-    let mut lent: u64 = 0;
-    let mut built: u64 = 0;
+    let mut reading = Reading {
+        version: grant.version(),
+        lent: 0,
+        built: 0,
+        bytes: Vec::with_capacity(alloc, grant.len as usize)?,
+    };
     let mut walk = grant.walk_with(plans);
     while let Some(piece) = walk.next_piece(alloc)? {
-        match &piece {
-            Piece::Lent(_) => lent = lent.saturating_add(1),
-            Piece::Built(_) => built = built.saturating_add(1),
-        }
-        bytes.extend_from_slice(piece.bytes())?;
+        reading.take_in(piece)?;
     }
-    Ok(Reading {
-        version: grant.version(),
-        lent,
-        built,
-        bytes,
-    })
+    Ok(reading)
 }
 
 /// The reply to a row. A grant is walked here, by the recipes that are kept in `plans`.

@@ -188,8 +188,7 @@ fn come_back_in_turn<R: Wait>(
     let mut all = true;
     for f in fragments {
         store.lose(rt, alloc, pass, Name::new("a")?, 0, f)?;
-        let answer = store.repair(rt, alloc, pass, Name::new("a")?, 0, f)?;
-        all &= matches!(answer, Answer::Repaired(1));
+        all &= are_repaired(rt, alloc, store, pass, f..f.saturating_add(1))?;
     }
     Ok(all)
 }
