@@ -11,10 +11,16 @@ passed=0
 failed=0
 skipped=()
 
-# Whether a command or a file is here, once the package that has it was asked for.
+install() {
+    apt-get install -y --no-install-recommends "$1"
+}
+
+# Whether a command or a file is here, once the package that has it was asked for. On a new machine the lists of packages come first.
 has() {
     command -v "$1" > /dev/null || [ -e "$1" ] && return
-    [ "$(id -u)" = 0 ] && command -v apt-get > /dev/null && apt-get install -y --no-install-recommends "$2" > "$work/apt" 2>&1
+    if [ "$(id -u)" = 0 ] && command -v apt-get > /dev/null; then
+        { install "$2" || { apt-get update && install "$2"; }; } > "$work/apt" 2>&1
+    fi
     command -v "$1" > /dev/null || [ -e "$1" ]
 }
 

@@ -1,5 +1,5 @@
 #!/usr/bin/env bash
-# Tests of what the documents name, and then over the programs that the gate has built: the statuses of lrcstore, the pictures, and each request for
+# Tests of what the documents name, and then over the programs that the merge gate has built: the statuses of lrcstore, the pictures, and each request for
 # memory refused in turn.
 set -eu
 cd "$(dirname "$0")/.."

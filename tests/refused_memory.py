@@ -1,5 +1,5 @@
 #!/usr/bin/env python3
-"""Refuses each request for memory in turn, and then each thread, over the programs that the gate has built.
+"""Refuses each request for memory in turn, and then each thread, over the programs that the merge gate has built.
 
 The program refuse_each must print the same whichever request is refused. The program lrcstore must end with status 3 and nothing on standard output, or print
 what it prints with ample memory, and never that it was stopped. Where a thread is refused it must end so, with the line for that. `tests/programs.sh` runs it.
