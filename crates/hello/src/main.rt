@@ -2,7 +2,16 @@
 #![tactic(auto)]
 
 use anyhow::{Context, Result, bail};
-use shared::{Answer, Bytes, Limit, Name, Store};
+use shared::{Answer, Bytes, Limit, Name, Piece, Store};
+
+/// Prints each piece on a line of its own.
+fn print_each<R: Print>(rt: &R, pieces: &[Piece]) -> Result<()> {
+    for piece in pieces {
+        let text = str::from_utf8(piece.bytes())?;
+        println!(rt; "{text}")?;
+    }
+    Ok(())
+}
 
 fn main(rt: HostRuntime) -> Result<()> {
     let (alloc, name) = (rt.alloc(), Name::new("greeting")?);
@@ -15,9 +24,5 @@ fn main(rt: HostRuntime) -> Result<()> {
         bail!("it can't be told from what is left");
     };
     let pieces = grant.collect(alloc)?;
-    for piece in pieces.as_slice() {
-        let text = str::from_utf8(piece.bytes())?;
-        println!(rt; "{text}")?;
-    }
-    Ok(())
+    print_each(&rt, pieces.as_slice())
 }

@@ -1,12 +1,16 @@
 ghost use Rattle.std.specs.Prelude.{◌≡◌, IfOk};
+ghost use Rattle.command_line.specs.Ranges.{InRange};
 
 use crate::{Always, Fail as PlayFail, play};
 use command_line::Options;
 use script::{BadScript, Word};
+use shared::Pace;
 use std::alloc::{AllocError, Global};
 use std::io;
 use std::io::{Read, Write};
+use std::sync::Wait;
 use std::test::Fail;
+use std::thread::Threads;
 
 /// A reader that gives its bytes one at a time, and fails behind the last.
 #[derive(Drop)]
@@ -64,6 +68,23 @@ fn two_workers(alloc: Global) -> Result<Options, AllocError>
     options(alloc, 1, 4096, false)
 }
 
+/// How a run of a script ends, and what it writes.
+fn run<R: Threads + Wait + Sync, P: Pace + Sync>(
+    rt: &R,
+    alloc: Global,
+    options: &Options,
+    script: &[u8],
+    pace: &P,
+) -> (Result<(), PlayFail>, Vec<u8>)
+    requires width { InRange options.now.width 65536 }
+    requires workers { InRange options.now.workers 16 }
+    requires limit { InRange options.now.limit 1048576 }
+{
+    let mut out = Vec::new(alloc);
+    let ended = play(rt, alloc, options, script, &mut out, pace);
+    (ended, out)
+}
+
 const FIRST_PATH: &[u8] = b"1,1,put,a,text,HELLO\n2,2,read,a,1,3\n";
 
 const FIRST_OUTPUT: &[u8] = b"1 stored 1\n2 granted 1 3 0 454c4c\ncalls 2\nlawful yes\n";
@@ -90,9 +111,8 @@ fn scripts(rt: HostRuntime) -> Result<(), Fail> {
         ),
     ];
     for (text, wanted) in &rows {
-        let mut out: Vec<u8> = Vec::new(alloc);
-        let text: &[u8] = *text;
-        assert_eq!(rt; play(&rt, alloc, &options, text, &mut out, &Always), Ok(()));
+        let (ended, out) = run(&rt, alloc, &options, text, &Always);
+        assert_eq!(rt; ended, Ok(()));
         assert!(rt; out.as_slice() == *wanted);
     }
     Ok(())
@@ -103,16 +123,13 @@ fn scripts(rt: HostRuntime) -> Result<(), Fail> {
 fn a_row_is_cut(rt: HostRuntime) -> Result<(), Fail> {
     let alloc = rt.alloc();
     let options = two_workers(alloc)?;
-    let mut out: Vec<u8> = Vec::new(alloc);
     let text: &[u8] = b"1,1,put,a,text,AB\n1,1,read,a,0";
+    let (ended, out) = run(&rt, alloc, &options, text, &Always);
     let refused = BadScript::Refused {
         row: 2,
         word: Word::Fields,
     };
-    assert_eq!(rt;
-        play(&rt, alloc, &options, text, &mut out, &Always),
-        Err(PlayFail::Script(refused))
-    );
+    assert_eq!(rt; ended, Err(PlayFail::Script(refused)));
     assert!(rt; out.is_empty());
     Ok(())
 }

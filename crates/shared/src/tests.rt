@@ -8,15 +8,16 @@ mod runs;
 mod threads;
 
 use crate::{Pass, Store};
-use book::{Answer, Fault, Limit, Name, Note};
+use book::{Answer, Book, Fault, Limit, Name, Note};
 use bytes::Bytes;
 use lent::{Grant, Piece};
 use std::alloc::Global;
 use std::process::Abort;
+use std::sync::Wait;
 
 /// A store of width 1, its first pass, and the name `a`.
 fn beginning(rt: &impl Abort, alloc: Global, entries: u32) -> (Store, Pass, Name)
-    ensures { (result.1.store ≡ result.0) × (result.1.room ≡ 64) }
+    ensures { result.1.store ≡ result.0 }
 {
     let limit = Limit::new(entries).expect(rt, "a limit");
     let (store, pass) = Store::open(alloc, 1, limit).expect(rt, "memory");
@@ -37,6 +38,55 @@ fn other_letters() -> Bytes {
 fn answers(rt: &impl Abort, called: Result<Answer, Fault>, note: Note) {
     let answer = called.expect(rt, "an answer");
     assert_eq!(rt; answer.note(), note);
+}
+
+/// Puts these bytes under a name: this is the put with this number.
+fn put<R: Wait + Abort>(
+    rt: &R,
+    alloc: Global,
+    store: &Store,
+    pass: &mut Pass,
+    name: &Name,
+    bytes: Bytes,
+    number: u64,
+)
+    requires { pass.old.store ≡ store.now }
+    ensures { pass.new.store ≡ store.now }
+{
+    let stored = store.put(rt, alloc, pass, name.duplicate(), bytes);
+    answers(rt, stored, Note::Stored(number));
+}
+
+/// Loses a fragment of the first stripe of a name's first version.
+fn lose<R: Wait + Abort>(
+    rt: &R,
+    alloc: Global,
+    store: &Store,
+    pass: &mut Pass,
+    name: &Name,
+    fragment: u64,
+)
+    requires { pass.old.store ≡ store.now }
+    ensures { pass.new.store ≡ store.now }
+{
+    let lost = store.lose(rt, alloc, pass, name.duplicate(), 0, fragment);
+    answers(rt, lost, Note::Lost(1));
+}
+
+/// A grant of the twelve bytes of a name.
+fn read<R: Wait + Abort>(rt: &R, store: &Store, pass: &mut Pass, name: &Name) -> Grant
+    requires { pass.old.store ≡ store.now }
+    ensures { pass.new.store ≡ store.now }
+{
+    granted(rt, store.read(rt, pass, name.duplicate(), 0, 12))
+}
+
+/// The book of a store whose passes are all joined to this one.
+fn closed(rt: &impl Abort, store: Store, pass: Pass) -> Book
+    requires { pass.store ≡ store }
+{
+    assert_eq!(rt; pass.room(), 64);
+    store.close(pass)
 }
 
 /// The grant that was answered.

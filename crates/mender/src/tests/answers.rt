@@ -1,10 +1,9 @@
 //! A mend with each kind of answer.
 ghost use Rattle.std.specs.Prelude.{◌≡◌};
 
-use super::opened;
+use super::{Call, make, opened};
 use crate::{Gather, Report, gather, scrub, work};
 use book::{Fault, Name};
-use bytes::Bytes;
 use shared::{Pass, Store};
 use std::alloc::Global;
 use std::sync::Wait;
@@ -17,9 +16,8 @@ fn four_lost<R: Wait>(rt: &R, alloc: Global, store: &Store, pass: &mut Pass) -> 
 {
     for text in ["a", "b", "c", "d"] {
         let name = Name::new(text)?;
-        let bytes = Bytes::from_static(b"ABCDEFGHIJKL");
-        store.put(rt, alloc, pass, name.duplicate(), bytes)?;
-        store.lose(rt, alloc, pass, name, 0, 0)?;
+        make(rt, alloc, store, pass, &name, Call::Put(b"ABCDEFGHIJKL"))?;
+        make(rt, alloc, store, pass, &name, Call::Lose(0))?;
     }
     Ok(())
 }
@@ -29,10 +27,11 @@ fn change<R: Wait>(rt: &R, alloc: Global, store: &Store, pass: &mut Pass) -> Res
     requires { pass.old.store ≡ store.now }
     ensures { pass.new.store ≡ store.now }
 {
-    store.repair(rt, alloc, pass, Name::new("b")?, 0, 0)?;
-    store.delete(rt, pass, Name::new("c")?)?;
+    make(rt, alloc, store, pass, &Name::new("b")?, Call::Repair(0))?;
+    make(rt, alloc, store, pass, &Name::new("c")?, Call::Delete)?;
+    let d = Name::new("d")?;
     for f in [1, 2, 3] {
-        store.lose(rt, alloc, pass, Name::new("d")?, 0, f)?;
+        make(rt, alloc, store, pass, &d, Call::Lose(f))?;
     }
     Ok(())
 }

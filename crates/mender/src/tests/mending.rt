@@ -2,9 +2,9 @@
 ghost use Rattle.std.specs.Prelude.{◌≡◌, ◌<◌, IfOk};
 ghost use Rattle.std.specs.List.{All};
 
-use super::{closed, fragment, opened};
+use super::{Call, closed, fragment, make, opened};
 use crate::{Done, Drawer, Gather, Report, Tickets, WorkFault, gather, scrub, work};
-use book::{Answer, Book, Fault, Name, Plan, is_lawful};
+use book::{Answer, Book, Fault, Name, Note, Plan, is_lawful};
 use bytes::Bytes;
 use sealed::{Sealed, seal};
 use shared::{Pass, Store};
@@ -157,19 +157,21 @@ fn mend<R: Threads + Wait + Sync>(
     Ok(gather(alloc, &plan, done))
 }
 
-/// Loses fragments 0 and 6 of a name's only stripe.
-fn lose_two<R: Wait>(
+/// Puts these bytes under a name, and loses fragments 0 and 6.
+fn put_and_lose_two<R: Wait>(
     rt: &R,
     alloc: Global,
     store: &Store,
     pass: &mut Pass,
     name: &Name,
+    bytes: &'static [u8],
 ) -> Result<(), Fault>
     requires { pass.old.store ≡ store.now }
     ensures { pass.new.store ≡ store.now }
 {
-    store.lose(rt, alloc, pass, name.duplicate(), 0, 0)?;
-    store.lose(rt, alloc, pass, name.duplicate(), 0, 6)?;
+    for call in [Call::Put(bytes), Call::Lose(0), Call::Lose(6)] {
+        make(rt, alloc, store, pass, name, call)?;
+    }
     Ok(())
 }
 
@@ -183,9 +185,7 @@ fn two_lost<R: Wait + Abort>(
 {
     let (store, mut pass) = opened(rt, alloc, limit)?;
     let name = Name::new("a")?;
-    let bytes = Bytes::from_static(b"ABCDEFGHIJKL");
-    store.put(rt, alloc, &mut pass, name.duplicate(), bytes)?;
-    lose_two(rt, alloc, &store, &mut pass, &name)?;
+    put_and_lose_two(rt, alloc, &store, &mut pass, &name, b"ABCDEFGHIJKL")?;
     Ok((store, pass, name))
 }
 
@@ -202,10 +202,16 @@ fn any_number_of_workers_mends_all(rt: HostRuntime) -> Result<(), Fail> {
             unrecoverable: 0,
         };
         assert_eq!(rt; report, Ok(two));
-        let Answer::Shape { lost, .. } = store.stat(&rt, &mut pass, name)? else {
-            panic!(rt; "no shape")
+        let whole = Note::Shape {
+            version: 1,
+            len: 12,
+            stripes: 1,
+            lost: 0,
         };
-        assert_eq!(rt; lost, 0);
+        assert_eq!(rt;
+            make(&rt, alloc, &store, &mut pass, &name, Call::Stat)?,
+            whole
+        );
         let book = closed(&rt, store, pass);
         assert_eq!(rt; book.entries().len(), 6);
         assert!(rt; is_lawful(alloc, book.entries(), book.width())?);
@@ -232,11 +238,11 @@ fn a_full_journal_stops_a_worker(rt: HostRuntime) -> Result<(), Fail> {
 const NAMES: [&str; 8] = ["a", "b", "c", "d", "e", "f", "g", "h"];
 
 /// The bytes that are put as this version.
-fn bytes_of(version: u64) -> Bytes {
+fn bytes_of(version: u64) -> &'static [u8] {
     match version % 3 {
-        0 => Bytes::from_static(b"ABCDEFGHIJKL"),
-        1 => Bytes::from_static(b"MNOPQRSTUVWX"),
-        _ => Bytes::from_static(b"abcdefghijkl"),
+        0 => b"ABCDEFGHIJKL",
+        1 => b"MNOPQRSTUVWX",
+        _ => b"abcdefghijkl",
     }
 }
 
@@ -252,10 +258,8 @@ fn put_all<R: Wait>(
     ensures { pass.new.store ≡ store.now }
 {
     for (place, text) in NAMES.iter().enumerate() {
-        let name = Name::new(text)?;
         let bytes = bytes_of(first.wrapping_add(place as u64));
-        store.put(rt, alloc, pass, name.duplicate(), bytes)?;
-        lose_two(rt, alloc, store, pass, &name)?;
+        put_and_lose_two(rt, alloc, store, pass, &Name::new(text)?, bytes)?;
     }
     Ok(())
 }
@@ -281,7 +285,8 @@ fn put_often<R: Wait>(
 
 /// Whether each fragment that is there is that of the version's own bytes.
 fn is_its_own(rt: &impl Abort, alloc: Global, found: &Sealed) -> Result<bool, Fault> {
-    let whole = seal(alloc, bytes_of(found.version), found.width)?;
+    let bytes = Bytes::from_static(bytes_of(found.version));
+    let whole = seal(alloc, bytes, found.width)?;
     for f in 0..16u8 {
         let there = fragment(rt, found, f);
         if there.is_some() && there != fragment(rt, &whole, f) {

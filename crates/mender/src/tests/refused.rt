@@ -1,26 +1,29 @@
 //! What is left of a store by calls that are refused, and by repairs.
 ghost use Rattle.std.specs.Prelude.{◌≡◌, IfOk};
 
-use super::{closed, fragment, opened};
-use book::{Answer, Book, Fault, Name};
+use super::{Call, all_give, closed, fragment, make, opened};
+use book::{Book, Fault, Name, Note};
 use bytes::Bytes;
 use sealed::seal;
 use shared::{Pass, Store};
 use std::alloc::Global;
-use std::ops::Range;
 use std::process::Abort;
 use std::sync::Wait;
 use std::test::Fail;
 
 /// A store with a blob `a` of twelve bytes, without its fragment 0: two entries.
-fn one_lost<R: Wait + Abort>(rt: &R, alloc: Global, limit: u32) -> Result<(Store, Pass), Fault>
+fn one_lost<R: Wait + Abort>(
+    rt: &R,
+    alloc: Global,
+    limit: u32,
+) -> Result<(Store, Pass, Name), Fault>
     ensures { IfOk result (λ r. r.1.store ≡ r.0) }
 {
     let (store, mut pass) = opened(rt, alloc, limit)?;
-    let bytes = Bytes::from_static(b"ABCDEFGHIJKL");
-    store.put(rt, alloc, &mut pass, Name::new("a")?, bytes)?;
-    store.lose(rt, alloc, &mut pass, Name::new("a")?, 0, 0)?;
-    Ok((store, pass))
+    let a = Name::new("a")?;
+    make(rt, alloc, &store, &mut pass, &a, Call::Put(b"ABCDEFGHIJKL"))?;
+    make(rt, alloc, &store, &mut pass, &a, Call::Lose(0))?;
+    Ok((store, pass, a))
 }
 
 /// That the book has `a` with each of its fragments as it was put, but for the first where that is lost.
@@ -44,82 +47,31 @@ fn has_each<R: Wait + Abort>(
     Ok(())
 }
 
-/// Whether a call was refused for a full journal.
-fn is_full(called: Result<Answer, Fault>) -> bool {
-    matches!(called, Err(Fault::JournalFull))
-}
+/// Each of the six calls, a repair and a deletion among them.
+const ALL: [Call; 6] = [
+    Call::Put(b"MNOPQRSTUVWX"),
+    Call::Read,
+    Call::Lose(1),
+    Call::Repair(0),
+    Call::Delete,
+    Call::Stat,
+];
 
-/// Whether each of the six calls, a repair and a deletion among them, is refused for a full journal.
-fn are_refused<R: Wait>(
-    rt: &R,
-    alloc: Global,
-    store: &Store,
-    pass: &mut Pass,
-) -> Result<bool, Fault>
-    requires { pass.old.store ≡ store.now }
-    ensures { pass.new.store ≡ store.now }
-{
-    let a = Name::new("a")?;
-    let bytes = Bytes::from_static(b"MNOPQRSTUVWX");
-    let put = is_full(store.put(rt, alloc, pass, a.duplicate(), bytes));
-    let read = is_full(store.read(rt, pass, a.duplicate(), 0, 12));
-    let lost = is_full(store.lose(rt, alloc, pass, a.duplicate(), 0, 1));
-    let repaired = is_full(store.repair(rt, alloc, pass, a.duplicate(), 0, 0));
-    let deleted = is_full(store.delete(rt, pass, a.duplicate()));
-    let told = is_full(store.stat(rt, pass, a));
-    Ok(put && read && lost && repaired && deleted && told)
-}
-
-/// Whether a call found no blob of its name.
-fn is_no_name(called: Result<Answer, Fault>) -> bool {
-    matches!(called, Ok(Answer::NoName))
-}
-
-/// Whether each call but a put finds no blob of this name.
-fn find_no_blob<R: Wait>(rt: &R, alloc: Global, store: &Store, pass: &mut Pass, name: &Name) -> bool
-    requires { pass.old.store ≡ store.now }
-    ensures { pass.new.store ≡ store.now }
-{
-    let read = is_no_name(store.read(rt, pass, name.duplicate(), 0, 12));
-    let lost = is_no_name(store.lose(rt, alloc, pass, name.duplicate(), 0, 1));
-    let repaired = is_no_name(store.repair(rt, alloc, pass, name.duplicate(), 0, 0));
-    let deleted = is_no_name(store.delete(rt, pass, name.duplicate()));
-    let told = is_no_name(store.stat(rt, pass, name.duplicate()));
-    read && lost && repaired && deleted && told
-}
-
-/// Whether a trim to one entry gives one up, and leaves the blob without its fragment.
-fn trim_leaves_the_blob<R: Wait>(
-    rt: &R,
-    alloc: Global,
-    store: &Store,
-    pass: &mut Pass,
-) -> Result<bool, Fault>
-    requires { pass.old.store ≡ store.now }
-    ensures { pass.new.store ≡ store.now }
-{
-    let trimmed = store.trim(rt, alloc, pass, 1)?;
-    let shape = store.stat(rt, pass, Name::new("a")?)?;
-    Ok(
-        trimmed == 1
-            && matches!(
-                shape,
-                Answer::Shape {
-                    version: 1,
-                    len: 12,
-                    stripes: 1,
-                    lost: 1
-                }
-            ),
-    )
-}
-
+/// They are refused, and a trim to one entry gives one up, and leaves the blob without its fragment.
 #[test]
 fn a_full_journal_leaves_all_as_it_was(rt: HostRuntime) -> Result<(), Fail> {
     let alloc = rt.alloc();
-    let (store, mut pass) = one_lost(&rt, alloc, 2)?;
-    assert!(rt; are_refused(&rt, alloc, &store, &mut pass)?);
-    assert!(rt; trim_leaves_the_blob(&rt, alloc, &store, &mut pass)?);
+    let (store, mut pass, a) = one_lost(&rt, alloc, 2)?;
+    let full = Err(Fault::JournalFull);
+    assert!(rt; all_give(&rt, alloc, &store, &mut pass, &a, &ALL, full));
+    assert_eq!(rt; store.trim(&rt, alloc, &mut pass, 1)?, 1);
+    let shape = Note::Shape {
+        version: 1,
+        len: 12,
+        stripes: 1,
+        lost: 1,
+    };
+    assert_eq!(rt; make(&rt, alloc, &store, &mut pass, &a, Call::Stat)?, shape);
     let book = closed(&rt, store, pass);
     assert_eq!(rt; (book.base().trimmed, book.entries().len()), (1, 2));
     has_each(&rt, alloc, &book, true)
@@ -129,79 +81,56 @@ fn a_full_journal_leaves_all_as_it_was(rt: HostRuntime) -> Result<(), Fail> {
 #[test]
 fn another_name_leaves_all_as_it_was(rt: HostRuntime) -> Result<(), Fail> {
     let alloc = rt.alloc();
-    let (store, mut pass) = one_lost(&rt, alloc, 100)?;
+    let (store, mut pass, _) = one_lost(&rt, alloc, 100)?;
     let b = Name::new("b")?;
-    assert!(rt; find_no_blob(&rt, alloc, &store, &mut pass, &b));
+    let but_put = &ALL[1..];
+    assert!(rt; all_give(&rt, alloc, &store, &mut pass, &b, but_put, Ok(Note::NoName)));
     assert!(rt; matches!(Name::new("B"), Err(Fault::BadName)));
     let book = closed(&rt, store, pass);
     assert_eq!(rt; book.entries().len(), 7);
     has_each(&rt, alloc, &book, true)
 }
 
-/// Loses these fragments of `a`.
-fn lose_each<R: Wait>(
+/// Whether these calls lose fragments, and those repair them.
+fn come_back<R: Wait>(
     rt: &R,
     alloc: Global,
     store: &Store,
     pass: &mut Pass,
-    fragments: Range<u64>,
-) -> Result<(), Fault>
+    name: &Name,
+    losses: &[Call],
+    repairs: &[Call],
+) -> bool
     requires { pass.old.store ≡ store.now }
     ensures { pass.new.store ≡ store.now }
 {
-    for f in fragments {
-        store.lose(rt, alloc, pass, Name::new("a")?, 0, f)?;
-    }
-    Ok(())
-}
-
-/// Whether each of these fragments of `a` is repaired.
-fn are_repaired<R: Wait>(
-    rt: &R,
-    alloc: Global,
-    store: &Store,
-    pass: &mut Pass,
-    fragments: Range<u64>,
-) -> Result<bool, Fault>
-    requires { pass.old.store ≡ store.now }
-    ensures { pass.new.store ≡ store.now }
-{
-    let mut all = true;
-    for f in fragments {
-        let answer = store.repair(rt, alloc, pass, Name::new("a")?, 0, f)?;
-        all &= matches!(answer, Answer::Repaired(1));
-    }
-    Ok(all)
-}
-
-/// Whether each of these fragments of `a` is repaired before the next is lost.
-fn come_back_in_turn<R: Wait>(
-    rt: &R,
-    alloc: Global,
-    store: &Store,
-    pass: &mut Pass,
-    fragments: Range<u64>,
-) -> Result<bool, Fault>
-    requires { pass.old.store ≡ store.now }
-    ensures { pass.new.store ≡ store.now }
-{
-    let mut all = true;
-    for f in fragments {
-        store.lose(rt, alloc, pass, Name::new("a")?, 0, f)?;
-        all &= are_repaired(rt, alloc, store, pass, f..f.saturating_add(1))?;
-    }
-    Ok(all)
+    let lost = all_give(rt, alloc, store, pass, name, losses, Ok(Note::Lost(1)));
+    lost && all_give(rt, alloc, store, pass, name, repairs, Ok(Note::Repaired(1)))
 }
 
 /// Each of the sixteen fragments is lost and repaired, the four parities at once: each is again as it was put.
 #[test]
 fn each_fragment_comes_back(rt: HostRuntime) -> Result<(), Fail> {
     let alloc = rt.alloc();
-    let (store, mut pass) = one_lost(&rt, alloc, 100)?;
-    assert!(rt; are_repaired(&rt, alloc, &store, &mut pass, 0..1)?);
-    assert!(rt; come_back_in_turn(&rt, alloc, &store, &mut pass, 1..12)?);
-    lose_each(&rt, alloc, &store, &mut pass, 12..16)?;
-    assert!(rt; are_repaired(&rt, alloc, &store, &mut pass, 12..16)?);
+    let (store, mut pass, a) = one_lost(&rt, alloc, 100)?;
+    assert!(rt; come_back(&rt, alloc, &store, &mut pass, &a, &[], &[Call::Repair(0)]));
+    for f in 1..12 {
+        let (loss, repair) = ([Call::Lose(f)], [Call::Repair(f)]);
+        assert!(rt; come_back(&rt, alloc, &store, &mut pass, &a, &loss, &repair));
+    }
+    let losses = [
+        Call::Lose(12),
+        Call::Lose(13),
+        Call::Lose(14),
+        Call::Lose(15),
+    ];
+    let repairs = [
+        Call::Repair(12),
+        Call::Repair(13),
+        Call::Repair(14),
+        Call::Repair(15),
+    ];
+    assert!(rt; come_back(&rt, alloc, &store, &mut pass, &a, &losses, &repairs));
     let book = closed(&rt, store, pass);
     assert_eq!(rt; book.entries().len(), 33);
     has_each(&rt, alloc, &book, false)

@@ -1,7 +1,7 @@
 //! Scripts that are cut, bent or too large.
 
-use super::{options, two_workers};
-use crate::{Always, Fail as PlayFail, play};
+use super::{options, run, two_workers};
+use crate::{Always, Fail as PlayFail};
 use script::{BadScript, Word};
 use std::alloc::{AllocError, Global};
 use std::sync::Wait;
@@ -24,13 +24,12 @@ fn ends<R: Threads + Wait + Sync>(
 ) -> Result<bool, AllocError> {
     let mut options = options(alloc, 1, 4096, false)?;
     options.workers = 1;
-    let mut out: Vec<u8> = Vec::new(alloc);
-    let result = play(rt, alloc, &options, text, &mut out, &Always);
+    let (ended, out) = run(rt, alloc, &options, text, &Always);
     Ok(match end {
-        End::Prints(wanted) => result == Ok(()) && out.as_slice() == wanted,
+        End::Prints(wanted) => ended == Ok(()) && out.as_slice() == wanted,
         End::Refuses(row, word) => {
             let refused = BadScript::Refused { row, word };
-            result == Err(PlayFail::Script(refused)) && out.is_empty()
+            ended == Err(PlayFail::Script(refused)) && out.is_empty()
         }
     })
 }
@@ -93,25 +92,19 @@ fn too_many_rows(rt: HostRuntime) -> Result<(), Fail> {
     let alloc = rt.alloc();
     let options = two_workers(alloc)?;
     let mut text = "1,1,stat,a,,\n".repeat(alloc, 65536)?;
-    let mut out: Vec<u8> = Vec::new(alloc);
-    assert_eq!(rt;
-        play(&rt, alloc, &options, text.as_bytes(), &mut out, &Always),
-        Ok(())
-    );
+    let (most, out) = run(&rt, alloc, &options, text.as_bytes(), &Always);
+    assert_eq!(rt; most, Ok(()));
     assert!(rt;
         out.as_slice()
             .ends_with(b"\n65536 full\ncalls 4096\nlawful yes\n")
     );
     text.push_str("no row\n")?;
-    out.clear();
+    let (one_more, out) = run(&rt, alloc, &options, text.as_bytes(), &Always);
     let refused = BadScript::Refused {
         row: 65537,
         word: Word::Rows,
     };
-    assert_eq!(rt;
-        play(&rt, alloc, &options, text.as_bytes(), &mut out, &Always),
-        Err(PlayFail::Script(refused))
-    );
+    assert_eq!(rt; one_more, Err(PlayFail::Script(refused)));
     assert!(rt; out.is_empty());
     Ok(())
 }

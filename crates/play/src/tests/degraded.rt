@@ -1,7 +1,7 @@
 //! Blobs that lose fragments, ranges at the ends, and both codes: scripts with what they print.
 
-use super::options;
-use crate::{Always, play};
+use super::{options, run};
+use crate::Always;
 use std::test::Fail;
 
 #[derive(Drop)]
@@ -184,13 +184,8 @@ fn scripts(rt: HostRuntime) -> Result<(), Fail> {
         let (width, limit) = (case.width, case.limit);
         assert!(rt; width >= 1 && width <= 65536 && limit >= 1 && limit <= 1048576);
         let options = options(alloc, width, limit, case.history)?;
-        let mut out: Vec<u8> = Vec::new(alloc);
-        let script: &[u8] = case.script;
-        assert_eq!(rt;
-            play(&rt, alloc, &options, script, &mut out, &Always),
-            Ok(()),
-            "{name}"
-        );
+        let (ended, out) = run(&rt, alloc, &options, case.script, &Always);
+        assert_eq!(rt; ended, Ok(()), "{name}");
         assert!(rt; out.as_slice() == case.output, "{name}");
     }
     Ok(())
@@ -206,11 +201,8 @@ fn long_blobs(rt: HostRuntime) -> Result<(), Fail> {
         let text = format!(in alloc;
             "1,1,{op},a,text,{bytes}\n1,1,stat,a,,\n1,1,{op},a,text,{bytes}x\n1,1,stat,a,,\n"
         )?;
-        let mut out: Vec<u8> = Vec::new(alloc);
-        assert_eq!(rt;
-            play(&rt, alloc, &options, text.as_bytes(), &mut out, &Always),
-            Ok(())
-        );
+        let (ended, out) = run(&rt, alloc, &options, text.as_bytes(), &Always);
+        assert_eq!(rt; ended, Ok(()));
         let wanted = format!(in alloc;
             "1 stored 1\n2 shape 1 {most} 4096 0\n3 too-long\n4 shape 1 {most} 4096 0\ncalls 3\nlawful yes\n"
         )?;

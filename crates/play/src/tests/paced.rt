@@ -1,8 +1,8 @@
 //! What a pace is told of the rows.
 ghost use Rattle.std.specs.Prelude.{◌≡◌, IfOk};
 
-use super::options;
-use crate::{Always, Fail as PlayFail, play};
+use super::{options, run};
+use crate::Fail as PlayFail;
 use shared::Pace;
 use std::alloc::Global;
 use std::sync::atomic::{AtomicU64, Ordering};
@@ -53,12 +53,11 @@ fn each_row_is_told_of_once(rt: HostRuntime) -> Result<(), Fail> {
         (6, 119_229_339_449_559),
     ];
     for (last, digits) in told {
-        let mut out: Vec<u8> = Vec::new(alloc);
         let pace = Told {
             digits: AtomicU64::new(0),
             last,
         };
-        let ended = play(&rt, alloc, &options, FIVE_ROWS, &mut out, &pace);
+        let (ended, _out) = run(&rt, alloc, &options, FIVE_ROWS, &pace);
         let wanted = if last < 6 {
             Err(PlayFail::Paused)
         } else {

@@ -2,8 +2,8 @@
 ghost use Rattle.std.specs.Prelude.{◌≡◌, IfOk};
 ghost use Rattle.command_line.specs.Ranges.{InRange};
 
-use super::options;
-use crate::{Always, Fail as PlayFail, play};
+use super::{options, run};
+use crate::{Always, Fail as PlayFail};
 use command_line::Options;
 use shared::Pace;
 use std::alloc::{AllocError, Global};
@@ -109,12 +109,11 @@ fn two_workers_meet(rt: HostRuntime) -> Result<(), Fail> {
     let alloc = rt.alloc();
     let options = with_workers(alloc, 2, 4096)?;
     let script = two_names(alloc)?;
-    let mut out: Vec<u8> = Vec::new(alloc);
     let pace = Meeting {
         first: AtomicBool::new(false),
         second: AtomicBool::new(false),
     };
-    let ended = play(&rt, alloc, &options, script.as_bytes(), &mut out, &pace);
+    let (ended, out) = run(&rt, alloc, &options, script.as_bytes(), &pace);
     assert!(rt; ended != Err(PlayFail::Paused), "serial");
     assert_eq!(rt; ended, Ok(()));
     let (one, other) = (two_versions(alloc, 1, 2)?, two_versions(alloc, 2, 1)?);
@@ -133,50 +132,46 @@ const TWO_MENDED: &[u8] =
 fn two_menders_meet(rt: HostRuntime) -> Result<(), Fail> {
     let alloc = rt.alloc();
     let options = with_workers(alloc, 2, 4096)?;
-    let mut out: Vec<u8> = Vec::new(alloc);
     let pace = Gathering {
         came: AtomicU32::new(0),
     };
-    let ended = play(&rt, alloc, &options, TWO_LOST, &mut out, &pace);
+    let (ended, out) = run(&rt, alloc, &options, TWO_LOST, &pace);
     assert!(rt; ended != Err(PlayFail::Paused), "serial");
     assert_eq!(rt; ended, Ok(()));
     assert!(rt; out.as_slice() == TWO_MENDED);
     Ok(())
 }
 
-/// So many workers mend all, and tell a full journal.
+const TWO_FULL: &[u8] = b"1 stored 1\n2 lost 1\n3 lost 1\n4 full\n5 full\ncalls 4\nlawful yes\n";
+
+/// So many workers print this with a journal of so many entries.
 fn mends_by<R: Threads + Wait + Sync + Abort>(
     rt: &R,
     alloc: Global,
     workers: u32,
+    limit: u32,
+    wanted: &[u8],
 ) -> Result<(), AllocError>
-    requires { InRange workers 16 }
+    requires workers { InRange workers 16 }
+    requires limit { InRange limit 1048576 }
 {
-    let mut out: Vec<u8> = Vec::new(alloc);
-    let options = with_workers(alloc, workers, 4096)?;
-    assert_eq!(rt;
-        play(rt, alloc, &options, TWO_LOST, &mut out, &Always),
-        Ok(())
-    );
-    assert!(rt; out.as_slice() == TWO_MENDED);
-    let mut out: Vec<u8> = Vec::new(alloc);
-    let options = with_workers(alloc, workers, 4)?;
-    assert_eq!(rt;
-        play(rt, alloc, &options, TWO_LOST, &mut out, &Always),
-        Ok(())
-    );
-    let full: &[u8] = b"1 stored 1\n2 lost 1\n3 lost 1\n4 full\n5 full\ncalls 4\nlawful yes\n";
-    assert!(rt; out.as_slice() == full);
+    let options = with_workers(alloc, workers, limit)?;
+    let (ended, out) = run(rt, alloc, &options, TWO_LOST, &Always);
+    assert_eq!(rt; ended, Ok(()));
+    assert!(rt; out.as_slice() == wanted);
     Ok(())
 }
 
-/// Any number of workers mends all.
+/// Any number of workers mends all, and tells a full journal.
 #[test]
 fn mends(rt: HostRuntime) -> Result<(), Fail> {
     let alloc = rt.alloc();
-    mends_by(&rt, alloc, 1)?;
-    mends_by(&rt, alloc, 2)?;
-    mends_by(&rt, alloc, 16)?;
+    mends_by(&rt, alloc, 1, 4096, TWO_MENDED)?;
+    mends_by(&rt, alloc, 2, 4096, TWO_MENDED)?;
+    mends_by(&rt, alloc, 16, 4096, TWO_MENDED)?;
+    mends_by(&rt, alloc, 1, 4, TWO_FULL)?;
+    mends_by(&rt, alloc, 2, 4, TWO_FULL)?;
+    mends_by(&rt, alloc, 16, 4, TWO_FULL)?;
     Ok(())
 }
 
@@ -198,8 +193,7 @@ fn pauses(rt: HostRuntime) -> Result<(), Fail> {
     let alloc = rt.alloc();
     let options = with_workers(alloc, 2, 4096)?;
     for row in 1..6 {
-        let mut out: Vec<u8> = Vec::new(alloc);
-        let ended = play(&rt, alloc, &options, TWO_LOST, &mut out, &Until(row));
+        let (ended, out) = run(&rt, alloc, &options, TWO_LOST, &Until(row));
         assert_eq!(rt; ended, Err(PlayFail::Paused));
         assert!(rt; out.is_empty());
     }

@@ -3,9 +3,10 @@ ghost use Rattle.std.specs.Prelude.{◌≡◌, All, IfOk};
 
 use super::{answers, beginning, gives, granted, letters, shape};
 use crate::{Pass, Store};
-use book::{Fault, Limit, Note};
+use book::{Fault, Limit, Name, Note};
 use lrc_code::Code;
 use std::alloc::Global;
+use std::process::Abort;
 use std::test::Fail;
 
 /// All passes that the first can be split into, but itself.
@@ -50,30 +51,54 @@ fn widths_from_1_to_65536(rt: HostRuntime) {
     }
 }
 
+/// One pass puts a blob and reads it, and between that the other loses a fragment.
+fn put_and_read(
+    rt: &impl Abort,
+    alloc: Global,
+    store: &Store,
+    p: &mut Pass,
+    q: &mut Pass,
+    name: &Name,
+)
+    requires { (p.old.store ≡ store.now) × (q.old.store ≡ store.now) }
+    ensures { (p.new.store ≡ store.now) × (q.new.store ≡ store.now) }
+{
+    let stored = store.try_put_as(alloc, p, name.duplicate(), letters(), Code::Wide);
+    answers(rt, stored, Note::Stored(1));
+    let lost = store.try_lose(alloc, q, name.duplicate(), 0, 0);
+    answers(rt, lost, Note::Lost(1));
+    let grant = granted(rt, store.try_read(p, name.duplicate(), 0, 12));
+    gives(rt, alloc, &grant, b"ABCDEFGHIJKL", 1);
+}
+
+/// One pass repairs and deletes, and between that the other asks for the shape.
+fn repair_and_delete(
+    rt: &impl Abort,
+    alloc: Global,
+    store: &Store,
+    p: &mut Pass,
+    q: &mut Pass,
+    name: &Name,
+)
+    requires { (p.old.store ≡ store.now) × (q.old.store ≡ store.now) }
+    ensures { (p.new.store ≡ store.now) × (q.new.store ≡ store.now) }
+{
+    let repaired = store.try_repair(alloc, p, name.duplicate(), 0, 0);
+    answers(rt, repaired, Note::Repaired(1));
+    answers(rt, store.try_stat(q, name.duplicate()), shape(1, 0));
+    let deleted = store.try_delete(p, name.duplicate());
+    answers(rt, deleted, Note::Deleted(1));
+}
+
 #[test]
 fn two_passes_take_turns_and_never_find_the_other_inside(rt: HostRuntime) -> Result<(), Fail> {
     let alloc = rt.alloc();
     let (store, mut p, a) = beginning(&rt, alloc, 16);
     let mut q = p.split(&store, 1)?;
-    let stored = store.try_put_as(alloc, &mut p, a.duplicate(), letters(), Code::Wide);
-    answers(&rt, stored, Note::Stored(1));
-    let lost = store.try_lose(alloc, &mut q, a.duplicate(), 0, 0);
-    answers(&rt, lost, Note::Lost(1));
-    let grant = granted(&rt, store.try_read(&mut p, a.duplicate(), 0, 12));
-    gives(&rt, alloc, &grant, b"ABCDEFGHIJKL", 1);
-    let repaired = store.try_repair(alloc, &mut q, a.duplicate(), 0, 0);
-    answers(&rt, repaired, Note::Repaired(1));
-    answers(&rt, store.try_stat(&mut p, a.duplicate()), shape(1, 0));
-    answers(
-        &rt,
-        store.try_delete(&mut q, a.duplicate()),
-        Note::Deleted(1),
-    );
+    put_and_read(&rt, alloc, &store, &mut p, &mut q, &a);
+    repair_and_delete(&rt, alloc, &store, &mut q, &mut p, &a);
     assert_eq!(rt; store.try_trim(alloc, &mut p, 0)?, 6);
-    answers(
-        &rt,
-        store.try_put(alloc, &mut q, a, letters()),
-        Note::Stored(2),
-    );
+    let stored = store.try_put(alloc, &mut q, a, letters());
+    answers(&rt, stored, Note::Stored(2));
     Ok(())
 }

@@ -1,5 +1,5 @@
 //! Runs of jobs.
-use super::{answers, beginning, letters, shape};
+use super::{answers, beginning, closed, letters, lose, put, shape};
 use crate::{Ask, Cause, Job, Pace, Reply};
 use book::{Fault, Name, Note, is_lawful_from};
 use bytes::Bytes;
@@ -116,7 +116,7 @@ fn a_run_passes_over_what_is_refused(rt: HostRuntime) -> Result<(), Fail> {
     ];
     come(&rt, &replies, &wanted);
     assert_eq!(rt; pace.done.load(Ordering::SeqCst), 6);
-    let book = store.close(p);
+    let book = closed(&rt, store, p);
     assert_eq!(rt; (book.base().trimmed, book.entries().len()), (2, 1));
     assert!(rt; is_lawful_from(alloc, book.base(), book.entries(), book.width())?);
     Ok(())
@@ -189,16 +189,14 @@ fn a_run_loses_and_repairs(rt: HostRuntime) -> Result<(), Fail> {
 fn a_plan_after_a_trim(rt: HostRuntime) -> Result<(), Fail> {
     let alloc = rt.alloc();
     let (store, mut p, a) = beginning(&rt, alloc, 8);
-    let stored = store.put(&rt, alloc, &mut p, a.duplicate(), letters());
-    answers(&rt, stored, Note::Stored(1));
-    let lost = store.lose(&rt, alloc, &mut p, a, 0, 5);
-    answers(&rt, lost, Note::Lost(1));
+    put(&rt, alloc, &store, &mut p, &a, letters(), 1);
+    lose(&rt, alloc, &store, &mut p, &a, 5);
     assert_eq!(rt; store.trim(&rt, alloc, &mut p, 1)?, 1);
     let plan = store.plan(&rt, alloc, &mut p)?;
     assert_eq!(rt; plan.items.len(), 1);
     let item = plan.items.first().expect(&rt, "an item");
     assert_eq!(rt; (item.version, item.stripe, item.f), (1, 0, 5));
-    let book = store.close(p);
+    let book = closed(&rt, store, p);
     assert_eq!(rt; (book.base().trimmed, book.entries().len()), (1, 1));
     Ok(())
 }

@@ -1,7 +1,7 @@
 //! Threads that share a store.
 ghost use Rattle.std.specs.Prelude.{◌≡◌};
 
-use super::{beginning, letters};
+use super::{beginning, closed, letters};
 use crate::{Pass, Store};
 use book::{Answer, Name, is_lawful_from};
 use std::alloc::Global;
@@ -18,7 +18,7 @@ fn lose_and_repair<R: Wait>(
     name: &Name,
 ) -> (Pass, u64)
     requires { pass.store ≡ store.now }
-    ensures { (result.0.store ≡ store.now) × (result.0.room ≡ pass.room) }
+    ensures { result.0.store ≡ store.now }
 {
     let mut pass = pass;
     let mut done = 0u64;
@@ -42,16 +42,16 @@ fn two_threads_lose_and_repair(rt: HostRuntime) -> Result<(), Fail> {
     let ((mut p, one), (q, two)) = join(
         &rt,
         || -> (Pass, u64)
-            requires { (p.store ≡ store) × (p.room ≡ 63) }
-            ensures { (result.0.store ≡ store) × (result.0.room ≡ 63) }
+            requires { p.store ≡ store }
+            ensures { result.0.store ≡ store }
         { lose_and_repair(&rt, alloc, &store, p, &a) },
         || -> (Pass, u64)
-            requires { (q.store ≡ store) × (q.room ≡ 1) }
-            ensures { (result.0.store ≡ store) × (result.0.room ≡ 1) }
+            requires { q.store ≡ store }
+            ensures { result.0.store ≡ store }
         { lose_and_repair(&rt, alloc, &store, q, &b) },
     );
     p.join(&store, q);
-    let book = store.close(p);
+    let book = closed(&rt, store, p);
     assert_eq!(rt; (one, two), (101, 101));
     assert_eq!(rt; book.entries().len(), 202);
     assert!(rt; is_lawful_from(alloc, book.base(), book.entries(), book.width())?);
