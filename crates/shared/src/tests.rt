@@ -8,7 +8,7 @@ mod runs;
 mod threads;
 
 use crate::{Pass, Store};
-use book::{Answer, Book, Fault, Limit, Name, Note};
+use book::{Answer, Fault, Limit, Name, Note};
 use bytes::Bytes;
 use lent::{Grant, Piece};
 use std::alloc::Global;
@@ -17,7 +17,7 @@ use std::sync::Wait;
 
 /// A store of width 1, its first pass, and the name `a`.
 fn beginning(rt: &impl Abort, alloc: Global, entries: u32) -> (Store, Pass, Name)
-    ensures { result.1.store ≡ result.0 }
+    ensures { (result.1.store ≡ result.0) × (result.1.room ≡ 64) }
 {
     let limit = Limit::new(entries).expect(rt, "a limit");
     let (store, pass) = Store::open(alloc, 1, limit).expect(rt, "memory");
@@ -79,14 +79,6 @@ fn read<R: Wait + Abort>(rt: &R, store: &Store, pass: &mut Pass, name: &Name) ->
     ensures { pass.new.store ≡ store.now }
 {
     granted(rt, store.read(rt, pass, name.duplicate(), 0, 12))
-}
-
-/// The book of a store whose passes are all joined to this one.
-fn closed(rt: &impl Abort, store: Store, pass: Pass) -> Book
-    requires { pass.store ≡ store }
-{
-    assert_eq!(rt; pass.room(), 64);
-    store.close(pass)
 }
 
 /// The grant that was answered.

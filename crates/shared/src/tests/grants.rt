@@ -1,7 +1,7 @@
 //! Grants, whatever becomes of their blob.
 ghost use Rattle.std.specs.Prelude.{◌≡◌};
 
-use super::{answers, beginning, closed, gives, letters, lose, other_letters, put, read, shape};
+use super::{answers, beginning, gives, letters, lose, other_letters, put, read, shape};
 use crate::{Pass, Store};
 use book::{Answer, Name, Note, is_lawful_from};
 use lrc_code::Code;
@@ -76,7 +76,8 @@ fn grants_outlive_their_blob(rt: HostRuntime) -> Result<(), Fail> {
     assert_eq!(rt; done, 18);
     gives(&rt, alloc, &grant, b"ABCDEFGHIJKL", 0);
     p.join(&store, q);
-    let book = closed(&rt, store, p);
+    assert_eq!(rt; p.room(), 64);
+    let book = store.close(p);
     assert_eq!(rt; book.entries().len(), 20);
     assert!(rt; is_lawful_from(alloc, book.base(), book.entries(), book.width())?);
     Ok(())

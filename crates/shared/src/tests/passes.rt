@@ -52,22 +52,15 @@ fn widths_from_1_to_65536(rt: HostRuntime) {
 }
 
 /// One pass puts a blob and reads it, and between that the other loses a fragment.
-fn put_and_read(
-    rt: &impl Abort,
-    alloc: Global,
-    store: &Store,
-    p: &mut Pass,
-    q: &mut Pass,
-    name: &Name,
-)
+fn put_and_read(rt: &impl Abort, alloc: Global, store: &Store, p: &mut Pass, q: &mut Pass, a: &Name)
     requires { (p.old.store ≡ store.now) × (q.old.store ≡ store.now) }
     ensures { (p.new.store ≡ store.now) × (q.new.store ≡ store.now) }
 {
-    let stored = store.try_put_as(alloc, p, name.duplicate(), letters(), Code::Wide);
+    let stored = store.try_put_as(alloc, p, a.duplicate(), letters(), Code::Wide);
     answers(rt, stored, Note::Stored(1));
-    let lost = store.try_lose(alloc, q, name.duplicate(), 0, 0);
+    let lost = store.try_lose(alloc, q, a.duplicate(), 0, 0);
     answers(rt, lost, Note::Lost(1));
-    let grant = granted(rt, store.try_read(p, name.duplicate(), 0, 12));
+    let grant = granted(rt, store.try_read(p, a.duplicate(), 0, 12));
     gives(rt, alloc, &grant, b"ABCDEFGHIJKL", 1);
 }
 

@@ -1,5 +1,5 @@
 //! Runs of jobs.
-use super::{answers, beginning, closed, letters, lose, put, shape};
+use super::{answers, beginning, letters, lose, put, shape};
 use crate::{Ask, Cause, Job, Pace, Reply};
 use book::{Fault, Name, Note, is_lawful_from};
 use bytes::Bytes;
@@ -116,7 +116,7 @@ fn a_run_passes_over_what_is_refused(rt: HostRuntime) -> Result<(), Fail> {
     ];
     come(&rt, &replies, &wanted);
     assert_eq!(rt; pace.done.load(Ordering::SeqCst), 6);
-    let book = closed(&rt, store, p);
+    let book = store.close(p);
     assert_eq!(rt; (book.base().trimmed, book.entries().len()), (2, 1));
     assert!(rt; is_lawful_from(alloc, book.base(), book.entries(), book.width())?);
     Ok(())
@@ -196,7 +196,8 @@ fn a_plan_after_a_trim(rt: HostRuntime) -> Result<(), Fail> {
     assert_eq!(rt; plan.items.len(), 1);
     let item = plan.items.first().expect(&rt, "an item");
     assert_eq!(rt; (item.version, item.stripe, item.f), (1, 0, 5));
-    let book = closed(&rt, store, p);
+    assert_eq!(rt; p.room(), 64);
+    let book = store.close(p);
     assert_eq!(rt; (book.base().trimmed, book.entries().len()), (1, 1));
     Ok(())
 }

@@ -1,7 +1,7 @@
 //! Threads that share a store.
 ghost use Rattle.std.specs.Prelude.{◌≡◌};
 
-use super::{beginning, closed, letters};
+use super::{beginning, letters};
 use crate::{Pass, Store};
 use book::{Answer, Name, is_lawful_from};
 use std::alloc::Global;
@@ -51,7 +51,8 @@ fn two_threads_lose_and_repair(rt: HostRuntime) -> Result<(), Fail> {
         { lose_and_repair(&rt, alloc, &store, q, &b) },
     );
     p.join(&store, q);
-    let book = closed(&rt, store, p);
+    assert_eq!(rt; p.room(), 64);
+    let book = store.close(p);
     assert_eq!(rt; (one, two), (101, 101));
     assert_eq!(rt; book.entries().len(), 202);
     assert!(rt; is_lawful_from(alloc, book.base(), book.entries(), book.width())?);
