@@ -92,12 +92,15 @@ example_in_python() { python bindings/python/rebuild.py; }
 example_in_rust() { rust run --example rebuild; }
 
 liberasurecode() {
-    gcc -std=c11 -O1 -Wall -Wextra -Werror -I include "$backend/lrc_backend.c" "$backend/test_backend.c" "$archive" -lerasurecode -o "$work/backend" && "$work/backend"
+    gcc -std=c11 -O1 -Wall -Wextra -Werror -I include -I integrations "$backend/lrc_backend.c" "$backend/test_backend.c" "$archive" -lerasurecode "$@" -o "$work/backend" && "$work/backend"
+}
+
+liberasurecode_sanitized() {
+    liberasurecode "${sanitizers[@]}"
 }
 
 pyeclib() {
-    gcc -std=c11 -O1 -shared -fPIC -Wall -Wextra -Werror -I include "$backend/lrc_backend.c" "$backend/preload.c" "$archive" -lerasurecode -ldl -o "$work/liblrc_erasurecode.so" \
-        && LD_PRELOAD="$work/liblrc_erasurecode.so" /usr/bin/python3 "$backend/test_pyeclib.py"
+    "$backend/build.sh" "$work" && LD_LIBRARY_PATH="$work" /usr/bin/python3 "$backend/test_pyeclib.py"
 }
 
 (cd crates/coder_c && rt lib > "$work/lib" 2>&1) || { cat "$work/lib"; exit 1; }
@@ -115,6 +118,7 @@ test_of "declarations" python3 python3 python tests/library/declarations.py
 test_of "Rust" cargo cargo rust_tests
 test_of "examples" cargo cargo examples
 test_of "liberasurecode" /usr/include/liberasurecode/erasurecode_backend.h liberasurecode-dev liberasurecode
+test_of "liberasurecode, sanitizers of gcc" /usr/include/liberasurecode/erasurecode_backend.h liberasurecode-dev liberasurecode_sanitized
 test_of "PyECLib" /usr/lib/python3/dist-packages/pyeclib python3-pyeclib pyeclib
 printf '%d tests of the library passed, %d failed, %d skipped%s\n' "$passed" "$failed" "${#skipped[@]}" "${skipped[*]:+ (${skipped[*]})}"
 [ "$failed" = 0 ]

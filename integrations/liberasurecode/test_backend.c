@@ -1,4 +1,5 @@
-/* The backend under the installed liberasurecode: every set of at most four lost fragments of LRC(12,2,2). */
+/* The backend under the installed liberasurecode: every set of at most four lost fragments of
+ * LRC(12,2,2). */
 #include "lrc_backend.h"
 
 #include <stdio.h>
@@ -9,12 +10,12 @@ enum { FRAGMENTS = 16 };
 
 static int failures;
 
-#define CHECK(fact) \
-    do { \
-        if (!(fact)) { \
-            printf("line %d: not so: %s\n", __LINE__, #fact); \
-            failures++; \
-        } \
+#define CHECK(fact)                                                                                \
+    do {                                                                                           \
+        if (!(fact)) {                                                                             \
+            printf("line %d: not so: %s\n", __LINE__, #fact);                                      \
+            failures++;                                                                            \
+        }                                                                                          \
     } while (0)
 
 static char object[100000];
@@ -34,7 +35,8 @@ static void test_decode(int desc, char **fragments, uint64_t len)
         result = liberasurecode_decode(desc, left, count, len, 0, &decoded, &decoded_len);
         sets++;
         if (result == 0) {
-            int is_right = decoded_len == sizeof object && memcmp(decoded, object, sizeof object) == 0;
+            int is_right =
+                decoded_len == sizeof object && memcmp(decoded, object, sizeof object) == 0;
             right += is_right;
             wrong += !is_right;
             CHECK(liberasurecode_decode_cleanup(desc, decoded) == 0);
@@ -44,7 +46,9 @@ static void test_decode(int desc, char **fragments, uint64_t len)
         }
     }
     CHECK(sets == 2517 && right == 2265 && wrong == 0 && refused == 252);
-    printf("liberasurecode: %ld sets of at most four lost, %ld decoded right, %ld wrong, %ld refused\n", sets, right, wrong, refused);
+    printf("liberasurecode: %ld sets of at most four lost, %ld decoded right, %ld wrong, %ld "
+           "refused\n",
+           sets, right, wrong, refused);
 }
 
 static void test_reconstruct(int desc, char **fragments, uint64_t len)
@@ -64,28 +68,38 @@ static void test_reconstruct(int desc, char **fragments, uint64_t len)
         CHECK(count == (lost < 14 ? 6 : 12));
         /* liberasurecode itself refuses to rebuild while more than four are missing */
         if (lost < 14)
-            CHECK(liberasurecode_reconstruct_fragment(desc, left, count, len, lost, rebuilt) == -EINSUFFFRAGS);
+            CHECK(liberasurecode_reconstruct_fragment(desc, left, count, len, lost, rebuilt) ==
+                  -EINSUFFFRAGS);
     }
     free(rebuilt);
-    puts("liberasurecode: each fragment reconstructed from the others, header and all; six or twelve are needed");
+    puts("liberasurecode: each fragment reconstructed from the others, header and all; six or "
+         "twelve are needed");
 }
 
-/* Fragments of the code whose number the backend borrows are not taken for its own, nor the other way round. */
-static void test_other_code(int desc, char **fragments, uint64_t len)
+/* Fragments of another code are refused, although liberasurecode is not asked to compare headers.
+ */
+static void test_other_code(int desc)
 {
     struct ec_args args = { .k = 12, .m = 4, .w = 8, .hd = 5, .ct = CHKSUM_CRC32 };
     int other = liberasurecode_instance_create(EC_BACKEND_LIBERASURECODE_RS_VAND, &args);
-    CHECK(other > 0 && is_invalid_fragment(desc, fragments[0]) == 0 && is_invalid_fragment(other, fragments[0]) != 0);
-    if (other > 0) {
-        char **data, **parity;
-        uint64_t other_len;
-        CHECK(liberasurecode_encode(other, object, sizeof object, &data, &parity, &other_len) == 0);
-        CHECK(is_invalid_fragment(desc, data[0]) != 0);
-        CHECK(liberasurecode_encode_cleanup(other, data, parity) == 0);
-        CHECK(liberasurecode_instance_destroy(other) == 0);
-    }
-    (void)len;
-    puts("liberasurecode: fragments of its Reed-Solomon code are refused, and it refuses these");
+    char **data, **parity, *decoded, *rebuilt, *fragments[FRAGMENTS];
+    uint64_t len, decoded_len;
+    CHECK(other > 0);
+    if (other <= 0 ||
+        liberasurecode_encode(other, object, sizeof object, &data, &parity, &len) != 0)
+        return;
+    for (int i = 0; i < FRAGMENTS; i++)
+        fragments[i] = i < 12 ? data[i] : parity[i - 12];
+    rebuilt = malloc(len);
+    CHECK(is_invalid_fragment(desc, fragments[0]) != 0);
+    CHECK(liberasurecode_decode(desc, fragments, 15, len, 0, &decoded, &decoded_len) ==
+          -EBADHEADER);
+    CHECK(rebuilt && liberasurecode_reconstruct_fragment(desc, fragments, 15, len, 15, rebuilt) ==
+                         -EBADHEADER);
+    free(rebuilt);
+    CHECK(liberasurecode_encode_cleanup(other, data, parity) == 0);
+    CHECK(liberasurecode_instance_destroy(other) == 0);
+    puts("liberasurecode: fragments of its Reed-Solomon code are refused");
 }
 
 int main(void)
@@ -103,7 +117,7 @@ int main(void)
         fragments[i] = i < 12 ? data[i] : parity[i - 12];
     test_decode(desc, fragments, len);
     test_reconstruct(desc, fragments, len);
-    test_other_code(desc, fragments, len);
+    test_other_code(desc);
     CHECK(liberasurecode_encode_cleanup(desc, data, parity) == 0);
     CHECK(liberasurecode_instance_destroy(desc) == 0);
     return failures != 0;

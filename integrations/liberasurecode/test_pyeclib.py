@@ -1,30 +1,118 @@
-"""PyECLib over the backend, which preload.c puts in the place of liberasurecode's Reed-Solomon code: run with LD_PRELOAD."""
+"""PyECLib over libphazr.so.1, whose folder LD_LIBRARY_PATH names: every set of at most four lost
+fragments, and other codes' fragments."""
 
 import itertools
+import struct
+import zlib
 
-from pyeclib.ec_iface import ECDriver, ECInsufficientFragments
+from pyeclib.ec_iface import (
+    ECDriver,
+    ECDriverError,
+    ECInsufficientFragments,
+    ECInvalidFragmentMetadata,
+)
 
-driver = ECDriver(k=12, m=4, ec_type="liberasurecode_rs_vand", chksum_type="inline_crc32")
-object_ = bytes(i * 31 >> 2 & 255 for i in range(120000))
-fragments = driver.encode(object_)
+VERSION_AT, VERSION, VERSION_OF_SIX = (
+    55,
+    0x4C520C01,
+    0x4C520601,
+)  # of the backend, in a fragment's header
+CHECKSUM_AT, METADATA_LEN = 67, 59
 
-decoded = refused = 0
-for lost in itertools.combinations(range(16), 4):
-    left = [fragment for i, fragment in enumerate(fragments) if i not in lost]
+driver = ECDriver(k=12, m=4, ec_type="libphazr", chksum_type="inline_crc32")
+data = bytes(i * 31 >> 2 & 255 for i in range(120000))
+fragments = driver.encode(data)
+
+
+def refusal(call, *words):
+    """The type of the error that a call ends with; None if it returns."""
     try:
-        assert driver.decode(left) == object_
-        decoded += 1
-    except ECInsufficientFragments:
-        refused += 1
-assert (decoded, refused) == (1568, 252)
+        call(*words)
+    except ECDriverError as error:
+        return type(error)
+    return None
 
-assert driver.fragments_needed([3], []) == [0, 1, 2, 4, 5, 12]
-assert len(driver.fragments_needed([3], [4])) == 12
-left = [fragment for i, fragment in enumerate(fragments) if i not in (3, 9)]
-assert driver.reconstruct(left, [3, 9]) == [fragments[3], fragments[9]]
-try:
-    driver.reconstruct([fragments[i] for i in driver.fragments_needed([3], [])], [3])
-    raise AssertionError("rebuilt from six: the page says that it is refused")
-except ECInsufficientFragments:
-    pass
-print(f"PyECLib: {decoded} sets of four lost decoded, {refused} refused; two reconstructed, from six refused")
+
+def others(fragments, *lost):
+    return [fragment for i, fragment in enumerate(fragments) if i not in lost]
+
+
+def with_version(fragment, version):
+    """The fragment with another backend version in its header, whose checksum is right."""
+    fragment = bytearray(fragment)
+    struct.pack_into("<I", fragment, VERSION_AT, version)
+    struct.pack_into("<I", fragment, CHECKSUM_AT, zlib.crc32(fragment[:METADATA_LEN]))
+    return bytes(fragment)
+
+
+def test_sets():
+    decoded = refused = 0
+    for count in range(5):
+        for lost in itertools.combinations(range(16), count):
+            try:
+                assert driver.decode(others(fragments, *lost)) == data, lost
+                decoded += 1
+            except ECInsufficientFragments:
+                assert count == 4, lost
+                refused += 1
+    assert (decoded, refused) == (2265, 252), (decoded, refused)
+    assert (
+        driver.min_parity_fragments_needed() == 1
+    )  # by which Swift takes 13 stored fragments to be enough
+    print(f"PyECLib: {decoded} sets of at most four lost decoded, {refused} refused, all of four")
+
+
+def test_reads():
+    for lost in range(16):
+        needed = driver.fragments_needed([lost], [])
+        assert len(needed) == (6 if lost < 14 else 12), (lost, needed)
+        assert driver.reconstruct(others(fragments, lost), [lost]) == [fragments[lost]], lost
+        # liberasurecode's own rule: no more may be missing than there are parities
+        if lost < 14:
+            assert (
+                refusal(driver.reconstruct, [fragments[i] for i in needed], [lost])
+                is ECInsufficientFragments
+            )
+    assert driver.fragments_needed([3], []) == [0, 1, 2, 4, 5, 12]
+    assert driver.reconstruct(others(fragments, 3, 9), [3, 9]) == [fragments[3], fragments[9]]
+    print(
+        "PyECLib: each fragment rebuilt; six are named as needed for 14 of the 16, twelve for two"
+    )
+
+
+def test_other_codes():
+    reed_solomon = ECDriver(k=12, m=4, ec_type="liberasurecode_rs_vand")
+    assert (
+        reed_solomon.decode(others(fragments, 3)) != data
+    )  # README.md: the reverse is not guarded
+    other = reed_solomon.encode(data)
+    newer = [with_version(fragment, VERSION + 1) for fragment in fragments]
+    same = [with_version(fragment, VERSION) for fragment in fragments]
+    assert driver.decode(others(same, 3)) == data
+    assert struct.unpack_from("<I", fragments[15], VERSION_AT) == (VERSION,)
+    for foreign in (other, newer, fragments[:15] + other[15:], fragments[:15] + newer[15:]):
+        assert refusal(driver.decode, others(foreign, 3)) is ECInvalidFragmentMetadata
+        assert refusal(driver.reconstruct, others(foreign, 3), [3]) is ECInvalidFragmentMetadata
+    six = ECDriver(k=6, m=4, ec_type="libphazr")
+    assert struct.unpack_from("<I", six.encode(data)[9], VERSION_AT) == (VERSION_OF_SIX,)
+    assert refusal(six.decode, fragments[:10]) is ECInvalidFragmentMetadata
+    print("PyECLib: fragments of another code or version are refused, one among fifteen too")
+
+
+def test_parameters():
+    for k, m in ((12, 4), (6, 4)):
+        assert (
+            ECDriver(k=k, m=m, ec_type="libphazr").decode(
+                ECDriver(k=k, m=m, ec_type="libphazr").encode(b"x")
+            )
+            == b"x"
+        )
+    for k, m in ((12, 3), (10, 4), (12, 5), (4, 4)):
+        assert refusal(lambda: ECDriver(k=k, m=m, ec_type="libphazr")) is not None, (k, m)
+    print("PyECLib: no other numbers of fragments than 12+4 and 6+4")
+
+
+test_sets()
+test_reads()
+test_other_codes()
+test_parameters()
