@@ -18,7 +18,7 @@ PROGRAMS = ("hello", "guide")
 BLOCK = re.compile(r"^```(\w+)\n(.*?)^```$", re.M | re.S)
 QUOTED = re.compile(r"^(?:\d +)?([\w:]+) +(ensures .*)$")
 LINK = re.compile(r"\]\(([^)#:]+)\)")
-PATH = re.compile(r"`((?:crates|docs|examples|tests|tools)/[\w./-]*\w)`")
+PATH = re.compile(r"`((?:bindings|crates|docs|examples|include|integrations|tests|tools)/[\w./-]*\w)`")
 MOST_LINES, LONGEST = 90, 100
 
 
@@ -89,7 +89,9 @@ def long_readme():
 
 
 def main():
-    documents = ["README.md", "CHANGES.md"] + sorted("docs/" + name for name in os.listdir(os.path.join(TOP, "docs")) if name.endswith(".md"))
+    folders = ["docs", "tests/corpus"] + [f"integrations/{name}" for name in ("liberasurecode", "swift", "ceph")]
+    documents = ["README.md", "CHANGES.md"]
+    documents += sorted(f"{folder}/{name}" for folder in folders for name in os.listdir(os.path.join(TOP, folder)) if name.endswith(".md"))
     texts = [(read(path), sources.functions_of(read(path))) for path in sources.files_of(CRATES)]
     code, printed = program_texts()
     wrong = [w for document in ("README.md", "docs/guide.md") for w in wrong_blocks(document, texts, code, printed)]

@@ -1,5 +1,5 @@
 #!/usr/bin/env bash
-# Tests of the coder for C, C++, Rust and Python and of its use under liberasurecode, which `rt ci` proves and does not run.
+# Tests of the coder for C, C++, Rust and Python and of its use under liberasurecode and Ceph, which `rt ci` proves and does not run.
 # The last line says how many passed, and what was skipped. A package that is missing is installed by its name where apt-get can.
 set -u
 cd "$(dirname "$0")/.."
@@ -103,6 +103,21 @@ pyeclib() {
     "$backend/build.sh" "$work" && LD_LIBRARY_PATH="$work" /usr/bin/python3 "$backend/test_pyeclib.py"
 }
 
+# The plugin for Ceph, or the first of its packages that is missing.
+ceph() {
+    local each missing=
+    for each in "g++ g++" "ceph-osd ceph-osd" "ceph-erasure-code-tool ceph-base" \
+        "/usr/include/rados/librados.h librados-dev" "/usr/include/rados/buffer.h libradospp-dev"; do
+        # shellcheck disable=SC2086 # two words
+        [ -n "$missing" ] || has $each || missing=${each#* }
+    done
+    if [ -n "$missing" ]; then
+        skipped+=("Ceph: no $missing")
+    else
+        test_of "Ceph" g++ g++ tests/ceph.sh
+    fi
+}
+
 (cd crates/coder_c && rt lib > "$work/lib" 2>&1) || { cat "$work/lib"; exit 1; }
 test_of "symbols" nm binutils symbols
 test_of "header" g++ g++ header
@@ -120,5 +135,6 @@ test_of "examples" cargo cargo examples
 test_of "liberasurecode" /usr/include/liberasurecode/erasurecode_backend.h liberasurecode-dev liberasurecode
 test_of "liberasurecode, sanitizers of gcc" /usr/include/liberasurecode/erasurecode_backend.h liberasurecode-dev liberasurecode_sanitized
 test_of "PyECLib" /usr/lib/python3/dist-packages/pyeclib python3-pyeclib pyeclib
+ceph
 printf '%d tests of the library passed, %d failed, %d skipped%s\n' "$passed" "$failed" "${#skipped[@]}" "${skipped[*]:+ (${skipped[*]})}"
 [ "$failed" = 0 ]

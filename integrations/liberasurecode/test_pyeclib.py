@@ -2,6 +2,7 @@
 fragments, and other codes' fragments."""
 
 import itertools
+import os
 import struct
 import zlib
 
@@ -17,7 +18,8 @@ VERSION_AT, VERSION, VERSION_OF_SIX = (
     0x4C520C01,
     0x4C520601,
 )  # of the backend, in a fragment's header
-CHECKSUM_AT, METADATA_LEN = 67, 59
+CHECKSUM_AT, METADATA_LEN, HEADER_LEN = 67, 59, 80
+CORPUS = os.path.join(os.path.dirname(__file__), "../../tests/corpus")
 
 driver = ECDriver(k=12, m=4, ec_type="libphazr", chksum_type="inline_crc32")
 data = bytes(i * 31 >> 2 & 255 for i in range(120000))
@@ -112,7 +114,27 @@ def test_parameters():
     print("PyECLib: no other numbers of fragments than 12+4 and 6+4")
 
 
+def test_corpus(k):
+    """Fragments that an earlier version stored: they are written and read alike."""
+    with open(f"{CORPUS}/object", "rb") as file:
+        stored_object = file.read()
+    with open(f"{CORPUS}/liberasurecode_{k}_4", "rb") as file:
+        stored = file.read()
+    size = len(stored) // (k + 4)
+    stored = [stored[i * size : (i + 1) * size] for i in range(k + 4)]
+    mine = ECDriver(k=k, m=4, ec_type="libphazr")
+    for old, new in zip(stored, mine.encode(stored_object)):
+        # between metadata and payload stands liberasurecode's own version
+        assert old[:METADATA_LEN] == new[:METADATA_LEN] and old[HEADER_LEN:] == new[HEADER_LEN:]
+    for lost in itertools.combinations(range(k + 4), 3):
+        assert mine.decode(others(stored, *lost)) == stored_object, lost
+        assert mine.reconstruct(others(stored, *lost), [lost[0]]) == [stored[lost[0]]], lost
+    print(f"PyECLib: stored fragments of {k}+4 are written alike, and read")
+
+
 test_sets()
 test_reads()
 test_other_codes()
 test_parameters()
+test_corpus(12)
+test_corpus(6)

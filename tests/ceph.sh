@@ -1,0 +1,71 @@
+#!/usr/bin/env bash
+# Tests Ceph's plugin without a cluster: by Ceph's own tool, and by a program that loads plugins as
+# Ceph does. tests/library.sh runs it, after it has built the coder and asked for the packages.
+# integrations/ceph/cluster_test.py tests the plugin in a cluster.
+set -eu
+cd "$(dirname "$0")/.."
+work=$(mktemp -d)
+trap 'rm -rf "$work"' EXIT
+. integrations/ceph/programs.sh
+sanitizers=(-g -fsanitize=address,undefined -fno-sanitize-recover=all)
+profile=plugin=azure_lrc,k=12,m=4
+
+# It exports two functions. As Ceph's own plugins, it links no library of Ceph.
+symbols() { # FILE
+    local exported needed
+    exported=$(nm -D --defined-only "$1" | awk '$2 == "T" { print $3 }' | sort | tr '\n' ' ')
+    needed=$(readelf -d "$1" | grep NEEDED | grep -vE 'lib(stdc\+\+|gcc_s|c|m)\.|ld-linux' || true)
+    [ "$exported" = "__erasure_code_init __erasure_code_version " ] && [ -z "$needed" ]
+    echo "Ceph: the plugin exports two functions, and links no library of Ceph"
+}
+
+tool() { # FOLDER WORD..
+    CEPH_ARGS="--erasure_code_dir=$work/$1" ceph-erasure-code-tool "${@:2}" > "$work/printed" 2>&1
+}
+
+# The tool decodes a file from files that it finds by their places.
+decoded_by_tool() {
+    local lost set place count=0
+    head -c 1000000 /dev/urandom > "$work/object"
+    tool plugins encode "$profile" 4096 "$(seq -s, 0 15)" "$work/object"
+    for lost in 0 6 7 15 "0 1" "0 8" "0 1 2" "0 1 2 8" "0 1 8 9" "0 1 6 14" "6 7 14 15"; do
+        set=$(seq 0 15 | grep -vxF "$(tr ' ' '\n' <<< "$lost")" | paste -sd,)
+        rm -rf "$work/remaining"
+        mkdir "$work/remaining"
+        for place in ${set//,/ }; do ln "$work/object.$place" "$work/remaining/object.$place"; done
+        tool plugins decode "$profile" 4096 "$set" "$work/remaining/object"
+        cmp -n 1000000 "$work/object" "$work/remaining/object"
+        count=$((count + 1))
+    done
+    echo "Ceph: its tool decodes $count lost sets"
+}
+
+other_version() {
+    mkdir "$work/other"
+    CEPH_VERSION=16.2.14 "$here/build.sh" "$work/other"
+    if tool other test-plugin-exists azure_lrc; then
+        echo "a plugin for Ceph 16.2.14 is loaded"
+        return 1
+    fi
+    grep -q "claims to be 16.2.14 instead" "$work/printed"
+    echo "Ceph: a plugin for another version is refused"
+}
+
+sanitized() {
+    plugins sanitized "${sanitizers[@]}"
+    program plugin_test "${sanitizers[@]}"
+    # A plugin is never unloaded, so leaks are not asked for.
+    ASAN_OPTIONS=detect_leaks=0:detect_odr_violation=0 "$work/plugin_test" "$work/sanitized" \
+        tests/corpus > "$work/printed" 2>&1 || { tail -20 "$work/printed"; return 1; }
+    echo "Ceph: sanitizers find nothing"
+}
+
+plugins plugins
+symbols "$work/plugins/libec_azure_lrc.so"
+program plugin_test
+"$work/plugin_test" "$work/plugins" tests/corpus
+tool plugins test-plugin-exists azure_lrc
+tool plugins validate-profile "$profile"
+decoded_by_tool
+other_version
+sanitized
