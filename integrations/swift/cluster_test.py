@@ -16,32 +16,30 @@ import os
 import random
 import re
 import shutil
-import signal
 import struct
 import subprocess
 import sys
-import tempfile
 import time
 
 sys.dont_write_bytecode = True
 HERE = os.path.dirname(os.path.abspath(__file__))
 TOP = os.path.dirname(os.path.dirname(HERE))
-sys.path.insert(0, HERE)
+sys.path[:0] = [HERE, os.path.dirname(HERE), f"{TOP}/bindings/python"]
+import harness  # noqa: E402
 from cluster import DATA, FRAGMENTS, PYTHON, SECONDS, Client, Cluster, Policy  # noqa: E402
 
-MODULES = "/usr/lib/python3/dist-packages"
-PACKAGES = {
-    "/usr/bin/swift-proxy-server": "swift-proxy",
-    "/usr/bin/swift-object-server": "swift-object",
-    "/usr/bin/swift-container-server": "swift-container",
-    "/usr/bin/swift-account-server": "swift-account",
-    "/usr/bin/memcached": "memcached",
-    f"{MODULES}/pyeclib": "python3-pyeclib",
-    f"{MODULES}/swiftclient": "python3-swiftclient",
-    "/usr/include/liberasurecode/erasurecode.h": "liberasurecode-dev",
-    "/usr/bin/gcc": "gcc",
-    "/usr/lib/x86_64-linux-gnu/libisal.so.2": "libisal2",
-}
+PACKAGES = (
+    "gcc",
+    "libisal2",
+    "liberasurecode-dev",
+    "memcached",
+    "python3-pyeclib",
+    "python3-swiftclient",
+    "swift-account",
+    "swift-container",
+    "swift-object",
+    "swift-proxy",
+)
 MIB = 1 << 20
 SIZES = (0, 1, 11, 12, MIB, 5 * MIB + 13)
 GROUPS = ((0, 1, 2, 3, 4, 5, 12), (6, 7, 8, 9, 10, 11, 13))
@@ -71,60 +69,13 @@ def contents(path):
         return file.read()
 
 
-class Report:
-    """Counts checks, and the GETs by what they came to."""
-
-    def __init__(self):
-        self.passed = self.failed = 0
-        self.started = time.monotonic()
-        self.gets = collections.Counter()
-
-    def check(self, name, good, detail=""):
-        if good:
-            self.passed += 1
-        else:
-            self.failed += 1
-        self.note(f"{'ok    ' if good else 'FAILED'} {name}{': ' if detail else ''}{detail}")
-
-    def note(self, text):
-        print(f"[{time.monotonic() - self.started:3.0f} s] {text}", flush=True)
-
-
 # ---- installation
-
-
-def install():
-    missing = sorted({package for file, package in PACKAGES.items() if not os.path.exists(file)})
-    if not missing:
-        return
-    print("installing", *missing, flush=True)
-    quiet = {
-        "env": dict(os.environ, DEBIAN_FRONTEND="noninteractive", RUNLEVEL="1"),
-        "stdout": subprocess.DEVNULL,
-    }
-    words = [
-        "apt-get",
-        "-o",
-        "DPkg::Lock::Timeout=120",
-        "install",
-        "-y",
-        "--no-install-recommends",
-        *missing,
-    ]
-    if subprocess.run(words, check=False, **quiet).returncode:
-        subprocess.run(["apt-get", "update"], check=True, **quiet)
-        subprocess.run(words, check=True, **quiet)
 
 
 def build(folder):
     """What an administrator installs: the library, and the Python modules. Besides, the coder for
     Python, to compare with."""
-    archive = os.environ.setdefault("LRC_CODER_ARCHIVE", f"{TOP}/crates/coder_c/out/libcoder_c.a")
-    if not os.path.exists(archive):
-        print("building the coder, which takes some minutes", flush=True)
-        subprocess.run(
-            ["rt", "lib"], cwd=f"{TOP}/crates/coder_c", stdout=subprocess.DEVNULL, check=True
-        )
+    archive = harness.coder_archive()
     os.mkdir(f"{folder}/lib")
     subprocess.run([f"{TOP}/integrations/liberasurecode/build.sh", f"{folder}/lib"], check=True)
     for name in os.listdir(HERE):
@@ -143,7 +94,6 @@ def build(folder):
         ],
         check=True,
     )
-    sys.path.insert(0, f"{TOP}/bindings/python")
 
 
 def installed(folder):
@@ -256,10 +206,8 @@ def get(client, path, body):
     return "wrong", status
 
 
-def count_gets(report, client, path, body, times):
-    outcomes = collections.Counter(get(client, path, body) for _ in range(times))
-    report.gets.update(outcomes)
-    return outcomes
+def count_gets(client, path, body, times):
+    return collections.Counter(get(client, path, body) for _ in range(times))
 
 
 def text_of(outcomes):
@@ -275,14 +223,13 @@ def swift_without_module(report, folder, options):
     """The code is in its place, and Swift takes any twelve fragments to be enough."""
     lrc = Policy(1, "lrc", "libphazr")
     cluster = Cluster(f"{folder}/without", [REPLICATED, lrc], installed(folder))
-    other = Report()  # these GETs do not count among those with the module
 
     def work(client):
         path, body = "lrc/object", payload(MIB)
         client.put(path, body)
         for lost in LOST:
             with Away(cluster, f"{client.account}/{path}", lost):
-                outcomes = count_gets(other, client, path, body, options.times)
+                outcomes = count_gets(client, path, body, options.times)
             report.check(
                 f"without the module, lost {list(lost)}: right or refused",
                 not wrong_of(outcomes),
@@ -303,10 +250,11 @@ def swift_with_module(report, folder, options):
     cluster = Cluster(f"{folder}/with", [REPLICATED, LRC, ISA], installed(folder), ("lrcstore",))
 
     def work(client):
-        check_reads(report, cluster, client, options)
-        check_four_lost(report, cluster, client)
-        check_devices(report, cluster, client)
-        check_total(report)
+        check_reads(report, cluster, client)
+        gets = check_few_lost(report, cluster, client, options.times)
+        gets += check_four_lost(report, cluster, client)
+        gets += check_devices(report, cluster, client)
+        check_total(report, gets)
         check_rebuilds(report, cluster, client)
         check_auditor(report, cluster, f"{client.account}/lrc/o{SIZES[-1]}")
         check_command_line(report, client, folder)
@@ -315,7 +263,7 @@ def swift_with_module(report, folder, options):
     with_cluster(cluster, work)
 
 
-def check_reads(report, cluster, client, options):
+def check_reads(report, cluster, client):
     bodies = {f"lrc/o{size}": payload(size) for size in SIZES}
     good = []
     for path, body in bodies.items():
@@ -331,11 +279,15 @@ def check_reads(report, cluster, client, options):
     check_fragments(report, cluster, f"{client.account}/{large}", bodies[large])
     check_fragments(report, cluster, f"{client.account}/lrc/o12", bodies["lrc/o12"])
     check_ranges(report, client, large, bodies[large])
-    path = f"lrc/o{MIB}"
+
+
+def check_few_lost(report, cluster, client, times):
+    path, body, total = f"lrc/o{MIB}", payload(MIB), collections.Counter()
     for lost in LOST:
         before = len(cluster.log("object"))
         with Away(cluster, f"{client.account}/{path}", lost):
-            outcomes = count_gets(report, client, path, bodies[path], options.times)
+            outcomes = count_gets(client, path, body, times)
+        total += outcomes
         asked = sum(
             '"GET ' in line and '"proxy-server' in line
             for line in cluster.log("object")[before:].splitlines()
@@ -343,8 +295,9 @@ def check_reads(report, cluster, client, options):
         report.check(
             f"lost {list(lost)}: always right",
             set(outcomes) == {("right", 200)},
-            f"{text_of(outcomes)}; {asked / options.times:.1f} fragment GETs for each",
+            f"{text_of(outcomes)}; {asked / times:.1f} fragment GETs for each",
         )
+    return total
 
 
 def check_ranges(report, client, path, body):
@@ -386,7 +339,6 @@ def check_four_lost(report, cluster, client):
     with concurrent.futures.ThreadPoolExecutor(CLIENTS) as pool:
         tasks = [pool.submit(try_sets, path, sets[n::CLIENTS]) for n, path in enumerate(bodies)]
         found = [each for task in tasks for each in task.result()]
-    report.gets.update(outcome for _, outcome in found)
     differ = [
         (lost, outcome)
         for lost, outcome in found
@@ -398,24 +350,27 @@ def check_four_lost(report, cluster, client):
         not differ and outcomes[("right", 200)] == 1568,
         f"{text_of(outcomes)}{f'; differ: {differ[:5]}' if differ else ''}",
     )
+    return outcomes
 
 
 def check_devices(report, cluster, client):
-    path, body = f"lrc/o{MIB}", payload(MIB)
+    path, body, total = f"lrc/o{MIB}", payload(MIB), collections.Counter()
     for lost in ((3, 9, 14, 15), (0, 1, 2, 13), (0, 1, 2, 3)):
         with Away(cluster, f"{client.account}/{path}", lost, whole_devices=True):
-            outcomes = count_gets(report, client, path, body, 3)
+            outcomes = count_gets(client, path, body, 3)
+        total += outcomes
         wanted = {("right", 200)} if is_recoverable(lost) else {("refused", 503)}
         report.check(
             f"the devices of {list(lost)} are missing", set(outcomes) == wanted, text_of(outcomes)
         )
+    return total
 
 
-def check_total(report):
+def check_total(report, gets):
     statuses = collections.Counter()
-    for (_, status), count in report.gets.items():
+    for (_, status), count in gets.items():
         statuses[status] += count
-    total, wrong = sum(statuses.values()), wrong_of(report.gets)
+    total, wrong = sum(statuses.values()), wrong_of(gets)
     report.check(
         "no wrong byte and no status 500 in at least 2,000 GETs",
         total >= 2000 and not wrong and not statuses[500],
@@ -577,41 +532,60 @@ def check_large(report, client, size):
 # ---- wrong installations
 
 
+def mistaken(folder, cluster):
+    """The settings of another proxy and reconstructor in the cluster, whose swift.conf has
+    exchanged the codes of the two policies."""
+    module = LRC.settings
+    exchanged = [Policy(LRC.index, LRC.name, ISA.ec_type, **module)]
+    exchanged += [Policy(ISA.index, ISA.name, LRC.ec_type, **module)]
+    other = Cluster(folder, [REPLICATED, *exchanged], cluster.environment, ("lrcstore",))
+    other.account_port, other.container_port = cluster.account_port, cluster.container_port
+    other.memcached_port, other.object_ports = cluster.memcached_port, cluster.object_ports
+    os.mkdir(folder)
+    other.configure()
+    other.make_rings()
+    shutil.rmtree(f"{folder}/devices")
+    os.symlink(f"{cluster.folder}/devices", f"{folder}/devices")
+    return other
+
+
 def other_code(report, folder, options):
-    """A second proxy, whose swift.conf names the policy of another code as LRC's."""
-    cluster = Cluster(f"{folder}/right", [REPLICATED, ISA], installed(folder))
-    mistaken = Cluster(
-        f"{folder}/mistaken",
-        [REPLICATED, Policy(ISA.index, ISA.name, LRC.ec_type)],
-        installed(folder),
-        ("lrcstore",),
-    )
-    mistaken.account_port, mistaken.container_port = cluster.account_port, cluster.container_port
-    mistaken.memcached_port, mistaken.object_ports = cluster.memcached_port, cluster.object_ports
+    cluster = Cluster(f"{folder}/right", [REPLICATED, LRC, ISA], installed(folder), ("lrcstore",))
 
     def work(client):
-        path, body = "isa/object", payload(5 * MIB + 13)
-        client.put(path, body)
-        os.mkdir(mistaken.folder)
-        mistaken.configure()
-        mistaken.make_rings()
+        other, body = mistaken(f"{folder}/mistaken", cluster), payload(5 * MIB + 13)
+        for policy in (LRC, ISA):
+            client.put(f"{policy.name}/object", body)
         try:
-            mistaken.spawn(
-                "proxy",
-                mistaken.command("swift-proxy-server", f"{mistaken.folder}/proxy.conf", "-v"),
-            )
-            mistaken.wait_for(mistaken.proxy_port)
-            outcomes = count_gets(Report(), Client(mistaken.proxy_port), path, body, 20)
+            words = other.command("swift-proxy-server", f"{other.folder}/proxy.conf", "-v")
+            other.spawn("proxy", words)
+            other.wait_for(other.proxy_port)
+            reader = Client(other.proxy_port)
+            for policy in (LRC, ISA):
+                outcomes = count_gets(reader, f"{policy.name}/object", body, 20)
+                check_exchanged(report, cluster, other, policy, outcomes)
         finally:
-            mistaken.stop()
-        refused = {outcome for outcome, _ in outcomes} == {"refused"}
-        report.check(
-            "another code's objects in a policy that is named as LRC's are refused",
-            refused,
-            text_of(outcomes),
-        )
+            other.stop()
 
     with_cluster(cluster, work)
+
+
+def check_exchanged(report, cluster, other, policy, outcomes):
+    report.check(
+        f"objects in {policy.ec_type} are refused by a policy of another code",
+        set(outcomes) == {("refused", 503)},
+        text_of(outcomes),
+    )
+    path = f"{Client.account}/{policy.name}/object"
+    files = cluster.fragments(policy, path)
+    lost = min(files)  # the other policy's object has lost what was on the device, too
+    replace_devices(cluster, files, (lost,))
+    log = reconstruct(other, "-p", partition_of(files[lost]))
+    printed = f"the object is in {policy.ec_type} 12+4" in log
+    report.check(
+        f"a fragment of {policy.ec_type} is not rebuilt by another code",
+        printed and lost not in cluster.fragments(policy, path),
+    )
 
 
 def refused(report, folder, name, program, words, policy=LRC, **environment):
@@ -643,10 +617,12 @@ def refused(report, folder, name, program, words, policy=LRC, **environment):
 OTHER_RELEASE = """
 import swift
 swift.__version__ = "2.31.0"
-try:
-    import lrcstore_swift.reconstructor
-except RuntimeError as error:
-    print(error)
+from lrcstore_swift import proxy
+for load in (lambda: proxy.filter_factory({}), lambda: __import__("lrcstore_swift.reconstructor")):
+    try:
+        load()
+    except RuntimeError as error:
+        print(error)
 """
 
 
@@ -683,8 +659,8 @@ def wrong_installations(report, folder, options):
     ).stdout
     report.check(
         "another release of Swift is refused",
-        "tested with Swift 2.30, and this is 2.31.0" in text,
-        text.strip(),
+        text.count("tested with Swift 2.30, and this is 2.31.0") == 2,
+        text.splitlines()[0] if text else "",
     )
 
 
@@ -694,40 +670,23 @@ PARTS = {
 }
 
 
+def work(report, folder, options):
+    # An OSError here: set TMPDIR to a file system that keeps extended attributes.
+    os.setxattr(folder, "user.swift.metadata", bytes(3000))
+    build(folder)
+    for name in options.only or PARTS:
+        PARTS[name](report, folder, options)
+
+
 def main():
     parser = argparse.ArgumentParser(
         description=__doc__, formatter_class=argparse.RawDescriptionHelpFormatter
     )
-    parser.add_argument(
-        "--keep", action="store_true", help="keep the temporary folder, with the logs"
-    )
-    parser.add_argument(
-        "--only", choices=PARTS, action="append", help="run this part; all without it"
-    )
-    parser.add_argument("--large", type=int, default=100, help="size of the largest object, in MiB")
-    parser.add_argument(
-        "--times", type=int, default=50, help="GETs of an object with a set of fragments lost"
-    )
-    options = parser.parse_args()
-    signal.signal(
-        signal.SIGTERM, lambda *_: sys.exit(1)
-    )  # so that the cluster's processes are ended
-    install()
-    report, folder = Report(), tempfile.mkdtemp(prefix="lrc_swift_")
-    try:
-        os.setxattr(
-            folder, "user.swift.metadata", bytes(3000)
-        )  # an OSError: set TMPDIR to where extended attributes are kept
-        build(folder)
-        for name in options.only or PARTS:
-            PARTS[name](report, folder, options)
-    finally:
-        if options.keep:
-            print("kept:", folder)
-        else:
-            shutil.rmtree(folder)
-    print(f"{report.passed} passed, {report.failed} failed")
-    return 1 if report.failed else 0
+    parser.add_argument("--keep", action="store_true", help="keep the folder, with the logs")
+    parser.add_argument("--only", choices=PARTS, action="append", help="run this part")
+    parser.add_argument("--large", type=int, default=100, help="the largest object, in MiB")
+    parser.add_argument("--times", type=int, default=50, help="GETs for each set of fragments")
+    return harness.run(parser.parse_args(), PACKAGES, work)
 
 
 if __name__ == "__main__":

@@ -4,7 +4,8 @@ Swift takes any `ec_num_data_fragments` of an object's fragments to be enough. O
 of the 1,820 sets of twelve do not determine the data. In the policies with `ec_type = libphazr`,
 - the proxy asks for further fragments until those that it has determine the data: `proxy`;
 - the reconstructor reads only the fragments that a lost one is made of: `reconstructor`.
-Other policies are served as without these modules."""
+Other policies are served as without these modules. Fragments of an object in LRC are not decoded
+by another code, nor another code's by LRC."""
 
 import swift
 from pyeclib.ec_iface import ECDriverError
@@ -25,6 +26,17 @@ def refuse_other_releases():
 def is_lrc(policy):
     """Whether the policy's objects are kept in LRC. A replicated policy has no `ec_type`."""
     return getattr(policy, "ec_type", None) == EC_TYPE
+
+
+def wrong_scheme(policy, scheme):
+    """Why the policy's code must not decode an object in `scheme`; None if it may."""
+    mine = policy.ec_scheme_description
+    if scheme in (None, mine) or EC_TYPE not in (scheme.split()[0], policy.ec_type):
+        return None
+    return (
+        f"the object is in {scheme}, and the policy {policy.name} in {mine}: "
+        "set the policy in swift.conf to what the object is in"
+    )
 
 
 def fragments_needed(policy, wanted, unavailable):

@@ -8,11 +8,18 @@ import struct
 import zlib
 
 from pyeclib.ec_iface import ECDriverError
+from swift.common.exceptions import DiskFileError
 from swift.common.utils import GreenAsyncPile, Timestamp
 from swift.obj.diskfile import ECDiskFileManager
 from swift.obj.reconstructor import ObjectReconstructor
 
-from lrcstore_swift import determines, fragments_needed, is_lrc, refuse_other_releases
+from lrcstore_swift import (
+    determines,
+    fragments_needed,
+    is_lrc,
+    refuse_other_releases,
+    wrong_scheme,
+)
 
 # A fragment's header: metadata, which begin with the number; magic; version; CRC32 of the metadata.
 HEADER = struct.Struct("<59sIII9x")
@@ -25,12 +32,8 @@ class FragmentReader:
     """Reads fragments of the object in `df` for the one that `node` has lost."""
 
     def __init__(self, reconstructor, job, node, df, buckets, errors):
-        self.reconstructor, self.node, self.buckets, self.errors = (
-            reconstructor,
-            node,
-            buckets,
-            errors,
-        )
+        self.reconstructor, self.node = reconstructor, node
+        self.buckets, self.errors = buckets, errors
         self.policy, self.partition = job["policy"], job["partition"]
         metadata = df.get_datafile_metadata()
         self.path, self.timestamp = metadata["name"], Timestamp(metadata["X-Timestamp"])
@@ -97,6 +100,10 @@ def make_fragment_requests(self, job, node, df, buckets, error_responses):
     """Reads the fragments that the code names. If these can't be had, Swift's own method looks for
     fragments on all nodes; what it finds has to determine the lost one."""
     policy = job["policy"]
+    scheme = df.get_datafile_metadata().get("X-Object-Sysmeta-Ec-Scheme")
+    if problem := wrong_scheme(policy, scheme):
+        self.logger.error("%s: %s", df.get_datafile_metadata()["name"], problem)
+        raise DiskFileError(problem)
     if not is_lrc(policy):
         return ask_for_all(self, job, node, df, buckets, error_responses)
     bucket = FragmentReader(self, job, node, df, buckets, error_responses).read_needed()

@@ -1,0 +1,392 @@
+"""A Ceph cluster on this machine's loopback address, in a temporary folder: a monitor, a manager
+and OSDs, and what the tests ask of them. It wants Debian's interpreter, as python3-rados does."""
+
+import collections
+import glob
+import json
+import os
+import random
+import re
+import shutil
+import socket
+import subprocess
+import time
+import uuid
+from dataclasses import dataclass, field
+
+import rados
+
+OSDS = 18
+STRIPE_UNIT = 4096
+SECONDS = 300  # of patience on a loaded machine
+
+SETTINGS = """[global]
+fsid = {fsid}
+mon host = [v2:127.0.0.1:{port}]
+mon initial members = a
+public addr = 127.0.0.1
+cluster addr = 127.0.0.1
+ms bind port min = {first_port}
+ms bind port max = {last_port}
+auth cluster required = none
+auth service required = none
+auth client required = none
+run dir = {folder}
+admin socket = {folder}/$name.asok
+log file = {folder}/$name.log
+mon cluster log file = {folder}/cluster.log
+pid file =
+crash dir = {folder}/crash
+erasure code dir = {plugins}
+osd erasure code plugins = isa lrc azure_lrc
+osd pool default pg autoscale mode = off
+osd crush chooseleaf type = 0
+mon allow pool delete = true
+mon max pg per osd = 1000
+mon data = {folder}/mon.$id
+mon data avail crit = 1
+mgr data = {folder}/mgr.$id
+osd data = {folder}/osd.$id
+osd objectstore = bluestore
+osd memory target = 939524096
+osd memory cache min = 16777216
+bluestore cache autotune = false
+bluestore cache size = 16777216
+bluestore block size = 2147483648
+osd op num shards = 1
+osd op num threads per shard = 2
+ms async op threads = 1
+osd fast shutdown = true
+osd heartbeat interval = 5
+osd heartbeat grace = 60
+osd pool default read lease ratio = 0.02
+osd scrub load threshold = 0
+osd max backfills = 4
+osd recovery max active = 4
+osd recovery sleep hdd = 0
+osd recovery sleep ssd = 0
+rados osd op timeout = 120
+rados mon op timeout = 120
+"""
+
+# In an OSD's log: a read of the shard of a placement group, with its number and what is read.
+READ = re.compile(
+    r"-- \S+ --> .*MOSDECSubOpRead\((\d+)\.([0-9a-f]+)s(\d+) \S+ "
+    r"ECSubRead\(tid=(\d+), to_read=\{(.*?)\}, "
+)
+EXTENT = re.compile(r"::(o\d+):head=\d+,(\d+),\d+")
+
+
+def free_port():
+    with socket.socket() as each:
+        each.bind(("127.0.0.1", 0))
+        return each.getsockname()[1]
+
+
+def chunk_bytes(length):
+    """The bytes of each chunk of an object in twelve data chunks: a stripe unit for each stripe."""
+    return -(-length // (12 * STRIPE_UNIT)) * STRIPE_UNIT
+
+
+def length_of(number):
+    stripe = 12 * STRIPE_UNIT
+    return [1 << 20, stripe, 1, 300001, stripe + 1, 786432, 5 << 18, 4096][number % 8]
+
+
+def content(pool, number, length=None):
+    return random.Random(f"{pool} {number}").randbytes(length or length_of(number))
+
+
+def stored_bytes(extents):
+    """The bytes that are read of a chunk. What is asked for reaches past the end of a small one."""
+    return sum(
+        min(int(asked), chunk_bytes(length_of(int(name[1:]))))
+        for name, asked in EXTENT.findall(extents)
+    )
+
+
+@dataclass
+class Read:
+    """What a primary reads to rebuild a chunk: of which placement group, and at which places."""
+
+    group: int
+    places: list = field(default_factory=list)
+    length: int = 0
+
+
+class Cluster:
+    def __init__(self, folder, plugins, report):
+        self.folder, self.plugins, self.report = folder, plugins, report
+        self.daemons, self.uuids, self.rados = {}, [], None
+        self.settings = f"{folder}/ceph.conf"
+
+    # ---- daemons
+
+    def configure(self):
+        port = free_port()
+        text = SETTINGS.format(
+            fsid=uuid.uuid4(),
+            folder=self.folder,
+            plugins=self.plugins,
+            port=port,
+            first_port=26800,
+            last_port=27300,
+        )
+        for osd in range(OSDS):
+            text += (
+                f"[osd.{osd}]\ncrush location = root=default rack=rack{osd % 2} host=host{osd}\n"
+            )
+        with open(self.settings, "w", encoding="utf-8") as file:
+            file.write(text)
+        return port
+
+    def run(self, *words):
+        done = subprocess.run(
+            words, stdout=subprocess.PIPE, stderr=subprocess.STDOUT, text=True, check=False
+        )
+        if done.returncode:
+            raise RuntimeError(
+                f"{' '.join(words)}: status {done.returncode}\n{done.stdout[-2000:]}"
+            )
+        return done.stdout
+
+    def spawn(self, name, *words):
+        with open(f"{self.folder}/{name}.out", "a", encoding="utf-8") as out:
+            self.daemons[name] = subprocess.Popen(
+                words + ("-c", self.settings, "-f"),
+                stdout=out,
+                stderr=out,
+                stdin=subprocess.DEVNULL,
+            )
+
+    def start(self):
+        port = self.configure()
+        for name in ("mon.a", "mgr.x"):
+            os.makedirs(f"{self.folder}/{name}")
+        with open(self.settings, encoding="utf-8") as file:
+            fsid = re.search(r"fsid = (\S+)", file.read())[1]
+        self.run(
+            "monmaptool",
+            "--create",
+            "--fsid",
+            fsid,
+            "--addv",
+            "a",
+            f"[v2:127.0.0.1:{port}]",
+            f"{self.folder}/monmap",
+        )
+        self.run(
+            "ceph-mon",
+            "-c",
+            self.settings,
+            "--mkfs",
+            "-i",
+            "a",
+            "--monmap",
+            f"{self.folder}/monmap",
+        )
+        self.spawn("mon.a", "ceph-mon", "-i", "a")
+        self.rados = rados.Rados(conffile=self.settings)
+        self.rados.connect(timeout=60)
+        self.spawn("mgr.x", "ceph-mgr", "-i", "x")
+        for osd in range(OSDS):
+            self.uuids.append(str(uuid.uuid4()))
+            assert self.command("osd new", uuid=self.uuids[osd])["osdid"] == osd
+            self.make_store(osd)
+            self.start_osd(osd)
+        self.until("all OSDs are up", lambda: len(self.up()) == OSDS)
+
+    def start_osd(self, osd):
+        self.spawn(f"osd.{osd}", "ceph-osd", "-i", str(osd))
+
+    def make_store(self, osd):
+        """Gives an OSD that is down an empty store, as when its disk is replaced."""
+        shutil.rmtree(f"{self.folder}/osd.{osd}", ignore_errors=True)
+        os.makedirs(f"{self.folder}/osd.{osd}")
+        self.run(
+            "ceph-osd", "-c", self.settings, "-i", str(osd), "--mkfs", "--osd-uuid", self.uuids[osd]
+        )
+
+    def kill(self, osds):
+        """Ends OSDs by SIGKILL, and has the monitor mark them down."""
+        for osd in osds:
+            daemon = self.daemons.pop(f"osd.{osd}")
+            daemon.kill()
+            daemon.wait()
+        self.command("osd down", ids=[str(osd) for osd in osds])
+        self.until(f"OSDs {osds} are down", lambda: not self.up() & set(osds))
+
+    def revive(self, osds):
+        for osd in osds:
+            self.start_osd(osd)
+        self.until("all OSDs are up", lambda: set(osds) <= self.up())
+
+    def stop(self):
+        if self.rados:
+            self.rados.shutdown()
+        for daemon in self.daemons.values():
+            if daemon.poll() is None:
+                daemon.kill()
+        for daemon in self.daemons.values():
+            daemon.wait()
+
+    # ---- commands
+
+    def command(self, prefix, data=b"", binary=False, **words):
+        text = json.dumps({"prefix": prefix, "format": "json", **words})
+        return self.answer(prefix, self.rados.mon_command(text, data, timeout=120), binary)
+
+    def osd_command(self, osd, prefix, **words):
+        text = json.dumps({"prefix": prefix, "format": "json", **words})
+        return self.answer(
+            f"osd.{osd} {prefix}", self.rados.osd_command(osd, text, b"", timeout=60)
+        )
+
+    def manager_command(self, prefix, **words):
+        return self.answer(
+            prefix,
+            self.rados.mgr_command(json.dumps({"prefix": prefix, "format": "json", **words}), b""),
+        )
+
+    @staticmethod
+    def answer(prefix, answer, binary=False):
+        code, out, error = answer
+        if code:
+            raise RuntimeError(f"{prefix}: {code} {error}")
+        return out if binary else json.loads(out) if out.strip() else None
+
+    def until(self, what, holds, seconds=SECONDS):
+        """Asks again and again; whether it came to hold."""
+        end = time.monotonic() + seconds
+        while time.monotonic() < end:
+            try:
+                if holds():
+                    return True
+            except (RuntimeError, rados.Error):
+                pass
+            time.sleep(0.25)
+        self.report.note(f"not within {seconds} s: {what}")
+        return False
+
+    def up(self):
+        return {osd["osd"] for osd in self.command("osd dump")["osds"] if osd["up"]}
+
+    def groups(self):
+        """The manager's statistics of all placement groups, by their names."""
+        found = self.manager_command("pg dump", dumpcontents=["pgs"])
+        return {
+            group["pgid"]: group
+            for group in (found["pg_stats"] if isinstance(found, dict) else found)
+        }
+
+    def state(self, pool, group=0):
+        return self.groups()[f"{self.rados.pool_lookup(pool)}.{group:x}"]["state"]
+
+    def is_clean(self):
+        """By the manager's statistics, which come late: ask after a loss was seen in them."""
+        states = [group["state"] for group in self.groups().values()]
+        wanted = sum(pool["pg_num"] for pool in self.command("osd dump")["pools"])
+        return len(states) == wanted and set(states) == {"active+clean"}
+
+    def wait_clean(self):
+        return self.until("all placement groups are active and clean", self.is_clean)
+
+    def wait_loss(self):
+        return self.until("a placement group is not clean", lambda: not self.is_clean())
+
+    # ---- pools and objects
+
+    def make_pool(self, name, profile, groups, rule=None, **settings):
+        self.command("osd erasure-code-profile set", name=name, profile=profile, force=True)
+        words = {
+            "pool": name,
+            "pg_num": groups,
+            "pgp_num": groups,
+            "pool_type": "erasure",
+            "erasure_code_profile": name,
+        }
+        self.command("osd pool create", **words, **({"rule": rule} if rule else {}))
+        self.command("osd pool application enable", pool=name, app="rados")
+        for variable, value in settings.items():
+            self.command("osd pool set", pool=name, var=variable, val=str(value))
+
+    def remove_pool(self, name):
+        self.command("osd pool rm", pool=name, pool2=name, yes_i_really_really_mean_it=True)
+
+    def places(self, pool):
+        """The OSD at each place of the pool's placement groups."""
+        number = self.rados.pool_lookup(pool)
+        count = next(
+            item["pg_num"] for item in self.command("osd dump")["pools"] if item["pool"] == number
+        )
+        return [
+            self.command("pg map", pgid=f"{number}.{group:x}")["acting"] for group in range(count)
+        ]
+
+    def group_of(self, pool, name):
+        return int(self.command("osd map", pool=pool, object=name)["pgid"].split(".")[1], 16)
+
+    def fill(self, pool, count, length=None):
+        with self.rados.open_ioctx(pool) as io:
+            for number in range(count):
+                io.write_full(f"o{number}", content(pool, number, length))
+
+    def equal_objects(self, pool, count, length=None):
+        """How many objects are read back as they were written."""
+        equal = 0
+        with self.rados.open_ioctx(pool) as io:
+            for number in range(count):
+                wanted = content(pool, number, length)
+                try:
+                    equal += io.read(f"o{number}", len(wanted) + 1) == wanted
+                except rados.Error as error:
+                    self.report.note(f"{pool} o{number}: {error}")
+                    return equal
+        return equal
+
+    def add_rule(self, name, text):
+        """Adds a rule to the CRUSH map, as an administrator does by crushtool."""
+        path = f"{self.folder}/crush"
+        with open(path, "wb") as file:
+            file.write(self.command("osd getcrushmap", binary=True))
+        self.run("crushtool", "-d", path, "-o", f"{path}.txt")
+        with open(f"{path}.txt", "a", encoding="utf-8") as file:
+            file.write(f"rule {name} {{\n{text}}}\n")
+        self.run("crushtool", "-c", f"{path}.txt", "-o", f"{path}.new")
+        with open(f"{path}.new", "rb") as file:
+            self.command("osd setcrushmap", file.read())
+
+    # ---- what recovery reads
+
+    def log_reads(self, osds, on):
+        for osd in osds:
+            self.osd_command(osd, "config set", var="debug_ms", val=["1" if on else "0"])
+
+    def log_sizes(self):
+        return {path: os.path.getsize(path) for path in glob.glob(f"{self.folder}/osd.*.log")}
+
+    def reads_since(self, sizes):
+        """The reads of each pool's recovery, by the pool's number."""
+        reads = collections.defaultdict(dict)
+        for path in glob.glob(f"{self.folder}/osd.*.log"):
+            with open(path, errors="replace", encoding="utf-8") as file:
+                file.seek(sizes.get(path, 0))
+                for line in file:
+                    found = READ.search(line) if "MOSDECSubOpRead(" in line else None
+                    if found:
+                        pool, group, place, number, extents = found.groups()
+                        key = (path, group, number)
+                        read = reads[int(pool)].setdefault(key, Read(int(group, 16)))
+                        read.places.append(int(place))
+                        read.length += stored_bytes(extents)
+        return {pool: list(by_key.values()) for pool, by_key in reads.items()}
+
+    def bytes_read(self, osds):
+        """The bytes that each OSD's store was asked to read since it started."""
+        found = {}
+        for osd in osds:
+            counters = self.osd_command(osd, "perf dump")["bluestore"]
+            found[osd] = (
+                counters["bluestore_buffer_hit_bytes"] + counters["bluestore_buffer_miss_bytes"]
+            )
+        return found

@@ -1,0 +1,487 @@
+#!/usr/bin/python3
+"""LRC(12,2,2) in Ceph: a monitor, a manager and 18 OSDs on this machine's loopback address.
+
+Pools in azure_lrc and in Ceph's own codes lose OSDs, objects are read back, and what recovery reads
+is counted.
+
+    integrations/ceph/cluster_test.py
+
+It installs Debian's packages where they are missing (as root), works in a temporary folder, ends
+every process that it started, and prints `N passed, M failed`. It needs libcoder_c.a of
+crates/coder_c, or the Rattle kit's `rt`, which builds it."""
+
+import argparse
+import collections
+import glob
+import os
+import random
+import subprocess
+import sys
+import time
+
+sys.dont_write_bytecode = True
+HERE = os.path.dirname(os.path.abspath(__file__))
+sys.path[:0] = [HERE, os.path.dirname(HERE)]
+import harness  # noqa: E402
+
+PACKAGES = (
+    "g++",
+    "libradospp-dev",
+    "ceph-base",
+    "ceph-osd",
+    "ceph-mon",
+    "ceph-mgr",
+    "python3-rados",
+)
+CEPH_PLUGINS = "/usr/lib/x86_64-linux-gnu/ceph/erasure-code"
+LAYERS = '[["DDDDDDDDDDDD__cc",""],["DDDDDD______c___",""],["______DDDDDD_c__",""]]'
+POOLS = {
+    "azure_lrc": ["plugin=azure_lrc", "k=12", "m=4"],
+    "isa": ["plugin=isa", "k=12", "m=4"],
+    "lrc_kml": ["plugin=lrc", "k=12", "m=2", "l=7"],
+    "lrc_layers": ["plugin=lrc", "mapping=DDDDDDDDDDDD____", f"layers={LAYERS}"],
+}
+OSD_EACH = "crush-failure-domain=osd"
+GLOBAL_PARITIES = (7, 15)  # their places; 0 to 5 and 8 to 13 are data, 6 and 14 local parities
+RECOVERABLE = (
+    [0],
+    [6],
+    [15],
+    [0, 6],
+    [0, 8],
+    [0, 1],
+    [7, 15],
+    [0, 1, 8],
+    [0, 6, 7],
+    [0, 1, 2, 8],
+    [0, 1, 8, 9],
+    [0, 8, 7, 15],
+    [0, 1, 6, 14],
+    [6, 14, 7, 15],
+)
+LOST_OSD = 5
+RACKS = """    id 99
+    type erasure
+    min_size 3
+    max_size 16
+    step set_chooseleaf_tries 5
+    step set_choose_tries 100
+    step take default
+    step choose indep 2 type rack
+    step chooseleaf indep 8 type host
+    step emit
+"""
+
+
+def build(folder):
+    """A folder with the plugin and links to Ceph's own: `erasure code dir` names one."""
+    harness.coder_archive()
+    for name in ("plugins", "without"):
+        os.mkdir(f"{folder}/{name}")
+        for path in glob.glob(f"{CEPH_PLUGINS}/libec_*.so"):
+            os.symlink(path, f"{folder}/{name}/{os.path.basename(path)}")
+    subprocess.run([f"{HERE}/build.sh", f"{folder}/plugins"], check=True)
+    return f"{folder}/plugins"
+
+
+# ---- profiles
+
+
+def check_profiles(cluster, report):
+    for profile, words in (
+        (
+            ["plugin=azure_lrc", "k=10", "m=4"],
+            "azure_lrc: no code has k=10 m=4; set k=12 m=4 or k=6 m=4",
+        ),
+        (
+            ["plugin=azure_lrc", "l=6"],
+            "azure_lrc: there is no parameter l; remove it from the profile",
+        ),
+        (["plugin=azure_lrc", "k=12", "m=4", "stripe_unit=100"], "stripe_unit 100 does not match"),
+    ):
+        try:
+            cluster.command("osd erasure-code-profile set", name="bad", profile=profile)
+            printed = "accepted"
+        except RuntimeError as error:
+            printed = str(error)
+        report.check(f"the monitor refuses {' '.join(profile[1:])}", words in printed, printed)
+
+
+# ---- lost sets, in a pool of one placement group
+
+
+def check_lost_sets(cluster, report, objects=24):
+    cluster.make_pool("one", POOLS["azure_lrc"] + [OSD_EACH], 1)
+    least = cluster.command("osd pool get", pool="one", var="min_size")["min_size"]
+    report.check("a pool begins with min_size 13", least == 13, str(least))
+    cluster.command("osd pool set", pool="one", var="min_size", val="12")
+    report.check("a pool of azure_lrc is active and clean", cluster.wait_clean())
+    cluster.fill("one", objects)
+    places = cluster.places("one")[0]
+    report.check(f"{objects} objects read back", cluster.equal_objects("one", objects) == objects)
+    for lost in RECOVERABLE:
+        osds = [places[place] for place in lost]
+        cluster.kill(osds)
+        began = time.monotonic()
+        equal = cluster.equal_objects("one", objects)
+        report.check(
+            f"without places {lost}: {equal} of {objects} objects read back",
+            equal == objects,
+            f"{time.monotonic() - began:.1f} s",
+        )
+        cluster.wait_loss()
+        cluster.revive(osds)
+        if not report.check("clean again", cluster.wait_clean()):
+            return
+    check_unrecoverable(cluster, report, places, objects)
+
+
+def check_unrecoverable(cluster, report, places, objects):
+    """Four data chunks of a group: no code of this shape can restore them."""
+    lost = [0, 1, 2, 3]
+    osds = [places[place] for place in lost]
+    cluster.kill(osds)
+    inactive = cluster.until(
+        "the placement group is inactive", lambda: "active" not in cluster.state("one")
+    )
+    report.check(
+        f"without places {lost}, which are unrecoverable, the placement group is inactive",
+        inactive,
+        cluster.state("one"),
+    )
+    cluster.revive(osds)
+    report.check(
+        "the objects are back with the OSDs",
+        cluster.wait_clean() and cluster.equal_objects("one", objects) == objects,
+    )
+
+
+def check_min_size(cluster, report, objects=24):
+    """With Ceph's own min_size three lost chunks are served, with 12 four as well."""
+    places = cluster.places("one")[0]
+    osds = [places[place] for place in (1, 2, 9, 10)]
+    cluster.command("osd pool set", pool="one", var="min_size", val="13")
+    cluster.kill(osds[:3])
+    equal = cluster.equal_objects("one", objects)
+    report.check("with min_size 13 and three chunks lost, the objects read back", equal == objects)
+    cluster.kill(osds[3:])
+    inactive = cluster.until("inactive", lambda: "active" not in cluster.state("one"))
+    report.check("with a fourth lost it is inactive", inactive, cluster.state("one"))
+    cluster.command("osd pool set", pool="one", var="min_size", val="12")
+    equal = cluster.equal_objects("one", objects)
+    report.check("with min_size 12 the objects read back", equal == objects)
+    cluster.wait_loss()
+    cluster.revive(osds)
+    report.check("clean again", cluster.wait_clean())
+
+
+def check_beside_lrc(cluster, report):
+    """Sets that LRC(12,2,2) recovers and Ceph's lrc in layers of the same shape does not."""
+    cluster.make_pool("layers", POOLS["lrc_layers"] + [OSD_EACH], 1, min_size=12)
+    cluster.wait_clean()
+    for name, ours, theirs in (
+        ("a data chunk and the local parity of its group", [0, 6], [0, 12]),
+        ("three data chunks of a group", [0, 1, 2], [0, 1, 2]),
+    ):
+        for pool, lost in (("one", ours), ("layers", theirs)):
+            osds = [cluster.places(pool)[0][place] for place in lost]
+            cluster.kill(osds)
+            wanted = (
+                (lambda state: "active" in state and "undersized" in state)
+                if pool == "one"
+                else (lambda state: "active" not in state)
+            )
+            seen = cluster.until(f"the state of {pool}", lambda: wanted(cluster.state(pool)))
+            what = "azure_lrc serves" if pool == "one" else "Ceph's lrc of the same shape is down"
+            report.check(f"without {name}, {what}", seen, cluster.state(pool))
+            cluster.revive(osds)
+            cluster.wait_clean()
+    for pool in ("one", "layers"):
+        cluster.remove_pool(pool)
+
+
+# ---- what recovery reads
+
+
+def check_recovery(cluster, report, count=96):
+    """Replaces an OSD's disk by an empty one, and counts each pool's reads by the OSDs' logs."""
+    for name, profile in POOLS.items():
+        cluster.make_pool(name, profile + [OSD_EACH], 64)
+    report.check("pools of " + ", ".join(POOLS), cluster.wait_clean())
+    for name in POOLS:
+        cluster.fill(name, count)
+    before = {name: cluster.places(name) for name in POOLS}
+    cluster.log_reads(cluster.up(), True)
+    sizes = cluster.log_sizes()
+    replace_store(cluster, report)
+    cluster.log_reads(cluster.up(), False)
+    report.check("no place moved", {name: cluster.places(name) for name in POOLS} == before)
+    reads = {name: cluster.reads_since(sizes)[cluster.rados.pool_lookup(name)] for name in POOLS}
+    ratios = {name: ratio_of(cluster, report, name, reads[name], before[name]) for name in POOLS}
+    check_places(report, reads, before["azure_lrc"])
+    report.check(
+        "azure_lrc reads at most 0.6 of what isa reads for each byte rebuilt",
+        ratios["azure_lrc"] <= 0.6 * ratios["isa"],
+        f"{ratios['azure_lrc'] / ratios['isa']:.3f}",
+    )
+    for name in POOLS:
+        report.check(
+            f"{name}: {count} objects read back after recovery",
+            cluster.equal_objects(name, count) == count,
+        )
+
+
+def replace_store(cluster, report):
+    began = time.monotonic()
+    cluster.kill([LOST_OSD])
+    cluster.wait_loss()
+    cluster.make_store(LOST_OSD)
+    cluster.revive([LOST_OSD])
+    report.check(
+        f"osd.{LOST_OSD} is filled again", cluster.wait_clean(), f"{time.monotonic() - began:.0f} s"
+    )
+
+
+def ratio_of(cluster, report, name, reads, places):
+    """Bytes read for each byte rebuilt. No place has moved, so each read rebuilds one chunk."""
+    sizes = collections.Counter(len(read.places) for read in reads)
+    ratio = sum(read.length for read in reads) / sum(
+        read.length // len(read.places) for read in reads
+    )
+    lost = sum(group.count(LOST_OSD) for group in places)
+    report.note(
+        f"{name}: {lost} placement groups had the OSD; {len(reads)} reads, by number of chunks "
+        f"{dict(sorted(sizes.items()))}; {ratio:.2f} bytes read for each byte rebuilt"
+    )
+    return ratio
+
+
+def is_exact(read, places):
+    """Six chunks of the half where the lost one is, or twelve if that is a global parity."""
+    lost = places[read.group].index(LOST_OSD)
+    if lost in GLOBAL_PARITIES:
+        return len(read.places) == 12
+    return len(read.places) == 6 and all(place // 8 == lost // 8 for place in read.places)
+
+
+def check_places(report, reads, places):
+    ours, isa = reads["azure_lrc"], reads["isa"]
+    report.check(
+        f"{len(ours)} reads of azure_lrc: six chunks of one half, or twelve for a global parity",
+        ours and all(is_exact(read, places) for read in ours),
+    )
+    report.check(
+        f"{len(isa)} reads of isa: twelve chunks", {len(read.places) for read in isa} == {12}
+    )
+
+
+def check_out(cluster, report, count=96):
+    """The OSD is lost for good and marked out: its chunks are rebuilt on others."""
+    cluster.kill([LOST_OSD])
+    cluster.wait_loss()
+    cluster.command("osd unset", key="noout")
+    cluster.command("osd out", ids=[str(LOST_OSD)])
+    report.check(f"recovered from the loss of osd.{LOST_OSD}", cluster.wait_clean())
+    for name in POOLS:
+        report.check(
+            f"{name}: {count} objects read back", cluster.equal_objects(name, count) == count
+        )
+        cluster.remove_pool(name)
+    cluster.revive([LOST_OSD])
+    cluster.command("osd in", ids=[str(LOST_OSD)])
+    cluster.command("osd set", key="noout")
+
+
+def counted_ratio(cluster, report, name, count=48, length=4 << 20):
+    """Bytes read for each byte rebuilt, by the counters of the OSDs' stores. There is no pool
+    beside this one."""
+    pool = f"large_{name}"
+    cluster.make_pool(pool, POOLS[name] + [OSD_EACH], 32)
+    cluster.wait_clean()
+    cluster.fill(pool, count, length)
+    places = cluster.places(pool)
+    groups = [places[cluster.group_of(pool, f"o{number}")] for number in range(count)]
+    rebuilt = [group.index(LOST_OSD) for group in groups if LOST_OSD in group]
+    others = cluster.up() - {LOST_OSD}
+    before = cluster.bytes_read(others)
+    replace_store(cluster, report)
+    after = cluster.bytes_read(others)
+    read = sum(after[osd] - before[osd] for osd in others)
+    ratio = read / (len(rebuilt) * -(-length // (12 * 4096)) * 4096)
+    wide = sum(place in GLOBAL_PARITIES for place in rebuilt)
+    report.note(
+        f"{name}: {len(rebuilt)} chunks rebuilt, {wide} of them at places 7 and 15; the stores "
+        f"read {ratio:.2f} bytes for each byte rebuilt"
+    )
+    equal = cluster.equal_objects(pool, count, length)
+    report.check(f"{name}: {count} objects of 4 MiB read back", equal == count)
+    cluster.remove_pool(pool)
+    return ratio
+
+
+def check_counters(cluster, report):
+    ratio = counted_ratio(cluster, report, "azure_lrc") / counted_ratio(cluster, report, "isa")
+    report.check("by the counters, at most 0.6 of what isa reads", ratio <= 0.6, f"{ratio:.3f}")
+
+
+# ---- other pools
+
+
+def check_racks(cluster, report):
+    cluster.add_rule("racks", RACKS)
+    cluster.make_pool("in_racks", POOLS["azure_lrc"], 16, "racks")
+    clean = cluster.wait_clean()
+    halves = [
+        ({osd % 2 for osd in group[:8]}, {osd % 2 for osd in group[8:]})
+        for group in cluster.places("in_racks")
+    ]
+    report.check(
+        "by a rule of two racks, each group is in a rack of its own",
+        clean
+        and all(
+            len(first) == 1 and len(second) == 1 and first != second for first, second in halves
+        ),
+    )
+    cluster.fill("in_racks", 16)
+    report.check("its objects read back", cluster.equal_objects("in_racks", 16) == 16)
+
+
+def check_small(cluster, report):
+    cluster.make_pool("small", ["plugin=azure_lrc", "k=6", "m=4", OSD_EACH], 8)
+    clean = cluster.wait_clean()
+    cluster.fill("small", 16)
+    report.check(
+        "a pool of k=6 m=4: its objects read back",
+        clean and cluster.equal_objects("small", 16) == 16,
+    )
+
+
+def check_overwrites(cluster, report):
+    """An object is written over at random, half of the time with two OSDs lost. A deep scrub
+    follows."""
+    cluster.make_pool(
+        "over",
+        POOLS["azure_lrc"] + [OSD_EACH],
+        8,
+        allow_ec_overwrites="true",
+        min_size=12,
+        fast_read=1,
+    )
+    cluster.wait_clean()
+    dice = random.Random(1)
+    image = bytearray(dice.randbytes(1 << 20))
+    lost = cluster.places("over")[cluster.group_of("over", "o")][1:3]
+    with cluster.rados.open_ioctx("over") as io:
+        io.write_full("o", bytes(image))
+        for number in range(40):
+            if number == 20:
+                cluster.kill(lost)
+            at, piece = dice.randrange(1 << 20), dice.randbytes(dice.choice([1, 100, 4096, 60000]))
+            piece = piece[: len(image) - at]
+            image[at : at + len(piece)] = piece
+            io.write("o", piece, at)
+        report.check(
+            "written over forty times, twenty of them without two OSDs",
+            io.read("o", 1 << 21) == bytes(image),
+        )
+        cluster.wait_loss()
+        cluster.revive(lost)
+        report.check(
+            "read back once all are there",
+            cluster.wait_clean() and io.read("o", 1 << 21) == bytes(image),
+        )
+    check_scrub(cluster, report)
+
+
+def check_scrub(cluster, report):
+    number = cluster.rados.pool_lookup("over")
+    stamps = {
+        name: group["last_deep_scrub_stamp"]
+        for name, group in cluster.groups().items()
+        if name.startswith(f"{number}.")
+    }
+    for name in stamps:
+        cluster.manager_command("pg deep-scrub", pgid=name)
+    done = cluster.until(
+        "a deep scrub",
+        lambda: all(
+            cluster.groups()[name]["last_deep_scrub_stamp"] != stamp
+            for name, stamp in stamps.items()
+        ),
+    )
+    report.check(
+        "a deep scrub finds nothing",
+        done and not any("inconsistent" in group["state"] for group in cluster.groups().values()),
+    )
+
+
+def check_missing_plugin(cluster, report, folder):
+    """An OSD that has no file of the plugin."""
+    for named, words in (
+        ("isa lrc azure_lrc", "libec_azure_lrc.so: cannot open shared object file"),
+        ("isa lrc", "FAILED ceph_assert(ec_impl)"),
+    ):
+        osd = min(cluster.up())
+        cluster.kill([osd])
+        size = os.path.getsize(f"{cluster.folder}/osd.{osd}.log")
+        cluster.spawn(
+            f"osd.{osd}",
+            "ceph-osd",
+            "-i",
+            str(osd),
+            f"--erasure_code_dir={folder}/without",
+            f"--osd_erasure_code_plugins={named}",
+        )
+        ended = cluster.until(
+            "the OSD ends", lambda: cluster.daemons[f"osd.{osd}"].poll() is not None
+        )
+        with open(f"{cluster.folder}/osd.{osd}.log", errors="replace", encoding="utf-8") as file:
+            file.seek(size)
+            printed = words in file.read()
+        report.check(
+            f"an OSD without the plugin ends, with osd_erasure_code_plugins = {named}",
+            ended and printed,
+            words if printed else "",
+        )
+        cluster.revive([osd])
+
+
+# ----
+
+
+def work(report, folder, options):
+    """The interpreter finds python3-rados, which cluster.py wants, only after it was installed."""
+    from cluster import OSDS, Cluster
+
+    os.mkdir(f"{folder}/cluster")
+    cluster = Cluster(f"{folder}/cluster", build(folder), report)
+    try:
+        cluster.start()
+        cluster.command("osd set", key="noout")
+        version = cluster.run("ceph-osd", "--version").split(" (")[0]
+        report.check(f"{OSDS} OSDs are up", len(cluster.up()) == OSDS, version)
+        check_profiles(cluster, report)
+        check_lost_sets(cluster, report)
+        check_min_size(cluster, report)
+        check_beside_lrc(cluster, report)
+        check_recovery(cluster, report)
+        check_out(cluster, report)
+        check_counters(cluster, report)
+        check_racks(cluster, report)
+        check_small(cluster, report)
+        check_overwrites(cluster, report)
+        check_missing_plugin(cluster, report, folder)
+    finally:
+        cluster.stop()
+
+
+def main():
+    parser = argparse.ArgumentParser(
+        description=__doc__, formatter_class=argparse.RawDescriptionHelpFormatter
+    )
+    parser.add_argument("--keep", action="store_true", help="keep the folder, with the logs")
+    return harness.run(parser.parse_args(), PACKAGES, work)
+
+
+if __name__ == "__main__":
+    sys.exit(main())
