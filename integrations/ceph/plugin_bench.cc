@@ -1,0 +1,163 @@
+/* Sets libec_azure_lrc.so beside Ceph's own plugins, through one harness: plugin_bench FOLDER
+ *
+ * FOLDER has all plugins. First it counts the lost sets that each code recovers, then it times
+ * encoding and decoding. */
+#include "plugin_loader.h"
+
+#include <algorithm>
+#include <chrono>
+#include <functional>
+#include <unistd.h>
+
+struct Peer {
+    const char *name, *plugin;
+    ErasureCodeProfile profile;
+};
+
+static const std::vector<Peer> peers = {
+    { "azure_lrc 12+4", "azure_lrc", { { "k", "12" }, { "m", "4" } } },
+    { "isa 12+4", "isa", { { "k", "12" }, { "m", "4" } } },
+    { "jerasure 12+4",
+      "jerasure",
+      { { "k", "12" }, { "m", "4" }, { "technique", "reed_sol_van" } } },
+    { "lrc k=12 m=2 l=7", "lrc", { { "k", "12" }, { "m", "2" }, { "l", "7" } } },
+    { "lrc layers 12,2,2",
+      "lrc",
+      { { "mapping", "DDDDDDDDDDDD____" },
+        { "layers", "[[\"DDDDDDDDDDDD__cc\",\"\"],[\"DDDDDD______c___\",\"\"],[\"______DDDDDD_c__"
+                    "\",\"\"]]" } } },
+};
+
+/* Of the sets of at most four lost chunks: for how many all chunks are recoverable, which is what
+ * Ceph asks of a placement group, and for how many the data, which a client reads. */
+static void count_sets(const Peer &peer, ErasureCodeInterface &code)
+{
+    const unsigned n = code.get_chunk_count(), all = all_of(code), data = data_of(code);
+    unsigned sets = 0, recoverable = 0, readable = 0, single = 0;
+    for (unsigned lost = 0; lost <= all; lost++) {
+        unsigned read;
+        if (count_of(lost) > 4)
+            continue;
+        sets++;
+        readable += !to_read(code, data, all & ~lost, &read);
+        recoverable += !to_read(code, all, all & ~lost, &read);
+        if (count_of(lost) == 1 && !to_read(code, lost, all & ~lost, &read))
+            single += count_of(read);
+    }
+    printf("%-18s  of %u sets: all chunks recoverable in %u, data readable in %u; one lost chunk "
+           "reads %.2f\n",
+           peer.name, sets, recoverable, readable, double(single) / n);
+}
+
+static double seconds_of(const std::function<void()> &work)
+{
+    const auto start = std::chrono::steady_clock::now();
+    work();
+    return std::chrono::duration<double>(std::chrono::steady_clock::now() - start).count();
+}
+
+/* A code with a stripe of its own, and the sets that it is timed with. */
+class Contestant
+{
+public:
+    Contestant(ErasureCodeInterfaceRef by, const buffer::list &of)
+        : code(std::move(by)), in(of), all(all_of(*code))
+    {
+        code->encode(places_of(all), in, &whole);
+        for (unsigned lost = 1; lost <= all; lost++) {
+            unsigned read;
+            if (count_of(lost) <= 4 && !to_read(*code, lost, all & ~lost, &read))
+                sets[count_of(lost)].push_back({ lost, read });
+        }
+    }
+
+    bool can(unsigned lost) const { return !lost || !sets[lost].empty(); }
+
+    /* Encodes, or makes the lost chunks from those that minimum_to_decode names. */
+    void work(unsigned lost, unsigned round) const
+    {
+        Chunks made;
+        if (!lost) {
+            code->encode(places_of(all), in, &made);
+            return;
+        }
+        const auto &some = sets[lost]; /* sixteen of them, evenly */
+        const auto &[set, read] = some[round % 16 * some.size() / 16];
+        if (code->decode(places_of(set), chunks_at(whole, read), &made, int(whole.at(0).length())))
+            printf("not decoded: lost places %#x\n", set);
+    }
+
+private:
+    ErasureCodeInterfaceRef code;
+    const buffer::list &in;
+    const unsigned all;
+    Chunks whole;
+    std::vector<std::pair<unsigned, unsigned>>
+        sets[5]; /* by the number of lost chunks: lost, read */
+};
+
+/* The best of nine rounds, which all contestants take in turn. */
+static std::vector<double> best_of(const std::vector<Contestant> &contestants, unsigned lost,
+                                   unsigned times)
+{
+    std::vector<double> best(contestants.size(), 0);
+    for (int round = 0; round < 9; round++)
+        for (size_t i = 0; i < contestants.size(); i++) {
+            if (!contestants[i].can(lost))
+                continue;
+            const double seconds = seconds_of([&] {
+                for (unsigned time = 0; time < times; time++)
+                    contestants[i].work(lost, time);
+            });
+            best[i] = best[i] > 0 ? std::min(best[i], seconds) : seconds;
+        }
+    return best;
+}
+
+/* GB/s of object bytes, and in brackets how many times as fast as isa. */
+static void time_stripe(unsigned unit, const std::vector<ErasureCodeInterfaceRef> &codes)
+{
+    const buffer::list in = random_bytes(12 * unit, 5);
+    std::vector<Contestant> contestants;
+    for (const auto &code : codes)
+        contestants.emplace_back(code, in);
+    const unsigned times = std::max(16u, (8u << 20) / (12 * unit));
+    for (unsigned lost = 0; lost <= 4; lost++) {
+        printf("| 12 x %u KiB | %s%s |", unit >> 10, lost ? std::to_string(lost).c_str() : "encode",
+               lost ? " lost" : "");
+        const auto best = best_of(contestants, lost, times);
+        for (const double seconds : best)
+            if (seconds > 0)
+                printf(" %.1f (%.2f) |", 12.0 * unit * times / seconds / 1e9, best[1] / seconds);
+            else
+                printf(" - |");
+        printf("\n");
+    }
+}
+
+int main(int argc, char **argv)
+{
+    if (argc != 2 || !begin(argv[1])) {
+        fprintf(stderr, "usage: plugin_bench FOLDER\n");
+        return 2;
+    }
+    std::vector<ErasureCodeInterfaceRef> codes;
+    for (const Peer &peer : peers) {
+        std::string error;
+        codes.push_back(make_code(peer.plugin, peer.profile, &error));
+        if (!codes.back()) {
+            fprintf(stderr, "%s: %s\n", peer.name, error.c_str());
+            return 1;
+        }
+        count_sets(peer, *codes.back());
+    }
+    printf("\nGB/s of object bytes, one thread; in brackets how many times as fast as isa\n\n| "
+           "Stripe | Work |");
+    for (const Peer &peer : peers)
+        printf(" %s |", peer.name);
+    printf("\n|---|---|---|---|---|---|---|\n");
+    for (unsigned unit : { 4096u, 65536u, 1048576u })
+        time_stripe(unit, codes);
+    fflush(stdout);
+    _exit(0); /* a plugin is never unloaded */
+}
