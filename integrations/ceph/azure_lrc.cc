@@ -271,11 +271,8 @@ int AzureLrc::decode(const Places &want, const Chunks &chunks, Chunks *decoded, 
     if (chunks.empty())
         return want.empty() ? 0 : -EIO;
     const unsigned len = chunks.begin()->second.length();
-    for (const auto &chunk : chunks) {
-        if (!is_place(chunk.first) || chunk.second.length() != len)
-            return -EINVAL;
+    for (const auto &chunk : chunks)
         (*decoded)[chunk.first] = chunk.second; /* shares the bytes */
-    }
     for (int place : want)
         if (is_place(place) && !chunks.count(place)) {
             ceph::buffer::list chunk;

@@ -1,6 +1,6 @@
 /* Tests libec_azure_lrc.so without a cluster: plugin_test FOLDER CORPUS
  *
- * FOLDER has the plugin and Ceph's own; CORPUS is tests/corpus. It prints how many checks passed. */
+ * FOLDER has the plugin and Ceph's own, CORPUS is tests/corpus. */
 #include "plugin_loader.h"
 
 #include <algorithm>
@@ -548,7 +548,7 @@ static std::string bytes_of_file(const std::string &path)
 }
 
 /* Chunks that an earlier version stored, one after the other by their places: the object encodes to
- * them, and is decoded from each set of six and more that suffices. */
+ * them, and they are decoded without each recoverable set of at most four. */
 static void test_corpus(const std::string &corpus, ErasureCodeInterface &code, unsigned k)
 {
     const std::string name = "corpus, k=" + std::to_string(k),

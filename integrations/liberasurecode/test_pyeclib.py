@@ -76,6 +76,9 @@ def test_reads():
                 is ECInsufficientFragments
             )
     assert driver.fragments_needed([3], []) == [0, 1, 2, 4, 5, 12]
+    without_four = driver.fragments_needed([3], [4])
+    assert len(without_four) == 12 and 4 not in without_four
+    assert refusal(driver.fragments_needed, [3], [4, 5, 14, 15]) is ECInsufficientFragments
     assert driver.reconstruct(others(fragments, 3, 9), [3, 9]) == [fragments[3], fragments[9]]
     print(
         "PyECLib: each fragment rebuilt; six are named as needed for 14 of the 16, twelve for two"

@@ -627,28 +627,15 @@ for load in (lambda: proxy.filter_factory({}), lambda: __import__("lrcstore_swif
 
 
 def wrong_installations(report, folder, options):
-    proxy, server = "swift-proxy-server", "swift-object-server"
-    for program in (proxy, server):
-        refused(
-            report,
-            folder,
-            "no library",
-            program,
-            "Wrong ec_type libphazr for policy lrc",
-            LD_LIBRARY_PATH="",
-        )
+    no_library = {"LD_LIBRARY_PATH": ""}
+    words = f"Wrong ec_type {LRC.ec_type} for policy {LRC.name}"
+    for kind in ("proxy", "object", "account", "container"):
+        refused(report, folder, "no library", f"swift-{kind}-server", words, **no_library)
+    for kind in ("proxy", "object"):
+        program = f"swift-{kind}-server"
         refused(report, folder, "no module", program, "lrcstore_swift", PYTHONPATH="")
-    for program in ("swift-account-server", "swift-container-server"):
-        refused(
-            report,
-            folder,
-            "no library",
-            program,
-            "Wrong ec_type libphazr for policy lrc",
-            LD_LIBRARY_PATH="",
-        )
-    ten = Policy(1, "lrc", "libphazr", ec_num_data_fragments=10)
-    refused(report, folder, "10 data fragments", proxy, "pyeclib_c_init ERROR", ten)
+    ten = Policy(1, "lrc", LRC.ec_type, ec_num_data_fragments=10)
+    refused(report, folder, "10 data fragments", "swift-proxy-server", "pyeclib_c_init ERROR", ten)
     text = subprocess.run(
         [PYTHON, "-c", OTHER_RELEASE],
         env=dict(os.environ, **installed(folder)),
