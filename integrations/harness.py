@@ -67,6 +67,16 @@ def coder_archive():
     return archive
 
 
+def remove(folder):
+    """Removes the folder, also while a process that was killed still removes its files there."""
+    for _ in range(20):
+        shutil.rmtree(folder, ignore_errors=True)
+        if not os.path.exists(folder):
+            return
+        time.sleep(0.25)
+    print("not removed:", folder)
+
+
 def run(options, packages, work):
     """Calls work(report, folder, options) with a temporary folder, and prints the count of checks.
     Returns the status of the program."""
@@ -82,6 +92,6 @@ def run(options, packages, work):
         if options.keep:
             print("kept:", folder)
         else:
-            shutil.rmtree(folder)
+            remove(folder)
     print(f"{report.passed} passed, {report.failed} failed")
     return 1 if report.failed else 0
