@@ -106,7 +106,7 @@ pyeclib() {
 # The plugin for Ceph, or the first of its packages that is missing.
 ceph() {
     local each missing=
-    for each in "g++ g++" "ceph-osd ceph-osd" "ceph-erasure-code-tool ceph-base" \
+    for each in "g++ g++" "ceph-osd ceph-osd" \
         "/usr/include/rados/librados.h librados-dev" "/usr/include/rados/buffer.h libradospp-dev"; do
         # shellcheck disable=SC2086 # two words
         [ -n "$missing" ] || has $each || missing=${each#* }

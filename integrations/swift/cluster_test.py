@@ -252,7 +252,7 @@ def swift_with_module(report, folder, options):
     def work(client):
         check_reads(report, cluster, client)
         gets = check_few_lost(report, cluster, client, options.times)
-        gets += check_four_lost(report, cluster, client)
+        gets += check_lost_sets(report, cluster, client)
         gets += check_devices(report, cluster, client)
         check_total(report, gets)
         check_rebuilds(report, cluster, client)
@@ -320,10 +320,11 @@ def check_ranges(report, client, path, body):
     report.check(f"{len(good)} ranges", all(good))
 
 
-def check_four_lost(report, cluster, client):
-    """All sets of four lost fragments. Several clients have an object each, and share the sets."""
-    sets = list(itertools.combinations(range(FRAGMENTS), 4))
-    bodies = {f"lrc/four{n}": payload(100_000, n) for n in range(CLIENTS)}
+def check_lost_sets(report, cluster, client):
+    """All sets of at most four lost fragments. Several clients have an object each, and share the
+    sets."""
+    sets = [lost for n in range(5) for lost in itertools.combinations(range(FRAGMENTS), n)]
+    bodies = {f"lrc/lost{n}": payload(100_000, n) for n in range(CLIENTS)}
     files = {}
     for path, body in bodies.items():
         client.put(path, body)
@@ -339,15 +340,12 @@ def check_four_lost(report, cluster, client):
     with concurrent.futures.ThreadPoolExecutor(CLIENTS) as pool:
         tasks = [pool.submit(try_sets, path, sets[n::CLIENTS]) for n, path in enumerate(bodies)]
         found = [each for task in tasks for each in task.result()]
-    differ = [
-        (lost, outcome)
-        for lost, outcome in found
-        if (outcome == ("right", 200)) != is_recoverable(lost)
-    ]
+    wanted = {True: ("right", 200), False: ("refused", 503)}
+    differ = [each for each in found if each[1] != wanted[is_recoverable(each[0])]]
     outcomes = collections.Counter(outcome for _, outcome in found)
     report.check(
-        f"{len(found)} sets of four lost: right if and only if the code determines the data",
-        not differ and outcomes[("right", 200)] == 1568,
+        f"{len(found)} sets of at most four lost: right if and only if they are recoverable",
+        not differ and outcomes[wanted[True]] == 2265 and outcomes[wanted[False]] == 252,
         f"{text_of(outcomes)}{f'; differ: {differ[:5]}' if differ else ''}",
     )
     return outcomes
