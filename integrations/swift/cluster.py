@@ -124,11 +124,12 @@ def free_ports(count):
 
 
 class Policy:
-    """A storage policy: replicated if `ec_type` is None, else in 12 + 4 fragments unless `settings`
-    say otherwise."""
+    """A storage policy: replicated if `ec_type` is None, else in `data` and four parity
+    fragments."""
 
-    def __init__(self, index, name, ec_type, **settings):
+    def __init__(self, index, name, ec_type, data=DATA, **settings):
         self.index, self.name, self.ec_type, self.settings = index, name, ec_type, settings
+        self.data, self.fragments = data, data + PARITIES if ec_type else 1
 
     def text(self):
         if self.ec_type is None:
@@ -137,7 +138,7 @@ class Policy:
             settings = {
                 "policy_type": "erasure_coding",
                 "ec_type": self.ec_type,
-                "ec_num_data_fragments": DATA,
+                "ec_num_data_fragments": self.data,
                 "ec_num_parity_fragments": PARITIES,
                 **self.settings,
             }
@@ -198,7 +199,7 @@ class Cluster:
         ]
         for policy in self.policies:
             name = f"object-{policy.index}" if policy.index else "object"
-            rings.append((name, FRAGMENTS if policy.ec_type else 1, places))
+            rings.append((name, policy.fragments, places))
         subprocess.run(
             [PYTHON, "-c", RINGS, repr((self.folder, PART_POWER, rings))],
             env=self.environment,

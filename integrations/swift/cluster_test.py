@@ -50,6 +50,7 @@ CLIENTS = 4
 
 REPLICATED = Policy(0, "replicated", None)
 LRC = Policy(1, "lrc", "libphazr", diskfile_module="egg:lrcstore_swift#main")
+SMALL = Policy(3, "small", "libphazr", 6, diskfile_module="egg:lrcstore_swift#main")
 ISA = Policy(2, "isa", "isa_l_rs_vand")
 
 
@@ -175,8 +176,8 @@ def check_fragments(report, cluster, path, body):
 class Away:
     """Some fragments of an object are away, or their whole devices, and back at the end."""
 
-    def __init__(self, cluster, path, numbers, files=None, whole_devices=False):
-        files = files or cluster.fragments(LRC, path)
+    def __init__(self, cluster, path, numbers, files=None, whole_devices=False, policy=LRC):
+        files = files or cluster.fragments(policy, path)
         places = [
             re.match(r".*/devices/d\d+", files[i]).group(0)
             if whole_devices
@@ -247,7 +248,8 @@ def wrong_of(outcomes):
 
 
 def swift_with_module(report, folder, options):
-    cluster = Cluster(f"{folder}/with", [REPLICATED, LRC, ISA], installed(folder), ("lrcstore",))
+    policies = [REPLICATED, LRC, ISA, SMALL]
+    cluster = Cluster(f"{folder}/with", policies, installed(folder), ("lrcstore",))
 
     def work(client):
         check_reads(report, cluster, client)
@@ -256,6 +258,7 @@ def swift_with_module(report, folder, options):
         gets += check_devices(report, cluster, client)
         check_total(report, gets)
         check_rebuilds(report, cluster, client)
+        check_small(report, cluster, client)
         check_auditor(report, cluster, f"{client.account}/lrc/o{SIZES[-1]}")
         check_command_line(report, client, folder)
         check_large(report, client, options.large * MIB)
@@ -406,7 +409,7 @@ def rebuild(cluster, policy, path, numbers, runs=3):
     files = cluster.fragments(policy, path)
     saved = replace_devices(cluster, files, numbers)
     before, used = len(cluster.log("object")), 0
-    while used < runs and set(cluster.fragments(policy, path)) != set(range(FRAGMENTS)):
+    while used < runs and len(cluster.fragments(policy, path)) < policy.fragments:
         used += 1
         reconstruct(cluster, "-p", partition_of(files[numbers[0]]))
     lines = cluster.log("object")[before:].splitlines()
@@ -436,6 +439,24 @@ def check_rebuilds(report, cluster, client):
     report.check(
         "isa_l_rs_vand, as without the module: [3] is rebuilt", equal == [3], f"{gets} GETs"
     )
+
+
+def check_small(report, cluster, client):
+    """LRC(6,2,2): groups 0 to 2 with 6, and 3 to 5 with 7; global parities 8 and 9."""
+    path, body = "small/object", payload(SIZES[-1])
+    client.put(path, body)
+    for lost, wanted in (((0, 1, 8), ("right", 200)), ((0, 1, 2, 6), ("refused", 503))):
+        with Away(cluster, f"{client.account}/{path}", lost, policy=SMALL):
+            outcomes = count_gets(client, path, body, 10)
+        name = f"LRC(6,2,2), lost {list(lost)}: {wanted[0]}"
+        report.check(name, set(outcomes) == {wanted}, text_of(outcomes))
+    for lost, most in ((1, 3), (9, 6)):
+        equal, gets = rebuild(cluster, SMALL, f"{client.account}/{path}", (lost,))
+        report.check(
+            f"LRC(6,2,2): [{lost}] is rebuilt, byte-equal, by at most {most} fragment GETs",
+            equal == [lost] and gets <= most,
+            f"{gets} GETs",
+        )
 
 
 def check_auditor(report, cluster, path):
@@ -632,7 +653,7 @@ def wrong_installations(report, folder, options):
     for kind in ("proxy", "object"):
         program = f"swift-{kind}-server"
         refused(report, folder, "no module", program, "lrcstore_swift", PYTHONPATH="")
-    ten = Policy(1, "lrc", LRC.ec_type, ec_num_data_fragments=10)
+    ten = Policy(1, "lrc", LRC.ec_type, 10)
     refused(report, folder, "10 data fragments", "swift-proxy-server", "pyeclib_c_init ERROR", ten)
     text = subprocess.run(
         [PYTHON, "-c", OTHER_RELEASE],
