@@ -607,8 +607,8 @@ def check_exchanged(report, cluster, other, policy, outcomes):
     )
 
 
-def refused(report, folder, name, program, words, policy=LRC, **environment):
-    """Whether a service ends as it starts, and prints the words."""
+def start(folder, name, program, policy=LRC, **environment):
+    """Starts a service that ought to end at once: its status, and what it printed."""
     cluster = Cluster(
         f"{folder}/{name} {program}".replace(" ", "_"),
         [REPLICATED, policy],
@@ -626,11 +626,7 @@ def refused(report, folder, name, program, words, policy=LRC, **environment):
         status = 0
     finally:
         cluster.stop()
-    text = cluster.log("service")
-    good = status != 0 and words in text
-    report.check(
-        f"{name}: {program} does not start", good, "" if good else f"status {status}: {text[-500:]}"
-    )
+    return status, cluster.log("service")
 
 
 OTHER_RELEASE = """
@@ -646,15 +642,35 @@ for load in (lambda: proxy.filter_factory({}), lambda: __import__("lrcstore_swif
 
 
 def wrong_installations(report, folder, options):
-    no_library = {"LD_LIBRARY_PATH": ""}
-    words = f"Wrong ec_type {LRC.ec_type} for policy {LRC.name}"
-    for kind in ("proxy", "object", "account", "container"):
-        refused(report, folder, "no library", f"swift-{kind}-server", words, **no_library)
-    for kind in ("proxy", "object"):
-        program = f"swift-{kind}-server"
-        refused(report, folder, "no module", program, "lrcstore_swift", PYTHONPATH="")
+    proxy, server = "swift-proxy-server", "swift-object-server"
+    others = ("swift-account-server", "swift-container-server")
     ten = Policy(1, "lrc", LRC.ec_type, 10)
-    refused(report, folder, "10 data fragments", "swift-proxy-server", "pyeclib_c_init ERROR", ten)
+    wrong_type = f"Wrong ec_type {LRC.ec_type} for policy {LRC.name}"
+    mistakes = [
+        ("no library", each, wrong_type, LRC, {"LD_LIBRARY_PATH": ""})
+        for each in (proxy, server, *others)
+    ]
+    mistakes += [
+        ("no module", each, "lrcstore_swift", LRC, {"PYTHONPATH": ""}) for each in (proxy, server)
+    ]
+    mistakes += [("10 data fragments", proxy, "pyeclib_c_init ERROR", ten, {})]
+    with concurrent.futures.ThreadPoolExecutor(CLIENTS) as pool:
+        tasks = [
+            pool.submit(start, folder, name, program, policy, **environment)
+            for name, program, _, policy, environment in mistakes
+        ]
+    for (name, program, words, _, _), task in zip(mistakes, tasks):
+        status, text = task.result()
+        good = status != 0 and words in text
+        report.check(
+            f"{name}: {program} does not start",
+            good,
+            "" if good else f"status {status}: {text[-500:]}",
+        )
+    check_other_release(report, folder)
+
+
+def check_other_release(report, folder):
     text = subprocess.run(
         [PYTHON, "-c", OTHER_RELEASE],
         env=dict(os.environ, **installed(folder)),
@@ -691,7 +707,7 @@ def main():
     parser.add_argument("--keep", action="store_true", help="keep the folder, with the logs")
     parser.add_argument("--only", choices=PARTS, action="append", help="run this part")
     parser.add_argument("--large", type=int, default=100, help="the largest object, in MiB")
-    parser.add_argument("--times", type=int, default=50, help="GETs for each set of fragments")
+    parser.add_argument("--times", type=int, default=30, help="GETs for each set of fragments")
     return harness.run(parser.parse_args(), PACKAGES, work)
 
 
