@@ -6,6 +6,7 @@ one of them prints. Each clause that README.md quotes is the function's own. Eac
 of 100 characters.
 """
 
+import glob
 import os
 import re
 import sys
@@ -18,7 +19,9 @@ PROGRAMS = ("hello", "guide")
 BLOCK = re.compile(r"^```(\w+)\n(.*?)^```$", re.M | re.S)
 QUOTED = re.compile(r"^(?:\d +)?([\w:]+) +(ensures .*)$")
 LINK = re.compile(r"\]\(([^)#:]+)\)")
-PATH = re.compile(r"`((?:bindings|crates|docs|examples|include|integrations|tests|tools)/[\w./-]*\w)`")
+FOLDERS = "bindings|crates|docs|examples|include|integrations|tests|tools"
+PATH = re.compile(rf"`((?:{FOLDERS})/[\w./-]*\w)`")
+DOCUMENTS = ("docs", "integrations/*", "tests/corpus")
 MOST_LINES, LONGEST = 90, 100
 
 
@@ -89,9 +92,10 @@ def long_readme():
 
 
 def main():
-    folders = ["docs", "tests/corpus"] + [f"integrations/{name}" for name in ("liberasurecode", "swift", "ceph")]
     documents = ["README.md", "CHANGES.md"]
-    documents += sorted(f"{folder}/{name}" for folder in folders for name in os.listdir(os.path.join(TOP, folder)) if name.endswith(".md"))
+    for folder in DOCUMENTS:
+        found = glob.glob(os.path.join(TOP, folder, "*.md"))
+        documents += sorted(os.path.relpath(path, TOP) for path in found)
     texts = [(read(path), sources.functions_of(read(path))) for path in sources.files_of(CRATES)]
     code, printed = program_texts()
     wrong = [w for document in ("README.md", "docs/guide.md") for w in wrong_blocks(document, texts, code, printed)]

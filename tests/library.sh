@@ -1,5 +1,6 @@
 #!/usr/bin/env bash
-# Tests of the coder for C, C++, Rust and Python and of its use under liberasurecode and Ceph, which `rt ci` proves and does not run.
+# Tests of the coder for C, C++, Rust and Python and of its use under liberasurecode and Ceph, which
+# `rt ci` proves and does not run.
 # The last line says how many passed, and what was skipped. A package that is missing is installed by its name where apt-get can.
 set -u
 cd "$(dirname "$0")/.."
@@ -92,7 +93,8 @@ example_in_python() { python bindings/python/rebuild.py; }
 example_in_rust() { rust run --example rebuild; }
 
 liberasurecode() {
-    gcc -std=c11 -O1 -Wall -Wextra -Werror -I include -I integrations "$backend/lrc_backend.c" "$backend/test_backend.c" "$archive" -lerasurecode "$@" -o "$work/backend" && "$work/backend"
+    gcc -std=c11 -O1 -Wall -Wextra -Werror -I include -I integrations "$@" "$backend/lrc_backend.c" \
+        "$backend/test_backend.c" "$archive" -lerasurecode -o "$work/backend" && "$work/backend"
 }
 
 liberasurecode_sanitized() {
@@ -100,14 +102,15 @@ liberasurecode_sanitized() {
 }
 
 pyeclib() {
-    "$backend/build.sh" "$work" && LD_LIBRARY_PATH="$work" /usr/bin/python3 "$backend/test_pyeclib.py"
+    "$backend/build.sh" "$work" \
+        && LD_LIBRARY_PATH="$work" /usr/bin/python3 "$backend/test_pyeclib.py"
 }
 
 # The plugin for Ceph, or the first of its packages that is missing.
 ceph() {
     local each missing=
-    for each in "g++ g++" "ceph-osd ceph-osd" \
-        "/usr/include/rados/librados.h librados-dev" "/usr/include/rados/buffer.h libradospp-dev"; do
+    for each in "g++ g++" "ceph-osd ceph-osd" "/usr/include/rados/librados.h librados-dev" \
+        "/usr/include/rados/buffer.h libradospp-dev"; do
         # shellcheck disable=SC2086 # two words
         [ -n "$missing" ] || has $each || missing=${each#* }
     done
@@ -132,8 +135,9 @@ test_of "Python" python3 python3 python tests/library/bindings.py
 test_of "declarations" python3 python3 python tests/library/declarations.py
 test_of "Rust" cargo cargo rust_tests
 test_of "examples" cargo cargo examples
-test_of "liberasurecode" /usr/include/liberasurecode/erasurecode_backend.h liberasurecode-dev liberasurecode
-test_of "liberasurecode, sanitizers of gcc" /usr/include/liberasurecode/erasurecode_backend.h liberasurecode-dev liberasurecode_sanitized
+header=/usr/include/liberasurecode/erasurecode_backend.h
+test_of "liberasurecode" "$header" liberasurecode-dev liberasurecode
+test_of "liberasurecode, sanitizers of gcc" "$header" liberasurecode-dev liberasurecode_sanitized
 test_of "PyECLib" /usr/lib/python3/dist-packages/pyeclib python3-pyeclib pyeclib
 ceph
 printf '%d tests of the library passed, %d failed, %d skipped%s\n' "$passed" "$failed" "${#skipped[@]}" "${skipped[*]:+ (${skipped[*]})}"
