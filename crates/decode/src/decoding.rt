@@ -1,0 +1,181 @@
+//! Decoding: the bytes of any lost fragments at once.
+ghost use Rattle.std.specs.Prelude.{◌≡◌, ℕ, ◌+◌, ◌-◌, ◌<◌, ◌≤◌, ◌↔◌, IsTrue, true, false, None, IfSome, IsSomeAnd, MatchOption, length, slice_index, slice_index_or};
+ghost use Rattle.lrc_code.specs.Code.{fragment_count, Open};
+ghost use Rattle.lrc_code.specs.Stripe.{is_absent, byte_at, Reaches, HasRange, Rebuilds};
+ghost use Rattle.syndromes.specs.Syndromes.{column_at, HaveBytes};
+ghost use Rattle.decode.specs.Syndrome.{AreShares};
+ghost use Rattle.decode.specs.Decoding.{HasOpen, IsDecodable, IsDecoded, fragment_at, byte_of};
+
+use crate::shares::shares_of;
+use lrc_code::{Code, Left, is_alone_in, is_open_in, rebuild_to};
+use syndromes::combine_syndromes;
+
+/// The fragment at one of the sixteen places: the groups of LRC(6,2,2) leave the last three of each six free.
+fn fragment_at(code: Code, place: usize) -> Option<usize>
+    requires { place < 16 }
+    ensures value { result ≡ fragment_at code place }
+    ensures inside { IfSome result (λ f. f < fragment_count code) }
+{
+    match code {
+        Code::Wide => Some(place),
+        Code::Small => match place {
+            0..3 => Some(place),
+            6..9 => Some(place - 3),
+            12..16 => Some(place - 6),
+            _ => None,
+        },
+    }
+}
+
+/// The bytes `from..to` of the fragment at a place, or None where there is none or it is absent.
+fn part_at<'a>(left: &Left<'a>, place: usize, from: usize, to: usize) -> Option<&'a [u8]>
+    requires inside { place < 16 }
+    requires reach { (i : ℕ) → i < fragment_count left.now.code → is_absent left.now.fragments i ≡ false → Reaches left.now.fragments to i }
+    requires range { from ≤ to }
+    ensures long { IfSome result (λ part. length part.now ≡ to - from) }
+    ensures bytes { (k : ℕ) → k < to - from → Rattle.syndromes.specs.Syndromes.byte_of result k ≡ byte_of (fragment_at left.now.code place) (byte_at left.now.fragments (from + k)) }
+{
+    let f = fragment_at(left.code, place)?;
+    let bytes = left.fragments[f]?;
+    Some(&bytes[from..to])
+}
+
+/// The bytes `from..to` of the fragments that are present, at their places.
+fn parts_of<'a>(left: &Left<'a>, from: usize, to: usize) -> [Option<&'a [u8]>; 16]
+    requires reach { (i : ℕ) → i < fragment_count left.now.code → is_absent left.now.fragments i ≡ false → Reaches left.now.fragments to i }
+    requires range { from ≤ to }
+    ensures long { HaveBytes result (to - from) }
+    ensures bytes { (place k : ℕ) → place < 16 → k < to - from → column_at result k place ≡ byte_of (fragment_at left.now.code place) (byte_at left.now.fragments (from + k)) }
+{
+    let mut parts: [Option<&'a [u8]>; 16] = [None; 16];
+    for place in 0..16 {
+        parts[place] = part_at(left, place, from, to);
+    }
+    parts
+}
+
+/// Whether a fragment is chosen that is open.
+fn is_chosen_open(left: &Left, chosen: Option<u8>) -> bool
+    requires { IfSome chosen (λ f. f < fragment_count left.now.code) }
+    ensures { IsTrue result ↔ IsSomeAnd chosen (Open left.now.code (is_absent left.now.fragments)) }
+{
+    match chosen {
+        None => false,
+        Some(f) => is_open_in(left.code, left.lost(), f),
+    }
+}
+
+/// The shares of a fragment that is chosen.
+fn shares_for(left: &Left, chosen: Option<u8>) -> Option<[u8; 4]>
+    requires decodable { IsDecodable left.now.code left.now.fragments chosen }
+    ensures { MatchOption chosen (result ≡ None) (λ f. IsSomeAnd result (λ a. AreShares left.now.code (is_absent left.now.fragments) f a)) }
+{
+    shares_of(left.code, left.lost(), chosen?)
+}
+
+/// Writes the bytes of the fragments that are chosen, all of them by the syndromes.
+fn decode_by_syndromes(
+    left: &Left,
+    chosen: [Option<u8>; 4],
+    from: usize,
+    to: usize,
+    first: &mut [u8],
+    second: &mut [u8],
+    third: &mut [u8],
+    fourth: &mut [u8],
+)
+    requires decodable { (i : ℕ) → i < 4 → IsDecodable left.now.code left.now.fragments (slice_index_or chosen i None) }
+    requires reach { (i : ℕ) → i < fragment_count left.now.code → is_absent left.now.fragments i ≡ false → Reaches left.now.fragments to i }
+    requires range { from ≤ to }
+    requires room { IfSome (slice_index_or chosen 0 None) (λ _. length first.old ≡ to - from) }
+    requires room_second { IfSome (slice_index_or chosen 1 None) (λ _. length second.old ≡ to - from) }
+    requires room_third { IfSome (slice_index_or chosen 2 None) (λ _. length third.old ≡ to - from) }
+    requires room_fourth { IfSome (slice_index_or chosen 3 None) (λ _. length fourth.old ≡ to - from) }
+    ensures first { IsDecoded left.now.code left.now.fragments (slice_index_or chosen 0 None) from to first.old first.new }
+    ensures second { IsDecoded left.now.code left.now.fragments (slice_index_or chosen 1 None) from to second.old second.new }
+    ensures third { IsDecoded left.now.code left.now.fragments (slice_index_or chosen 2 None) from to third.old third.new }
+    ensures fourth { IsDecoded left.now.code left.now.fragments (slice_index_or chosen 3 None) from to fourth.old fourth.new }
+{
+    let a = shares_for(left, chosen[0]);
+    let b = shares_for(left, chosen[1]);
+    let c = shares_for(left, chosen[2]);
+    let d = shares_for(left, chosen[3]);
+    let parts = parts_of(left, from, to);
+    combine_syndromes(&parts, to - from, a, b, c, d, first, second, third, fourth);
+}
+
+/// Writes the bytes of a fragment that is chosen by its recipe.
+fn rebuild_chosen(left: &Left, chosen: Option<u8>, from: usize, to: usize, target: &mut [u8])
+    requires decodable { IsDecodable left.now.code left.now.fragments chosen }
+    requires reach { (i : ℕ) → i < fragment_count left.now.code → is_absent left.now.fragments i ≡ false → Reaches left.now.fragments to i }
+    requires range { from ≤ to }
+    requires room { IfSome chosen (λ _. length target.old ≡ to - from) }
+    ensures { IsDecoded left.now.code left.now.fragments chosen from to target.old target.new }
+{
+    if let Some(f) = chosen {
+        let _ = rebuild_to(left, usize::from(f), from, to, target);
+    }
+}
+
+/// 1 where a fragment is chosen that is not alone lost in its group, so that its recipe has up to twelve terms.
+fn is_far(left: &Left, chosen: Option<u8>) -> u32
+    requires { IfSome chosen (λ f. f < fragment_count left.now.code) }
+    ensures { result ≤ 1 }
+{
+    match chosen {
+        Some(f) if !is_alone_in(left.code, left.lost(), f) => 1,
+        _ => 0,
+    }
+}
+
+/// Writes the bytes `from..to` of up to four absent fragments, as every stripe has them that agrees with what is present, and says whether
+/// it did: it does exactly where none of those chosen is open, and else changes nothing. The target of a fragment stands at the place
+/// of its number in `chosen`; where that is None, the target is left as it is. Of more than four absent fragments one is open.
+///
+/// Fragments that are alone lost in their groups are read from these alone; two or more others are made in one pass over the
+/// fragments that are present. It asks for no memory.
+pub fn decode_to(
+    left: &Left,
+    chosen: [Option<u8>; 4],
+    from: usize,
+    to: usize,
+    first: &mut [u8],
+    second: &mut [u8],
+    third: &mut [u8],
+    fourth: &mut [u8],
+) -> bool
+    requires absent { (i : ℕ) → i < 4 → IfSome (slice_index_or chosen i None) (λ f. (f < fragment_count left.now.code) × (is_absent left.now.fragments f ≡ true)) }
+    requires reach { (i : ℕ) → i < fragment_count left.now.code → is_absent left.now.fragments i ≡ false → Reaches left.now.fragments to i }
+    requires range { from ≤ to }
+    requires room { IfSome (slice_index_or chosen 0 None) (λ _. length first.old ≡ to - from) }
+    requires room_second { IfSome (slice_index_or chosen 1 None) (λ _. length second.old ≡ to - from) }
+    requires room_third { IfSome (slice_index_or chosen 2 None) (λ _. length third.old ≡ to - from) }
+    requires room_fourth { IfSome (slice_index_or chosen 3 None) (λ _. length fourth.old ≡ to - from) }
+    ensures open { (result ≡ false) ↔ HasOpen left.now.code (is_absent left.now.fragments) chosen }
+    ensures kept { result ≡ false → (first.new ≡ first.old) × (second.new ≡ second.old) × (third.new ≡ third.old) × (fourth.new ≡ fourth.old) }
+    ensures first { result ≡ true → IsDecoded left.now.code left.now.fragments (slice_index_or chosen 0 None) from to first.old first.new }
+    ensures second { result ≡ true → IsDecoded left.now.code left.now.fragments (slice_index_or chosen 1 None) from to second.old second.new }
+    ensures third { result ≡ true → IsDecoded left.now.code left.now.fragments (slice_index_or chosen 2 None) from to third.old third.new }
+    ensures fourth { result ≡ true → IsDecoded left.now.code left.now.fragments (slice_index_or chosen 3 None) from to fourth.old fourth.new }
+{
+    if is_chosen_open(left, chosen[0])
+        || is_chosen_open(left, chosen[1])
+        || is_chosen_open(left, chosen[2])
+        || is_chosen_open(left, chosen[3])
+    {
+        return false;
+    }
+    let far = is_far(left, chosen[0])
+        + is_far(left, chosen[1])
+        + is_far(left, chosen[2])
+        + is_far(left, chosen[3]);
+    if far > 1 {
+        decode_by_syndromes(left, chosen, from, to, first, second, third, fourth);
+    } else {
+        rebuild_chosen(left, chosen[0], from, to, first);
+        rebuild_chosen(left, chosen[1], from, to, second);
+        rebuild_chosen(left, chosen[2], from, to, third);
+        rebuild_chosen(left, chosen[3], from, to, fourth);
+    }
+    true
+}
