@@ -50,10 +50,10 @@ c_program() {
 
 # The archive asks for no memory: for nothing but what compilers count on. Its names are those of the header.
 symbols() {
-    local wanted="lrc_add lrc_encode lrc_encode_add lrc_is_open lrc_rebuild lrc_recipe " names others
+    local wanted="lrc_add lrc_decode lrc_encode lrc_encode_add lrc_is_open lrc_rebuild lrc_recipe " names others
     names=$(nm -g --defined-only "$archive" | awk 'NF == 3 { print $3 }' | sort | tr '\n' ' ')
     others=$(nm -u "$archive" | awk 'NF == 2 { print $2 }' | grep -vxE 'mem(cmp|cpy|move|set)')
-    [ "$names" = "$wanted" ] && [ -z "$others" ] && echo "symbols: six functions, which ask for no memory"
+    [ "$names" = "$wanted" ] && [ -z "$others" ] && echo "symbols: seven functions, which ask for no memory"
 }
 
 header() {
