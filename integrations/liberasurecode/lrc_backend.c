@@ -70,27 +70,35 @@ static char *block_of(const struct lrc *lrc, char **data, char **parity, int fra
     return fragment < lrc->k ? data[fragment] : parity[fragment - lrc->k];
 }
 
+/* The blocks that are left, and NULL for the lost ones. */
+static void find_left(const struct lrc *lrc, char **data, char **parity, uint16_t lost, const uint8_t **left)
+{
+    int i;
+    for (i = 0; i < lrc->k + PARITIES; i++)
+        left[i] = lost >> i & 1 ? NULL : (const uint8_t *)block_of(lrc, data, parity, i);
+}
+
 static int rebuild(const struct lrc *lrc, char **data, char **parity, uint16_t lost, int fragment, int blocksize)
 {
     const uint8_t *left[MOST];
-    int i;
     if (fragment < 0 || fragment >= lrc->k + PARITIES)
         return -EINVALIDPARAMS;
-    for (i = 0; i < lrc->k + PARITIES; i++)
-        left[i] = lost >> i & 1 ? NULL : (const uint8_t *)block_of(lrc, data, parity, i);
+    find_left(lrc, data, parity, lost, left);
     return result_of(lrc_rebuild_arrays((size_t)lrc->k, (size_t)blocksize, left, (uint8_t)fragment,
                                         (uint8_t *)block_of(lrc, data, parity, fragment)));
 }
 
-static int lrc_decode(void *desc, char **data, char **parity, int *missing, int blocksize)
+static int lrc_decode_blocks(void *desc, char **data, char **parity, int *missing, int blocksize)
 {
     const struct lrc *lrc = desc;
-    uint16_t lost = set_of(missing);
-    int fragment, result = 0;
-    for (fragment = 0; fragment < lrc->k + PARITIES && result == 0; fragment++)
-        if (lost >> fragment & 1)
-            result = rebuild(lrc, data, parity, lost, fragment, blocksize);
-    return result;
+    const uint16_t lost = set_of(missing);
+    const uint8_t *left[MOST];
+    uint8_t *targets[MOST];
+    int i;
+    find_left(lrc, data, parity, lost, left);
+    for (i = 0; i < lrc->k + PARITIES; i++)
+        targets[i] = lost >> i & 1 ? (uint8_t *)block_of(lrc, data, parity, i) : NULL;
+    return result_of(lrc_decode_arrays((size_t)lrc->k, (size_t)blocksize, left, targets));
 }
 
 static int lrc_reconstruct(void *desc, char **data, char **parity, int *missing, int fragment, int blocksize)
@@ -142,7 +150,7 @@ static size_t lrc_none(void *desc, int size)
 }
 
 static struct ec_backend_op_stubs lrc_ops = {
-    lrc_init, lrc_exit, lrc_encode_blocks, lrc_decode, lrc_fragments_needed,
+    lrc_init, lrc_exit, lrc_encode_blocks, lrc_decode_blocks, lrc_fragments_needed,
     lrc_reconstruct, lrc_element_size, lrc_is_compatible_with, lrc_none, lrc_none
 };
 
