@@ -1,3 +1,4 @@
 pub mod Terms
 pub mod Law
 pub mod Places
+pub mod Chosen

@@ -3,8 +3,12 @@ use Rattle.std.specs.Prelude.{◌≡◌, ℕ, ◌-◌, ◌<◌, Bool, true, List
 use Rattle.std.specs.Borrow.{Bor}
 use Rattle.lrc_code.specs.declared.Code.{Code}
 use Rattle.lrc_code.specs.declared.Code.TheVariants.{Wide, Small}
-use Rattle.lrc_code.specs.Code.{fragment_count, Open}
+use Rattle.lrc_code.specs.Code.{fragment_count, is_lost, Open}
 use Rattle.lrc_code.specs.Stripe.{is_absent, Rebuilds}
+
+-- the set has the numbers of the fragments that are absent
+abbrev pub AreAbsent : Code → List (Option (Bor (List ℕ))) → ℕ → Type 0
+AreAbsent code fragments lost = (i : ℕ) → i < fragment_count code → is_lost lost i ≡ is_absent fragments i
 
 -- one of the four fragments that are chosen is open
 abbrev pub HasOpen : Code → (ℕ → Bool) → List (Option ℕ) → Type 0

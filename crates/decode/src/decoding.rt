@@ -4,10 +4,10 @@ ghost use Rattle.lrc_code.specs.Code.{fragment_count, Open};
 ghost use Rattle.lrc_code.specs.Stripe.{is_absent, byte_at, Reaches, HasRange, Rebuilds};
 ghost use Rattle.syndromes.specs.Syndromes.{column_at, HaveBytes};
 ghost use Rattle.decode.specs.Syndrome.{AreShares};
-ghost use Rattle.decode.specs.Decoding.{HasOpen, IsDecodable, IsDecoded, fragment_at, byte_of};
+ghost use Rattle.decode.specs.Decoding.{AreAbsent, HasOpen, IsDecodable, IsDecoded, fragment_at, byte_of};
 
 use crate::shares::shares_of;
-use lrc_code::{Code, Left, is_alone_in, is_open_in, rebuild_to};
+use lrc_code::{Code, Left, LostSet, is_alone_in, is_open_in, rebuild_to};
 use syndromes::combine_syndromes;
 
 /// The fragment at one of the sixteen places: the groups of LRC(6,2,2) leave the last three of each six free.
@@ -55,27 +55,45 @@ fn parts_of<'a>(left: &Left<'a>, from: usize, to: usize) -> [Option<&'a [u8]>; 1
 }
 
 /// Whether a fragment is chosen that is open.
-fn is_chosen_open(left: &Left, chosen: Option<u8>) -> bool
-    requires { IfSome chosen (λ f. f < fragment_count left.now.code) }
+fn is_chosen_open(left: &Left, lost: LostSet, chosen: Option<u8>) -> bool
+    requires inside { IfSome chosen (λ f. f < fragment_count left.now.code) }
+    requires absent { AreAbsent left.now.code left.now.fragments lost }
     ensures { IsTrue result ↔ IsSomeAnd chosen (Open left.now.code (is_absent left.now.fragments)) }
 {
     match chosen {
         None => false,
-        Some(f) => is_open_in(left.code, left.lost(), f),
+        Some(f) => is_open_in(left.code, lost, f),
     }
 }
 
+/// Whether one of the fragments that are chosen is open. None is where the excess is at most 2.
+fn has_open(left: &Left, lost: LostSet, chosen: &[Option<u8>; 4]) -> bool
+    requires inside { (i : ℕ) → i < 4 → IfSome (slice_index_or chosen.now i None) (λ f. f < fragment_count left.now.code) }
+    requires absent { AreAbsent left.now.code left.now.fragments lost }
+    ensures { IsTrue result ↔ HasOpen left.now.code (is_absent left.now.fragments) chosen.now }
+{
+    if lost.excess_in(left.code) <= 2 {
+        return false;
+    }
+    is_chosen_open(left, lost, chosen[0])
+        || is_chosen_open(left, lost, chosen[1])
+        || is_chosen_open(left, lost, chosen[2])
+        || is_chosen_open(left, lost, chosen[3])
+}
+
 /// The shares of a fragment that is chosen.
-fn shares_for(left: &Left, chosen: Option<u8>) -> Option<[u8; 4]>
+fn shares_for(left: &Left, lost: LostSet, chosen: Option<u8>) -> Option<[u8; 4]>
     requires decodable { IsDecodable left.now.code left.now.fragments chosen }
+    requires absent { AreAbsent left.now.code left.now.fragments lost }
     ensures { MatchOption chosen (result ≡ None) (λ f. IsSomeAnd result (λ a. AreShares left.now.code (is_absent left.now.fragments) f a)) }
 {
-    shares_of(left.code, left.lost(), chosen?)
+    shares_of(left.code, lost, chosen?)
 }
 
 /// Writes the bytes of the fragments that are chosen, all of them by the syndromes.
 fn decode_by_syndromes(
     left: &Left,
+    lost: LostSet,
     chosen: [Option<u8>; 4],
     from: usize,
     to: usize,
@@ -84,6 +102,7 @@ fn decode_by_syndromes(
     third: &mut [u8],
     fourth: &mut [u8],
 )
+    requires absent { AreAbsent left.now.code left.now.fragments lost }
     requires decodable { (i : ℕ) → i < 4 → IsDecodable left.now.code left.now.fragments (slice_index_or chosen i None) }
     requires reach { (i : ℕ) → i < fragment_count left.now.code → is_absent left.now.fragments i ≡ false → Reaches left.now.fragments to i }
     requires range { from ≤ to }
@@ -96,10 +115,10 @@ fn decode_by_syndromes(
     ensures third { IsDecoded left.now.code left.now.fragments (slice_index_or chosen 2 None) from to third.old third.new }
     ensures fourth { IsDecoded left.now.code left.now.fragments (slice_index_or chosen 3 None) from to fourth.old fourth.new }
 {
-    let a = shares_for(left, chosen[0]);
-    let b = shares_for(left, chosen[1]);
-    let c = shares_for(left, chosen[2]);
-    let d = shares_for(left, chosen[3]);
+    let a = shares_for(left, lost, chosen[0]);
+    let b = shares_for(left, lost, chosen[1]);
+    let c = shares_for(left, lost, chosen[2]);
+    let d = shares_for(left, lost, chosen[3]);
     let parts = parts_of(left, from, to);
     combine_syndromes(&parts, to - from, a, b, c, d, first, second, third, fourth);
 }
@@ -118,12 +137,12 @@ fn rebuild_chosen(left: &Left, chosen: Option<u8>, from: usize, to: usize, targe
 }
 
 /// 1 where a fragment is chosen that is not alone lost in its group, so that its recipe has up to twelve terms.
-fn is_far(left: &Left, chosen: Option<u8>) -> u32
-    requires { IfSome chosen (λ f. f < fragment_count left.now.code) }
+fn is_far(code: Code, lost: LostSet, chosen: Option<u8>) -> u32
+    requires { IfSome chosen (λ f. f < fragment_count code) }
     ensures { result ≤ 1 }
 {
     match chosen {
-        Some(f) if !is_alone_in(left.code, left.lost(), f) => 1,
+        Some(f) if !is_alone_in(code, lost, f) => 1,
         _ => 0,
     }
 }
@@ -158,19 +177,16 @@ pub fn decode_to(
     ensures third { result ≡ true → IsDecoded left.now.code left.now.fragments (slice_index_or chosen 2 None) from to third.old third.new }
     ensures fourth { result ≡ true → IsDecoded left.now.code left.now.fragments (slice_index_or chosen 3 None) from to fourth.old fourth.new }
 {
-    if is_chosen_open(left, chosen[0])
-        || is_chosen_open(left, chosen[1])
-        || is_chosen_open(left, chosen[2])
-        || is_chosen_open(left, chosen[3])
-    {
+    let lost = left.lost();
+    if has_open(left, lost, &chosen) {
         return false;
     }
-    let far = is_far(left, chosen[0])
-        + is_far(left, chosen[1])
-        + is_far(left, chosen[2])
-        + is_far(left, chosen[3]);
+    let far = is_far(left.code, lost, chosen[0])
+        + is_far(left.code, lost, chosen[1])
+        + is_far(left.code, lost, chosen[2])
+        + is_far(left.code, lost, chosen[3]);
     if far > 1 {
-        decode_by_syndromes(left, chosen, from, to, first, second, third, fourth);
+        decode_by_syndromes(left, lost, chosen, from, to, first, second, third, fourth);
     } else {
         rebuild_chosen(left, chosen[0], from, to, first);
         rebuild_chosen(left, chosen[1], from, to, second);

@@ -59,17 +59,20 @@ fn chosen(is_chosen: bool, made: Option<[u8; 4]>) -> Option<[u8; 4]>
     if is_chosen { made } else { None }
 }
 
-/// About how long a factor takes: a product takes as long as some eight sums.
+/// How many sums take about as long as a product: more than a formula without products has.
+const PRODUCT: u32 = 8;
+
+/// About how long a factor takes, in sums.
 fn cost_of(factor: u8) -> u32 {
     match factor {
         0 => 0,
         1 => 1,
-        _ => 8,
+        _ => PRODUCT,
     }
 }
 
 impl Formula {
-    /// About how long the formula takes.
+    /// About how long the formula takes, in sums.
     fn cost(&self) -> u32 {
         let products = cost_of(self.factors[0])
             .wrapping_add(cost_of(self.factors[1]))
@@ -96,7 +99,16 @@ fn cheapest(
     ensures third { IsNoneOr result.third third }
 {
     let mut best = formula_with(shares, None, None, None);
-    for targets in 1..8u8 {
+    let count: u8 = match (first, second, third) {
+        (_, _, Some(_)) => 8,
+        (_, Some(_), _) => 4,
+        (Some(_), _, _) => 2,
+        _ => 1,
+    };
+    for targets in 1..count {
+        if best.cost() < PRODUCT {
+            return best;
+        }
         let tried = formula_with(
             shares,
             chosen(targets & 1 != 0, first),
