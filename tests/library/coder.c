@@ -329,13 +329,50 @@ static void test_ends(size_t data_fragments)
     printf("%zu data fragments: lengths 0 to %d, each fragment before a page without access\n", data_fragments, LONGEST);
 }
 
-/* Two fragments of a group and two of the other are lost, and then a group's three: by the syndromes of blocks and of parts of one. */
+/* Long fragments of every lost set that can be rebuilt whole, at once: by the syndromes of blocks, and of a part of one. */
+static void test_decoded_sets(size_t data_fragments)
+{
+    enum { LONG = 32769 };
+    static uint8_t bytes[MOST][LONG], decoded[MOST][LONG];
+    const size_t count = data_fragments + 4;
+    const uint8_t *fragments[MOST];
+    uint8_t *parities[4];
+    unsigned whole = 0;
+    for (size_t i = 0; i < count; i++)
+        fragments[i] = bytes[i];
+    for (size_t i = 0; i < data_fragments; i++)
+        fill(bytes[i], LONG, (uint32_t)i);
+    for (size_t i = 0; i < 4; i++)
+        parities[i] = bytes[data_fragments + i];
+    CHECK(lrc_encode_arrays(data_fragments, LONG, fragments, parities) == LRC_DONE);
+    for (unsigned lost = 0; lost < 1u << count; lost++) {
+        const uint8_t *left[MOST];
+        uint8_t *targets[MOST];
+        if (__builtin_popcount(lost) > 4)
+            continue;
+        for (size_t i = 0; i < count; i++) {
+            left[i] = lost >> i & 1 ? NULL : bytes[i];
+            targets[i] = lost >> i & 1 ? decoded[i] : NULL;
+            if (targets[i])
+                memset(decoded[i], 0xEE, LONG);
+        }
+        if (lrc_decode_arrays(data_fragments, LONG, left, targets) != LRC_DONE)
+            continue;
+        whole++;
+        for (size_t i = 0; i < count; i++)
+            CHECK(!targets[i] || memcmp(decoded[i], bytes[i], LONG) == 0);
+    }
+    CHECK(whole == (data_fragments == WIDE ? 2265 : 356));
+    printf("%zu data fragments: %u lost sets decoded whole, %d bytes a fragment\n", data_fragments, whole, LONG);
+}
+
+/* Four fragments at once, of which all and their targets lie before a page without access. */
 static void test_decoded_ends(size_t data_fragments)
 {
-    enum { LONGEST = 4200, FOUR = 4 };
-    const size_t lengths[] = { 0, 1, 31, 32, 33, 64, 200, 2047, 2048, 2049, 4096, LONGEST };
-    const uint8_t half = (uint8_t)(data_fragments / 2);
-    const uint8_t sets[2][FOUR] = { { 0, 1, half, (uint8_t)(half + 1) }, { 0, 1, 2, half } };
+    enum { LONGEST = 34816, FOUR = 4 };
+    const size_t lengths[] = { 0, 1, 31, 32, 33, 200, 511, 513, 2049, 32767, 32768, LONGEST };
+    const uint8_t half = (uint8_t)(data_fragments / 2), last = (uint8_t)(data_fragments + 3);
+    const uint8_t sets[3][FOUR] = { { 0, 1, half, (uint8_t)(half + 1) }, { 0, 1, 2, half }, { 0, half, (uint8_t)(last - 1), last } };
     uint8_t *ends[MOST], *targets_at[FOUR];
     for (size_t i = 0; i < data_fragments + 4; i++)
         ends[i] = at_the_end(LONGEST) + LONGEST;
@@ -352,7 +389,7 @@ static void test_decoded_ends(size_t data_fragments)
         for (size_t i = 0; i < 4; i++)
             parities[i] = ends[data_fragments + i] - len;
         CHECK(lrc_encode_arrays(data_fragments, len, fragments, parities) == LRC_DONE);
-        for (size_t set = 0; set < 2; set++) {
+        for (size_t set = 0; set < 3; set++) {
             const uint8_t *left[MOST];
             uint8_t *targets[MOST] = { NULL };
             for (size_t i = 0; i < data_fragments + 4; i++)
@@ -444,6 +481,8 @@ int main(void)
     test_ends(SMALL);
     test_decoded_ends(WIDE);
     test_decoded_ends(SMALL);
+    test_decoded_sets(WIDE);
+    test_decoded_sets(SMALL);
     test_parts();
     test_threads();
     if (failures)

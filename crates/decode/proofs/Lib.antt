@@ -2,3 +2,4 @@ pub mod Terms
 pub mod Law
 pub mod Places
 pub mod Chosen
+pub mod Parts

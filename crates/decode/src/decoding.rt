@@ -6,6 +6,7 @@ ghost use Rattle.syndromes.specs.Syndromes.{column_at, HaveBytes};
 ghost use Rattle.decode.specs.Syndrome.{AreShares};
 ghost use Rattle.decode.specs.Decoding.{AreAbsent, HasOpen, IsDecodable, IsDecoded, fragment_at, byte_of};
 
+use crate::known::{known_at_first, known_with, rebuild_next};
 use crate::shares::shares_of;
 use lrc_code::{Code, Left, LostSet, is_alone_in, is_open_in, rebuild_to};
 use syndromes::combine_syndromes;
@@ -136,7 +137,40 @@ fn rebuild_chosen(left: &Left, chosen: Option<u8>, from: usize, to: usize, targe
     }
 }
 
-/// 1 where a fragment is chosen that is not alone lost in its group, so that its recipe has up to twelve terms.
+/// Writes the bytes of the fragments that are chosen, one after the other: a fragment that was made helps to make the next.
+fn decode_in_turn(
+    left: &Left,
+    chosen: [Option<u8>; 4],
+    from: usize,
+    to: usize,
+    first: &mut [u8],
+    second: &mut [u8],
+    third: &mut [u8],
+    fourth: &mut [u8],
+)
+    requires decodable { (i : ℕ) → i < 4 → IsDecodable left.now.code left.now.fragments (slice_index_or chosen i None) }
+    requires reach { (i : ℕ) → i < fragment_count left.now.code → is_absent left.now.fragments i ≡ false → Reaches left.now.fragments to i }
+    requires range { from ≤ to }
+    requires room { IfSome (slice_index_or chosen 0 None) (λ _. length first.old ≡ to - from) }
+    requires room_second { IfSome (slice_index_or chosen 1 None) (λ _. length second.old ≡ to - from) }
+    requires room_third { IfSome (slice_index_or chosen 2 None) (λ _. length third.old ≡ to - from) }
+    requires room_fourth { IfSome (slice_index_or chosen 3 None) (λ _. length fourth.old ≡ to - from) }
+    ensures first { IsDecoded left.now.code left.now.fragments (slice_index_or chosen 0 None) from to first.old first.new }
+    ensures second { IsDecoded left.now.code left.now.fragments (slice_index_or chosen 1 None) from to second.old second.new }
+    ensures third { IsDecoded left.now.code left.now.fragments (slice_index_or chosen 2 None) from to third.old third.new }
+    ensures fourth { IsDecoded left.now.code left.now.fragments (slice_index_or chosen 3 None) from to fourth.old fourth.new }
+{
+    let known = known_at_first(left, from, to);
+    rebuild_next(left, &known, chosen[0], from, to, first);
+    let known = known_with(left, &known, chosen[0], from, to, first);
+    rebuild_next(left, &known, chosen[1], from, to, second);
+    let known = known_with(left, &known, chosen[1], from, to, second);
+    rebuild_next(left, &known, chosen[2], from, to, third);
+    let known = known_with(left, &known, chosen[2], from, to, third);
+    rebuild_next(left, &known, chosen[3], from, to, fourth);
+}
+
+/// 1 if a fragment is chosen that is not alone lost in its group, so that its recipe has up to twelve terms.
 fn is_far(code: Code, lost: LostSet, chosen: Option<u8>) -> u32
     requires { IfSome chosen (λ f. f < fragment_count code) }
     ensures { result ≤ 1 }
@@ -147,12 +181,31 @@ fn is_far(code: Code, lost: LostSet, chosen: Option<u8>) -> u32
     }
 }
 
+/// From which width on the syndromes are faster than two recipes, and where both global parities are lost.
+const WIDE: usize = 32_768;
+
+const WIDE_FOR_GLOBALS: usize = 512;
+
+/// Whether the syndromes are the faster way to make several fragments that are not alone lost in their groups. Where the excess is
+/// 1, one of them comes by its recipe, and its group then has the other.
+fn are_syndromes_faster(code: Code, lost: LostSet, width: usize) -> bool {
+    let last = code.fragments() - 1;
+    let are_globals_lost = !lost.left(last) && !lost.left(last - 1);
+    lost.excess_in(code) > 1
+        && width
+            >= if are_globals_lost {
+                WIDE_FOR_GLOBALS
+            } else {
+                WIDE
+            }
+}
+
 /// Writes the bytes `from..to` of up to four absent fragments, as every stripe has them that agrees with what is present, and says whether
 /// it did: it does exactly where none of those chosen is open, and else changes nothing. The target of a fragment stands at the place
 /// of its number in `chosen`; where that is None, the target is left as it is. Of more than four absent fragments one is open.
 ///
-/// Fragments that are alone lost in their groups are read from these alone; two or more others are made in one pass over the
-/// fragments that are present. It asks for no memory.
+/// Fragments that are alone lost in their groups are read from these alone. Several others are made one after the other, each with
+/// those before it, or in one pass over the fragments that are present, whichever is faster. It asks for no memory.
 pub fn decode_to(
     left: &Left,
     chosen: [Option<u8>; 4],
@@ -185,13 +238,15 @@ pub fn decode_to(
         + is_far(left.code, lost, chosen[1])
         + is_far(left.code, lost, chosen[2])
         + is_far(left.code, lost, chosen[3]);
-    if far > 1 {
-        decode_by_syndromes(left, lost, chosen, from, to, first, second, third, fourth);
-    } else {
+    if far <= 1 {
         rebuild_chosen(left, chosen[0], from, to, first);
         rebuild_chosen(left, chosen[1], from, to, second);
         rebuild_chosen(left, chosen[2], from, to, third);
         rebuild_chosen(left, chosen[3], from, to, fourth);
+    } else if are_syndromes_faster(left.code, lost, to - from) {
+        decode_by_syndromes(left, lost, chosen, from, to, first, second, third, fourth);
+    } else {
+        decode_in_turn(left, chosen, from, to, first, second, third, fourth);
     }
     true
 }

@@ -8,6 +8,7 @@
 #![tactic(auto)]
 
 mod decoding;
+mod known;
 mod shares;
 
 pub use decoding::decode_to;
