@@ -16,4 +16,5 @@ IsRemainderOf code lost c b = (i : ℕ) → i < fragment_count code → b i ≡ 
 
 -- in each column the byte at f is the sum of the syndromes of what remains, each times its share
 abbrev pub AreShares : Code → (ℕ → Bool) → ℕ → List ℕ → Type 0
-AreShares code lost f shares = (c b : ℕ → ℕ) → IsColumn code c → IsRemainderOf code lost c b → c f ≡ sum_by shares (λ e. syndrome code e b)
+AreShares code lost f shares = (c b : ℕ → ℕ) → IsColumn code c → IsRemainderOf code lost c b
+    → c f ≡ sum_by shares (λ e. syndrome code e b)

@@ -1,17 +1,21 @@
 //! Decoding: the bytes of any lost fragments at once.
-ghost use Rattle.std.specs.Prelude.{◌≡◌, ℕ, ◌+◌, ◌-◌, ◌<◌, ◌≤◌, ◌↔◌, IsTrue, true, false, None, IfSome, IsSomeAnd, MatchOption, length, slice_index, slice_index_or};
+ghost use Rattle.std.specs.Prelude.{◌≡◌, ℕ, ◌+◌, ◌-◌, ◌<◌, ◌≤◌, ◌↔◌, IsTrue, true, false, None};
+ghost use Rattle.std.specs.Prelude.{IfSome, IsSomeAnd, MatchOption, length, slice_index};
+ghost use Rattle.std.specs.Prelude.{slice_index_or};
 ghost use Rattle.lrc_code.specs.Code.{fragment_count, Open};
 ghost use Rattle.lrc_code.specs.Stripe.{is_absent, byte_at, Reaches, HasRange, Rebuilds};
 ghost use Rattle.syndromes.specs.Syndromes.{column_at, HaveBytes};
 ghost use Rattle.decode.specs.Syndrome.{AreShares};
-ghost use Rattle.decode.specs.Decoding.{AreAbsent, HasOpen, IsDecodable, IsDecoded, fragment_at, byte_of};
+ghost use Rattle.decode.specs.Decoding.{AreAbsent, HasOpen, IsDecodable, IsDecoded, fragment_at};
+ghost use Rattle.decode.specs.Decoding.{byte_of};
 
 use crate::known::{known_at_first, known_with, rebuild_next};
 use crate::shares::shares_of;
 use lrc_code::{Code, Left, LostSet, is_alone_in, is_open_in, rebuild_to};
 use syndromes::combine_syndromes;
 
-/// The fragment at one of the sixteen places: the groups of LRC(6,2,2) leave the last three of each six free.
+/// The fragment at one of the sixteen places: the groups of LRC(6,2,2) leave the last three of each
+/// six free.
 fn fragment_at(code: Code, place: usize) -> Option<usize>
     requires { place < 16 }
     ensures value { result ≡ fragment_at code place }
@@ -31,10 +35,12 @@ fn fragment_at(code: Code, place: usize) -> Option<usize>
 /// The bytes `from..to` of the fragment at a place, or None where there is none or it is absent.
 fn part_at<'a>(left: &Left<'a>, place: usize, from: usize, to: usize) -> Option<&'a [u8]>
     requires inside { place < 16 }
-    requires reach { (i : ℕ) → i < fragment_count left.now.code → is_absent left.now.fragments i ≡ false → Reaches left.now.fragments to i }
+    requires reach { (i : ℕ) → i < fragment_count left.now.code
+        → is_absent left.now.fragments i ≡ false → Reaches left.now.fragments to i }
     requires range { from ≤ to }
     ensures long { IfSome result (λ part. length part.now ≡ to - from) }
-    ensures bytes { (k : ℕ) → k < to - from → Rattle.syndromes.specs.Syndromes.byte_of result k ≡ byte_of (fragment_at left.now.code place) (byte_at left.now.fragments (from + k)) }
+    ensures bytes { (k : ℕ) → k < to - from → Rattle.syndromes.specs.Syndromes.byte_of result k
+        ≡ byte_of (fragment_at left.now.code place) (byte_at left.now.fragments (from + k)) }
 {
     let f = fragment_at(left.code, place)?;
     let bytes = left.fragments[f]?;
@@ -43,10 +49,13 @@ fn part_at<'a>(left: &Left<'a>, place: usize, from: usize, to: usize) -> Option<
 
 /// The bytes `from..to` of the fragments that are present, at their places.
 fn parts_of<'a>(left: &Left<'a>, from: usize, to: usize) -> [Option<&'a [u8]>; 16]
-    requires reach { (i : ℕ) → i < fragment_count left.now.code → is_absent left.now.fragments i ≡ false → Reaches left.now.fragments to i }
+    requires reach { (i : ℕ) → i < fragment_count left.now.code
+        → is_absent left.now.fragments i ≡ false → Reaches left.now.fragments to i }
     requires range { from ≤ to }
     ensures long { HaveBytes result (to - from) }
-    ensures bytes { (place k : ℕ) → place < 16 → k < to - from → column_at result k place ≡ byte_of (fragment_at left.now.code place) (byte_at left.now.fragments (from + k)) }
+    ensures bytes { (place k : ℕ) → place < 16 → k < to - from
+        → column_at result k place ≡ byte_of (fragment_at left.now.code place)
+        (byte_at left.now.fragments (from + k)) }
 {
     let mut parts: [Option<&'a [u8]>; 16] = [None; 16];
     for place in 0..16 {
@@ -69,7 +78,8 @@ fn is_chosen_open(left: &Left, lost: LostSet, chosen: Option<u8>) -> bool
 
 /// Whether one of the fragments that are chosen is open. None is where the excess is at most 2.
 fn has_open(left: &Left, lost: LostSet, chosen: &[Option<u8>; 4]) -> bool
-    requires inside { (i : ℕ) → i < 4 → IfSome (slice_index_or chosen.now i None) (λ f. f < fragment_count left.now.code) }
+    requires inside { (i : ℕ) → i < 4 → IfSome (slice_index_or chosen.now i None)
+        (λ f. f < fragment_count left.now.code) }
     requires absent { AreAbsent left.now.code left.now.fragments lost }
     ensures { IsTrue result ↔ HasOpen left.now.code (is_absent left.now.fragments) chosen.now }
 {
@@ -86,7 +96,8 @@ fn has_open(left: &Left, lost: LostSet, chosen: &[Option<u8>; 4]) -> bool
 fn shares_for(left: &Left, lost: LostSet, chosen: Option<u8>) -> Option<[u8; 4]>
     requires decodable { IsDecodable left.now.code left.now.fragments chosen }
     requires absent { AreAbsent left.now.code left.now.fragments lost }
-    ensures { MatchOption chosen (result ≡ None) (λ f. IsSomeAnd result (λ a. AreShares left.now.code (is_absent left.now.fragments) f a)) }
+    ensures { MatchOption chosen (result ≡ None)
+        (λ f. IsSomeAnd result (λ a. AreShares left.now.code (is_absent left.now.fragments) f a)) }
 {
     shares_of(left.code, lost, chosen?)
 }
@@ -104,17 +115,26 @@ fn decode_by_syndromes(
     fourth: &mut [u8],
 )
     requires absent { AreAbsent left.now.code left.now.fragments lost }
-    requires decodable { (i : ℕ) → i < 4 → IsDecodable left.now.code left.now.fragments (slice_index_or chosen i None) }
-    requires reach { (i : ℕ) → i < fragment_count left.now.code → is_absent left.now.fragments i ≡ false → Reaches left.now.fragments to i }
+    requires decodable { (i : ℕ) → i < 4 → IsDecodable left.now.code left.now.fragments
+        (slice_index_or chosen i None) }
+    requires reach { (i : ℕ) → i < fragment_count left.now.code
+        → is_absent left.now.fragments i ≡ false → Reaches left.now.fragments to i }
     requires range { from ≤ to }
     requires room { IfSome (slice_index_or chosen 0 None) (λ _. length first.old ≡ to - from) }
-    requires room_second { IfSome (slice_index_or chosen 1 None) (λ _. length second.old ≡ to - from) }
-    requires room_third { IfSome (slice_index_or chosen 2 None) (λ _. length third.old ≡ to - from) }
-    requires room_fourth { IfSome (slice_index_or chosen 3 None) (λ _. length fourth.old ≡ to - from) }
-    ensures first { IsDecoded left.now.code left.now.fragments (slice_index_or chosen 0 None) from to first.old first.new }
-    ensures second { IsDecoded left.now.code left.now.fragments (slice_index_or chosen 1 None) from to second.old second.new }
-    ensures third { IsDecoded left.now.code left.now.fragments (slice_index_or chosen 2 None) from to third.old third.new }
-    ensures fourth { IsDecoded left.now.code left.now.fragments (slice_index_or chosen 3 None) from to fourth.old fourth.new }
+    requires room_second { IfSome (slice_index_or chosen 1 None)
+        (λ _. length second.old ≡ to - from) }
+    requires room_third { IfSome (slice_index_or chosen 2 None)
+        (λ _. length third.old ≡ to - from) }
+    requires room_fourth { IfSome (slice_index_or chosen 3 None)
+        (λ _. length fourth.old ≡ to - from) }
+    ensures first { IsDecoded left.now.code left.now.fragments (slice_index_or chosen 0 None) from
+        to first.old first.new }
+    ensures second { IsDecoded left.now.code left.now.fragments (slice_index_or chosen 1 None) from
+        to second.old second.new }
+    ensures third { IsDecoded left.now.code left.now.fragments (slice_index_or chosen 2 None) from
+        to third.old third.new }
+    ensures fourth { IsDecoded left.now.code left.now.fragments (slice_index_or chosen 3 None) from
+        to fourth.old fourth.new }
 {
     let a = shares_for(left, lost, chosen[0]);
     let b = shares_for(left, lost, chosen[1]);
@@ -127,7 +147,8 @@ fn decode_by_syndromes(
 /// Writes the bytes of a fragment that is chosen by its recipe.
 fn rebuild_chosen(left: &Left, chosen: Option<u8>, from: usize, to: usize, target: &mut [u8])
     requires decodable { IsDecodable left.now.code left.now.fragments chosen }
-    requires reach { (i : ℕ) → i < fragment_count left.now.code → is_absent left.now.fragments i ≡ false → Reaches left.now.fragments to i }
+    requires reach { (i : ℕ) → i < fragment_count left.now.code
+        → is_absent left.now.fragments i ≡ false → Reaches left.now.fragments to i }
     requires range { from ≤ to }
     requires room { IfSome chosen (λ _. length target.old ≡ to - from) }
     ensures { IsDecoded left.now.code left.now.fragments chosen from to target.old target.new }
@@ -137,7 +158,8 @@ fn rebuild_chosen(left: &Left, chosen: Option<u8>, from: usize, to: usize, targe
     }
 }
 
-/// Writes the bytes of the fragments that are chosen, one after the other: a fragment that was made helps to make the next.
+/// Writes the bytes of the fragments that are chosen, one after the other: a fragment that was made
+/// helps to make the next.
 fn decode_in_turn(
     left: &Left,
     chosen: [Option<u8>; 4],
@@ -148,17 +170,26 @@ fn decode_in_turn(
     third: &mut [u8],
     fourth: &mut [u8],
 )
-    requires decodable { (i : ℕ) → i < 4 → IsDecodable left.now.code left.now.fragments (slice_index_or chosen i None) }
-    requires reach { (i : ℕ) → i < fragment_count left.now.code → is_absent left.now.fragments i ≡ false → Reaches left.now.fragments to i }
+    requires decodable { (i : ℕ) → i < 4 → IsDecodable left.now.code left.now.fragments
+        (slice_index_or chosen i None) }
+    requires reach { (i : ℕ) → i < fragment_count left.now.code
+        → is_absent left.now.fragments i ≡ false → Reaches left.now.fragments to i }
     requires range { from ≤ to }
     requires room { IfSome (slice_index_or chosen 0 None) (λ _. length first.old ≡ to - from) }
-    requires room_second { IfSome (slice_index_or chosen 1 None) (λ _. length second.old ≡ to - from) }
-    requires room_third { IfSome (slice_index_or chosen 2 None) (λ _. length third.old ≡ to - from) }
-    requires room_fourth { IfSome (slice_index_or chosen 3 None) (λ _. length fourth.old ≡ to - from) }
-    ensures first { IsDecoded left.now.code left.now.fragments (slice_index_or chosen 0 None) from to first.old first.new }
-    ensures second { IsDecoded left.now.code left.now.fragments (slice_index_or chosen 1 None) from to second.old second.new }
-    ensures third { IsDecoded left.now.code left.now.fragments (slice_index_or chosen 2 None) from to third.old third.new }
-    ensures fourth { IsDecoded left.now.code left.now.fragments (slice_index_or chosen 3 None) from to fourth.old fourth.new }
+    requires room_second { IfSome (slice_index_or chosen 1 None)
+        (λ _. length second.old ≡ to - from) }
+    requires room_third { IfSome (slice_index_or chosen 2 None)
+        (λ _. length third.old ≡ to - from) }
+    requires room_fourth { IfSome (slice_index_or chosen 3 None)
+        (λ _. length fourth.old ≡ to - from) }
+    ensures first { IsDecoded left.now.code left.now.fragments (slice_index_or chosen 0 None) from
+        to first.old first.new }
+    ensures second { IsDecoded left.now.code left.now.fragments (slice_index_or chosen 1 None) from
+        to second.old second.new }
+    ensures third { IsDecoded left.now.code left.now.fragments (slice_index_or chosen 2 None) from
+        to third.old third.new }
+    ensures fourth { IsDecoded left.now.code left.now.fragments (slice_index_or chosen 3 None) from
+        to fourth.old fourth.new }
 {
     let known = known_at_first(left, from, to);
     rebuild_next(left, &known, chosen[0], from, to, first);
@@ -170,7 +201,8 @@ fn decode_in_turn(
     rebuild_next(left, &known, chosen[3], from, to, fourth);
 }
 
-/// 1 if a fragment is chosen that is not alone lost in its group, so that its recipe has up to twelve terms.
+/// 1 if a fragment is chosen that is not alone lost in its group, so that its recipe has up to
+/// twelve terms.
 fn is_far(code: Code, lost: LostSet, chosen: Option<u8>) -> u32
     requires { IfSome chosen (λ f. f < fragment_count code) }
     ensures { result ≤ 1 }
@@ -181,13 +213,15 @@ fn is_far(code: Code, lost: LostSet, chosen: Option<u8>) -> u32
     }
 }
 
-/// From which width on the syndromes are faster than two recipes, and where both global parities are lost.
+/// From which width on the syndromes are faster than two recipes, and where both global parities
+/// are lost.
 const WIDE: usize = 32_768;
 
 const WIDE_FOR_GLOBALS: usize = 512;
 
-/// Whether the syndromes are the faster way to make several fragments that are not alone lost in their groups. Where the excess is
-/// 1, one of them comes by its recipe, and its group then has the other.
+/// Whether the syndromes are the faster way to make several fragments that are not alone lost in
+/// their groups. Where the excess is 1, one of them comes by its recipe, and its group then has the
+/// other.
 fn are_syndromes_faster(code: Code, lost: LostSet, width: usize) -> bool {
     let last = code.fragments() - 1;
     let are_globals_lost = !lost.left(last) && !lost.left(last - 1);
@@ -200,12 +234,15 @@ fn are_syndromes_faster(code: Code, lost: LostSet, width: usize) -> bool {
             }
 }
 
-/// Writes the bytes `from..to` of up to four absent fragments, as every stripe has them that agrees with what is present, and says whether
-/// it did: it does exactly where none of those chosen is open, and else changes nothing. The target of a fragment stands at the place
-/// of its number in `chosen`; where that is None, the target is left as it is. Of more than four absent fragments one is open.
+/// Writes the bytes `from..to` of up to four absent fragments, as every stripe has them that agrees
+/// with what is present, and says whether it did: it does exactly where none of those chosen is
+/// open, and else changes nothing. The target of a fragment stands at the place of its number in
+/// `chosen`; where that is None, the target is left as it is. Of more than four absent fragments
+/// one is open.
 ///
-/// Fragments that are alone lost in their groups are read from these alone. Several others are made one after the other, each with
-/// those before it, or in one pass over the fragments that are present, whichever is faster. It asks for no memory.
+/// Fragments that are alone lost in their groups are read from these alone. Several others are made
+/// one after the other, each with those before it, or in one pass over the fragments that are
+/// present, whichever is faster. It asks for no memory.
 pub fn decode_to(
     left: &Left,
     chosen: [Option<u8>; 4],
@@ -216,19 +253,29 @@ pub fn decode_to(
     third: &mut [u8],
     fourth: &mut [u8],
 ) -> bool
-    requires absent { (i : ℕ) → i < 4 → IfSome (slice_index_or chosen i None) (λ f. (f < fragment_count left.now.code) × (is_absent left.now.fragments f ≡ true)) }
-    requires reach { (i : ℕ) → i < fragment_count left.now.code → is_absent left.now.fragments i ≡ false → Reaches left.now.fragments to i }
+    requires absent { (i : ℕ) → i < 4 → IfSome (slice_index_or chosen i None)
+        (λ f. (f < fragment_count left.now.code) × (is_absent left.now.fragments f ≡ true)) }
+    requires reach { (i : ℕ) → i < fragment_count left.now.code
+        → is_absent left.now.fragments i ≡ false → Reaches left.now.fragments to i }
     requires range { from ≤ to }
     requires room { IfSome (slice_index_or chosen 0 None) (λ _. length first.old ≡ to - from) }
-    requires room_second { IfSome (slice_index_or chosen 1 None) (λ _. length second.old ≡ to - from) }
-    requires room_third { IfSome (slice_index_or chosen 2 None) (λ _. length third.old ≡ to - from) }
-    requires room_fourth { IfSome (slice_index_or chosen 3 None) (λ _. length fourth.old ≡ to - from) }
+    requires room_second { IfSome (slice_index_or chosen 1 None)
+        (λ _. length second.old ≡ to - from) }
+    requires room_third { IfSome (slice_index_or chosen 2 None)
+        (λ _. length third.old ≡ to - from) }
+    requires room_fourth { IfSome (slice_index_or chosen 3 None)
+        (λ _. length fourth.old ≡ to - from) }
     ensures open { (result ≡ false) ↔ HasOpen left.now.code (is_absent left.now.fragments) chosen }
-    ensures kept { result ≡ false → (first.new ≡ first.old) × (second.new ≡ second.old) × (third.new ≡ third.old) × (fourth.new ≡ fourth.old) }
-    ensures first { result ≡ true → IsDecoded left.now.code left.now.fragments (slice_index_or chosen 0 None) from to first.old first.new }
-    ensures second { result ≡ true → IsDecoded left.now.code left.now.fragments (slice_index_or chosen 1 None) from to second.old second.new }
-    ensures third { result ≡ true → IsDecoded left.now.code left.now.fragments (slice_index_or chosen 2 None) from to third.old third.new }
-    ensures fourth { result ≡ true → IsDecoded left.now.code left.now.fragments (slice_index_or chosen 3 None) from to fourth.old fourth.new }
+    ensures kept { result ≡ false → (first.new ≡ first.old) × (second.new ≡ second.old)
+        × (third.new ≡ third.old) × (fourth.new ≡ fourth.old) }
+    ensures first { result ≡ true → IsDecoded left.now.code left.now.fragments
+        (slice_index_or chosen 0 None) from to first.old first.new }
+    ensures second { result ≡ true → IsDecoded left.now.code left.now.fragments
+        (slice_index_or chosen 1 None) from to second.old second.new }
+    ensures third { result ≡ true → IsDecoded left.now.code left.now.fragments
+        (slice_index_or chosen 2 None) from to third.old third.new }
+    ensures fourth { result ≡ true → IsDecoded left.now.code left.now.fragments
+        (slice_index_or chosen 3 None) from to fourth.old fourth.new }
 {
     let lost = left.lost();
     if has_open(left, lost, &chosen) {

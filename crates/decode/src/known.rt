@@ -1,5 +1,7 @@
-//! Fragments one after the other: each is rebuilt from those that are present and those that were made before it.
-ghost use Rattle.std.specs.Prelude.{◌≡◌, ℕ, ◌-◌, ◌<◌, ◌≤◌, true, false, IfSome, MatchOption, IsSomeAnd, length, slice_range};
+//! Fragments one after the other: each is rebuilt from those that are present and those that were
+//! made before it.
+ghost use Rattle.std.specs.Prelude.{◌≡◌, ℕ, ◌-◌, ◌<◌, ◌≤◌, true, false, IfSome, MatchOption};
+ghost use Rattle.std.specs.Prelude.{IsSomeAnd, length, slice_range};
 ghost use Rattle.lrc_code.specs.Code.{fragment_count};
 ghost use Rattle.lrc_code.specs.Stripe.{is_absent, slot, Reaches, Rebuilds};
 ghost use Rattle.decode.specs.Decoding.{IsDecodable, IsDecoded};
@@ -12,7 +14,8 @@ fn part_known<'a>(left: &Left<'a>, i: usize, from: usize, to: usize) -> Option<&
     requires inside { i < fragment_count left.now.code }
     requires reach { is_absent left.now.fragments i ≡ false → Reaches left.now.fragments to i }
     requires range { from ≤ to }
-    ensures { MatchOption (slot left.now.fragments i) (result ≡ None) (λ x. IsSomeAnd result (λ part. part.now ≡ slice_range x.now from to)) }
+    ensures { MatchOption (slot left.now.fragments i) (result ≡ None)
+        (λ x. IsSomeAnd result (λ part. part.now ≡ slice_range x.now from to)) }
 {
     match left.fragments[i] {
         Some(bytes) => Some(&bytes[from..to]),
@@ -22,7 +25,8 @@ fn part_known<'a>(left: &Left<'a>, i: usize, from: usize, to: usize) -> Option<&
 
 /// What is known of the bytes `from..to` of the stripe before any fragment is rebuilt.
 pub(crate) fn known_at_first<'a>(left: &Left<'a>, from: usize, to: usize) -> Left<'a>
-    requires reach { (i : ℕ) → i < fragment_count left.now.code → is_absent left.now.fragments i ≡ false → Reaches left.now.fragments to i }
+    requires reach { (i : ℕ) → i < fragment_count left.now.code
+        → is_absent left.now.fragments i ≡ false → Reaches left.now.fragments to i }
     requires range { from ≤ to }
     ensures code { result.code ≡ left.now.code }
     ensures known { AreKnown left.now.code left.now.fragments from to result.fragments }
@@ -48,7 +52,8 @@ pub(crate) fn known_with<'a>(
 ) -> Left<'a>
     requires known { AreKnown left.now.code left.now.fragments from to known.now.fragments }
     requires inside { IfSome chosen (λ f. f < fragment_count left.now.code) }
-    requires rebuilt { IfSome chosen (λ f. (length rebuilt.now ≡ to - from) × Rebuilds left.now.code left.now.fragments f from to rebuilt.now) }
+    requires rebuilt { IfSome chosen (λ f. (length rebuilt.now ≡ to - from)
+        × Rebuilds left.now.code left.now.fragments f from to rebuilt.now) }
     ensures code { result.code ≡ known.now.code }
     ensures known { AreKnown left.now.code left.now.fragments from to result.fragments }
 {

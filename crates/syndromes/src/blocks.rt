@@ -1,5 +1,6 @@
 //! The syndromes at the places of a block, in four lists.
-ghost use Rattle.std.specs.Prelude.{◌≡◌, ℕ, ◌+◌, ◌-◌, ◌<◌, ◌≤◌, [], ◌∷◌, All, EachIndex, length, map, slice_index, bit_xor};
+ghost use Rattle.std.specs.Prelude.{◌≡◌, ℕ, ◌+◌, ◌-◌, ◌<◌, ◌≤◌, [], ◌∷◌, All, EachIndex, length};
+ghost use Rattle.std.specs.Prelude.{map, slice_index, bit_xor};
 ghost use Rattle.kernels.specs.Lists.{combined, bytes_at, list_at};
 ghost use Rattle.syndromes.specs.Syndromes.{syndrome, column_at, HaveBytes};
 
@@ -27,7 +28,8 @@ fn part_or_zeros<'a>(lists: &[Option<&'a [u8]>; 16], i: usize, at: usize, end: u
     requires order { at ≤ end }
     requires few { end ≤ at + BLOCK }
     ensures long { length result.now ≡ end - at }
-    ensures bytes { EachIndex result.now (λ k. slice_index result.now k ≡ column_at lists.now (at + k) i) }
+    ensures bytes { EachIndex result.now (λ k. slice_index result.now k
+        ≡ column_at lists.now (at + k) i) }
 {
     match lists[i] {
         Some(list) => &list[at..end],
@@ -41,7 +43,8 @@ fn add_part(target: &mut [u8], lists: &[Option<&[u8]>; 16], i: usize, at: usize,
     requires long { HaveBytes lists.now end }
     requires order { at ≤ end }
     requires same { length target.old ≡ end - at }
-    ensures { EachIndex target.new (λ k. slice_index target.new k ≡ bit_xor (slice_index target.old k) (column_at lists.now (at + k) i)) }
+    ensures { EachIndex target.new (λ k. slice_index target.new k
+        ≡ bit_xor (slice_index target.old k) (column_at lists.now (at + k) i)) }
 {
     if let Some(list) = lists[i] {
         xor_into(target, &list[at..end]);
@@ -65,7 +68,9 @@ pub(crate) fn write_syndromes(
     requires same_second { length second.old ≡ end - at }
     requires same_third { length third.old ≡ end - at }
     requires same_fourth { length fourth.old ≡ end - at }
-    ensures { (e k : ℕ) → e < 4 → k < end - at → slice_index (list_at (first.new ∷ second.new ∷ third.new ∷ fourth.new ∷ []) e) k ≡ syndrome e (column_at lists.now (at + k)) }
+    ensures { (e k : ℕ) → e < 4 → k < end - at
+        → slice_index (list_at (first.new ∷ second.new ∷ third.new ∷ fourth.new ∷ []) e) k
+        ≡ syndrome e (column_at lists.now (at + k)) }
 {
     let mut sources: [&[u8]; 12] = [&[]; 12];
     for i in 0..12 {
@@ -78,10 +83,12 @@ pub(crate) fn write_syndromes(
     add_part(fourth, lists, 15, at, end);
 }
 
-/// Makes the target the sum of the four lists, each times its factor; those with the factor 0 are not read.
+/// Makes the target the sum of the four lists, each times its factor; those with the factor 0 are
+/// not read.
 pub(crate) fn combine_four(target: &mut [u8], factors: &[u8; 4], lists: &[&[u8]; 4])
     requires same { All (λ s. length s.now ≡ length target.old) lists.now }
-    ensures { EachIndex target.new (λ k. slice_index target.new k ≡ combined factors.now (bytes_at (map (λ s. s.now) lists.now) k)) }
+    ensures { EachIndex target.new (λ k. slice_index target.new k ≡ combined factors.now
+        (bytes_at (map (λ s. s.now) lists.now) k)) }
 {
     let mut coefficients = [0; 4];
     let mut sources: [&[u8]; 4] = [&[]; 4];

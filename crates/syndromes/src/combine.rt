@@ -1,5 +1,6 @@
 //! The sums of the syndromes, block by block, so that each list is read once.
-ghost use Rattle.std.specs.Prelude.{◌≡◌, ℕ, ◌+◌, ◌-◌, ◌<◌, ◌≤◌, None, [], ◌∷◌, All, EachIndex, IfSome, length, map, slice_index, bit_xor};
+ghost use Rattle.std.specs.Prelude.{◌≡◌, ℕ, ◌+◌, ◌-◌, ◌<◌, ◌≤◌, None, [], ◌∷◌, All, EachIndex};
+ghost use Rattle.std.specs.Prelude.{IfSome, length, map, slice_index, bit_xor};
 ghost use Rattle.kernels.specs.Lists.{combined, bytes_at, list_at};
 ghost use Rattle.syndromes.specs.Syndromes.{syndrome, column_at, HaveBytes, HasSums, HasRoom};
 ghost use Rattle.syndromes.specs.Formulas.{IsFormula, AreFormulas, addend, shares_for};
@@ -13,7 +14,8 @@ fn add_made(part: &mut [u8], shares: Option<[u8; 4]>, made: &[u8], at: usize, en
     requires order { at ≤ end }
     requires long { length part.old ≡ end - at }
     requires room { HasRoom shares end made.now }
-    ensures { EachIndex part.new (λ k. slice_index part.new k ≡ bit_xor (slice_index part.old k) (addend shares made.now (at + k))) }
+    ensures { EachIndex part.new (λ k. slice_index part.new k
+        ≡ bit_xor (slice_index part.old k) (addend shares made.now (at + k))) }
 {
     if shares.is_some() {
         xor_into(part, &made[at..end]);
@@ -37,7 +39,12 @@ fn make_part(
     requires first_room { HasRoom formula.now.first end first.now }
     requires second_room { HasRoom formula.now.second end second.now }
     requires third_room { HasRoom formula.now.third end third.now }
-    ensures { EachIndex part.new (λ k. slice_index part.new k ≡ bit_xor (bit_xor (bit_xor (combined formula.now.factors (bytes_at (map (λ s. s.now) syndromes.now) k)) (addend formula.now.third third.now (at + k))) (addend formula.now.second second.now (at + k))) (addend formula.now.first first.now (at + k))) }
+    ensures { EachIndex part.new (λ k. slice_index part.new k
+        ≡ bit_xor (bit_xor (bit_xor (combined formula.now.factors
+        (bytes_at (map (λ s. s.now) syndromes.now) k))
+        (addend formula.now.third third.now (at + k)))
+        (addend formula.now.second second.now (at + k)))
+        (addend formula.now.first first.now (at + k))) }
 {
     combine_four(part, &formula.factors, syndromes);
     add_made(part, formula.third, third, at, end);
@@ -45,7 +52,8 @@ fn make_part(
     add_made(part, formula.first, first, at, end);
 }
 
-/// Where a formula is given, makes the places `at..end` of its target, which has those before already.
+/// Where a formula is given, makes the places `at..end` of its target, which has those before
+/// already.
 fn make_target(
     lists: &[Option<&[u8]>; 16],
     target: &mut [u8],
@@ -57,13 +65,17 @@ fn make_target(
     second: &[u8],
     third: &[u8],
 )
-    requires formula { IfSome formula.now (λ f. IsFormula f × HasRoom f.first end first.now × HasRoom f.second end second.now × HasRoom f.third end third.now
-        × HasSums lists.now f.first end first.now × HasSums lists.now f.second end second.now × HasSums lists.now f.third end third.now) }
+    requires formula { IfSome formula.now (λ f. IsFormula f × HasRoom f.first end first.now
+        × HasRoom f.second end second.now × HasRoom f.third end third.now
+        × HasSums lists.now f.first end first.now × HasSums lists.now f.second end second.now
+        × HasSums lists.now f.third end third.now) }
     requires order { at ≤ end }
     requires room { HasRoom (shares_for formula.now) end target.old }
     requires before { HasSums lists.now (shares_for formula.now) at target.old }
     requires same { All (λ s. length s.now ≡ end - at) syndromes.now }
-    requires are { (e k : ℕ) → e < 4 → k < end - at → slice_index (list_at (map (λ s. s.now) syndromes.now) e) k ≡ syndrome e (column_at lists.now (at + k)) }
+    requires are { (e k : ℕ) → e < 4 → k < end - at
+        → slice_index (list_at (map (λ s. s.now) syndromes.now) e) k
+        ≡ syndrome e (column_at lists.now (at + k)) }
     ensures made { HasSums lists.now (shares_for formula.now) end target.new }
     ensures kept { formula.now ≡ None → target.new ≡ target.old }
 {
@@ -81,8 +93,8 @@ fn make_target(
     }
 }
 
-/// Makes the places `at..end` of each target by its formula, where it has those before already. The syndromes are written into four
-/// lists of their own.
+/// Makes the places `at..end` of each target by its formula, where it has those before already. The
+/// syndromes are written into four lists of their own.
 fn make_block(
     lists: &[Option<&[u8]>; 16],
     at: usize,
@@ -160,8 +172,8 @@ fn make_block(
     );
 }
 
-/// Where shares are given, makes a target the sum of the four syndromes of the lists, each times its share, at each of `width` places; and
-/// leaves it as it is where none are.
+/// Where shares are given, makes a target the sum of the four syndromes of the lists, each times
+/// its share, at each of `width` places; and leaves it as it is where none are.
 pub fn combine_syndromes(
     lists: &[Option<&[u8]>; 16],
     width: usize,

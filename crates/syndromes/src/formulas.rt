@@ -1,8 +1,10 @@
 //! How each target is made with few products: from the syndromes, and from the targets before it.
 ghost use Rattle.std.specs.Prelude.{◌≡◌, ℕ, ◌<◌, None, length, slice_index, bit_xor};
-ghost use Rattle.syndromes.specs.Formulas.{IsFormula, IsNoneOr, AddsOnly, AreFormulas, share_of, shares_for};
+ghost use Rattle.syndromes.specs.Formulas.{IsFormula, IsNoneOr, AddsOnly, AreFormulas, share_of};
+ghost use Rattle.syndromes.specs.Formulas.{shares_for};
 
-/// A target is the sum of the syndromes, each times its factor, and of those targets before it whose shares are given.
+/// A target is the sum of the syndromes, each times its factor, and of those targets before it
+/// whose shares are given.
 #[derive(Clone, Copy, Drop)]
 pub(crate) struct Formula {
     /// What the syndromes are multiplied by where no other target is added.
@@ -16,7 +18,8 @@ pub(crate) struct Formula {
 /// The shares less those of a target that is added.
 fn less(shares: [u8; 4], added: Option<[u8; 4]>) -> [u8; 4]
     ensures four { length result ≡ 4 }
-    ensures each { (e : ℕ) → e < 4 → slice_index result e ≡ bit_xor (slice_index shares e) (share_of added e) }
+    ensures each { (e : ℕ) → e < 4 → slice_index result e
+        ≡ bit_xor (slice_index shares e) (share_of added e) }
 {
     match added {
         None => shares,
