@@ -64,7 +64,7 @@ fn parts_of<'a>(left: &Left<'a>, from: usize, to: usize) -> [Option<&'a [u8]>; 1
     parts
 }
 
-/// Whether a fragment is chosen that is open.
+/// Whether a fragment is chosen, and open.
 fn is_chosen_open(left: &Left, lost: LostSet, chosen: Option<u8>) -> bool
     requires inside { IfSome chosen (λ f. f < fragment_count left.now.code) }
     requires absent { AreAbsent left.now.code left.now.fragments lost }
@@ -76,7 +76,7 @@ fn is_chosen_open(left: &Left, lost: LostSet, chosen: Option<u8>) -> bool
     }
 }
 
-/// Whether one of the fragments that are chosen is open. None is where the excess is at most 2.
+/// Whether a chosen fragment is open. At an excess of at most 2 none is.
 fn has_open(left: &Left, lost: LostSet, chosen: &[Option<u8>; 4]) -> bool
     requires inside { (i : ℕ) → i < 4 → IfSome (slice_index_or chosen.now i None)
         (λ f. f < fragment_count left.now.code) }
@@ -235,14 +235,14 @@ fn are_syndromes_faster(code: Code, lost: LostSet, width: usize) -> bool {
 }
 
 /// Writes the bytes `from..to` of up to four absent fragments, as every stripe has them that agrees
-/// with what is present, and says whether it did: it does exactly where none of those chosen is
-/// open, and else changes nothing. The target of a fragment stands at the place of its number in
-/// `chosen`; where that is None, the target is left as it is. Of more than four absent fragments
-/// one is open.
+/// with what is present. `chosen` has the number of the fragment for each of the four targets. A
+/// target for None is unchanged. Of more than four absent fragments at least one is open.
 ///
-/// Fragments that are alone lost in their groups are read from these alone. Several others are made
-/// one after the other, each with those before it, or in one pass over the fragments that are
-/// present, whichever is faster. It asks for no memory.
+/// Returns false if and only if a chosen fragment is open; then every target is unchanged.
+///
+/// A fragment that is alone lost in its group is made from that group. Several others are made one
+/// after the other, each with those made before it, or in one pass over the fragments that are
+/// present, whichever is faster. Does not allocate.
 pub fn decode_to(
     left: &Left,
     chosen: [Option<u8>; 4],

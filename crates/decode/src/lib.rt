@@ -4,7 +4,7 @@
 //! Every lost fragment that is not open is a sum of them, each times a share that depends on the
 //! lost set alone. So the fragments that remain are read once, however many are lost.
 //!
-//! No call asks for memory.
+//! No call allocates.
 #![tactic(auto)]
 
 mod decoding;

@@ -36,8 +36,9 @@ fn share_of(code: Code, terms: &[Term], equation: u8, f: u8) -> u8
     }
 }
 
-/// The shares of a lost fragment, by which it is a sum of the four syndromes of what remains; or
-/// None exactly where it is open. They depend on the lost set alone.
+/// The shares of a lost fragment: in every column it is the sum of the four syndromes of what
+/// remains, each times its share. They depend on the lost set alone. Returns None if and only if
+/// the fragment is open.
 pub fn shares_of(code: Code, lost: LostSet, f: u8) -> Option<[u8; 4]>
     requires f_below { f < fragment_count code }
     requires f_lost { is_lost lost f ≡ true }

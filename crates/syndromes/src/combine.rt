@@ -172,8 +172,11 @@ fn make_block(
     );
 }
 
-/// Where shares are given, makes a target the sum of the four syndromes of the lists, each times
-/// its share, at each of `width` places; and leaves it as it is where none are.
+/// Makes each of four targets the sum of the four syndromes of the lists, each times its share, at
+/// each of `width` places. A target for which no shares are given is unchanged.
+///
+/// Of the sixteen lists the last four are the parities of the first twelve; None is a list of
+/// zeros. Each list is read once.
 pub fn combine_syndromes(
     lists: &[Option<&[u8]>; 16],
     width: usize,

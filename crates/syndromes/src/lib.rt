@@ -2,7 +2,7 @@
 //! `kernels` makes them. A list that is missing counts as zeros. A syndrome is what a parity of the
 //! lists that are there and the parity in its place differ by.
 //!
-//! No call asks for memory, and none refuses.
+//! No call allocates, and none refuses.
 #![tactic(auto)]
 
 mod blocks;
