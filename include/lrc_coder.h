@@ -101,6 +101,10 @@ uint32_t lrc_recipe(size_t data_fragments, uint16_t lost, uint8_t fragment,
 uint32_t lrc_add(uint8_t *target, size_t target_len, uint8_t coefficient,
                  const uint8_t *source, size_t source_len);
 
+/* In liblrc_coder.a and liblrc_coder.so, as tools/build_coder.sh makes them: the level of the
+ * processor whose code is used, "x86-64-v2" or "x86-64-v3". libcoder_c.a does not have it. */
+const char *lrc_coder_cpu(void);
+
 /* ---- The same with plain arrays of addresses, each of `len` bytes. A NULL means a lost fragment
  * among the fragments of lrc_rebuild_arrays and lrc_decode_arrays, and no target among the targets
  * of lrc_decode_arrays; anywhere else it is LRC_BAD_ARGUMENT. */

@@ -61,6 +61,16 @@ header() {
         && echo "header: as C99 and as C++11"
 }
 
+# The archive with the code for two processors: the same tests by either, chosen by the environment, and by itself the best.
+choice() {
+    local best=x86-64-v2
+    grep -qw avx2 /proc/cpuinfo && best=x86-64-v3
+    has objcopy binutils && tools/build_coder.sh "$work" && gcc -std=c11 -O1 "${warnings[@]}" tests/library/coder.c "$work/liblrc_coder.a" -lpthread \
+        -o "$work/either" && gcc -std=c11 "${warnings[@]}" tests/library/cpu.c "$work/liblrc_coder.a" -o "$work/cpu" \
+        && "$work/either" > "$work/chosen" && LRC_CODER_CPU=v2 "$work/either" > "$work/forced" && cmp "$work/chosen" "$work/forced" \
+        && [ "$("$work/cpu")" = $best ] && [ "$(LRC_CODER_CPU=v2 "$work/cpu")" = x86-64-v2 ] && echo "choice: $best here, and x86-64-v2 where it is forced"
+}
+
 shared_library() {
     gcc -shared -Wl,--whole-archive "$archive" -Wl,--no-whole-archive -o "$work/liblrc_coder.so"
 }
@@ -106,6 +116,7 @@ test_of "header" g++ g++ header
 test_of "C" gcc gcc c_program gcc c11 tests/library/coder.c
 test_of "C, sanitizers of gcc" gcc gcc c_program gcc c11 tests/library/coder.c "${sanitizers[@]}"
 test_of "C, sanitizers of clang" clang clang c_program clang c11 tests/library/coder.c "${sanitizers[@]}"
+test_of "choice of the processor's code" gcc gcc choice
 test_of "C++" g++ g++ c_program g++ c++17 tests/library/coder.cpp
 test_of "C++, sanitizers of gcc" g++ g++ c_program g++ c++17 tests/library/coder.cpp "${sanitizers[@]}"
 test_of "C++, sanitizers of clang" clang++ clang c_program clang++ c++17 tests/library/coder.cpp "${sanitizers[@]}"
