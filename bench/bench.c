@@ -45,7 +45,9 @@ typedef struct {
     void v##_timed_combine(uint8_t *, size_t, const uint8_t *, size_t, const Slice *, size_t, uint32_t);                  \
     bool v##_timed_rebuild_to(uint8_t *, size_t, const Slice *, size_t, uint16_t, size_t, uint32_t);                      \
     bool v##_timed_rebuild(uint8_t *, size_t, const Slice *, size_t, uint16_t, size_t, bool, uint32_t);                   \
-    bool v##_timed_seal(const uint8_t *, size_t, uint8_t *, size_t, uint64_t, uint8_t, uint32_t);
+    bool v##_timed_seal(const uint8_t *, size_t, uint8_t *, size_t, uint64_t, uint8_t, uint32_t);                         \
+    uint32_t v##_lrc_rebuild(size_t, const Slice *, uint16_t, uint8_t, size_t, uint8_t *, size_t);                        \
+    uint32_t v##_lrc_decode(size_t, const Slice *, uint16_t, const uint8_t *, size_t, size_t, PARITIES);
 DECLARE(v2)
 DECLARE(v3)
 
@@ -184,6 +186,70 @@ static void isal_global(long n) {
 CALLS(v2)
 CALLS(v3)
 
+// ---- several lost fragments at once
+enum { NONE = 255 };
+typedef struct {
+    const char *name;
+    int count;
+    uint8_t numbers[4];
+} Loss;
+static const Loss losses[] = {
+    {"0, 1 lost", 2, {0, 1, NONE, NONE}},     {"0, 14 lost", 2, {0, 14, NONE, NONE}},   {"14, 15 lost", 2, {14, 15, NONE, NONE}},
+    {"0, 1, 2 lost", 3, {0, 1, 2, NONE}},     {"0, 1, 6 lost", 3, {0, 1, 6, NONE}},     {"0, 1, 14 lost", 3, {0, 1, 14, NONE}},
+    {"0, 1, 6, 7 lost", 4, {0, 1, 6, 7}},     {"0, 1, 2, 6 lost", 4, {0, 1, 2, 6}},     {"0, 6, 14, 15 lost", 4, {0, 6, 14, 15}},
+};
+enum { LOSSES = sizeof losses / sizeof *losses };
+static const Loss *loss;
+static uint16_t lost;
+static uint8_t *left_bytes[DATA], decode_tables[32 * 4 * DATA];
+
+// The twelve of the fragments left whose numbers are `used`: whether they determine the others; then ISA-L's tables are made.
+static bool make_decode_tables(const int *used) {
+    uint8_t square[DATA * DATA] = {0}, inverse[DATA * DATA], rows[4 * DATA] = {0};
+    for (int i = 0; i < DATA; i++)
+        for (int k = 0; k < DATA; k++) square[i * DATA + k] = used[i] < DATA ? used[i] == k : coefficients[used[i] - DATA][k];
+    if (gf_invert_matrix(square, inverse, DATA) != 0) return false;
+    for (int r = 0; r < loss->count; r++)
+        for (int i = 0; i < DATA; i++)
+            for (int k = 0; k < DATA; k++) {
+                int f = loss->numbers[r];
+                rows[r * DATA + i] ^= product(f < DATA ? f == k : coefficients[f - DATA][k], inverse[k * DATA + i]);
+            }
+    for (int i = 0; i < DATA; i++) left_bytes[i] = data[used[i]];
+    ec_init_tables(DATA, loss->count, rows, decode_tables);
+    return true;
+}
+
+// The first twelve of the fragments left that determine the others, by the sets that leave out the rest.
+static void set_loss(const Loss *next) {
+    loss = next;
+    lost = 0;
+    for (int r = 0; r < loss->count; r++) lost |= 1u << loss->numbers[r];
+    for (unsigned out = 0; out < 1u << FRAGMENTS; out++) {
+        int used[FRAGMENTS], count = 0;
+        if (out & lost) continue;
+        for (int i = 0; i < FRAGMENTS; i++)
+            if (!((out | lost) >> i & 1)) used[count++] = i;
+        if (count == DATA && make_decode_tables(used)) return;
+    }
+}
+
+static void isal_decode(long n) {
+    for (long j = 0; j < n; j++) ec_encode_data(width, DATA, loss->count, decode_tables, left_bytes, made), use(made[0]);
+}
+
+#define DECODES(v)                                                                                                        \
+    static void v##_decode(long n) {                                                                                      \
+        for (long j = 0; j < n; j++) seen = v##_lrc_decode(DATA, stripe, lost, loss->numbers, 0, width, MADE);             \
+    }                                                                                                                     \
+    static void v##_rebuild_each(long n) {                                                                                \
+        for (long j = 0; j < n; j++)                                                                                      \
+            for (int r = 0; r < loss->count; r++)                                                                         \
+                seen = v##_lrc_rebuild(DATA, stripe, lost, loss->numbers[r], 0, made[r], width);                           \
+    }
+DECODES(v2)
+DECODES(v3)
+
 typedef struct {
     const char *name;
     void (*call)(long);
@@ -206,6 +272,8 @@ static Row local_rows[] = {ROW("memcpy", copy_one, 1), ROW("ISA-L", isal_local_t
                            REBUILD(v2, local), REBUILD(v3, local)};
 static Row global_rows[] = {ROW("memcpy", copy_one, 1), ROW("ISA-L", isal_global_to, 1), ROW("ISA-L, malloc", isal_global, 2),
                             REBUILD(v2, global), REBUILD(v3, global)};
+#define DECODE_ROWS 5
+static Row decode_rows[LOSSES][DECODE_ROWS];
 enum { ENCODE_ROWS = sizeof encode_rows / sizeof(Row), REBUILD_ROWS = sizeof local_rows / sizeof(Row) };
 
 static double now(void) {
@@ -241,16 +309,24 @@ static void run(Row *rows, int count, int w, int rounds) {
         }
 }
 
-static void print(const char *title, const Row *rows, int count, int lists) {
+static void print_title(const char *title) {
     printf("\n| %s |", title);
     for (int w = 0; w < WIDTHS; w++) printf(" %zu |", widths[w]);
     printf("\n|---|---|---|---|---|\n");
+}
+
+static void print_rows(const char *before, const Row *rows, int count, int lists) {
     for (int i = 0; i < count; i++) {
-        printf("| %s |", rows[i].name);
+        printf("| %s%s |", before, rows[i].name);
         for (int w = 0; w < WIDTHS; w++)
             printf(" %.3g (%.2f) |", lists * widths[w] / rows[i].best[w] / 1e9, rows[rows[i].base].best[w] / rows[i].best[w]);
         printf("\n");
     }
+}
+
+static void print(const char *title, const Row *rows, int count, int lists) {
+    print_title(title);
+    print_rows("", rows, count, lists);
 }
 
 // ---- every call must make what ISA-L makes
@@ -327,13 +403,36 @@ static void run_blob(int w, int rounds) {
 }
 
 static void print_blob(void) {
-    printf("\n| a blob, ms (of ISA-L's time), by width |");
-    for (int w = 0; w < WIDTHS; w++) printf(" %zu |", widths[w]);
-    printf("\n|---|---|---|---|---|\n");
+    print_title("a blob, ms (of ISA-L's time), by width");
     for (int i = 0; i < BLOB_ROWS; i++) {
         printf("| %s |", blob_rows[i].name);
         for (int w = 0; w < WIDTHS; w++) printf(" %.3g (%.2f) |", blob_rows[i].best[w] * 1e3, blob_rows[i].best[w] / blob_rows[0].best[w]);
         printf("\n");
+    }
+}
+
+// Each set of lost fragments by itself: ISA-L, all at once, and one after the other.
+static void run_losses(int w, int rounds) {
+    static const Row rows[DECODE_ROWS] = {ROW("ISA-L", isal_decode, 0), ROW("v2 lrc_decode", v2_decode, 0), ROW("v2 lrc_rebuild, each", v2_rebuild_each, 0),
+                                          ROW("v3 lrc_decode", v3_decode, 0), ROW("v3 lrc_rebuild, each", v3_rebuild_each, 0)};
+    for (int i = 0; i < LOSSES; i++) {
+        int wanted[4];
+        set_loss(&losses[i]);
+        for (int r = 0; r < loss->count; r++) wanted[r] = loss->numbers[r];
+        for (int k = 0; w == 0 && k < DECODE_ROWS; k++) decode_rows[i][k] = rows[k];
+        isal_decode(1);
+        for (int r = 0; r < loss->count; r++) require_same("ISA-L's decode", made[r], data[wanted[r]]);
+        check(decode_rows[i], DECODE_ROWS, loss->count, wanted);
+        run(decode_rows[i], DECODE_ROWS, w, rounds);
+    }
+}
+
+static void print_losses(void) {
+    print_title("lost fragments, GB/s of them (of ISA-L)");
+    for (int i = 0; i < LOSSES; i++) {
+        char before[32];
+        snprintf(before, sizeof before, "%s: ", losses[i].name);
+        print_rows(before, decode_rows[i], DECODE_ROWS, losses[i].count);
     }
 }
 
@@ -360,10 +459,12 @@ int main(int argc, char **argv) {
         run(encode_rows, ENCODE_ROWS, w, rounds);
         run(local_rows, REBUILD_ROWS, w, rounds);
         run(global_rows, REBUILD_ROWS, w, rounds);
+        run_losses(w, rounds < 200 ? rounds : 200);
     }
     print("encode, GB/s (of ISA-L), by width", encode_rows, ENCODE_ROWS, DATA);
     print("six to one", local_rows, REBUILD_ROWS, 1);
     print("twelve to one", global_rows, REBUILD_ROWS, 1);
+    print_losses();
     blob = malloc(BLOB);
     if (!blob) return fputs("bench: no memory\n", stderr), 1;
     for (size_t i = 0; i < BLOB; i++) blob[i] = i * 2654435761u >> 24;

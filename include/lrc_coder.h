@@ -36,6 +36,9 @@ enum {
     LRC_BAD_ARGUMENT = 2
 };
 
+/* Among the numbers of lrc_decode: no fragment. */
+enum { LRC_NONE = 255 };
+
 /* Bytes that are read. */
 typedef struct {
     const uint8_t *at;
@@ -71,6 +74,19 @@ uint32_t lrc_is_open(size_t data_fragments, uint16_t lost, uint8_t fragment);
 uint32_t lrc_rebuild(size_t data_fragments, const lrc_slice fragments[16], uint16_t lost, uint8_t fragment,
                      size_t from, uint8_t *target, size_t len);
 
+/* Writes the bytes from..from+len of up to four lost fragments at once, which takes less time than
+ * one call of lrc_rebuild for each. `numbers` has the number of the fragment for each of the four
+ * targets, or LRC_NONE. A target for LRC_NONE is not looked at: give it any address but NULL, and
+ * the length 0. The sixteen slices are those of lrc_rebuild. LRC_OPEN if and only if no argument
+ * is refused, and nothing that is left tells one of the numbered fragments: of more than four lost
+ * fragments there is always such a one. LRC_BAD_ARGUMENT if and only if there is no such code, a
+ * numbered fragment is not the code's or not in `lost`, its target has not `len` bytes, a fragment
+ * left has less than from+len bytes, or that sum is more than SIZE_MAX. */
+uint32_t lrc_decode(size_t data_fragments, const lrc_slice fragments[16], uint16_t lost, const uint8_t numbers[4],
+                    size_t from, size_t len,
+                    uint8_t *first, size_t first_len, uint8_t *second, size_t second_len,
+                    uint8_t *third, size_t third_len, uint8_t *fourth, size_t fourth_len);
+
 /* Writes how the lost `fragment` comes from those left: their numbers, a coefficient for each, and
  * how many they are, at most 15. The fragment is their sum, each times its coefficient. Alone lost
  * in its group, it comes from the six (or three) others of its group, and no recipe has fewer.
@@ -85,8 +101,13 @@ uint32_t lrc_recipe(size_t data_fragments, uint16_t lost, uint8_t fragment,
 uint32_t lrc_add(uint8_t *target, size_t target_len, uint8_t coefficient,
                  const uint8_t *source, size_t source_len);
 
+/* In liblrc_coder.a and liblrc_coder.so, as tools/build_coder.sh makes them: the level of the
+ * processor whose code is used, "x86-64-v2" or "x86-64-v3". libcoder_c.a does not have it. */
+const char *lrc_coder_cpu(void);
+
 /* ---- The same with plain arrays of addresses, each of `len` bytes. A NULL means a lost fragment
- * among the fragments of lrc_rebuild_arrays; anywhere else it is LRC_BAD_ARGUMENT. */
+ * among the fragments of lrc_rebuild_arrays and lrc_decode_arrays, and no target among the targets
+ * of lrc_decode_arrays; anywhere else it is LRC_BAD_ARGUMENT. */
 
 /* `data` has `data_fragments` addresses and `parities` four. */
 static inline uint32_t lrc_encode_arrays(size_t data_fragments, size_t len,
@@ -142,6 +163,39 @@ static inline uint32_t lrc_rebuild_arrays(size_t data_fragments, size_t len, con
             lost |= 1u << i;
     }
     return lrc_rebuild(data_fragments, slices, (uint16_t)lost, fragment, 0, target, len);
+}
+
+/* `fragments` and `targets` have data_fragments + 4 addresses each. A fragment that has a target
+ * counts as lost, also where an address is given for it. */
+static inline uint32_t lrc_decode_arrays(size_t data_fragments, size_t len, const uint8_t *const *fragments,
+                                         uint8_t *const *targets)
+{
+    static const uint8_t nothing = 0;
+    lrc_slice slices[16];
+    uint8_t unused = 0, numbers[4] = { LRC_NONE, LRC_NONE, LRC_NONE, LRC_NONE };
+    uint8_t *four[4];
+    size_t lens[4] = { 0, 0, 0, 0 }, i, count = 0;
+    unsigned lost = 0;
+    if (data_fragments != 12 && data_fragments != 6)
+        return LRC_BAD_ARGUMENT;
+    four[0] = four[1] = four[2] = four[3] = &unused;
+    for (i = 0; i < 16; i++) {
+        uint8_t *target = i < data_fragments + 4 ? targets[i] : NULL;
+        const uint8_t *at = i < data_fragments + 4 && !target ? fragments[i] : NULL;
+        slices[i].at = at ? at : &nothing;
+        slices[i].len = at ? len : 0;
+        if (!at)
+            lost |= 1u << i;
+        if (target && count++ < 4) {
+            numbers[count - 1] = (uint8_t)i;
+            four[count - 1] = target;
+            lens[count - 1] = len;
+        }
+    }
+    if (count > 4)
+        return LRC_OPEN;
+    return lrc_decode(data_fragments, slices, (uint16_t)lost, numbers, 0, len, four[0], lens[0], four[1], lens[1],
+                      four[2], lens[2], four[3], lens[3]);
 }
 
 #ifdef __cplusplus

@@ -38,50 +38,29 @@ static inline uint32_t lrc_read_set(size_t data_fragments, uint16_t lost, uint16
     return LRC_DONE;
 }
 
-/* The wanted fragment whose recipe names the fewest fragments, or LRC_MOST_FRAGMENTS if each of
- * them is unrecoverable. */
-static inline uint8_t lrc_nearest(size_t data_fragments, uint16_t lost, uint16_t wanted)
-{
-    uint8_t nearest = LRC_MOST_FRAGMENTS, fragment;
-    uint32_t fewest = LRC_MOST_FRAGMENTS;
-    for (fragment = 0; fragment < data_fragments + LRC_PARITIES; fragment++) {
-        uint8_t fragments[LRC_MOST_FRAGMENTS], coefficients[LRC_MOST_FRAGMENTS];
-        uint32_t count;
-        if (!lrc_has(wanted, fragment) ||
-            lrc_recipe(data_fragments, lost, fragment, fragments, coefficients, &count) != LRC_DONE)
-            continue;
-        if (count < fewest) {
-            fewest = count;
-            nearest = fragment;
-        }
-    }
-    return nearest;
-}
-
 /* Rebuilds the fragments `wanted`, each of which has to be in `lost`, into `targets`, which has an
- * address of `len` bytes for each of them. The nearest comes first, and serves the others: two lost
- * in one group take twelve fragments and six, not twelve twice. LRC_OPEN if and only if one of
- * them is unrecoverable; then no target is written. `fragments` is as for lrc_rebuild, and gets the
- * rebuilt slices. */
+ * address of `len` bytes for each of them. LRC_OPEN if and only if one of them is unrecoverable;
+ * then no target is written. `fragments` is as for lrc_rebuild. */
 static inline uint32_t lrc_rebuild_set(size_t data_fragments,
-                                       lrc_slice fragments[LRC_MOST_FRAGMENTS], uint16_t lost,
-                                       uint16_t wanted, uint8_t *const *targets, size_t len)
+                                       const lrc_slice fragments[LRC_MOST_FRAGMENTS],
+                                       uint16_t lost, uint16_t wanted, uint8_t *const *targets,
+                                       size_t len)
 {
-    unsigned still_lost = lost, to_write = wanted;
-    uint16_t read;
-    uint32_t status = lrc_read_set(data_fragments, lost, wanted, &read);
-    while (status == LRC_DONE && to_write) {
-        const uint8_t next = lrc_nearest(data_fragments, (uint16_t)still_lost, (uint16_t)to_write);
-        if (next == LRC_MOST_FRAGMENTS)
-            return LRC_BAD_ARGUMENT;
-        status = lrc_rebuild(data_fragments, fragments, (uint16_t)still_lost, next, 0,
-                             targets[next], len);
-        fragments[next].at = targets[next];
-        fragments[next].len = len;
-        still_lost &= ~(1u << next);
-        to_write &= ~(1u << next);
+    uint8_t unused = 0, fragment;
+    uint8_t numbers[LRC_PARITIES] = { LRC_NONE, LRC_NONE, LRC_NONE, LRC_NONE };
+    uint8_t *four[LRC_PARITIES] = { &unused, &unused, &unused, &unused };
+    size_t lens[LRC_PARITIES] = { 0, 0, 0, 0 }, count = 0;
+    for (fragment = 0; fragment < LRC_MOST_FRAGMENTS; fragment++) {
+        if (!lrc_has(wanted, fragment))
+            continue;
+        if (count == LRC_PARITIES)
+            return LRC_OPEN; /* no five lost fragments can all be rebuilt */
+        numbers[count] = fragment;
+        four[count] = targets[fragment];
+        lens[count++] = len;
     }
-    return status;
+    return lrc_decode(data_fragments, fragments, lost, numbers, 0, len, four[0], lens[0], four[1],
+                      lens[1], four[2], lens[2], four[3], lens[3]);
 }
 
 #ifdef __cplusplus

@@ -51,15 +51,25 @@ c_program() {
 
 # The archive asks for no memory: for nothing but what compilers count on. Its names are those of the header.
 symbols() {
-    local wanted="lrc_add lrc_encode lrc_encode_add lrc_is_open lrc_rebuild lrc_recipe " names others
+    local wanted="lrc_add lrc_decode lrc_encode lrc_encode_add lrc_is_open lrc_rebuild lrc_recipe " names others
     names=$(nm -g --defined-only "$archive" | awk 'NF == 3 { print $3 }' | sort | tr '\n' ' ')
     others=$(nm -u "$archive" | awk 'NF == 2 { print $2 }' | grep -vxE 'mem(cmp|cpy|move|set)')
-    [ "$names" = "$wanted" ] && [ -z "$others" ] && echo "symbols: six functions, which ask for no memory"
+    [ "$names" = "$wanted" ] && [ -z "$others" ] && echo "symbols: seven functions, which ask for no memory"
 }
 
 header() {
     gcc -std=c99 "${warnings[@]}" -fsyntax-only -x c include/lrc_coder.h && g++ -std=c++11 "${warnings[@]}" -fsyntax-only -x c++ include/lrc_coder.h \
         && echo "header: as C99 and as C++11"
+}
+
+# The archive with the code for two processors: the same tests by either, chosen by the environment, and by itself the best.
+choice() {
+    local best=x86-64-v2
+    grep -qw avx2 /proc/cpuinfo && best=x86-64-v3
+    has objcopy binutils && tools/build_coder.sh "$work" && gcc -std=c11 -O1 "${warnings[@]}" tests/library/coder.c "$work/liblrc_coder.a" -lpthread \
+        -o "$work/either" && gcc -std=c11 "${warnings[@]}" tests/library/cpu.c "$work/liblrc_coder.a" -o "$work/cpu" \
+        && "$work/either" > "$work/chosen" && LRC_CODER_CPU=v2 "$work/either" > "$work/forced" && cmp "$work/chosen" "$work/forced" \
+        && [ "$("$work/cpu")" = $best ] && [ "$(LRC_CODER_CPU=v2 "$work/cpu")" = x86-64-v2 ] && echo "choice: $best here, and x86-64-v2 where it is forced"
 }
 
 shared_library() {
@@ -127,6 +137,7 @@ test_of "header" g++ g++ header
 test_of "C" gcc gcc c_program gcc c11 tests/library/coder.c
 test_of "C, sanitizers of gcc" gcc gcc c_program gcc c11 tests/library/coder.c "${sanitizers[@]}"
 test_of "C, sanitizers of clang" clang clang c_program clang c11 tests/library/coder.c "${sanitizers[@]}"
+test_of "choice of the processor's code" gcc gcc choice
 test_of "C++" g++ g++ c_program g++ c++17 tests/library/coder.cpp
 test_of "C++, sanitizers of gcc" g++ g++ c_program g++ c++17 tests/library/coder.cpp "${sanitizers[@]}"
 test_of "C++, sanitizers of clang" clang++ clang c_program clang++ c++17 tests/library/coder.cpp "${sanitizers[@]}"

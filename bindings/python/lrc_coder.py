@@ -17,7 +17,7 @@ class Slice(ctypes.Structure):
     _fields_ = [("at", ctypes.POINTER(ctypes.c_uint8)), ("len", ctypes.c_size_t)]
 
 
-DONE, OPEN, BAD_ARGUMENT = 0, 1, 2
+DONE, OPEN, BAD_ARGUMENT, NONE = 0, 1, 2, 255
 
 _U8, _U16, _U32, _SIZE = ctypes.c_uint8, ctypes.c_uint16, ctypes.c_uint32, ctypes.c_size_t
 _BYTES, _SLICES = ctypes.POINTER(_U8), ctypes.POINTER(Slice)
@@ -26,6 +26,7 @@ DECLARED = {
     "lrc_encode_add": [_SIZE, _U8] + 5 * [_BYTES, _SIZE],
     "lrc_is_open": [_SIZE, _U16, _U8],
     "lrc_rebuild": [_SIZE, _SLICES, _U16, _U8, _SIZE, _BYTES, _SIZE],
+    "lrc_decode": [_SIZE, _SLICES, _U16, _BYTES, _SIZE, _SIZE] + 4 * [_BYTES, _SIZE],
     "lrc_recipe": [_SIZE, _U16, _U8, _BYTES, _BYTES, ctypes.POINTER(_U32)],
     "lrc_add": [_BYTES, _SIZE, _U8, _BYTES, _SIZE],
 }
@@ -95,18 +96,36 @@ def is_open(data_fragments, lost, fragment):
     return False
 
 
+def _length(left, start, length):
+    """The length that was given, or that from `start` to the end of the shortest fragment left."""
+    return max(0, min(map(len, left.values()), default=0) - start) if length is None else length
+
+
 def rebuild(data_fragments, left, fragment, start=0, length=None):
     """The bytes of a lost fragment from `start` on, as many as `length`, or to the end of the shortest fragment left.
 
     `left` has the bytes of the fragments left, by their numbers.
     """
     slices, _kept = _slices(left.get(i, b"") for i in range(16))
-    if length is None:
-        length = max(0, min(map(len, left.values()), default=0) - start)
-    target = bytearray(length)
+    target = bytearray(_length(left, start, length))
     lost = 0xFFFF & ~_set(left)
     _call("lrc_rebuild", data_fragments, slices, lost, _number(fragment, "fragment", 8), _number(start, "start", 64), *_target(target))
     return bytes(target)
+
+
+def decode(data_fragments, left, fragments, start=0, length=None):
+    """The bytes of several lost fragments as `rebuild` gives them, by their numbers, in less time. It raises Open if one of them is."""
+    slices, _kept = _slices(left.get(i, b"") for i in range(16))
+    length, chosen = _length(left, start, length), [_number(fragment, "fragment", 4) for fragment in dict.fromkeys(fragments)]
+    if len(chosen) > 4:  # one of them is open
+        for fragment in chosen:
+            rebuild(data_fragments, left, fragment, start, 0)
+    targets = [bytearray(length if i < len(chosen) else 0) for i in range(4)]
+    numbers = (_U8 * 4)(*(chosen + 4 * [NONE])[:4])
+    lost = 0xFFFF & ~_set(left)
+    _call("lrc_decode", data_fragments, slices, lost, numbers, _number(start, "start", 64), _number(length, "length", 64),
+          *[word for target in targets for word in _target(target)])
+    return {fragment: bytes(target) for fragment, target in zip(chosen, targets)}
 
 
 def recipe(data_fragments, lost, fragment):

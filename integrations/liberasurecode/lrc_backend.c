@@ -110,7 +110,7 @@ static int rebuild(const struct lrc *lrc, char **data, char **parity, const int 
 }
 
 /* Makes the data alone: no caller reads what a decode makes of lost parities. */
-static int lrc_decode(void *desc, char **data, char **parity, int *missing, int blocksize)
+static int lrc_decode_blocks(void *desc, char **data, char **parity, int *missing, int blocksize)
 {
     const struct lrc *lrc = desc;
     return rebuild(lrc, data, parity, missing, set_of(missing) & set_below(lrc->k), blocksize);
@@ -162,8 +162,16 @@ static size_t lrc_none(void *desc, int size)
 }
 
 struct ec_backend_op_stubs lrc_backend_functions = {
-    lrc_init,        lrc_exit,         lrc_encode_blocks,      lrc_decode, lrc_fragments_needed,
-    lrc_reconstruct, lrc_element_size, lrc_is_compatible_with, lrc_none,   lrc_none
+    lrc_init,
+    lrc_exit,
+    lrc_encode_blocks,
+    lrc_decode_blocks,
+    lrc_fragments_needed,
+    lrc_reconstruct,
+    lrc_element_size,
+    lrc_is_compatible_with,
+    lrc_none,
+    lrc_none,
 };
 
 int lrc_backend_create(int k, ec_checksum_type_t checksum)

@@ -35,10 +35,26 @@ def is_whole(fragments, data_fragments, lost):
     return whole
 
 
+def decodes_whole(fragments, data_fragments, lost):
+    """Whether all lost fragments come back at once; each by itself does where it is not open."""
+    left = {i: data for i, data in enumerate(fragments) if i not in lost}
+    for fragment in lost:
+        if not lrc_coder.is_open(data_fragments, lost, fragment):
+            assert lrc_coder.decode(data_fragments, left, [fragment]) == {fragment: fragments[fragment]}
+    try:
+        assert lrc_coder.decode(data_fragments, left, lost) == {fragment: fragments[fragment] for fragment in lost}
+    except lrc_coder.Open:
+        assert any(lrc_coder.is_open(data_fragments, lost, fragment) for fragment in lost)
+        return False
+    return True
+
+
 def count_whole(data_fragments, size):
     fragments = stripe(data_fragments, 20)
     sets = list(itertools.combinations(range(data_fragments + 4), size))
-    return sum(is_whole(fragments, data_fragments, lost) for lost in sets), len(sets)
+    whole = [is_whole(fragments, data_fragments, lost) for lost in sets]
+    assert whole == [decodes_whole(fragments, data_fragments, lost) for lost in sets]
+    return sum(whole), len(sets)
 
 
 def test_encode_add():
@@ -65,6 +81,10 @@ def test_bad_arguments():
         lambda: lrc_coder.rebuild(12, left, 0, 0, 5),
         lambda: lrc_coder.rebuild(12, left, 0, -1, 4),
         lambda: lrc_coder.rebuild(13, left, 0),
+        lambda: lrc_coder.decode(12, left, [0, 1]),
+        lambda: lrc_coder.decode(12, left, [0], 0, 5),
+        lambda: lrc_coder.decode(13, left, [0]),
+        lambda: lrc_coder.decode(12, left, [255]),
         lambda: lrc_coder.recipe(12, [1], 0),
         lambda: lrc_coder.add(target, 256, fragments[0]),
         lambda: lrc_coder.add(target, 1, fragments[0][1:]),
@@ -97,11 +117,13 @@ def compare_vectors(data_fragments, name):
                 lost = [i for i in range(data_fragments + 4) if int(words[1], 16) >> i & 1]
             else:
                 left = {i: data for i, data in enumerate(fragments) if i not in lost}
-                try:
-                    rebuilt = lrc_coder.rebuild(data_fragments, left, int(words[1]), 0, len(fragments[0])).hex() or "-"
-                except lrc_coder.Open:
-                    rebuilt = "open"
-                assert rebuilt == words[2], words
+                fragment, width = int(words[1]), len(fragments[0])
+                for rebuild in (lrc_coder.rebuild, lambda *of: lrc_coder.decode(of[0], of[1], [of[2]], *of[3:])[of[2]]):
+                    try:
+                        rebuilt = rebuild(data_fragments, left, fragment, 0, width).hex() or "-"
+                    except lrc_coder.Open:
+                        rebuilt = "open"
+                    assert rebuilt == words[2], words
                 compared += 1
     return compared
 

@@ -82,6 +82,35 @@ static uint32_t by_recipe(const stripe *left, size_t data_fragments, uint16_t lo
     return LRC_DONE;
 }
 
+/* The fragments `wanted` of a lost set at once: all of them, or none if one of them is open. */
+static void decode_some(const stripe *made, size_t data_fragments, const uint8_t *const *left, uint16_t lost, uint16_t wanted)
+{
+    uint8_t decoded[MOST][WIDTH];
+    uint8_t *targets[MOST] = { NULL };
+    uint32_t status, wanted_status = LRC_DONE;
+    memset(decoded, 0xEE, sizeof decoded);
+    for (uint8_t f = 0; f < data_fragments + 4; f++) {
+        targets[f] = wanted >> f & 1 ? decoded[f] : NULL;
+        if (targets[f] && lrc_is_open(data_fragments, lost, f) == LRC_OPEN)
+            wanted_status = LRC_OPEN;
+    }
+    status = lrc_decode_arrays(data_fragments, WIDTH, left, targets);
+    CHECK(status == wanted_status);
+    for (uint8_t f = 0; f < data_fragments + 4; f++)
+        for (size_t k = 0; k < WIDTH; k++)
+            CHECK(decoded[f][k] == (status == LRC_DONE && targets[f] ? made->bytes[f][k] : 0xEE));
+}
+
+/* Every subset of up to four of the lost fragments, and all of them. */
+static void decode_set(const stripe *made, size_t data_fragments, const uint8_t *const *left, uint16_t lost)
+{
+    lost = (uint16_t)(lost & ((1u << (data_fragments + 4)) - 1));
+    decode_some(made, data_fragments, left, lost, lost);
+    for (unsigned wanted = lost; wanted != 0; wanted = (wanted - 1) & lost)
+        if (__builtin_popcount(wanted) <= 4 && __builtin_popcount(lost) <= 6)
+            decode_some(made, data_fragments, left, lost, (uint16_t)wanted);
+}
+
 /* Each lost fragment of one set, by lrc_rebuild and by lrc_recipe; whether all of them came back. */
 static int rebuild_set(const stripe *made, size_t data_fragments, uint16_t lost)
 {
@@ -89,6 +118,7 @@ static int rebuild_set(const stripe *made, size_t data_fragments, uint16_t lost)
     int whole = 1;
     for (size_t i = 0; i < MOST; i++)
         left[i] = lost >> i & 1 ? NULL : made->fragments[i];
+    decode_set(made, data_fragments, left, lost);
     for (uint8_t f = 0; f < data_fragments + 4; f++) {
         uint8_t rebuilt[WIDTH] = { 0xEE, 0xEE, 0xEE }, summed[WIDTH];
         uint32_t status;
@@ -144,6 +174,34 @@ static void test_encode_add(size_t data_fragments)
     printf("%zu data fragments: parities by one fragment at a time, and after each was written over\n", data_fragments);
 }
 
+/* Arguments that lrc_decode refuses: fragments left, numbers and lengths. */
+static void bad_decodes(lrc_slice *s, uint8_t (*t)[WIDTH])
+{
+    const uint8_t numbers[4] = { 0, 1, LRC_NONE, 6 };
+    const uint16_t lost = 1u << 0 | 1u << 1 | 1u << 6;
+    for (size_t k = 0; k <= 20; k++)
+        if (k != WIDE && k != SMALL)
+            CHECK(lrc_decode(k, s, lost, numbers, 0, WIDTH, t[0], WIDTH, t[1], WIDTH, t[2], WIDTH, t[3], WIDTH) == LRC_BAD_ARGUMENT);
+    for (size_t i = 0; i < 4; i++) {
+        size_t len[4] = { WIDTH, WIDTH, WIDTH, WIDTH };
+        uint8_t other[4];
+        if (numbers[i] == LRC_NONE)
+            continue;
+        memcpy(other, numbers, sizeof other);
+        len[i] = WIDTH - 1;
+        CHECK(lrc_decode(WIDE, s, lost, numbers, 0, WIDTH, t[0], len[0], t[1], len[1], t[2], len[2], t[3], len[3]) == LRC_BAD_ARGUMENT);
+        other[i] = 2;
+        CHECK(lrc_decode(WIDE, s, lost, other, 0, WIDTH, t[0], WIDTH, t[1], WIDTH, t[2], WIDTH, t[3], WIDTH) == LRC_BAD_ARGUMENT);
+        other[i] = 16;
+        CHECK(lrc_decode(WIDE, s, 0xFFFF, other, 0, WIDTH, t[0], WIDTH, t[1], WIDTH, t[2], WIDTH, t[3], WIDTH) == LRC_BAD_ARGUMENT);
+        other[i] = 10;
+        CHECK(lrc_decode(SMALL, s, 0xFFFF, other, 0, WIDTH, t[0], WIDTH, t[1], WIDTH, t[2], WIDTH, t[3], WIDTH) == LRC_BAD_ARGUMENT);
+    }
+    CHECK(lrc_decode(WIDE, s, lost, numbers, 1, WIDTH, t[0], WIDTH, t[1], WIDTH, t[2], WIDTH, t[3], WIDTH) == LRC_BAD_ARGUMENT);
+    CHECK(lrc_decode(WIDE, s, 0xFFFF, numbers, SIZE_MAX, WIDTH, t[0], WIDTH, t[1], WIDTH, t[2], WIDTH, t[3], WIDTH) == LRC_BAD_ARGUMENT);
+    CHECK(lrc_decode(WIDE, s, 0xFFFF, numbers, SIZE_MAX - WIDTH, WIDTH, t[0], WIDTH, t[1], WIDTH, t[2], WIDTH, t[3], WIDTH) == LRC_OPEN);
+}
+
 /* Every argument that is none, and the targets afterwards. */
 static void test_bad_arguments(void)
 {
@@ -196,11 +254,13 @@ static void test_bad_arguments(void)
     CHECK(lrc_rebuild(WIDE, s, 0xFFFF, 0, SIZE_MAX - WIDTH, t[0], WIDTH) == LRC_OPEN);
     s[15].len = WIDTH - 1;
     CHECK(lrc_rebuild(WIDE, s, 1, 0, 0, t[0], WIDTH) == LRC_BAD_ARGUMENT);
+    s[15].len = WIDTH;
     CHECK(lrc_recipe(WIDE, 2, 0, fragments, coefficients, &count) == LRC_BAD_ARGUMENT);
     CHECK(lrc_recipe(WIDE, 0xFFFF, 16, fragments, coefficients, &count) == LRC_BAD_ARGUMENT);
     CHECK(lrc_recipe(SMALL, 0xFFFF, 10, fragments, coefficients, &count) == LRC_BAD_ARGUMENT);
     CHECK(lrc_recipe(WIDE, 15, 0, fragments, coefficients, &count) == LRC_OPEN);
     CHECK(lrc_add(t[0], WIDTH, 2, s[0].at, WIDTH - 1) == LRC_BAD_ARGUMENT);
+    bad_decodes(s, t);
     CHECK(memcmp(t, old, sizeof t) == 0 && count == 99);
     for (size_t i = 0; i < MOST; i++)
         CHECK(fragments[i] == 0xEE && coefficients[i] == 0xEE);
@@ -269,11 +329,89 @@ static void test_ends(size_t data_fragments)
     printf("%zu data fragments: lengths 0 to %d, each fragment before a page without access\n", data_fragments, LONGEST);
 }
 
+/* Long fragments of every lost set that can be rebuilt whole, at once: by the syndromes of blocks, and of a part of one. */
+static void test_decoded_sets(size_t data_fragments)
+{
+    enum { LONG = 32769 };
+    static uint8_t bytes[MOST][LONG], decoded[MOST][LONG];
+    const size_t count = data_fragments + 4;
+    const uint8_t *fragments[MOST];
+    uint8_t *parities[4];
+    unsigned whole = 0;
+    for (size_t i = 0; i < count; i++)
+        fragments[i] = bytes[i];
+    for (size_t i = 0; i < data_fragments; i++)
+        fill(bytes[i], LONG, (uint32_t)i);
+    for (size_t i = 0; i < 4; i++)
+        parities[i] = bytes[data_fragments + i];
+    CHECK(lrc_encode_arrays(data_fragments, LONG, fragments, parities) == LRC_DONE);
+    for (unsigned lost = 0; lost < 1u << count; lost++) {
+        const uint8_t *left[MOST];
+        uint8_t *targets[MOST];
+        if (__builtin_popcount(lost) > 4)
+            continue;
+        for (size_t i = 0; i < count; i++) {
+            left[i] = lost >> i & 1 ? NULL : bytes[i];
+            targets[i] = lost >> i & 1 ? decoded[i] : NULL;
+            if (targets[i])
+                memset(decoded[i], 0xEE, LONG);
+        }
+        if (lrc_decode_arrays(data_fragments, LONG, left, targets) != LRC_DONE)
+            continue;
+        whole++;
+        for (size_t i = 0; i < count; i++)
+            CHECK(!targets[i] || memcmp(decoded[i], bytes[i], LONG) == 0);
+    }
+    CHECK(whole == (data_fragments == WIDE ? 2265 : 356));
+    printf("%zu data fragments: %u lost sets decoded whole, %d bytes a fragment\n", data_fragments, whole, LONG);
+}
+
+/* Four fragments at once, of which all and their targets lie before a page without access. */
+static void test_decoded_ends(size_t data_fragments)
+{
+    enum { LONGEST = 34816, FOUR = 4 };
+    const size_t lengths[] = { 0, 1, 31, 32, 33, 200, 511, 513, 2049, 32767, 32768, LONGEST };
+    const uint8_t half = (uint8_t)(data_fragments / 2), last = (uint8_t)(data_fragments + 3);
+    const uint8_t sets[3][FOUR] = { { 0, 1, half, (uint8_t)(half + 1) }, { 0, 1, 2, half }, { 0, half, (uint8_t)(last - 1), last } };
+    uint8_t *ends[MOST], *targets_at[FOUR];
+    for (size_t i = 0; i < data_fragments + 4; i++)
+        ends[i] = at_the_end(LONGEST) + LONGEST;
+    for (size_t i = 0; i < FOUR; i++)
+        targets_at[i] = at_the_end(LONGEST) + LONGEST;
+    for (size_t n = 0; n < sizeof lengths / sizeof *lengths; n++) {
+        const size_t len = lengths[n];
+        const uint8_t *fragments[MOST];
+        uint8_t *parities[4];
+        for (size_t i = 0; i < data_fragments + 4; i++)
+            fragments[i] = ends[i] - len;
+        for (size_t i = 0; i < data_fragments; i++)
+            fill(ends[i] - len, len, (uint32_t)(len + i));
+        for (size_t i = 0; i < 4; i++)
+            parities[i] = ends[data_fragments + i] - len;
+        CHECK(lrc_encode_arrays(data_fragments, len, fragments, parities) == LRC_DONE);
+        for (size_t set = 0; set < 3; set++) {
+            const uint8_t *left[MOST];
+            uint8_t *targets[MOST] = { NULL };
+            for (size_t i = 0; i < data_fragments + 4; i++)
+                left[i] = fragments[i];
+            for (size_t i = 0; i < FOUR; i++) {
+                left[sets[set][i]] = NULL;
+                targets[sets[set][i]] = targets_at[i] - len;
+            }
+            CHECK(lrc_decode_arrays(data_fragments, len, left, targets) == LRC_DONE);
+            for (size_t i = 0; i < FOUR; i++)
+                CHECK(memcmp(targets_at[i] - len, fragments[sets[set][i]], len) == 0);
+        }
+    }
+    printf("%zu data fragments: four lost at once, lengths up to %d, each fragment before a page without access\n", data_fragments, LONGEST);
+}
+
 /* A part of a fragment is that part of the whole. */
 static void test_parts(void)
 {
     enum { LEN = 100 };
-    uint8_t bytes[MOST][LEN], part[LEN];
+    const uint8_t numbers[4] = { 3, LRC_NONE, 4, LRC_NONE };
+    uint8_t bytes[MOST][LEN], part[LEN], other[LEN];
     lrc_slice s[MOST];
     const uint8_t *data[WIDE];
     uint8_t *parities[4];
@@ -291,6 +429,8 @@ static void test_parts(void)
         for (size_t len = 0; from + len <= LEN; len += 7) {
             CHECK(lrc_rebuild(WIDE, s, 1u << 3, 3, from, part, len) == LRC_DONE && memcmp(part, bytes[3] + from, len) == 0);
             CHECK(lrc_rebuild(WIDE, s, 1u << 3 | 1u << 4, 3, from, part, len) == LRC_DONE && memcmp(part, bytes[3] + from, len) == 0);
+            CHECK(lrc_decode(WIDE, s, 1u << 3 | 1u << 4, numbers, from, len, part, len, other, 0, other, len, other, 0) == LRC_DONE);
+            CHECK(memcmp(part, bytes[3] + from, len) == 0 && memcmp(other, bytes[4] + from, len) == 0);
         }
     puts("parts: each is the part of the fragment");
 }
@@ -339,6 +479,10 @@ int main(void)
     test_bad_arguments();
     test_ends(WIDE);
     test_ends(SMALL);
+    test_decoded_ends(WIDE);
+    test_decoded_ends(SMALL);
+    test_decoded_sets(WIDE);
+    test_decoded_sets(SMALL);
     test_parts();
     test_threads();
     if (failures)

@@ -14,6 +14,7 @@ import lrc_coder  # noqa: E402
 RATTLE = {
     "&[&[u8]]": ["*const slice", "size"],
     "&[&[u8]; 16]": ["*const slice"],
+    "&[u8; 4]": ["*const u8"],
     "&[u8]": ["*const u8", "size"],
     "&mut [u8]": ["*mut u8", "size"],
     "&mut [u8; 16]": ["*mut u8"],
@@ -60,7 +61,7 @@ def exported(text):
 def in_header(text):
     declared = {}
     for name, parameters in re.findall(r"^uint32_t (\w+)\(([^)]*)\);", re.sub(r"/\*.*?\*/", "", text, flags=re.S), flags=re.M):
-        found = [re.fullmatch(r"(.*?[ *])(\w+)(\[16\])?", parameter.strip()) for parameter in parameters.split(",")]
+        found = [re.fullmatch(r"(.*?[ *])(\w+)(\[\d+\])?", parameter.strip()) for parameter in parameters.split(",")]
         declared[name] = [C[(match[1].strip() + (" *" if match[3] else ""))] for match in found]
     return declared
 
@@ -92,9 +93,12 @@ def main():
 
     values = statuses(r"const (\w+): u32 = (\d+);", rattle)
     assert values == {"DONE": 0, "OPEN": 1, "BAD_ARGUMENT": 2}
-    assert statuses(r"LRC_(\w+) = (\d+)", header) == values, "the header's statuses"
+    assert statuses(r"    LRC_(\w+) = (\d+)", header) == values, "the header's statuses"
     assert statuses(r"const LRC_(\w+): u32 = (\d+);", rust).items() <= values.items(), "the Rust crate's statuses"
     assert all(getattr(lrc_coder, name) == value for name, value in values.items()), "the Python module's statuses"
+
+    none = re.search(r"const NONE: u8 = (\d+);", rattle)[1]
+    assert re.search(r"LRC_NONE = (\d+)", header)[1] == re.search(r"const LRC_NONE: u8 = (\d+);", rust)[1] == str(lrc_coder.NONE) == none, "no fragment"
 
     assert re.search(r"typedef struct \{\s*const uint8_t \*at;\s*size_t len;\s*\} lrc_slice;", header), "the header's slice"
     assert re.search(r"#\[repr\(C\)\]\n.*\nstruct Slice \{\s*at: \*const u8,\s*len: usize,\s*\}", rust), "the Rust crate's slice"

@@ -25,12 +25,14 @@ extern "C" {
     fn lrc_encode_add(data_fragments: usize, fragment: u8, source: *const u8, source_len: usize, first: *mut u8, first_len: usize, second: *mut u8, second_len: usize, third: *mut u8, third_len: usize, fourth: *mut u8, fourth_len: usize) -> u32;
     fn lrc_is_open(data_fragments: usize, lost: u16, fragment: u8) -> u32;
     fn lrc_rebuild(data_fragments: usize, fragments: *const Slice, lost: u16, fragment: u8, from: usize, target: *mut u8, len: usize) -> u32;
+    fn lrc_decode(data_fragments: usize, fragments: *const Slice, lost: u16, numbers: *const u8, from: usize, len: usize, first: *mut u8, first_len: usize, second: *mut u8, second_len: usize, third: *mut u8, third_len: usize, fourth: *mut u8, fourth_len: usize) -> u32;
     fn lrc_recipe(data_fragments: usize, lost: u16, fragment: u8, fragments: *mut u8, coefficients: *mut u8, count: *mut u32) -> u32;
     fn lrc_add(target: *mut u8, target_len: usize, coefficient: u8, source: *const u8, source_len: usize) -> u32;
 }
 
 const LRC_DONE: u32 = 0;
 const LRC_OPEN: u32 = 1;
+const LRC_NONE: u8 = 255;
 
 /// A code, by its number of data fragments. Four parities come after them.
 #[derive(Clone, Copy, Debug, PartialEq, Eq)]
@@ -117,9 +119,8 @@ pub fn is_open(code: Code, lost: u16, fragment: u8) -> Result<bool, Error> {
     }
 }
 
-/// Writes the bytes of a lost fragment from `from` on, as many as `target` has. `fragments` has those that are left at their
-/// numbers, and None elsewhere.
-pub fn rebuild(code: Code, fragments: &[Option<&[u8]>], fragment: u8, from: usize, target: &mut [u8]) -> Result<(), Error> {
+/// The slices of the fragments that are left, and the set of the others.
+fn slices_of(fragments: &[Option<&[u8]>]) -> ([Slice; 16], u16) {
     let mut slices = [Slice::from(&[][..]); 16];
     let mut lost = u16::MAX;
     for (i, bytes) in fragments.iter().enumerate().take(16) {
@@ -128,9 +129,46 @@ pub fn rebuild(code: Code, fragments: &[Option<&[u8]>], fragment: u8, from: usiz
             lost &= !(1 << i);
         }
     }
+    (slices, lost)
+}
+
+/// Writes the bytes of a lost fragment from `from` on, as many as `target` has. `fragments` has those that are left at their
+/// numbers, and None elsewhere.
+pub fn rebuild(code: Code, fragments: &[Option<&[u8]>], fragment: u8, from: usize, target: &mut [u8]) -> Result<(), Error> {
+    let (slices, lost) = slices_of(fragments);
     // SAFETY: sixteen slices are passed, and as in `encode`.
     result_of(unsafe {
         lrc_rebuild(code as usize, slices.as_ptr(), lost, fragment, from, target.as_mut_ptr(), target.len())
+    })
+}
+
+/// A lost fragment by its number, and the bytes to write it to.
+pub type Target<'a> = (u8, &'a mut [u8]);
+
+/// Writes the bytes of several lost fragments from `from` on, in less time than `rebuild` takes for each. All targets have one length.
+/// `Open` if one of the fragments is open, as one always is of more than four.
+pub fn decode(code: Code, fragments: &[Option<&[u8]>], from: usize, targets: &mut [Target]) -> Result<(), Error> {
+    let (slices, lost) = slices_of(fragments);
+    let len = targets.first().map_or(0, |(_, target)| target.len());
+    if !targets.iter().all(|(f, _)| *f < code as u8 + 4 && lost >> f & 1 == 1) {
+        return Err(Error::BadArgument);
+    }
+    if targets.len() > 4 {
+        return Err(Error::Open);
+    }
+    let mut numbers = [LRC_NONE; 4];
+    let mut rest: [&mut [u8]; 4] = [&mut [], &mut [], &mut [], &mut []];
+    for (i, (number, target)) in targets.iter_mut().enumerate() {
+        numbers[i] = *number;
+        rest[i] = target;
+    }
+    let [a, b, c, d] = rest;
+    // SAFETY: sixteen slices and four numbers are passed, and as in `encode`.
+    result_of(unsafe {
+        lrc_decode(
+            code as usize, slices.as_ptr(), lost, numbers.as_ptr(), from, len, a.as_mut_ptr(), a.len(),
+            b.as_mut_ptr(), b.len(), c.as_mut_ptr(), c.len(), d.as_mut_ptr(), d.len(),
+        )
     })
 }
 

@@ -1,6 +1,6 @@
 //! Each lost set of both codes, and what is refused.
 
-use lrc_coder::{Code, Error, add, encode, encode_add, is_open, rebuild, recipe};
+use lrc_coder::{Code, Error, Target, add, decode, encode, encode_add, is_open, rebuild, recipe};
 
 const WIDTH: usize = 5;
 
@@ -47,10 +47,33 @@ fn is_whole(code: Code, stripe: &[Vec<u8>], lost: u16) -> bool {
     whole
 }
 
+/// Whether all lost fragments are decoded at once.
+fn decodes_whole(code: Code, stripe: &[Vec<u8>], lost: u16) -> bool {
+    let is_left = |i: usize| lost >> i & 1 == 0;
+    let left: Vec<Option<&[u8]>> = stripe.iter().enumerate().map(|(i, bytes)| is_left(i).then_some(&bytes[..])).collect();
+    let lost: Vec<usize> = (0..stripe.len()).filter(|i| !is_left(*i)).collect();
+    let mut decoded = vec![[0xEE; WIDTH]; lost.len()];
+    let mut targets: Vec<Target> = lost.iter().zip(&mut decoded).map(|(f, bytes)| (*f as u8, &mut bytes[..])).collect();
+    match decode(code, &left, 0, &mut targets) {
+        Ok(()) => assert!(lost.iter().zip(&decoded).all(|(f, bytes)| stripe[*f] == bytes)),
+        Err(refused) => {
+            assert_eq!(refused, Error::Open);
+            assert!(decoded.iter().all(|bytes| *bytes == [0xEE; WIDTH]));
+            return false;
+        }
+    }
+    true
+}
+
 fn count_whole(code: Code) -> usize {
     let stripe = stripe(code);
     let sets = 0..=u16::MAX >> (16 - stripe.len());
-    sets.filter(|lost| is_whole(code, &stripe, *lost)).count()
+    let is_whole = |lost: &u16| {
+        let whole = is_whole(code, &stripe, *lost);
+        assert_eq!(whole, decodes_whole(code, &stripe, *lost));
+        whole
+    };
+    sets.filter(is_whole).count()
 }
 
 #[test]
@@ -75,6 +98,8 @@ fn bad_arguments_are_refused() {
     }
     assert_eq!(encode_add(Code::Wide, 12, data[0], [&mut a, &mut b, &mut c, &mut d]), Err(Error::BadArgument));
     assert_eq!(rebuild(Code::Wide, &left, 3, 0, &mut target), Err(Error::BadArgument));
+    assert_eq!(decode(Code::Wide, &left, 0, &mut [(3, &mut target)]), Err(Error::BadArgument));
+    assert_eq!(decode(Code::Wide, &left, 0, &mut [(255, &mut target)]), Err(Error::BadArgument));
     assert_eq!(is_open(Code::Small, 0, 10), Err(Error::BadArgument));
     assert_eq!(recipe(Code::Wide, 1, 1), Err(Error::BadArgument));
     assert_eq!(add(&mut target, 1, &data[0][1..]), Err(Error::BadArgument));

@@ -1,3 +1,4 @@
 mod Weights
 mod Slots
 mod Asked
+mod Chosen

@@ -1,5 +1,5 @@
 -- What C passes and gets: the code by its number of data fragments, the lost fragments as the bits of a number, the bytes of a stripe, a recipe in two lists.
-use Rattle.std.specs.Prelude.{◌≡◌, ℕ, ◌<◌, ◌≤◌, ◌++◌, ◌==◌, true, false, List, [], ◌∷◌, Option, find, map, length, slice_index, slice_range, bit_xor, EachIndex}
+use Rattle.std.specs.Prelude.{◌≡◌, ℕ, ◌<◌, ◌≤◌, ◌++◌, ◌==◌, true, false, List, [], ◌∷◌, Option, Some, None, IfSome, MatchOption, if◌then◌else◌, find, map, length, slice_index, slice_index_or, slice_range, bit_xor, EachIndex}
 use Rattle.std.specs.List.{range_with_len}
 use Rattle.gf256.specs.Field.{product}
 use Rattle.lrc_code.specs.declared.Code.{Code}
@@ -43,6 +43,32 @@ AgreesWithLeft code fragments lost s = (i : ℕ) → i < fragment_count code →
 abbrev pub RebuildsLost : Code → List (List ℕ) → ℕ → ℕ → ℕ → ℕ → List ℕ → Type 0
 RebuildsLost code fragments lost fragment from to bytes =
     (w : ℕ) (s : ℕ → List ℕ) → to ≤ w → IsStripe code w s → AgreesWithLeft code fragments lost s → bytes ≡ slice_range (s fragment) from to
+
+-- ---- decoding
+-- the fragment that a number chooses; 255 chooses none
+abbrev pub chosen_by : ℕ → Option ℕ
+chosen_by number = if number == 255 then None else Some number
+
+-- the fragments that are chosen for the four targets
+abbrev pub chosen_of : List ℕ → List (Option ℕ)
+chosen_of numbers = chosen_by (slice_index numbers 0) ∷ chosen_by (slice_index numbers 1) ∷ chosen_by (slice_index numbers 2) ∷ chosen_by (slice_index numbers 3) ∷ []
+
+-- each fragment that is chosen is one of the code's, and lost
+abbrev pub AreLostIn : Code → ℕ → List (Option ℕ) → Type 0
+AreLostIn code lost chosen = (i : ℕ) → i < 4 → IfSome (slice_index_or chosen i None) (IsLostIn code lost)
+
+-- the target of a fragment that is chosen has w bytes
+abbrev pub HasRoomFor : Option ℕ → ℕ → List ℕ → Type 0
+HasRoomFor chosen w target = IfSome chosen (λ _. length target ≡ w)
+
+abbrev pub HaveRoomFor : List (Option ℕ) → ℕ → List ℕ → List ℕ → List ℕ → List ℕ → Type 0
+HaveRoomFor chosen w first second third fourth =
+    HasRoomFor (slice_index_or chosen 0 None) w first × HasRoomFor (slice_index_or chosen 1 None) w second
+    × HasRoomFor (slice_index_or chosen 2 None) w third × HasRoomFor (slice_index_or chosen 3 None) w fourth
+
+-- each stripe that agrees with what is left has the target's bytes at the fragment that is chosen, from..to. A target for none is unchanged
+abbrev pub DecodesLost : Code → List (List ℕ) → ℕ → Option ℕ → ℕ → ℕ → List ℕ → List ℕ → Type 0
+DecodesLost code fragments lost chosen from to old new = MatchOption chosen (new ≡ old) (λ f. RebuildsLost code fragments lost f from to new)
 
 -- ---- recipes
 -- the terms that two lists have: the first `count` of the fragments, each with the coefficient at its place

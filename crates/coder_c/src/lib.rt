@@ -5,13 +5,15 @@
 //! anything, so any number of threads may call them; and each leaves its targets as they were, unless it is `DONE`.
 #![tactic(auto)]
 
-ghost use Rattle.std.specs.Prelude.{◌≡◌, ◌≢◌, ℕ, ◌+◌, ◌<◌, ◌≤◌, ◌^◌, ◌↔◌, ◌⊎◌, IsTrue, All, IfSome, IsSomeAnd, MatchOption, EachIndex, length, map, slice_index, bit_xor, true, false, [], ◌∷◌, ◌==◌, if◌then◌else◌};
+ghost use Rattle.std.specs.Prelude.{◌≡◌, ◌≢◌, ℕ, ◌+◌, ◌-◌, ◌<◌, ◌≤◌, ◌^◌, ◌↔◌, ◌⊎◌, IsTrue, All, IfSome, IsSomeAnd, MatchOption, EachIndex, length, map, slice_index, slice_index_or, bit_xor, None, true, false, [], ◌∷◌, ◌==◌, if◌then◌else◌};
 ghost use Rattle.gf256.specs.Field.{product};
 ghost use Rattle.lrc_code.specs.Code.{fragment_count, data_count, weight, is_lost, is_alone, is_only_lost_of, first_group, second_group, Open};
 ghost use Rattle.lrc_code.specs.Stripe.{IsStripe, list_at, is_absent, slot, bytes_of};
 ghost use Rattle.lrc_code.specs.Recipe.{IsRecipe, IsLeast, local_recipe};
-ghost use Rattle.coder_c.specs.Call.{code_with, with_parities, FourHave, AddsData, IsLostIn, LeftReach, RebuildsLost, terms_of};
+ghost use Rattle.decode.specs.Decoding.{HasOpen};
+ghost use Rattle.coder_c.specs.Call.{code_with, with_parities, FourHave, AddsData, IsLostIn, LeftReach, RebuildsLost, AreLostIn, HasRoomFor, HaveRoomFor, DecodesLost, chosen_by, chosen_of, terms_of};
 
+use decode::decode_to;
 use gf256::add_scaled;
 use lrc_code::{Code, Left, LostSet, Term, encode_to, is_open_in, rebuild_to, recipe_in};
 
@@ -249,6 +251,150 @@ pub extern "C" fn lrc_rebuild(
     } else {
         OPEN
     }
+}
+
+/// The number that chooses no fragment.
+const NONE: u8 = 255;
+
+/// The fragment that a number chooses.
+fn chosen_by(number: u8) -> Option<u8>
+    ensures { result ≡ chosen_by number }
+{
+    if number == NONE { None } else { Some(number) }
+}
+
+/// The fragments that are chosen for the four targets.
+fn chosen_of(numbers: &[u8; 4]) -> [Option<u8>; 4]
+    ensures { result ≡ chosen_of numbers.now }
+{
+    [
+        chosen_by(numbers[0]),
+        chosen_by(numbers[1]),
+        chosen_by(numbers[2]),
+        chosen_by(numbers[3]),
+    ]
+}
+
+/// Whether each fragment that is chosen is one of the code's, and lost.
+fn are_lost(code: Code, lost: LostSet, chosen: &[Option<u8>; 4]) -> bool
+    ensures { IsTrue result ↔ AreLostIn code lost chosen.now }
+{
+    for i in 0..4 {
+        if let Some(f) = chosen[i] {
+            if f >= code.fragments() || lost.left(f) {
+                return false;
+            }
+        }
+    }
+    true
+}
+
+/// Whether a target is for no fragment, or has `w` bytes.
+fn has_room(chosen: Option<u8>, w: usize, target: &[u8]) -> bool
+    ensures { IsTrue result ↔ HasRoomFor chosen w target.now }
+{
+    chosen.is_none() || target.len() == w
+}
+
+/// Whether each fragment that is chosen is one of the code's, and lost, and its target has `w` bytes.
+fn are_taken(
+    code: Code,
+    lost: LostSet,
+    chosen: &[Option<u8>; 4],
+    w: usize,
+    first: &[u8],
+    second: &[u8],
+    third: &[u8],
+    fourth: &[u8],
+) -> bool
+    ensures { IsTrue result ↔ (AreLostIn code lost chosen.now × HaveRoomFor chosen.now w first.now second.now third.now fourth.now) }
+{
+    are_lost(code, lost, chosen)
+        && has_room(chosen[0], w, first)
+        && has_room(chosen[1], w, second)
+        && has_room(chosen[2], w, third)
+        && has_room(chosen[3], w, fourth)
+}
+
+/// `decode_to` of the fragments left, where they are long enough.
+fn decode_left(
+    code: Code,
+    fragments: &[&[u8]; 16],
+    lost: LostSet,
+    chosen: [Option<u8>; 4],
+    from: usize,
+    end: usize,
+    first: &mut [u8],
+    second: &mut [u8],
+    third: &mut [u8],
+    fourth: &mut [u8],
+) -> u32
+    requires are_lost { AreLostIn code lost chosen }
+    requires range { from ≤ end }
+    requires room { HaveRoomFor chosen (end - from) first.old second.old third.old fourth.old }
+    ensures first { result ≡ DONE → DecodesLost code (map (λ f. f.now) fragments.now) lost (slice_index_or chosen 0 None) from end first.old first.new }
+    ensures second { result ≡ DONE → DecodesLost code (map (λ f. f.now) fragments.now) lost (slice_index_or chosen 1 None) from end second.old second.new }
+    ensures third { result ≡ DONE → DecodesLost code (map (λ f. f.now) fragments.now) lost (slice_index_or chosen 2 None) from end third.old third.new }
+    ensures fourth { result ≡ DONE → DecodesLost code (map (λ f. f.now) fragments.now) lost (slice_index_or chosen 3 None) from end fourth.old fourth.new }
+    ensures open { (result ≡ OPEN) ↔ ((result ≢ BAD_ARGUMENT) × HasOpen code (is_lost lost) chosen) }
+    ensures taken { (result ≢ BAD_ARGUMENT) ↔ LeftReach code (map (λ f. f.now) fragments.now) lost end }
+    ensures answers { (result ≡ DONE) ⊎ (result ≡ OPEN) ⊎ (result ≡ BAD_ARGUMENT) }
+    ensures kept { result ≢ DONE → (first.new ≡ first.old) × (second.new ≡ second.old) × (third.new ≡ third.old) × (fourth.new ≡ fourth.old) }
+{
+    let left = left_of(code, fragments, lost);
+    if !left.reaches(end) {
+        BAD_ARGUMENT
+    } else if decode_to(&left, chosen, from, end, first, second, third, fourth) {
+        DONE
+    } else {
+        OPEN
+    }
+}
+
+/// Writes the bytes `from..from + w` of up to four lost fragments: those that every stripe has there which agrees with the fragments
+/// left. `numbers` chooses the fragment for each of the four targets; for 255 the target is not looked at. What is passed for a
+/// lost fragment is never read.
+///
+/// `OPEN` comes exactly where nothing that is left tells one of the fragments that are chosen, and no argument is refused.
+/// `BAD_ARGUMENT` comes exactly where there is no such code, a fragment that is chosen is not one of the code's or not lost, its
+/// target has not `w` bytes, a fragment left is too short, or the last place is more than 2^64 - 1.
+#[unsafe(no_mangle)]
+pub extern "C" fn lrc_decode(
+    data_fragments: usize,
+    fragments: &[&[u8]; 16],
+    lost: u16,
+    numbers: &[u8; 4],
+    from: usize,
+    w: usize,
+    first: &mut [u8],
+    second: &mut [u8],
+    third: &mut [u8],
+    fourth: &mut [u8],
+) -> u32
+    ensures first { result ≡ DONE → IfSome (code_with data_fragments) (λ code. DecodesLost code (map (λ f. f.now) fragments.now) lost (chosen_by (slice_index numbers.now 0)) from (from + w) first.old first.new) }
+    ensures second { result ≡ DONE → IfSome (code_with data_fragments) (λ code. DecodesLost code (map (λ f. f.now) fragments.now) lost (chosen_by (slice_index numbers.now 1)) from (from + w) second.old second.new) }
+    ensures third { result ≡ DONE → IfSome (code_with data_fragments) (λ code. DecodesLost code (map (λ f. f.now) fragments.now) lost (chosen_by (slice_index numbers.now 2)) from (from + w) third.old third.new) }
+    ensures fourth { result ≡ DONE → IfSome (code_with data_fragments) (λ code. DecodesLost code (map (λ f. f.now) fragments.now) lost (chosen_by (slice_index numbers.now 3)) from (from + w) fourth.old fourth.new) }
+    ensures open { (result ≡ OPEN) ↔ ((result ≢ BAD_ARGUMENT) × IsSomeAnd (code_with data_fragments) (λ code. HasOpen code (is_lost lost) (chosen_of numbers.now))) }
+    ensures taken { (result ≢ BAD_ARGUMENT) ↔ IsSomeAnd (code_with data_fragments) (λ code. AreLostIn code lost (chosen_of numbers.now)
+        × HaveRoomFor (chosen_of numbers.now) w first.old second.old third.old fourth.old × LeftReach code (map (λ f. f.now) fragments.now) lost (from + w) × (from + w < 2 ^ 64)) }
+    ensures answers { (result ≡ DONE) ⊎ (result ≡ OPEN) ⊎ (result ≡ BAD_ARGUMENT) }
+    ensures kept { result ≢ DONE → (first.new ≡ first.old) × (second.new ≡ second.old) × (third.new ≡ third.old) × (fourth.new ≡ fourth.old) }
+{
+    let Some(code) = code_of(data_fragments) else {
+        return BAD_ARGUMENT;
+    };
+    let lost = LostSet::of_bits(lost);
+    let chosen = chosen_of(numbers);
+    let Some(to) = from.checked_add(w) else {
+        return BAD_ARGUMENT;
+    };
+    if !are_taken(code, lost, &chosen, w, first, second, third, fourth) {
+        return BAD_ARGUMENT;
+    }
+    decode_left(
+        code, fragments, lost, chosen, from, to, first, second, third, fourth,
+    )
 }
 
 /// Writes the terms into two lists, one of their fragments and one of their coefficients.

@@ -1,0 +1,5 @@
+pub mod Terms
+pub mod Law
+pub mod Places
+pub mod Chosen
+pub mod Parts

@@ -1,0 +1,299 @@
+//! Decoding: the bytes of any lost fragments at once.
+ghost use Rattle.std.specs.Prelude.{◌≡◌, ℕ, ◌+◌, ◌-◌, ◌<◌, ◌≤◌, ◌↔◌, IsTrue, true, false, None};
+ghost use Rattle.std.specs.Prelude.{IfSome, IsSomeAnd, MatchOption, length, slice_index};
+ghost use Rattle.std.specs.Prelude.{slice_index_or};
+ghost use Rattle.lrc_code.specs.Code.{fragment_count, Open};
+ghost use Rattle.lrc_code.specs.Stripe.{is_absent, byte_at, Reaches, HasRange, Rebuilds};
+ghost use Rattle.syndromes.specs.Syndromes.{column_at, HaveBytes};
+ghost use Rattle.decode.specs.Syndrome.{AreShares};
+ghost use Rattle.decode.specs.Decoding.{AreAbsent, HasOpen, IsDecodable, IsDecoded, fragment_at};
+ghost use Rattle.decode.specs.Decoding.{byte_of};
+
+use crate::known::{known_at_first, known_with, rebuild_next};
+use crate::shares::shares_of;
+use lrc_code::{Code, Left, LostSet, is_alone_in, is_open_in, rebuild_to};
+use syndromes::combine_syndromes;
+
+/// The fragment at one of the sixteen places: the groups of LRC(6,2,2) leave the last three of each
+/// six free.
+fn fragment_at(code: Code, place: usize) -> Option<usize>
+    requires { place < 16 }
+    ensures value { result ≡ fragment_at code place }
+    ensures inside { IfSome result (λ f. f < fragment_count code) }
+{
+    match code {
+        Code::Wide => Some(place),
+        Code::Small => match place {
+            0..3 => Some(place),
+            6..9 => Some(place - 3),
+            12..16 => Some(place - 6),
+            _ => None,
+        },
+    }
+}
+
+/// The bytes `from..to` of the fragment at a place, or None where there is none or it is absent.
+fn part_at<'a>(left: &Left<'a>, place: usize, from: usize, to: usize) -> Option<&'a [u8]>
+    requires inside { place < 16 }
+    requires reach { (i : ℕ) → i < fragment_count left.now.code
+        → is_absent left.now.fragments i ≡ false → Reaches left.now.fragments to i }
+    requires range { from ≤ to }
+    ensures long { IfSome result (λ part. length part.now ≡ to - from) }
+    ensures bytes { (k : ℕ) → k < to - from → Rattle.syndromes.specs.Syndromes.byte_of result k
+        ≡ byte_of (fragment_at left.now.code place) (byte_at left.now.fragments (from + k)) }
+{
+    let f = fragment_at(left.code, place)?;
+    let bytes = left.fragments[f]?;
+    Some(&bytes[from..to])
+}
+
+/// The bytes `from..to` of the fragments that are present, at their places.
+fn parts_of<'a>(left: &Left<'a>, from: usize, to: usize) -> [Option<&'a [u8]>; 16]
+    requires reach { (i : ℕ) → i < fragment_count left.now.code
+        → is_absent left.now.fragments i ≡ false → Reaches left.now.fragments to i }
+    requires range { from ≤ to }
+    ensures long { HaveBytes result (to - from) }
+    ensures bytes { (place k : ℕ) → place < 16 → k < to - from
+        → column_at result k place ≡ byte_of (fragment_at left.now.code place)
+        (byte_at left.now.fragments (from + k)) }
+{
+    let mut parts: [Option<&'a [u8]>; 16] = [None; 16];
+    for place in 0..16 {
+        parts[place] = part_at(left, place, from, to);
+    }
+    parts
+}
+
+/// Whether a fragment is chosen, and open.
+fn is_chosen_open(left: &Left, lost: LostSet, chosen: Option<u8>) -> bool
+    requires inside { IfSome chosen (λ f. f < fragment_count left.now.code) }
+    requires absent { AreAbsent left.now.code left.now.fragments lost }
+    ensures { IsTrue result ↔ IsSomeAnd chosen (Open left.now.code (is_absent left.now.fragments)) }
+{
+    match chosen {
+        None => false,
+        Some(f) => is_open_in(left.code, lost, f),
+    }
+}
+
+/// Whether a chosen fragment is open. At an excess of at most 2 none is.
+fn has_open(left: &Left, lost: LostSet, chosen: &[Option<u8>; 4]) -> bool
+    requires inside { (i : ℕ) → i < 4 → IfSome (slice_index_or chosen.now i None)
+        (λ f. f < fragment_count left.now.code) }
+    requires absent { AreAbsent left.now.code left.now.fragments lost }
+    ensures { IsTrue result ↔ HasOpen left.now.code (is_absent left.now.fragments) chosen.now }
+{
+    if lost.excess_in(left.code) <= 2 {
+        return false;
+    }
+    is_chosen_open(left, lost, chosen[0])
+        || is_chosen_open(left, lost, chosen[1])
+        || is_chosen_open(left, lost, chosen[2])
+        || is_chosen_open(left, lost, chosen[3])
+}
+
+/// The shares of a fragment that is chosen.
+fn shares_for(left: &Left, lost: LostSet, chosen: Option<u8>) -> Option<[u8; 4]>
+    requires decodable { IsDecodable left.now.code left.now.fragments chosen }
+    requires absent { AreAbsent left.now.code left.now.fragments lost }
+    ensures { MatchOption chosen (result ≡ None)
+        (λ f. IsSomeAnd result (λ a. AreShares left.now.code (is_absent left.now.fragments) f a)) }
+{
+    shares_of(left.code, lost, chosen?)
+}
+
+/// Writes the bytes of the fragments that are chosen, all of them by the syndromes.
+fn decode_by_syndromes(
+    left: &Left,
+    lost: LostSet,
+    chosen: [Option<u8>; 4],
+    from: usize,
+    to: usize,
+    first: &mut [u8],
+    second: &mut [u8],
+    third: &mut [u8],
+    fourth: &mut [u8],
+)
+    requires absent { AreAbsent left.now.code left.now.fragments lost }
+    requires decodable { (i : ℕ) → i < 4 → IsDecodable left.now.code left.now.fragments
+        (slice_index_or chosen i None) }
+    requires reach { (i : ℕ) → i < fragment_count left.now.code
+        → is_absent left.now.fragments i ≡ false → Reaches left.now.fragments to i }
+    requires range { from ≤ to }
+    requires room { IfSome (slice_index_or chosen 0 None) (λ _. length first.old ≡ to - from) }
+    requires room_second { IfSome (slice_index_or chosen 1 None)
+        (λ _. length second.old ≡ to - from) }
+    requires room_third { IfSome (slice_index_or chosen 2 None)
+        (λ _. length third.old ≡ to - from) }
+    requires room_fourth { IfSome (slice_index_or chosen 3 None)
+        (λ _. length fourth.old ≡ to - from) }
+    ensures first { IsDecoded left.now.code left.now.fragments (slice_index_or chosen 0 None) from
+        to first.old first.new }
+    ensures second { IsDecoded left.now.code left.now.fragments (slice_index_or chosen 1 None) from
+        to second.old second.new }
+    ensures third { IsDecoded left.now.code left.now.fragments (slice_index_or chosen 2 None) from
+        to third.old third.new }
+    ensures fourth { IsDecoded left.now.code left.now.fragments (slice_index_or chosen 3 None) from
+        to fourth.old fourth.new }
+{
+    let a = shares_for(left, lost, chosen[0]);
+    let b = shares_for(left, lost, chosen[1]);
+    let c = shares_for(left, lost, chosen[2]);
+    let d = shares_for(left, lost, chosen[3]);
+    let parts = parts_of(left, from, to);
+    combine_syndromes(&parts, to - from, a, b, c, d, first, second, third, fourth);
+}
+
+/// Writes the bytes of a fragment that is chosen by its recipe.
+fn rebuild_chosen(left: &Left, chosen: Option<u8>, from: usize, to: usize, target: &mut [u8])
+    requires decodable { IsDecodable left.now.code left.now.fragments chosen }
+    requires reach { (i : ℕ) → i < fragment_count left.now.code
+        → is_absent left.now.fragments i ≡ false → Reaches left.now.fragments to i }
+    requires range { from ≤ to }
+    requires room { IfSome chosen (λ _. length target.old ≡ to - from) }
+    ensures { IsDecoded left.now.code left.now.fragments chosen from to target.old target.new }
+{
+    if let Some(f) = chosen {
+        let _ = rebuild_to(left, usize::from(f), from, to, target);
+    }
+}
+
+/// Writes the bytes of the fragments that are chosen, one after the other: a fragment that was made
+/// helps to make the next.
+fn decode_in_turn(
+    left: &Left,
+    chosen: [Option<u8>; 4],
+    from: usize,
+    to: usize,
+    first: &mut [u8],
+    second: &mut [u8],
+    third: &mut [u8],
+    fourth: &mut [u8],
+)
+    requires decodable { (i : ℕ) → i < 4 → IsDecodable left.now.code left.now.fragments
+        (slice_index_or chosen i None) }
+    requires reach { (i : ℕ) → i < fragment_count left.now.code
+        → is_absent left.now.fragments i ≡ false → Reaches left.now.fragments to i }
+    requires range { from ≤ to }
+    requires room { IfSome (slice_index_or chosen 0 None) (λ _. length first.old ≡ to - from) }
+    requires room_second { IfSome (slice_index_or chosen 1 None)
+        (λ _. length second.old ≡ to - from) }
+    requires room_third { IfSome (slice_index_or chosen 2 None)
+        (λ _. length third.old ≡ to - from) }
+    requires room_fourth { IfSome (slice_index_or chosen 3 None)
+        (λ _. length fourth.old ≡ to - from) }
+    ensures first { IsDecoded left.now.code left.now.fragments (slice_index_or chosen 0 None) from
+        to first.old first.new }
+    ensures second { IsDecoded left.now.code left.now.fragments (slice_index_or chosen 1 None) from
+        to second.old second.new }
+    ensures third { IsDecoded left.now.code left.now.fragments (slice_index_or chosen 2 None) from
+        to third.old third.new }
+    ensures fourth { IsDecoded left.now.code left.now.fragments (slice_index_or chosen 3 None) from
+        to fourth.old fourth.new }
+{
+    let known = known_at_first(left, from, to);
+    rebuild_next(left, &known, chosen[0], from, to, first);
+    let known = known_with(left, &known, chosen[0], from, to, first);
+    rebuild_next(left, &known, chosen[1], from, to, second);
+    let known = known_with(left, &known, chosen[1], from, to, second);
+    rebuild_next(left, &known, chosen[2], from, to, third);
+    let known = known_with(left, &known, chosen[2], from, to, third);
+    rebuild_next(left, &known, chosen[3], from, to, fourth);
+}
+
+/// 1 if a fragment is chosen that is not alone lost in its group, so that its recipe has up to
+/// twelve terms.
+fn is_far(code: Code, lost: LostSet, chosen: Option<u8>) -> u32
+    requires { IfSome chosen (λ f. f < fragment_count code) }
+    ensures { result ≤ 1 }
+{
+    match chosen {
+        Some(f) if !is_alone_in(code, lost, f) => 1,
+        _ => 0,
+    }
+}
+
+/// From which width on the syndromes are faster than two recipes, and where both global parities
+/// are lost.
+const WIDE: usize = 32_768;
+
+const WIDE_FOR_GLOBALS: usize = 512;
+
+/// Whether the syndromes are the faster way to make several fragments that are not alone lost in
+/// their groups. Where the excess is 1, one of them comes by its recipe, and its group then has the
+/// other.
+fn are_syndromes_faster(code: Code, lost: LostSet, width: usize) -> bool {
+    let last = code.fragments() - 1;
+    let are_globals_lost = !lost.left(last) && !lost.left(last - 1);
+    lost.excess_in(code) > 1
+        && width
+            >= if are_globals_lost {
+                WIDE_FOR_GLOBALS
+            } else {
+                WIDE
+            }
+}
+
+/// Writes the bytes `from..to` of up to four absent fragments, as every stripe has them that agrees
+/// with what is present. `chosen` has the number of the fragment for each of the four targets. A
+/// target for None is unchanged. Of more than four absent fragments at least one is open.
+///
+/// Returns false if and only if a chosen fragment is open; then every target is unchanged.
+///
+/// A fragment that is alone lost in its group is made from that group. Several others are made one
+/// after the other, each with those made before it, or in one pass over the fragments that are
+/// present, whichever is faster. Does not allocate.
+pub fn decode_to(
+    left: &Left,
+    chosen: [Option<u8>; 4],
+    from: usize,
+    to: usize,
+    first: &mut [u8],
+    second: &mut [u8],
+    third: &mut [u8],
+    fourth: &mut [u8],
+) -> bool
+    requires absent { (i : ℕ) → i < 4 → IfSome (slice_index_or chosen i None)
+        (λ f. (f < fragment_count left.now.code) × (is_absent left.now.fragments f ≡ true)) }
+    requires reach { (i : ℕ) → i < fragment_count left.now.code
+        → is_absent left.now.fragments i ≡ false → Reaches left.now.fragments to i }
+    requires range { from ≤ to }
+    requires room { IfSome (slice_index_or chosen 0 None) (λ _. length first.old ≡ to - from) }
+    requires room_second { IfSome (slice_index_or chosen 1 None)
+        (λ _. length second.old ≡ to - from) }
+    requires room_third { IfSome (slice_index_or chosen 2 None)
+        (λ _. length third.old ≡ to - from) }
+    requires room_fourth { IfSome (slice_index_or chosen 3 None)
+        (λ _. length fourth.old ≡ to - from) }
+    ensures open { (result ≡ false) ↔ HasOpen left.now.code (is_absent left.now.fragments) chosen }
+    ensures kept { result ≡ false → (first.new ≡ first.old) × (second.new ≡ second.old)
+        × (third.new ≡ third.old) × (fourth.new ≡ fourth.old) }
+    ensures first { result ≡ true → IsDecoded left.now.code left.now.fragments
+        (slice_index_or chosen 0 None) from to first.old first.new }
+    ensures second { result ≡ true → IsDecoded left.now.code left.now.fragments
+        (slice_index_or chosen 1 None) from to second.old second.new }
+    ensures third { result ≡ true → IsDecoded left.now.code left.now.fragments
+        (slice_index_or chosen 2 None) from to third.old third.new }
+    ensures fourth { result ≡ true → IsDecoded left.now.code left.now.fragments
+        (slice_index_or chosen 3 None) from to fourth.old fourth.new }
+{
+    let lost = left.lost();
+    if has_open(left, lost, &chosen) {
+        return false;
+    }
+    let far = is_far(left.code, lost, chosen[0])
+        + is_far(left.code, lost, chosen[1])
+        + is_far(left.code, lost, chosen[2])
+        + is_far(left.code, lost, chosen[3]);
+    if far <= 1 {
+        rebuild_chosen(left, chosen[0], from, to, first);
+        rebuild_chosen(left, chosen[1], from, to, second);
+        rebuild_chosen(left, chosen[2], from, to, third);
+        rebuild_chosen(left, chosen[3], from, to, fourth);
+    } else if are_syndromes_faster(left.code, lost, to - from) {
+        decode_by_syndromes(left, lost, chosen, from, to, first, second, third, fourth);
+    } else {
+        decode_in_turn(left, chosen, from, to, first, second, third, fourth);
+    }
+    true
+}

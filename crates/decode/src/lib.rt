@@ -1,0 +1,15 @@
+//! Decoding: all lost fragments of a stripe in one pass over those that remain.
+//!
+//! The four equations of a code, summed over the fragments that remain, are the stripe's syndromes.
+//! Every lost fragment that is not open is a sum of them, each times a share that depends on the
+//! lost set alone. So the fragments that remain are read once, however many are lost.
+//!
+//! No call allocates.
+#![tactic(auto)]
+
+mod decoding;
+mod known;
+mod shares;
+
+pub use decoding::decode_to;
+pub use shares::shares_of;

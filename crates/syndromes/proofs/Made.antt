@@ -1,0 +1,89 @@
+-- Targets that are made by their formulas.
+use Rattle.std.proofs.Common.{◌≡◌, ℕ, ◌+◌, ◌-◌, ◌<◌, ◌≤◌, List, ◌++◌, Option, Some, None, Bor, length, take, get_or, bit_xor, sym, ap, ap₂, ◌∙◌, subst, arith, inl, inr, length-take-le, get_or-take}
+use Rattle.std.proofs.lemmas.Bool.{cases_lt}
+use Rattle.std.proofs.lemmas.List.{get_or_append_left, get_or-append-add}
+use lib.Bits.{xor_assoc, xor_self, xor_zero_r}
+use Rattle.gf256.specs.Field.{product}
+use Rattle.gf256.proofs.Laws.{product-zero_left}
+use Rattle.gf256.proofs.Linear.{product-xor_left}
+use Rattle.kernels.specs.Lists.{xor_sum, combined}
+use Rattle.kernels.proofs.Sums.{xor_sum_same, xor_sum-xor, xor_sum_zero}
+use Rattle.syndromes.specs.declared.formulas.Formula.{Formula}
+use Rattle.syndromes.specs.Syndromes.{syndrome, column_at, sum_by, HasSums, HasRoom}
+use Rattle.syndromes.specs.Formulas.{IsFormula, IsNoneOr, share_of, addend}
+
+xor_back : (a b : ℕ) → bit_xor (bit_xor a b) b ≡ a
+xor_back a b = xor_assoc a b b ∙ ap (bit_xor a) (xor_self b) ∙ xor_zero_r a
+
+-- what a list that is added comes to
+abbrev added : Option (List ℕ) → (ℕ → ℕ) → ℕ
+added shares s = xor_sum 4 (λ e. product (share_of shares e) (s e))
+
+added_is : (lists : List (Option (Bor (List ℕ)))) (shares : Option (List ℕ)) (n k : ℕ) (bytes : List ℕ) → k < n → HasSums lists shares n bytes
+    → addend shares bytes k ≡ added shares (λ e. syndrome e (column_at lists k))
+added_is lists None n k bytes l sums = sym (xor_sum_zero 4 (λ e. product 0 (syndrome e (column_at lists k))) (λ e m. product-zero_left (syndrome e (column_at lists k))))
+added_is lists (Some a) n k bytes l sums = sums k l
+
+-- the factors give what the shares give, less what is added
+factors_give : (f : Formula) (s : ℕ → ℕ) → IsFormula f → combined f.factors s ≡ bit_xor (bit_xor (bit_xor (sum_by f.shares s) (added f.first s)) (added f.second s)) (added f.third s)
+factors_give f s is =
+    let shares = λ (e : ℕ). get_or f.shares e 0 in
+    let x = share_of f.first in
+    let y = share_of f.second in
+    let z = share_of f.third in
+    ap (λ n. xor_sum n (λ e. product (get_or f.factors e 0) (s e))) is.four
+    ∙ xor_sum_same 4 _ _ (λ e l. ap (λ w. product w (s e)) (is.factors e l)
+    ∙ product-xor_left (bit_xor (bit_xor (shares e) (x e)) (y e)) (z e) (s e)
+    ∙ ap (λ w. bit_xor w (product (z e) (s e))) (product-xor_left (bit_xor (shares e) (x e)) (y e) (s e)
+    ∙ ap (λ w. bit_xor w (product (y e) (s e))) (product-xor_left (shares e) (x e) (s e))))
+    ∙ xor_sum-xor 4 (λ e. bit_xor (bit_xor (product (shares e) (s e)) (product (x e) (s e))) (product (y e) (s e))) (λ e. product (z e) (s e))
+    ∙ ap (λ w. bit_xor w (added f.third s)) (xor_sum-xor 4 (λ e. bit_xor (product (shares e) (s e)) (product (x e) (s e))) (λ e. product (y e) (s e))
+    ∙ ap (λ w. bit_xor w (added f.second s)) (xor_sum-xor 4 (λ e. product (shares e) (s e)) (λ e. product (x e) (s e))))
+
+-- with what is added, a formula gives the sum by its shares
+pub made_by : (f : Formula) (lists : List (Option (Bor (List ℕ)))) (x y z : List ℕ) (n k : ℕ) → k < n → IsFormula f → HasSums lists f.first n x → HasSums lists f.second n y → HasSums lists f.third n z
+    → bit_xor (bit_xor (bit_xor (combined f.factors (λ e. syndrome e (column_at lists k))) (addend f.third z k)) (addend f.second y k)) (addend f.first x k) ≡ sum_by f.shares (λ e. syndrome e (column_at lists k))
+made_by f lists x y z n k l is first second third =
+    let s = λ (e : ℕ). syndrome e (column_at lists k) in
+    let whole = sum_by f.shares s in
+    let with_first = bit_xor whole (added f.first s) in
+    let with_second = bit_xor with_first (added f.second s) in
+    ap₂ bit_xor (ap₂ bit_xor (ap₂ bit_xor (factors_give f s is) (added_is lists f.third n k z l third) ∙ xor_back with_second (added f.third s)) (added_is lists f.second n k y l second) ∙ xor_back with_first (added f.second s)) (added_is lists f.first n k x l first)
+    ∙ xor_back whole (added f.first s)
+
+-- a part that is written between others
+pub spliced : (old new post : List ℕ) (at end : ℕ) (P : ℕ → ℕ) → at ≤ length old → at ≤ end → length new ≡ end - at
+    → ((k : ℕ) → k < at → get_or old k 0 ≡ P k) → ((j : ℕ) → j < end - at → get_or new j 0 ≡ P (at + j))
+    → (k : ℕ) → k < end → get_or (take at old ++ (new ++ post)) k 0 ≡ P k
+spliced old new post at end P inside order long before here k l =
+    let front : length (take at old) ≡ at = length-take-le at old inside in
+    elim (cases_lt k at) [
+      | inl below ↦ get_or_append_left (take at old) (new ++ post) 0 k (omega (arith, front)) ∙ get_or-take at old k 0 below ∙ before k below
+      | inr past ↦
+          let j : ℕ = k - at in
+          let is : length (take at old) + j ≡ k = omega (arith, front) in
+          let is_at : at + j ≡ k = omega arith in
+          sym (ap (λ n. get_or (take at old ++ (new ++ post)) n 0) is)
+          ∙ get_or-append-add (take at old) (new ++ post) j 0
+          ∙ get_or_append_left new post 0 j (omega (arith, long))
+          ∙ here j (omega arith) ∙ ap P is_at
+    ]
+
+-- what is added was made before
+pub sums_if : (lists : List (Option (Bor (List ℕ)))) (o made : Option (List ℕ)) (n : ℕ) (bytes : List ℕ) → IsNoneOr o made → HasSums lists made n bytes → HasSums lists o n bytes
+sums_if lists o made n bytes is sums =
+    elim is [
+      | inl none ↦ subst (λ a. HasSums lists a n bytes) (sym none) tt
+      | inr same ↦ subst (λ a. HasSums lists a n bytes) (sym same) sums
+    ]
+
+pub room_if : (o made : Option (List ℕ)) (n : ℕ) (bytes : List ℕ) → IsNoneOr o made → HasRoom made n bytes → HasRoom o n bytes
+room_if o made n bytes is room =
+    elim is [
+      | inl none ↦ subst (λ a. HasRoom a n bytes) (sym none) tt
+      | inr same ↦ subst (λ a. HasRoom a n bytes) (sym same) room
+    ]
+
+pub made_none : (lists : List (Option (Bor (List ℕ)))) (shares : Option (List ℕ)) (bytes : List ℕ) → HasSums lists shares 0 bytes
+made_none lists None bytes = tt
+made_none lists (Some a) bytes = λ k l. absurd (omega arith)

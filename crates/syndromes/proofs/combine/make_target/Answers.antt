@@ -1,0 +1,31 @@
+use Rattle.std.proofs.Common.{◌≡◌, ℕ, ◌+◌, ◌-◌, ◌<◌, List, Some, length, map, bit_xor, get_or, ap, ◌∙◌, arith}
+use Rattle.gf256.specs.Field.{product}
+use Rattle.kernels.specs.Lists.{combined, bytes_at}
+use Rattle.kernels.proofs.Sums.{xor_sum_same}
+use Rattle.syndromes.specs.Syndromes.{syndrome, column_at, sum_by, HasSums, HasRoom}
+use Rattle.syndromes.specs.Formulas.{IsFormula, addend}
+use Rattle.syndromes.proofs.Made.{made_by, spliced}
+use Rattle.syndromes.proofs.combine.make_target.Goals as goal
+
+pub returns-in-Some-clause-made : goal.returns-in-Some-clause-made
+returns-in-Some-clause-made c =
+    let f = c.in-Some.formula in
+    let lists = c.args.lists.now in
+    let at : ℕ = c.args.at in
+    let end : ℕ = c.args.end in
+    let x : List ℕ = c.args.first.now in
+    let y : List ℕ = c.args.second.now in
+    let z : List ℕ = c.args.third.now in
+    let given : IsFormula f × HasRoom f.first end x × HasRoom f.second end y × HasRoom f.third end z × HasSums lists f.first end x × HasSums lists f.second end y × HasSums lists f.third end z =
+    rw c.in-Some.is at c.requires.formula in
+    let before : HasSums lists (Some f.shares) at c.args.target.now = rw c.in-Some.is at c.requires.before in
+    let room : HasRoom (Some f.shares) end c.args.target.now = rw c.in-Some.is at c.requires.room in
+    let long : length c.make_part.new.part ≡ end - at = omega (arith, c.make_part.auto.part, room, c.requires.order) in
+    let four : (j : ℕ) → j < end - at → combined f.factors (bytes_at (map (λ s. s.now) c.args.syndromes.now) j) ≡ combined f.factors (λ e. syndrome e (column_at lists (at + j))) =
+    λ j l. xor_sum_same (length f.factors) _ _ (λ e el. ap (product (get_or f.factors e 0)) (c.requires.are e j (omega (arith, given.0.four)) l)) in
+    rw c.in-Some.is
+    (spliced c.args.target.now c.make_part.new.part _ at end (λ k. sum_by f.shares (λ e. syndrome e (column_at lists k)))
+    (omega (arith, room, c.requires.order)) c.requires.order long before
+    (λ j l. c.make_part.ensures j (omega (arith, long))
+    ∙ ap (λ w. bit_xor (bit_xor (bit_xor w (addend f.third z (at + j))) (addend f.second y (at + j))) (addend f.first x (at + j))) (four j l)
+    ∙ made_by f lists x y z end (at + j) (omega arith) given.0 given.4 given.5 given.6))

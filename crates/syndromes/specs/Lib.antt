@@ -1,0 +1,3 @@
+pub mod Syndromes
+pub mod Formulas
+pub use Rattle.kernels.specs.Lists

@@ -1,0 +1,234 @@
+//! The sums of the syndromes, block by block, so that each list is read once.
+ghost use Rattle.std.specs.Prelude.{◌≡◌, ℕ, ◌+◌, ◌-◌, ◌<◌, ◌≤◌, None, [], ◌∷◌, All, EachIndex};
+ghost use Rattle.std.specs.Prelude.{IfSome, length, map, slice_index, bit_xor};
+ghost use Rattle.kernels.specs.Lists.{combined, bytes_at, list_at};
+ghost use Rattle.syndromes.specs.Syndromes.{syndrome, column_at, HaveBytes, HasSums, HasRoom};
+ghost use Rattle.syndromes.specs.Formulas.{IsFormula, AreFormulas, addend, shares_for};
+
+use crate::blocks::{BLOCK, combine_four, write_syndromes};
+use crate::formulas::{Formula, Formulas, formulas_for};
+use gf256::xor_into;
+
+/// Adds the places `at..end` of a target that was made before, where it is to be added.
+fn add_made(part: &mut [u8], shares: Option<[u8; 4]>, made: &[u8], at: usize, end: usize)
+    requires order { at ≤ end }
+    requires long { length part.old ≡ end - at }
+    requires room { HasRoom shares end made.now }
+    ensures { EachIndex part.new (λ k. slice_index part.new k
+        ≡ bit_xor (slice_index part.old k) (addend shares made.now (at + k))) }
+{
+    if shares.is_some() {
+        xor_into(part, &made[at..end]);
+    }
+}
+
+/// Makes the places `at..end` of a target by its formula.
+fn make_part(
+    part: &mut [u8],
+    at: usize,
+    end: usize,
+    formula: &Formula,
+    syndromes: &[&[u8]; 4],
+    first: &[u8],
+    second: &[u8],
+    third: &[u8],
+)
+    requires order { at ≤ end }
+    requires long { length part.old ≡ end - at }
+    requires same { All (λ s. length s.now ≡ end - at) syndromes.now }
+    requires first_room { HasRoom formula.now.first end first.now }
+    requires second_room { HasRoom formula.now.second end second.now }
+    requires third_room { HasRoom formula.now.third end third.now }
+    ensures { EachIndex part.new (λ k. slice_index part.new k
+        ≡ bit_xor (bit_xor (bit_xor (combined formula.now.factors
+        (bytes_at (map (λ s. s.now) syndromes.now) k))
+        (addend formula.now.third third.now (at + k)))
+        (addend formula.now.second second.now (at + k)))
+        (addend formula.now.first first.now (at + k))) }
+{
+    combine_four(part, &formula.factors, syndromes);
+    add_made(part, formula.third, third, at, end);
+    add_made(part, formula.second, second, at, end);
+    add_made(part, formula.first, first, at, end);
+}
+
+/// Where a formula is given, makes the places `at..end` of its target, which has those before
+/// already.
+fn make_target(
+    lists: &[Option<&[u8]>; 16],
+    target: &mut [u8],
+    at: usize,
+    end: usize,
+    formula: &Option<Formula>,
+    syndromes: &[&[u8]; 4],
+    first: &[u8],
+    second: &[u8],
+    third: &[u8],
+)
+    requires formula { IfSome formula.now (λ f. IsFormula f × HasRoom f.first end first.now
+        × HasRoom f.second end second.now × HasRoom f.third end third.now
+        × HasSums lists.now f.first end first.now × HasSums lists.now f.second end second.now
+        × HasSums lists.now f.third end third.now) }
+    requires order { at ≤ end }
+    requires room { HasRoom (shares_for formula.now) end target.old }
+    requires before { HasSums lists.now (shares_for formula.now) at target.old }
+    requires same { All (λ s. length s.now ≡ end - at) syndromes.now }
+    requires are { (e k : ℕ) → e < 4 → k < end - at
+        → slice_index (list_at (map (λ s. s.now) syndromes.now) e) k
+        ≡ syndrome e (column_at lists.now (at + k)) }
+    ensures made { HasSums lists.now (shares_for formula.now) end target.new }
+    ensures kept { formula.now ≡ None → target.new ≡ target.old }
+{
+    if let Some(formula) = formula {
+        make_part(
+            &mut target[at..end],
+            at,
+            end,
+            formula,
+            syndromes,
+            first,
+            second,
+            third,
+        );
+    }
+}
+
+/// Makes the places `at..end` of each target by its formula, where it has those before already. The
+/// syndromes are written into four lists of their own.
+fn make_block(
+    lists: &[Option<&[u8]>; 16],
+    at: usize,
+    end: usize,
+    formulas: &Formulas,
+    one: &mut [u8],
+    two: &mut [u8],
+    three: &mut [u8],
+    four: &mut [u8],
+    first: &mut [u8],
+    second: &mut [u8],
+    third: &mut [u8],
+    fourth: &mut [u8],
+)
+    requires long { HaveBytes lists.now end }
+    requires order { at ≤ end }
+    requires few { end ≤ at + BLOCK }
+    requires formulas { AreFormulas formulas.now }
+    requires one_long { length one.old ≡ end - at }
+    requires two_long { length two.old ≡ end - at }
+    requires three_long { length three.old ≡ end - at }
+    requires four_long { length four.old ≡ end - at }
+    requires first_room { HasRoom (shares_for formulas.now.first) end first.old }
+    requires second_room { HasRoom (shares_for formulas.now.second) end second.old }
+    requires third_room { HasRoom (shares_for formulas.now.third) end third.old }
+    requires fourth_room { HasRoom (shares_for formulas.now.fourth) end fourth.old }
+    requires first_made { HasSums lists.now (shares_for formulas.now.first) at first.old }
+    requires second_made { HasSums lists.now (shares_for formulas.now.second) at second.old }
+    requires third_made { HasSums lists.now (shares_for formulas.now.third) at third.old }
+    requires fourth_made { HasSums lists.now (shares_for formulas.now.fourth) at fourth.old }
+    ensures first { HasSums lists.now (shares_for formulas.now.first) end first.new }
+    ensures second { HasSums lists.now (shares_for formulas.now.second) end second.new }
+    ensures third { HasSums lists.now (shares_for formulas.now.third) end third.new }
+    ensures fourth { HasSums lists.now (shares_for formulas.now.fourth) end fourth.new }
+    ensures first_kept { formulas.now.first ≡ None → first.new ≡ first.old }
+    ensures second_kept { formulas.now.second ≡ None → second.new ≡ second.old }
+    ensures third_kept { formulas.now.third ≡ None → third.new ≡ third.old }
+    ensures fourth_kept { formulas.now.fourth ≡ None → fourth.new ≡ fourth.old }
+{
+    write_syndromes(lists, at, end, one, two, three, four);
+    let made: [&[u8]; 4] = [one, two, three, four];
+    make_target(lists, first, at, end, &formulas.first, &made, &[], &[], &[]);
+    make_target(
+        lists,
+        second,
+        at,
+        end,
+        &formulas.second,
+        &made,
+        first,
+        &[],
+        &[],
+    );
+    make_target(
+        lists,
+        third,
+        at,
+        end,
+        &formulas.third,
+        &made,
+        first,
+        second,
+        &[],
+    );
+    make_target(
+        lists,
+        fourth,
+        at,
+        end,
+        &formulas.fourth,
+        &made,
+        first,
+        second,
+        third,
+    );
+}
+
+/// Makes each of four targets the sum of the four syndromes of the lists, each times its share, at
+/// each of `width` places. A target for which no shares are given is unchanged.
+///
+/// Of the sixteen lists the last four are the parities of the first twelve; None is a list of
+/// zeros. Each list is read once.
+pub fn combine_syndromes(
+    lists: &[Option<&[u8]>; 16],
+    width: usize,
+    a: Option<[u8; 4]>,
+    b: Option<[u8; 4]>,
+    c: Option<[u8; 4]>,
+    d: Option<[u8; 4]>,
+    first: &mut [u8],
+    second: &mut [u8],
+    third: &mut [u8],
+    fourth: &mut [u8],
+)
+    requires long { HaveBytes lists.now width }
+    requires first_room { HasRoom a width first.old }
+    requires second_room { HasRoom b width second.old }
+    requires third_room { HasRoom c width third.old }
+    requires fourth_room { HasRoom d width fourth.old }
+    ensures first { HasSums lists.now a width first.new }
+    ensures second { HasSums lists.now b width second.new }
+    ensures third { HasSums lists.now c width third.new }
+    ensures fourth { HasSums lists.now d width fourth.new }
+    ensures first_kept { a ≡ None → first.new ≡ first.old }
+    ensures second_kept { b ≡ None → second.new ≡ second.old }
+    ensures third_kept { c ≡ None → third.new ≡ third.old }
+    ensures fourth_kept { d ≡ None → fourth.new ≡ fourth.old }
+{
+    let formulas = formulas_for(a, b, c, d);
+    let mut one = [0; BLOCK];
+    let mut two = [0; BLOCK];
+    let mut three = [0; BLOCK];
+    let mut four = [0; BLOCK];
+    let mut at = 0;
+    'each: while at < width {
+        let count = if width - at > BLOCK {
+            BLOCK
+        } else {
+            width - at
+        };
+        make_block(
+            lists,
+            at,
+            at + count,
+            &formulas,
+            &mut one[..count],
+            &mut two[..count],
+            &mut three[..count],
+            &mut four[..count],
+            first,
+            second,
+            third,
+            fourth,
+        );
+        at += count;
+    }
+}
