@@ -195,6 +195,10 @@ restored_one who v w some joined = record {
 restored_same : (v : Shows) → IsRestored v v
 restored_same v = record { stays = (refl, refl, refl); seen = refl; trimmed = refl; made = refl; did = refl; acts = ([], append-nil v.acts) }
 
+pub restored_all : (vs : List Shows) → AreRestored vs vs
+restored_all [] = tt
+restored_all (v ∷ vs) = (restored_same v, restored_all vs)
+
 restored_first : (who n : ℕ) (vs ws : List Shows) → HaveRoom (take n vs) → AreJoined (mapped kept_in_split n vs) (map (given_in_split who) (take n vs)) ws → AreRestored vs ws
 restored_first who zero [] ws some are = subst (AreRestored []) (sym are) tt
 restored_first who zero (v ∷ vs) [] some are = absurd are

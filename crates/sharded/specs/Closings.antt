@@ -4,7 +4,8 @@ use Rattle.book.specs.Contents.{Contents}
 use Rattle.book.specs.Tells.{Tells}
 use Rattle.shared.specs.Passes.{Shows, Agrees, IsWhole}
 
--- The book represents what its pass has seen, and each call and each trim in it was made by this pass or by one that it joined
+-- The book represents what its pass has seen. Each call and each trim in it was made by this pass
+-- or by one that it joined
 pub record IsClosed (v : Shows) (book : Contents) : Type 0 where
   pub told : Tells book v.seen
   pub whole : IsWhole v

@@ -34,7 +34,8 @@ module _ (count : ℕ) where
   abbrev pub map_after : OneMap → Operation → Note → OneMap
   map_after s o note = record {
     names = (after (state_at s (operation_shard o)) o note).names;
-    puts = λ k. cond (operation_shard o == k) (after (state_at s (operation_shard o)) o note).puts (s.puts k);
+    puts = λ k. cond (operation_shard o == k)
+        (after (state_at s (operation_shard o)) o note).puts (s.puts k);
   }
 
   abbrev pub map_after_all : OneMap → History → OneMap
@@ -44,7 +45,9 @@ module _ (count : ℕ) where
   -- each note is the reply of the object of one thread to its operation, over the one map
   abbrev pub IsLegalOneMapFrom : ℕ → OneMap → History → Type 0
   IsLegalOneMapFrom w s [] = Unit {0}
-  IsLegalOneMapFrom w s (e ∷ es) = IsReply w (state_at s (operation_shard e.operation)) e.operation e.note × IsLegalOneMapFrom w (map_after s e.operation e.note) es
+  IsLegalOneMapFrom w s (e ∷ es) =
+      IsReply w (state_at s (operation_shard e.operation)) e.operation e.note
+      × IsLegalOneMapFrom w (map_after s e.operation e.note) es
 
   abbrev pub map_of : History → OneMap
   map_of h = map_after_all empty_map h

@@ -1,5 +1,6 @@
 -- The passes to all shards, in the order of the shards: split, joined, and whose calls they show.
-use Rattle.std.specs.Prelude.{◌≡◌, ◌⊎◌, ℕ, ◌+◌, ◌-◌, ◌≤◌, List, [], ◌∷◌, ◌++◌, length, map, take, drop, Some, slice_get}
+use Rattle.std.specs.Prelude.{◌≡◌, ◌⊎◌, ℕ, ◌+◌, ◌-◌, ◌≤◌, List, [], ◌∷◌, ◌++◌, length, map}
+use Rattle.std.specs.Prelude.{take, drop, Some, slice_get}
 use mathlib.Core.List.{IsPrefix}
 use Rattle.gate.specs.Places.{times, AreApart}
 use Rattle.book.specs.Serial.{Act, call, trim}
@@ -26,7 +27,16 @@ HaveWidth w vs = (k : ℕ) (v : Shows) → slice_get vs k ≡ Some v → v.store
 -- ---- opened
 -- a pass that has seen nothing
 abbrev pub fresh_pass : Which → Shows
-fresh_pass s = record { store = s; who = 0; room = 64; seen = []; trimmed = 0; made = []; acts = []; did = [] }
+fresh_pass s = record {
+  store = s;
+  who = 0;
+  room = 64;
+  seen = [];
+  trimmed = 0;
+  made = [];
+  acts = [];
+  did = [];
+}
 
 -- ---- split
 -- what a split leaves of a pass
@@ -35,7 +45,16 @@ kept_in_split v = record v { room = v.room - 1 }
 
 -- and the pass with this label that it gives
 abbrev pub given_in_split : ℕ → Shows → Shows
-given_in_split who v = record { store = v.store; who = who; room = 1; seen = v.seen; trimmed = v.trimmed; made = []; acts = v.acts; did = [] }
+given_in_split who v = record {
+  store = v.store;
+  who = who;
+  room = 1;
+  seen = v.seen;
+  trimmed = v.trimmed;
+  made = [];
+  acts = v.acts;
+  did = [];
+}
 
 abbrev pub HaveRoom : List Shows → Type 0
 HaveRoom [] = Unit {0}
@@ -43,7 +62,9 @@ HaveRoom (v ∷ vs) = (1 ≤ v.room) × HaveRoom vs
 
 -- the first passes were split, and the others are as they were
 abbrev pub AreSplitInPart : ℕ → List Shows → List Shows → List Shows → Type 0
-AreSplitInPart who vs ws given = (n : ℕ) × (ws ≡ map kept_in_split (take n vs) ++ drop n vs) × (given ≡ map (given_in_split who) (take n vs)) × HaveRoom (take n vs)
+AreSplitInPart who vs ws given =
+    (n : ℕ) × (ws ≡ map kept_in_split (take n vs) ++ drop n vs)
+    × (given ≡ map (given_in_split who) (take n vs)) × HaveRoom (take n vs)
 
 -- the pass to some shard can't be split
 abbrev pub HasRoomOfOne : List Shows → Type 0
@@ -69,7 +90,8 @@ pub record IsJoined (v other w : Shows) : Type 0 where
   pub store : w.store ≡ v.store
   pub who : w.who ≡ v.who
   pub room : w.room ≡ v.room + other.room
-  pub one : ((w.seen ≡ v.seen) × (w.trimmed ≡ v.trimmed)) ⊎ ((w.seen ≡ other.seen) × (w.trimmed ≡ other.trimmed))
+  pub one : ((w.seen ≡ v.seen) × (w.trimmed ≡ v.trimmed))
+      ⊎ ((w.seen ≡ other.seen) × (w.trimmed ≡ other.trimmed))
   pub seen : IsPrefix v.seen w.seen × IsPrefix other.seen w.seen
   pub made : w.made ≡ v.made ++ other.made
   pub acts : IsPrefix v.acts w.acts × IsPrefix other.acts w.acts
@@ -92,7 +114,9 @@ IsActOfShard count k (trim n) = Unit {0}
 
 -- each act of the pass's own stands in what was done, and is of this shard
 abbrev pub HasActsOfShard : ℕ → ℕ → Shows → Type 0
-HasActsOfShard count k v = (p : ℕ) → 1 ≤ times p v.did → (act : Act) × (slice_get v.acts p ≡ Some act) × IsActOfShard count k act
+HasActsOfShard count k v =
+    (p : ℕ) → 1 ≤ times p v.did
+    → (act : Act) × (slice_get v.acts p ≡ Some act) × IsActOfShard count k act
 
 -- each pass has made calls of names of its shard alone
 abbrev pub HaveActsOfShards : List Shows → Type 0

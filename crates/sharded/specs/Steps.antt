@@ -1,5 +1,6 @@
 -- A step at one shard: a call at the shard of its name, a trim, or a plan.
-use Rattle.std.specs.Prelude.{◌≡◌, ℕ, zero, suc, List, [], ◌∷◌, length, None, Some, Result, IfOk, slice_get, slice_set}
+use Rattle.std.specs.Prelude.{◌≡◌, ℕ, zero, suc, List, [], ◌∷◌, length, slice_get, slice_set}
+use Rattle.std.specs.Prelude.{None, Some, Result, IfOk}
 use Rattle.sealed.specs.declared.fault.Fault.{Fault}
 use Rattle.history.specs.Step.{Operation, repair}
 use Rattle.history.specs.History.{History, state_of}
@@ -27,11 +28,14 @@ IsCallAt vs o r ws = IsStepAt (operation_shard (length vs) o) (λ v w. Called v 
 
 -- a repair that does not wait found another caller inside, at the shard of its name
 abbrev pub IsBusyRepairAt : List Shows → List ℕ → ℕ → ℕ → List Shows → Type 0
-IsBusyRepairAt vs n j f ws = IsStepAt (operation_shard (length vs) (repair n j f)) (λ v w. FoundBusy v n j f w) vs ws
+IsBusyRepairAt vs n j f ws =
+    IsStepAt (operation_shard (length vs) (repair n j f)) (λ v w. FoundBusy v n j f w) vs ws
 
 -- the plan of a shard, after all that its pass has then seen
 abbrev pub IsPlanAt : List Shows → ℕ → Result Plan Fault → List Shows → Type 0
-IsPlanAt vs k r ws = IsStepAt k (λ v w. Takes v None w × IfOk r (λ p. p.items.items ≡ plan_of (state_of w.seen))) vs ws
+IsPlanAt vs k r ws =
+    IsStepAt k
+    (λ v w. Takes v None w × IfOk r (λ p. p.items.items ≡ plan_of (state_of w.seen))) vs ws
 
 -- ---- the shard of a name
 abbrev pub width_at : List Which → ℕ → ℕ

@@ -35,7 +35,9 @@ IsTrimmed keep v w = (n : ℕ) × Takes v (Some (trimmed keep n)) w
 
 -- the first journals were trimmed, and the pass to the next shard did nothing
 abbrev pub AreTrimmedInPart : ℕ → List Shows → List Shows → Type 0
-AreTrimmedInPart keep vs ws = (n : ℕ) × (us : List Shows) × AreStepsTo (IsTrimmed keep) n vs us × IsStepAt n HasLooked us ws
+AreTrimmedInPart keep vs ws =
+    (n : ℕ) × (us : List Shows)
+    × AreStepsTo (IsTrimmed keep) n vs us × IsStepAt n HasLooked us ws
 
 -- what is lost at each shard, by the histories that the passes have seen
 abbrev pub lost_in_all : List Shows → List Item

@@ -2,7 +2,8 @@
 //! name does there, and leaves the passes to all other shards as they were.
 ghost use Rattle.std.specs.Prelude.{◌≡◌, ◌⊎◌, ◌↔◌, ◌<◌, length, IfOk, IfErr};
 ghost use Rattle.sealed.specs.Layout.{stripe_count};
-ghost use Rattle.history.specs.Step.{put as put_of, read as read_of, lose as lose_of, repair as repair_of, delete as delete_of, stat as stat_of};
+ghost use Rattle.history.specs.Step.{put as put_of, read as read_of, lose as lose_of};
+ghost use Rattle.history.specs.Step.{repair as repair_of, delete as delete_of, stat as stat_of};
 ghost use Rattle.book.specs.Tells.{IsCallFault};
 ghost use Rattle.shared.specs.Calls.{CanGrant, GrantedIn, IfGranted};
 ghost use Rattle.sharded.specs.Passes.{stores_of};
@@ -30,7 +31,8 @@ impl ShardedStore {
         requires { stores_of pass.old ≡ self.now }
         ensures called { IsCallAt pass.old (put_of name Code.Wide bytes) result pass.new }
         ensures same { stores_of pass.new ≡ self.now }
-        ensures too_long { (result ≡ Err Fault.TooLong) ↔ (4096 < stripe_count Code.Wide (width_for self.now name) (length bytes)) }
+        ensures too_long { (result ≡ Err Fault.TooLong)
+            ↔ (4096 < stripe_count Code.Wide (width_for self.now name) (length bytes)) }
         ensures faults { IfErr result (λ e. IsCallFault e ⊎ (e ≡ Fault.TooLong)) }
     {
         let shard = self.find_shard(&name);
@@ -54,7 +56,8 @@ impl ShardedStore {
         requires { stores_of pass.old ≡ self.now }
         ensures called { IsCallAt pass.old (put_of name code bytes) result pass.new }
         ensures same { stores_of pass.new ≡ self.now }
-        ensures too_long { (result ≡ Err Fault.TooLong) ↔ (4096 < stripe_count code (width_for self.now name) (length bytes)) }
+        ensures too_long { (result ≡ Err Fault.TooLong)
+            ↔ (4096 < stripe_count code (width_for self.now name) (length bytes)) }
         ensures faults { IfErr result (λ e. IsCallFault e ⊎ (e ≡ Fault.TooLong)) }
     {
         let shard = self.find_shard(&name);
@@ -77,8 +80,10 @@ impl ShardedStore {
         requires { stores_of pass.old ≡ self.now }
         ensures called { IsCallAt pass.old (read_of name start len) result pass.new }
         ensures same { stores_of pass.new ≡ self.now }
-        ensures grant { IfOk result (λ a. IfGranted a (GrantedIn (seen_for pass.new name) (width_for self.now name) name start len)) }
-        ensures no_memory { result ≡ Err Fault.NoMemory → CanGrant (seen_for pass.new name) (width_for self.now name) name start len }
+        ensures grant { IfOk result (λ a. IfGranted a
+            (GrantedIn (seen_for pass.new name) (width_for self.now name) name start len)) }
+        ensures no_memory { result ≡ Err Fault.NoMemory
+            → CanGrant (seen_for pass.new name) (width_for self.now name) name start len }
         ensures faults { IfErr result IsCallFault }
     {
         let shard = self.find_shard(&name);
@@ -147,7 +152,8 @@ impl ShardedStore {
         store.delete(rt, own, name)
     }
 
-    /// The shape of a name's blob: how many bytes, stripes and lost fragments it has, as `Store::stat` does.
+    /// The shape of a name's blob: how many bytes, stripes and lost fragments it has, as
+    /// `Store::stat` does.
     pub fn stat<R: Wait>(&self, rt: &R, pass: &mut ShardedPass, name: Name) -> Result<Answer, Fault>
         requires { stores_of pass.old ≡ self.now }
         ensures called { IsCallAt pass.old (stat_of name) result pass.new }

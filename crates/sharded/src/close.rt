@@ -1,5 +1,6 @@
 //! All passes together: how many more can be made, and the books once all are joined.
-ghost use Rattle.std.specs.Prelude.{◌≡◌, ◌⊎◌, ℕ, ◌≤◌, ◌<◌, [], length, reverse, Some, IfOk, IfErr, slice_get, vec_len, vec_capacity};
+ghost use Rattle.std.specs.Prelude.{◌≡◌, ◌⊎◌, ℕ, ◌≤◌, ◌<◌, [], length, reverse, slice_get};
+ghost use Rattle.std.specs.Prelude.{Some, IfOk, IfErr, vec_len, vec_capacity};
 ghost use Rattle.shared.specs.Passes.{Shows};
 ghost use Rattle.sharded.specs.Passes.{stores_of, AreLone, AreLegal, HaveWidth};
 ghost use Rattle.sharded.specs.Interleavings.{HasOneMap, HasInterleaving};
@@ -10,7 +11,8 @@ use book::Book;
 use shared::{Pass, Store};
 use std::alloc::Global;
 
-/// A store that could not be closed, as the list of its books was refused memory, and the pass to it.
+/// A store that could not be closed, as the list of its books was refused memory, and the pass to
+/// it.
 #[derive(Drop)]
 pub struct CloseFault {
     pub store: ShardedStore,
@@ -18,17 +20,20 @@ pub struct CloseFault {
 }
 
 impl ShardedPass {
-    /// How many passes, with itself, can be made of it at the shard with the least room: at most 64.
-    /// With 64 no other pass is out.
+    /// How many passes, with itself, can be made of it at the shard with the least room: at most
+    /// 64. With 64 no other pass is out.
     ///
-    /// In whatever order the calls of different shards came, the replies that were seen are those of
-    /// one object over one map.
+    /// In whatever order the calls of different shards came, the replies that were seen are those
+    /// of one object over one map.
     pub fn room(&self) -> u64
+        ensures range { (1 ≤ result) × (result ≤ 64) }
         ensures least { (k : ℕ) (v : Shows) → slice_get self.now k ≡ Some v → result ≤ v.room }
-        ensures some { (result ≡ 64) ⊎ ((k : ℕ) × (v : Shows) × (slice_get self.now k ≡ Some v) × (result ≡ v.room)) }
+        ensures some { (result ≡ 64)
+            ⊎ ((k : ℕ) × (v : Shows) × (slice_get self.now k ≡ Some v) × (result ≡ v.room)) }
         ensures lone { result ≡ 64 → AreLone self.now }
         ensures legal { AreLegal self.now }
-        ensures one_map { (w : ℕ) → 0 < length self.now → HaveWidth w self.now → HasOneMap w self.now }
+        ensures one_map { (w : ℕ) → 0 < length self.now → HaveWidth w self.now
+            → HasOneMap w self.now }
     {
         find_least_room(&self.passes)
     }
@@ -37,8 +42,9 @@ impl ShardedPass {
 impl ShardedStore {
     /// The book of each shard, in the order of the shards, once all passes are joined.
     ///
-    /// A book represents the history that the pass has seen at its shard. Each call and each trim in
-    /// it was made by this pass or by one that it joined, so each call is on a name of this shard.
+    /// A book represents the history that the pass has seen at its shard. Each call and each trim
+    /// in it was made by this pass or by one that it joined, so each call is on a name of this
+    /// shard.
     ///
     /// The store and the pass come back if the list of the books is refused memory.
     pub fn close(self, alloc: Global, pass: ShardedPass) -> Result<Vec<Book>, CloseFault>
@@ -62,8 +68,10 @@ impl ShardedStore {
 
 /// The least room of these, at most 64.
 fn find_least_room(passes: &[Pass]) -> u64
+    ensures range { (1 ≤ result) × (result ≤ 64) }
     ensures least { (k : ℕ) (v : Shows) → slice_get passes.now k ≡ Some v → result ≤ v.room }
-    ensures some { (result ≡ 64) ⊎ ((k : ℕ) × (v : Shows) × (slice_get passes.now k ≡ Some v) × (result ≡ v.room)) }
+    ensures some { (result ≡ 64)
+        ⊎ ((k : ℕ) × (v : Shows) × (slice_get passes.now k ≡ Some v) × (result ≡ v.room)) }
     ensures lone { result ≡ 64 → AreLone passes.now }
     ensures legal { AreLegal passes.now }
 {

@@ -3,7 +3,8 @@ ghost use Rattle.std.specs.Prelude.{◌≡◌, ◌≢◌, ◌⊎◌, ◌<◌, le
 ghost use Rattle.shared.specs.Deeds.{Takes, trim_deed};
 ghost use Rattle.sharded.specs.Passes.{stores_of, AreLone};
 ghost use Rattle.sharded.specs.Steps.{IsStepAt, IsPlanAt};
-ghost use Rattle.sharded.specs.StepsTo.{AreSteps, AreFirstSteps, HasLooked, IsTrimmed, AreTrimmedInPart, lost_in_all};
+ghost use Rattle.sharded.specs.StepsTo.{AreSteps, AreFirstSteps, HasLooked, lost_in_all};
+ghost use Rattle.sharded.specs.StepsTo.{IsTrimmed, AreTrimmedInPart};
 
 use crate::{ShardedPass, ShardedStore};
 use book::{Fault, Plan};
@@ -58,8 +59,8 @@ impl ShardedStore {
         Ok(())
     }
 
-    /// Discards all entries of a shard's journal but the last `keep`, and answers how many these were,
-    /// as `Store::trim` does.
+    /// Discards all entries of a shard's journal but the last `keep`, and answers how many these
+    /// were, as `Store::trim` does.
     ///
     /// `NoMemory` if out of memory. Then no entry was discarded.
     pub fn trim_shard<R: Wait>(
@@ -72,7 +73,8 @@ impl ShardedStore {
     ) -> Result<u64, Fault>
         requires store { stores_of pass.old ≡ self.now }
         requires shard { shard < length self.now }
-        ensures takes { IsStepAt shard (λ v w. Takes v (trim_deed keep result) w) pass.old pass.new }
+        ensures takes { IsStepAt shard
+            (λ v w. Takes v (trim_deed keep result) w) pass.old pass.new }
         ensures same { stores_of pass.new ≡ self.now }
         ensures faults { IfErr result (λ e. e ≡ Fault.NoMemory) }
     {
@@ -81,7 +83,8 @@ impl ShardedStore {
         store.trim(rt, alloc, own, keep)
     }
 
-    /// As `trim_shard`, but `Busy` if another caller is inside that shard. The pass is then as it was.
+    /// As `trim_shard`, but `Busy` if another caller is inside that shard. The pass is then as it
+    /// was.
     pub fn try_trim_shard(
         &self,
         alloc: Global,
@@ -91,7 +94,8 @@ impl ShardedStore {
     ) -> Result<u64, Fault>
         requires store { stores_of pass.old ≡ self.now }
         requires shard { shard < length self.now }
-        ensures takes { IsStepAt shard (λ v w. Takes v (trim_deed keep result) w) pass.old pass.new }
+        ensures takes { IsStepAt shard
+            (λ v w. Takes v (trim_deed keep result) w) pass.old pass.new }
         ensures same { stores_of pass.new ≡ self.now }
         ensures faults { IfErr result (λ e. (e ≡ Fault.Busy) ⊎ (e ≡ Fault.NoMemory)) }
         ensures busy { result ≡ Err Fault.Busy → pass.new ≡ pass.old }
@@ -123,8 +127,8 @@ impl ShardedStore {
         store.plan(rt, alloc, own)
     }
 
-    /// The lost fragments of all blobs: of one shard after the other, and of each as `Store::plan` lists
-    /// them. It is no call of a history, of which the pass may have seen more.
+    /// The lost fragments of all blobs: of one shard after the other, and of each as `Store::plan`
+    /// lists them. It is no call of a history, of which the pass may have seen more.
     ///
     /// `NoMemory` if out of memory.
     pub fn plan<R: Wait>(

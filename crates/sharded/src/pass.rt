@@ -1,7 +1,9 @@
 //! Passes to all shards, split and joined shard by shard.
-ghost use Rattle.std.specs.Prelude.{◌≡◌, ◌⊎◌, ◌+◌, ◌-◌, [], length, map, IfOk, IfErr, OnOk, OnErr};
+ghost use Rattle.std.specs.Prelude.{◌≡◌, ◌⊎◌, ◌↔◌, ◌+◌, ◌-◌, [], length, map};
+ghost use Rattle.std.specs.Prelude.{IfOk, IfErr, OnOk, OnErr};
 ghost use mathlib.Core.List.{IsPrefix};
-ghost use Rattle.sharded.specs.Passes.{stores_of, kept_in_split, given_in_split, AreRestored, AreJoined, HasRoomOfOne, AreSplitInPart};
+ghost use Rattle.sharded.specs.Passes.{stores_of, kept_in_split, given_in_split, AreSplitInPart};
+ghost use Rattle.sharded.specs.Passes.{AreRestored, AreJoined, HasRoomOfOne};
 
 use crate::{ShardedPass, ShardedStore};
 use book::Fault;
@@ -11,8 +13,8 @@ use std::alloc::Global;
 impl ShardedPass {
     /// A new pass with this label, for another caller.
     ///
-    /// At each shard it has seen as much as this one, has made no call and has a room of 1. This pass
-    /// keeps one room less at each, and shows what it showed.
+    /// At each shard it has seen as much as this one, has made no call and has a room of 1. This
+    /// pass keeps one room less at each, and shows what it showed.
     ///
     /// `NoPass` if the room at some shard is 1; else `NoMemory` if out of memory. After either this
     /// pass has the room that it had, and shows at least what it showed.
@@ -25,12 +27,15 @@ impl ShardedPass {
         requires { stores_of self.old ≡ store.now }
         ensures kept { OnOk result (self.new ≡ map kept_in_split self.old) }
         ensures given { IfOk result (λ p. p ≡ map (given_in_split who) self.old) }
-        ensures no_pass { result ≡ Err Fault.NoPass → HasRoomOfOne self.old }
+        ensures no_pass { (result ≡ Err Fault.NoPass) ↔ HasRoomOfOne self.old }
         ensures same { stores_of self.new ≡ store.now }
         ensures given_same { IfOk result (λ p. stores_of p ≡ store.now) }
         ensures faults { IfErr result (λ e. (e ≡ Fault.NoMemory) ⊎ (e ≡ Fault.NoPass)) }
         ensures err { OnErr result (AreRestored self.old self.new) }
     {
+        if self.room() <= 1 {
+            return Err(Fault::NoPass);
+        }
         let mut given = Vec::new(alloc);
         match split_all(&mut self.passes, &store.shards, who, &mut given) {
             Ok(()) => Ok(ShardedPass { passes: given }),
@@ -41,8 +46,8 @@ impl ShardedPass {
         }
     }
 
-    /// Takes in another pass, at each shard with its room and the calls that it made, as `Pass::join`
-    /// does. It does not allocate.
+    /// Takes in another pass, at each shard with its room and the calls that it made, as
+    /// `Pass::join` does. It does not allocate.
     pub fn join(&mut self, store: &ShardedStore, other: ShardedPass)
         requires store { stores_of self.old ≡ store.now }
         requires other { stores_of other ≡ store.now }
@@ -63,8 +68,10 @@ fn split_all(
 ) -> Result<(), Fault>
     requires stores { stores_of passes.old.items ≡ stores.now }
     requires none { given.old.items ≡ [] }
-    ensures ok { OnOk result ((passes.new.items ≡ map kept_in_split passes.old.items) × (given.new.items ≡ map (given_in_split who) passes.old.items)) }
-    ensures err { OnErr result (AreSplitInPart who passes.old.items passes.new.items given.new.items) }
+    ensures kept { OnOk result (passes.new.items ≡ map kept_in_split passes.old.items) }
+    ensures given { OnOk result (given.new.items ≡ map (given_in_split who) passes.old.items) }
+    ensures err { OnErr result
+        (AreSplitInPart who passes.old.items passes.new.items given.new.items) }
     ensures no_pass { result ≡ Err Fault.NoPass → HasRoomOfOne passes.old.items }
     ensures faults { IfErr result (λ e. (e ≡ Fault.NoMemory) ⊎ (e ≡ Fault.NoPass)) }
 {

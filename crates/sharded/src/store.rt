@@ -16,7 +16,8 @@ const SPACER_BYTES: usize = 256;
 
 /// A sharded store: from 1 to 64 stores, which share nothing.
 ///
-/// A clause sees which stores these are, in the order of the shards. Whoever drops it drops its blobs.
+/// A clause sees which stores these are, in the order of the shards. Whoever drops it drops its
+/// blobs.
 #[derive(Drop)]
 pub struct ShardedStore {
     pub(crate) shards: Vec<Store>,
@@ -37,8 +38,8 @@ impl Model for ShardedStore {
 
 /// A caller's passes, one to each shard. Its own calls at a shard are on names of this shard.
 ///
-/// A clause sees what each pass shows, in the order of the shards. Whoever drops it drops its room at
-/// every shard, and then no other pass comes to a room of 64 again.
+/// A clause sees what each pass shows, in the order of the shards. Whoever drops it drops its room
+/// at every shard, and then no other pass comes to a room of 64 again.
 #[derive(Drop)]
 pub struct ShardedPass {
     pub(crate) passes: Vec<Pass>,
@@ -60,8 +61,8 @@ impl Model for ShardedPass {
 impl ShardedStore {
     /// So many empty stores, and the one pass to them.
     ///
-    /// The fragments have `width` bytes, and each shard's journal holds at most `limit` entries. The
-    /// pass has the label 0, and at each shard a room of 64; it has seen and made no call.
+    /// The fragments have `width` bytes, and each shard's journal holds at most `limit` entries.
+    /// The pass has the label 0, and at each shard a room of 64; it has seen and made no call.
     ///
     /// `BadWidth` if and only if the width is not in 1..=65,536; else `NoMemory` if out of memory.
     pub fn open(

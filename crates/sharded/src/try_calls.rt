@@ -1,8 +1,9 @@
-//! The calls that do not wait, each at the shard of its name: `Busy` if another caller is inside that
-//! shard. Each answers as the call of `Store` with its name does there.
+//! The calls that do not wait, each at the shard of its name: `Busy` if another caller is inside
+//! that shard. Each answers as the call of `Store` with its name does there.
 ghost use Rattle.std.specs.Prelude.{◌≡◌, ◌≢◌, ◌⊎◌, ◌↔◌, ◌<◌, length, IfOk, IfErr};
 ghost use Rattle.sealed.specs.Layout.{stripe_count};
-ghost use Rattle.history.specs.Step.{put as put_of, read as read_of, lose as lose_of, repair as repair_of, delete as delete_of, stat as stat_of};
+ghost use Rattle.history.specs.Step.{put as put_of, read as read_of, lose as lose_of};
+ghost use Rattle.history.specs.Step.{repair as repair_of, delete as delete_of, stat as stat_of};
 ghost use Rattle.book.specs.Tells.{IsCallFault};
 ghost use Rattle.shared.specs.Calls.{CanGrant, GrantedIn, IfGranted};
 ghost use Rattle.sharded.specs.Passes.{stores_of, AreLone};
@@ -28,8 +29,10 @@ impl ShardedStore {
         requires { stores_of pass.old ≡ self.now }
         ensures called { IsCallAt pass.old (put_of name Code.Wide bytes) result pass.new }
         ensures same { stores_of pass.new ≡ self.now }
-        ensures too_long { (result ≡ Err Fault.TooLong) ↔ (4096 < stripe_count Code.Wide (width_for self.now name) (length bytes)) }
-        ensures faults { IfErr result (λ e. (e ≡ Fault.Busy) ⊎ IsCallFault e ⊎ (e ≡ Fault.TooLong)) }
+        ensures too_long { (result ≡ Err Fault.TooLong)
+            ↔ (4096 < stripe_count Code.Wide (width_for self.now name) (length bytes)) }
+        ensures faults { IfErr result
+            (λ e. (e ≡ Fault.Busy) ⊎ IsCallFault e ⊎ (e ≡ Fault.TooLong)) }
         ensures busy { result ≡ Err Fault.Busy → pass.new ≡ pass.old }
         ensures lone { AreLone pass.old → result ≢ Err Fault.Busy }
     {
@@ -53,8 +56,10 @@ impl ShardedStore {
         requires { stores_of pass.old ≡ self.now }
         ensures called { IsCallAt pass.old (put_of name code bytes) result pass.new }
         ensures same { stores_of pass.new ≡ self.now }
-        ensures too_long { (result ≡ Err Fault.TooLong) ↔ (4096 < stripe_count code (width_for self.now name) (length bytes)) }
-        ensures faults { IfErr result (λ e. (e ≡ Fault.Busy) ⊎ IsCallFault e ⊎ (e ≡ Fault.TooLong)) }
+        ensures too_long { (result ≡ Err Fault.TooLong)
+            ↔ (4096 < stripe_count code (width_for self.now name) (length bytes)) }
+        ensures faults { IfErr result
+            (λ e. (e ≡ Fault.Busy) ⊎ IsCallFault e ⊎ (e ≡ Fault.TooLong)) }
         ensures busy { result ≡ Err Fault.Busy → pass.new ≡ pass.old }
         ensures lone { AreLone pass.old → result ≢ Err Fault.Busy }
     {
@@ -64,7 +69,8 @@ impl ShardedStore {
         store.try_put_as(alloc, own, name, bytes, code)
     }
 
-    /// Grants `len` bytes of the blob of a name, from the byte `start` on, as `Store::try_read` does.
+    /// Grants `len` bytes of the blob of a name, from the byte `start` on, as `Store::try_read`
+    /// does.
     ///
     /// A grant keeps the blob as it was, whatever later calls do.
     pub fn try_read(
@@ -77,8 +83,10 @@ impl ShardedStore {
         requires { stores_of pass.old ≡ self.now }
         ensures called { IsCallAt pass.old (read_of name start len) result pass.new }
         ensures same { stores_of pass.new ≡ self.now }
-        ensures grant { IfOk result (λ a. IfGranted a (GrantedIn (seen_for pass.new name) (width_for self.now name) name start len)) }
-        ensures no_memory { result ≡ Err Fault.NoMemory → CanGrant (seen_for pass.new name) (width_for self.now name) name start len }
+        ensures grant { IfOk result (λ a. IfGranted a
+            (GrantedIn (seen_for pass.new name) (width_for self.now name) name start len)) }
+        ensures no_memory { result ≡ Err Fault.NoMemory
+            → CanGrant (seen_for pass.new name) (width_for self.now name) name start len }
         ensures faults { IfErr result (λ e. (e ≡ Fault.Busy) ⊎ IsCallFault e) }
         ensures busy { result ≡ Err Fault.Busy → pass.new ≡ pass.old }
         ensures lone { AreLone pass.old → result ≢ Err Fault.Busy }
@@ -124,7 +132,8 @@ impl ShardedStore {
         ensures called { IsCallAt pass.old (repair_of name stripe fragment) result pass.new }
         ensures same { stores_of pass.new ≡ self.now }
         ensures faults { IfErr result (λ e. (e ≡ Fault.Busy) ⊎ IsCallFault e) }
-        ensures busy { result ≡ Err Fault.Busy → IsBusyRepairAt pass.old name stripe fragment pass.new }
+        ensures busy { result ≡ Err Fault.Busy
+            → IsBusyRepairAt pass.old name stripe fragment pass.new }
         ensures lone { AreLone pass.old → result ≢ Err Fault.Busy }
     {
         let shard = self.find_shard(&name);
@@ -148,7 +157,8 @@ impl ShardedStore {
         store.try_delete(own, name)
     }
 
-    /// The shape of a name's blob: how many bytes, stripes and lost fragments it has, as `Store::try_stat` does.
+    /// The shape of a name's blob: how many bytes, stripes and lost fragments it has, as
+    /// `Store::try_stat` does.
     pub fn try_stat(&self, pass: &mut ShardedPass, name: Name) -> Result<Answer, Fault>
         requires { stores_of pass.old ≡ self.now }
         ensures called { IsCallAt pass.old (stat_of name) result pass.new }

@@ -15,7 +15,7 @@ pub loop-pass-preserved : goal.loop-pass-preserved
 loop-pass-preserved c =
     let there = slice_get_read c.args.passes.now (length c.args.passes.now) c.loop-pass.pass-index c.pass-item.result refl c.loop-pass-test.true c.pass-item.is in
     subst (LeastOf c.args.passes.now (c.loop-pass.pass-index + 1)) (sym (c.min-least.ensures ∙ least_is c.loop-pass.least c.room.result))
-    (least_more c.args.passes.now c.loop-pass.pass-index c.loop-pass.least c.room.result c.pass-item.result there c.room.ensures.value c.room.ensures.range.1 c.who-who.ensures.legal c.loop-pass.invariant)
+    (least_more c.args.passes.now c.loop-pass.pass-index c.loop-pass.least c.room.result c.pass-item.result there c.room.ensures.value c.room.ensures.range c.who-who.ensures.legal c.loop-pass.invariant)
 
 pub returns-clause-least : goal.returns-clause-least
 returns-clause-least c = least_least c.args.passes.now c.loop-pass.least (least_all c.args.passes.now c.loop-pass.pass-index c.loop-pass.least c.loop-pass-test.false c.loop-pass.invariant)
@@ -28,3 +28,6 @@ returns-clause-legal c = least_legal c.args.passes.now c.loop-pass.least (least_
 
 pub returns-clause-some : goal.returns-clause-some
 returns-clause-some c = least_some c.args.passes.now c.loop-pass.least (least_all c.args.passes.now c.loop-pass.pass-index c.loop-pass.least c.loop-pass-test.false c.loop-pass.invariant)
+
+pub returns-clause-range : goal.returns-clause-range
+returns-clause-range c = c.loop-pass.invariant.range
