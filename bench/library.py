@@ -32,24 +32,29 @@ def copied(name, folder):
             shutil.copytree(kept, to)
 
 
-def built(folder):
-    """The clients, proved and built in a repository of their own."""
-    names = build.below("shared")
+def sources():
+    """The files of the clients of one store."""
+    return [os.path.join(CLIENTS, name) for name in os.listdir(CLIENTS)]
+
+
+def built(folder, crate, top, uses, files, words):
+    """Clients, proved and built in a repository of their own: a crate of these files, over `top` and the crates below it. It is run once with these words."""
+    names = build.below(top)
     for name in names:
         copied(name, folder)
-    source = os.path.join(folder, "crates", "clients", "src")
+    source = os.path.join(folder, "crates", crate, "src")
     os.makedirs(source, exist_ok=True)
-    for name in os.listdir(CLIENTS):
-        shutil.copy(os.path.join(CLIENTS, name), os.path.join(source, name.replace(".rattle", ".rt")))
+    for file in files:
+        shutil.copy(file, os.path.join(source, os.path.basename(file).replace(".rattle", ".rt")))
     shutil.copy(os.path.join(TOP, "HANDLES"), folder)
     with open(os.path.join(TOP, "crates.txt"), encoding="utf-8") as lines:
         rows = [line for line in lines if line.partition(":")[0].partition(" ")[0] in names]
     with open(os.path.join(folder, "crates.txt"), "w", encoding="utf-8") as lines:
-        lines.writelines([*rows, "clients: anyhow shared\n"])
-    ran = subprocess.run(["rt", "run", "--", "trims"], cwd=os.path.dirname(source), stdout=subprocess.PIPE, stderr=subprocess.STDOUT, text=True)
-    program = os.path.join(os.path.dirname(source), "out", "clients")
+        lines.writelines([*rows, f"{crate}: anyhow {uses}\n"])
+    ran = subprocess.run(["rt", "run", "--", *words], cwd=os.path.dirname(source), stdout=subprocess.PIPE, stderr=subprocess.STDOUT, text=True)
+    program = os.path.join(os.path.dirname(source), "out", crate)
     if ran.returncode != 0 or not os.path.exists(program):
-        sys.exit(ran.stdout + "the clients are not built")
+        sys.exit(ran.stdout + f"{crate} is not built")
     return program
 
 
@@ -82,7 +87,8 @@ def main():
     parser.add_argument("clients", nargs="*")
     given = parser.parse_args()
     os.makedirs(given.folder, exist_ok=True)
-    programs = [*given.clients, built(given.folder), plain(given.folder)]
+    clients = built(given.folder, "clients", "shared", "shared", sources(), ["trims"])
+    programs = [*given.clients, clients, plain(given.folder)]
     for calls in ("reads", "walks"):
         for threads in (1, 4):
             runs = [[rate(program, calls, threads, given.millis) for program in programs] for _ in range(given.times)]

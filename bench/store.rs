@@ -1,7 +1,8 @@
-//! The library's store in plain Rust, to measure it by, with the calls of bench/clients: one mutex, a hash map and reference counts, nothing proved, and a journal
-//! that is cleared when it is full, without being judged. Its width is given at run time, and its entries can hold each call and each note.
+//! The library's store in plain Rust, to measure it by, with the calls of bench/clients: a mutex, a hash map and reference counts, nothing proved, and a journal
+//! that is cleared when it is full, without being judged. Its width is given at run time, and its entries can hold each call and each note. With SHARDS it is so
+//! many such stores, as in bench/sharded_clients: all threads call one name, or each calls its own.
 //!
-//! store reads|walks THREADS MILLIS    rustc -O --edition 2021 store.rs
+//! store reads|walks THREADS MILLIS [one|own SHARDS]    rustc -O --edition 2021 store.rs
 
 mod code;
 
@@ -177,6 +178,26 @@ fn set(blob: &mut Arc<Blob>, fragment: usize, bytes: Option<Arc<[u8]>>) {
     stripe.fragments[fragment] = bytes;
 }
 
+/// A store on cache lines of its own.
+#[repr(align(256))]
+struct Shard(Mutex<Book>);
+
+/// The shard of a name, by FxHash. A name's last byte is its length.
+fn find_shard(name: &Name, count: usize) -> usize {
+    let step = |hash: u64, number: u64| (hash.rotate_left(5) ^ number).wrapping_mul(0x517c_c1b7_2722_0a95);
+    let pieces = name[..usize::from(name[32])].chunks_exact(8);
+    let rest = pieces.remainder().iter().map(|byte| u64::from(*byte));
+    let hash = pieces.map(|piece| u64::from_le_bytes(piece.try_into().unwrap())).chain(rest).fold(0, step);
+    ((hash >> 32) * count as u64 >> 32) as usize
+}
+
+fn store_of<'a>(shards: &'a [Shard], name: &Name) -> &'a Mutex<Book> {
+    match shards {
+        [only] => &only.0,
+        _ => &shards[find_shard(name, shards.len())].0,
+    }
+}
+
 /// Looks, rebuilds outside the lock, and puts the bytes back.
 fn repair(store: &Mutex<Book>, who: u32, name: &Name, fragment: usize) -> Result<(), Full> {
     let blob = store.lock().unwrap().names[name].clone();
@@ -201,7 +222,8 @@ fn walk(blob: &Blob, start: u64, len: u64) -> u64 {
     bytes as u64
 }
 
-fn call(store: &Mutex<Book>, who: u32, name: &Name, is_walk: bool, turn: u64) -> Result<u64, Full> {
+fn call(shards: &[Shard], who: u32, name: &Name, is_walk: bool, turn: u64) -> Result<u64, Full> {
+    let store = store_of(shards, name);
     match turn % 200 {
         198 if is_walk => store.lock().unwrap().lose(who, name, 1)?,
         199 if is_walk => repair(store, who, name, 1)?,
@@ -214,16 +236,16 @@ fn call(store: &Mutex<Book>, who: u32, name: &Name, is_walk: bool, turn: u64) ->
 }
 
 /// How many calls were made, how many bytes walked, and how often the journal was cleared.
-fn work(store: &Mutex<Book>, who: u32, name: &Name, is_walk: bool, until: Instant) -> [u64; 3] {
+fn work(shards: &[Shard], who: u32, name: &Name, is_walk: bool, until: Instant) -> [u64; 3] {
     let (mut calls, mut bytes, mut trims) = (0, 0, 0);
     for turn in 0.. {
         if turn % 64 == 0 && Instant::now() >= until {
             break;
         }
-        match call(store, who, name, is_walk, turn) {
+        match call(shards, who, name, is_walk, turn) {
             Ok(walked) => (calls, bytes) = (calls + 1, bytes + walked),
             Err(Full) => {
-                store.lock().unwrap().journal.clear();
+                store_of(shards, name).lock().unwrap().journal.clear();
                 trims += 1;
             }
         }
@@ -231,21 +253,52 @@ fn work(store: &Mutex<Book>, who: u32, name: &Name, is_walk: bool, until: Instan
     [calls, bytes, trims]
 }
 
-fn main() {
-    let words: Vec<String> = env::args().collect();
-    let (is_walk, threads) = (words[1] == "walks", words[2].parse::<u32>().unwrap());
+fn name_of(number: u32) -> Name {
     let mut name = [0; 33];
-    name[0] = b'a';
+    let text = format!("n{number}");
+    name[..text.len()].copy_from_slice(text.as_bytes());
+    name[32] = text.len() as u8;
+    name
+}
+
+/// The names of the threads: the first, or for each its own, spread evenly over the shards.
+fn names_of(threads: usize, is_own: bool, shards: usize) -> Vec<Name> {
+    let (mut names, mut taken) = (vec![name_of(0)], vec![find_shard(&name_of(0), shards)]);
+    for name in (1..).map(name_of) {
+        if names.len() >= threads || !is_own {
+            break;
+        }
+        let shard = find_shard(&name, shards);
+        if taken.iter().filter(|one| **one == shard).count() <= taken.len() / shards {
+            taken.push(shard);
+            names.push(name);
+        }
+    }
+    names.into_iter().cycle().take(threads).collect()
+}
+
+fn blob() -> Arc<Blob> {
     let width = black_box(64);
     let stripe = Stripe { fragments: array::from_fn(|f| (f != 0).then(|| Arc::from(vec![7; width]))), lost: 1 };
-    let blob = Blob { version: 1, width, len: (DATA * width) as u64, lost: 1, stripes: vec![Arc::new(stripe)] };
-    let names = HashMap::from([(name, Arc::new(blob))]);
-    let store = Mutex::new(Book { names, journal: Vec::with_capacity(LIMIT) });
+    Arc::new(Blob { version: 1, width, len: (DATA * width) as u64, lost: 1, stripes: vec![Arc::new(stripe)] })
+}
+
+fn main() {
+    let words: Vec<String> = env::args().collect();
+    let (is_walk, threads) = (words[1] == "walks", words[2].parse().unwrap());
+    let count = words.get(5).map_or(1, |word| word.parse().unwrap());
+    let names = names_of(threads, words.get(4).is_some_and(|word| word == "own"), count);
+    let open = |_| Shard(Mutex::new(Book { names: HashMap::new(), journal: Vec::with_capacity(LIMIT) }));
+    let shards: Vec<Shard> = (0..count).map(open).collect();
+    for name in &names {
+        store_of(&shards, name).lock().unwrap().names.insert(*name, blob());
+    }
     let start = Instant::now();
     let until = start + Duration::from_millis(words[3].parse().unwrap());
     let done: Vec<_> = thread::scope(|scope| {
-        let (store, name) = (&store, &name);
-        let started: Vec<_> = (0..threads).map(|who| scope.spawn(move || work(store, who, name, is_walk, until))).collect();
+        let shards = &shards[..];
+        let run = |(who, name)| scope.spawn(move || work(shards, who, name, is_walk, until));
+        let started: Vec<_> = (0..).zip(&names).map(run).collect();
         started.into_iter().map(|client| client.join().unwrap()).collect()
     });
     let all: [u64; 3] = array::from_fn(|k| done.iter().map(|one| one[k]).sum());

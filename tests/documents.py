@@ -3,7 +3,7 @@
 
 Each block of Rattle in README.md and docs/guide.md stands in a file of the crates `hello` and `guide`, and each block of what is printed in what
 one of them prints. Each clause that README.md quotes is the function's own. Each file that a document names is there. README.md keeps to 90 lines
-of 100 characters.
+of 100 characters. The section that bench/sharded.py writes is what its kept figures make.
 """
 
 import glob
@@ -14,6 +14,9 @@ import textwrap
 
 import sources
 from sources import CRATES, TOP, read
+
+sys.path.insert(0, os.path.join(TOP, "bench"))
+import sharded  # noqa: E402
 
 PROGRAMS = ("hello", "guide")
 BLOCK = re.compile(r"^```(\w+)\n(.*?)^```$", re.M | re.S)
@@ -101,6 +104,7 @@ def main():
     wrong = [w for document in ("README.md", "docs/guide.md") for w in wrong_blocks(document, texts, code, printed)]
     wrong += [w for document in documents for w in wrong_paths(document)]
     wrong += long_readme()
+    wrong += sharded.wrong_pages()
     print(*wrong, f"{len(documents)} documents, {len(wrong)} wrong", sep="\n")
     return 1 if wrong else 0
 

@@ -12,11 +12,13 @@ import sys
 
 TOP = os.path.dirname(os.path.dirname(os.path.abspath(__file__)))
 sys.path.insert(0, os.path.join(TOP, "tools"))
+sys.path.insert(0, os.path.join(TOP, "bench"))
 
 import draw_pictures
 import draw_run
 import history
 import lrc
+import sharded
 
 PICTURES = os.path.join(TOP, "docs", "pictures")
 EXAMPLES = os.path.join(TOP, "crates", "examples", "data")
@@ -52,6 +54,8 @@ def wrong_pictures():
     for name, script in RUNS.items():
         printed = draw_run.run(os.path.join(EXAMPLES, script), [])
         wanted[name] = draw_run.draw(printed, 1, "The run of " + script)
+    if os.path.exists(sharded.RESULTS):
+        wanted["sharded.svg"] = sharded.picture(sharded.kept()[0])
     unknown = set(os.listdir(PICTURES)) - set(wanted)
     if not are_calls_noted():
         unknown.add("passes_and_history.svg")

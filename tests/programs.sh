@@ -7,6 +7,7 @@ python3 tests/promises.py
 python3 tests/documents.py
 python3 tests/believed.py
 [ -x crates/refuse_each/out/refuse_each ] || (cd crates/refuse_each && rt run > /dev/null)
+[ -x crates/test_sharded/out/test_sharded ] || (cd crates/test_sharded && rt run > /dev/null)
 [ -x crates/lrcstore/out/lrcstore ] || (cd crates/lrcstore && rt run -- ../examples/data/first_path.csv --workers 2 > /dev/null)
 python3 tests/statuses.py
 python3 tests/pictures.py

@@ -1,7 +1,7 @@
 #!/usr/bin/env python3
 """Refuses each request for memory in turn, and then each thread, over the programs that the merge gate has built.
 
-The program refuse_each must print the same whichever request is refused. The program lrcstore must end with status 3 and nothing on standard output, or print
+The programs refuse_each and test_sharded must print the same whichever request is refused. The program lrcstore must end with status 3 and nothing on standard output, or print
 what it prints with ample memory, and never that it was stopped. Where a thread is refused it must end so, with the line for that. `tests/programs.sh` runs it.
 """
 
@@ -20,6 +20,8 @@ RUNS = [
     ["mend.csv"],
     ["mend.csv", "--workers", "4"],
 ]
+# Programs that make a refused call again. With a word test_sharded starts no thread.
+AGAIN = [["refuse_each"], ["test_sharded", "calls"]]
 THREADED = [["first_path.csv", "--workers", "2"], ["mend.csv", "--workers", "4"]]
 NO_THREAD = b"lrcstore: cannot start a worker\n"
 # So many numbers in a row at which nothing was refused end a range: with several threads the count of requests differs between runs.
@@ -58,18 +60,18 @@ def main():
     with tempfile.TemporaryDirectory() as folder:
         library = os.path.join(folder, "refuse.so")
         subprocess.run(["cc", "-O1", "-shared", "-fPIC", "-o", library, os.path.join(HERE, "refuse.c")], check=True)
-        commands = [[program("refuse_each")]] + [[program("lrcstore")] + words for words in RUNS]
-        for command in commands:
+        again = [[program(name), *words] for name, *words in AGAIN]
+        for command in again + [[program("lrcstore")] + words for words in RUNS]:
             ample = subprocess.run(command, cwd=DATA, capture_output=True, check=True).stdout
             before = seen
             for number, run in refusals(command, library, folder):
                 seen += 1
                 same = run.returncode == 0 and run.stdout == ample
                 ended = run.returncode == 3 and not run.stdout and b"stopped" not in run.stderr
-                if not (same or ended and command != commands[0]):
+                if not (same or ended and command not in again):
                     wrong += 1
-                    print(*command[1:] or ["refuse_each"], "request", number, "refused: status", run.returncode, run.stdout, run.stderr)
-            wrong += is_short(command[1:] or ["refuse_each"], seen - before, 1)
+                    print(*command, "request", number, "refused: status", run.returncode, run.stdout, run.stderr)
+            wrong += is_short(command, seen - before, 1)
         for words in THREADED:
             before = seen
             for number, run in refusals([program("lrcstore")] + words, library, folder, "REFUSE_THREAD"):

@@ -1,0 +1,8 @@
+use Rattle.sharded.proofs.Passes.{JoinedFrom}
+use Rattle.sharded.proofs.pass.join_all.Given as goal
+
+abbrev pub invariant-loop-other : goal.invariant-loop-other
+invariant-loop-other l = JoinedFrom l.fn.passes.items l.fn.others.items l.passes.items l.others.items
+
+abbrev pub decreases-loop-other : goal.decreases-loop-other
+decreases-loop-other l = goal.left-loop-other l

@@ -1,0 +1,20 @@
+use Rattle.std.proofs.Common.{◌≡◌, refl, ap, subst, ◌∙◌, ◌<◌, slice_index_or, length, Err}
+use Rattle.std.specs.Prelude.{◌↔◌}
+use Rattle.sealed.specs.Layout.{stripe_count}
+use Rattle.sealed.specs.declared.fault.Fault.TheVariants.{TooLong}
+use Rattle.sharded.proofs.Steps.{held, held_stores, call_of_shards, call_step, width_is}
+use Rattle.sharded.proofs.store.ShardedStore.put_as.Goals as goal
+
+pub invariant_of-pass : goal.invariant_of-pass
+invariant_of-pass g c = call_of_shards (held c.pass.view_is c.requires c.find_shard-shard.ensures.below c.index_mut-own.ensures.value) c.args.name c.find_shard-shard.ensures.value c.put_as.ensures.called refl c.pass.invariant
+
+pub returns-clause-called : goal.returns-clause-called
+returns-clause-called g c = call_step (held c.pass.view_is c.requires c.find_shard-shard.ensures.below c.index_mut-own.ensures.value) c.args.name c.find_shard-shard.ensures.value c.put_as.ensures.called refl
+
+pub returns-clause-same : goal.returns-clause-same
+returns-clause-same g c = held_stores (held c.pass.view_is c.requires c.find_shard-shard.ensures.below c.index_mut-own.ensures.value) c.put_as.new.pass c.put_as.ensures.called.takes.stays.0
+
+pub returns-clause-too_long : goal.returns-clause-too_long
+returns-clause-too_long g c =
+    subst (λ w. (c.put_as.result ≡ Err TooLong) ↔ (4096 < stripe_count c.args.code w (length c.args.bytes)))
+    (width_is (held c.pass.view_is c.requires c.find_shard-shard.ensures.below c.index_mut-own.ensures.value) c.args.name c.find_shard-shard.ensures.value c.index-store.result.now (c.index-store.ensures ∙ ap (λ ss. slice_index_or ss c.find_shard-shard.result c.index-store.result.now) c.self.view_is)) c.put_as.ensures.too_long

@@ -1,0 +1,7 @@
+use Rattle.std.proofs.Common.{◌≡◌}
+use Rattle.sharded.specs.Passes.{stores_of}
+use Rattle.sharded.specs.StepsTo.{AreStepsTo, IsTrimmed}
+use Rattle.sharded.proofs.store.ShardedStore.trim.Given as goal
+
+abbrev pub invariant-loop-shard : goal.invariant-loop-shard
+invariant-loop-shard g l = AreStepsTo (IsTrimmed l.keep) l.shard l.fn.pass l.pass × (stores_of l.pass ≡ l.self)

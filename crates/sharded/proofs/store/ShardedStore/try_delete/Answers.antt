@@ -1,0 +1,15 @@
+use Rattle.std.proofs.Common.{refl}
+use Rattle.sharded.proofs.Steps.{held, held_stores, call_of_shards, call_step, held_there}
+use Rattle.sharded.proofs.store.ShardedStore.try_delete.Goals as goal
+
+pub invariant_of-pass : goal.invariant_of-pass
+invariant_of-pass c = call_of_shards (held c.pass.view_is c.requires c.find_shard-shard.ensures.below c.index_mut-own.ensures.value) c.args.name c.find_shard-shard.ensures.value c.try_delete.ensures.called refl c.pass.invariant
+
+pub returns-clause-called : goal.returns-clause-called
+returns-clause-called c = call_step (held c.pass.view_is c.requires c.find_shard-shard.ensures.below c.index_mut-own.ensures.value) c.args.name c.find_shard-shard.ensures.value c.try_delete.ensures.called refl
+
+pub returns-clause-same : goal.returns-clause-same
+returns-clause-same c = held_stores (held c.pass.view_is c.requires c.find_shard-shard.ensures.below c.index_mut-own.ensures.value) c.try_delete.new.pass c.try_delete.ensures.called.takes.stays.0
+
+pub returns-clause-lone : goal.returns-clause-lone
+returns-clause-lone c lone = c.try_delete.ensures.lone (lone c.find_shard-shard.result c.index_mut-own.result.now (held_there (held c.pass.view_is c.requires c.find_shard-shard.ensures.below c.index_mut-own.ensures.value)))

@@ -1,0 +1,123 @@
+-- The passes to all shards, in the order of the shards: split, joined, and whose calls they show.
+use Rattle.std.specs.Prelude.{◌≡◌, ◌⊎◌, ℕ, ◌+◌, ◌-◌, ◌≤◌, List, [], ◌∷◌, ◌++◌, length, map}
+use Rattle.std.specs.Prelude.{take, drop, Some, slice_get}
+use mathlib.Core.List.{IsPrefix}
+use Rattle.gate.specs.Places.{times, AreApart}
+use Rattle.book.specs.Serial.{Act, call, trim}
+use Rattle.history.specs.History.{IsLegal}
+use Rattle.shared.specs.Passes.{Which, Shows, IsWhole, Stays}
+use Rattle.sharded.specs.OneMap.{operation_shard}
+
+-- the stores that the passes are to
+abbrev pub stores_of : List Shows → List Which
+stores_of vs = map (λ v. v.store) vs
+
+-- no other pass is out
+abbrev pub AreLone : List Shows → Type 0
+AreLone vs = (k : ℕ) (v : Shows) → slice_get vs k ≡ Some v → v.room ≡ 64
+
+-- each has seen a legal history
+abbrev pub AreLegal : List Shows → Type 0
+AreLegal vs = (k : ℕ) (v : Shows) → slice_get vs k ≡ Some v → IsLegal v.store.width v.seen
+
+-- all are to stores of this width
+abbrev pub HaveWidth : ℕ → List Shows → Type 0
+HaveWidth w vs = (k : ℕ) (v : Shows) → slice_get vs k ≡ Some v → v.store.width ≡ w
+
+-- ---- opened
+-- a pass that has seen nothing
+abbrev pub fresh_pass : Which → Shows
+fresh_pass s = record {
+  store = s;
+  who = 0;
+  room = 64;
+  seen = [];
+  trimmed = 0;
+  made = [];
+  acts = [];
+  did = [];
+}
+
+-- ---- split
+-- what a split leaves of a pass
+abbrev pub kept_in_split : Shows → Shows
+kept_in_split v = record v { room = v.room - 1 }
+
+-- and the pass with this label that it gives
+abbrev pub given_in_split : ℕ → Shows → Shows
+given_in_split who v = record {
+  store = v.store;
+  who = who;
+  room = 1;
+  seen = v.seen;
+  trimmed = v.trimmed;
+  made = [];
+  acts = v.acts;
+  did = [];
+}
+
+abbrev pub HaveRoom : List Shows → Type 0
+HaveRoom [] = Unit {0}
+HaveRoom (v ∷ vs) = (1 ≤ v.room) × HaveRoom vs
+
+-- the first passes were split, and the others are as they were
+abbrev pub AreSplitInPart : ℕ → List Shows → List Shows → List Shows → Type 0
+AreSplitInPart who vs ws given =
+    (n : ℕ) × (ws ≡ map kept_in_split (take n vs) ++ drop n vs)
+    × (given ≡ map (given_in_split who) (take n vs)) × HaveRoom (take n vs)
+
+-- the pass to some shard can't be split
+abbrev pub HasRoomOfOne : List Shows → Type 0
+HasRoomOfOne vs = (k : ℕ) × (v : Shows) × (slice_get vs k ≡ Some v) × (v.room ≡ 1)
+
+-- a pass that has its room again, and shows at least what it showed
+pub record IsRestored (v w : Shows) : Type 0 where
+  pub stays : Stays v w
+  pub seen : w.seen ≡ v.seen
+  pub trimmed : w.trimmed ≡ v.trimmed
+  pub made : w.made ≡ v.made
+  pub did : w.did ≡ v.did
+  pub acts : IsPrefix v.acts w.acts
+
+abbrev pub AreRestored : List Shows → List Shows → Type 0
+AreRestored [] [] = Unit {0}
+AreRestored (v ∷ vs) (w ∷ ws) = IsRestored v w × AreRestored vs ws
+AreRestored vs ws = ⊥
+
+-- ---- joined
+-- a pass took in another
+pub record IsJoined (v other w : Shows) : Type 0 where
+  pub store : w.store ≡ v.store
+  pub who : w.who ≡ v.who
+  pub room : w.room ≡ v.room + other.room
+  pub one : ((w.seen ≡ v.seen) × (w.trimmed ≡ v.trimmed))
+      ⊎ ((w.seen ≡ other.seen) × (w.trimmed ≡ other.trimmed))
+  pub seen : IsPrefix v.seen w.seen × IsPrefix other.seen w.seen
+  pub made : w.made ≡ v.made ++ other.made
+  pub acts : IsPrefix v.acts w.acts × IsPrefix other.acts w.acts
+  pub did : w.did ≡ v.did ++ other.did
+  pub whole : w.room ≡ 64 → IsWhole w
+  pub apart : AreApart v.made other.made
+
+-- each took in the other of its shard, where there is one
+abbrev pub AreJoined : List Shows → List Shows → List Shows → Type 0
+AreJoined [] others ws = ws ≡ []
+AreJoined (v ∷ vs) others [] = ⊥
+AreJoined (v ∷ vs) [] (w ∷ ws) = (w ≡ v) × AreJoined vs [] ws
+AreJoined (v ∷ vs) (o ∷ others) (w ∷ ws) = IsJoined v o w × AreJoined vs others ws
+
+-- ---- own calls
+-- a call of a name of this shard. A trim has no name
+abbrev pub IsActOfShard : ℕ → ℕ → Act → Type 0
+IsActOfShard count k (call e) = operation_shard count e.operation ≡ k
+IsActOfShard count k (trim n) = Unit {0}
+
+-- each act of the pass's own stands in what was done, and is of this shard
+abbrev pub HasActsOfShard : ℕ → ℕ → Shows → Type 0
+HasActsOfShard count k v =
+    (p : ℕ) → 1 ≤ times p v.did
+    → (act : Act) × (slice_get v.acts p ≡ Some act) × IsActOfShard count k act
+
+-- each pass has made calls of names of its shard alone
+abbrev pub HaveActsOfShards : List Shows → Type 0
+HaveActsOfShards vs = (k : ℕ) (v : Shows) → slice_get vs k ≡ Some v → HasActsOfShard (length vs) k v

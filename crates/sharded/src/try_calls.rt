@@ -1,0 +1,175 @@
+//! The calls that do not wait, each at the shard of its name: `Busy` if another caller is inside
+//! that shard. Each answers as the call of `Store` with its name does there.
+ghost use Rattle.std.specs.Prelude.{◌≡◌, ◌≢◌, ◌⊎◌, ◌↔◌, ◌<◌, length, IfOk, IfErr};
+ghost use Rattle.sealed.specs.Layout.{stripe_count};
+ghost use Rattle.history.specs.Step.{put as put_of, read as read_of, lose as lose_of};
+ghost use Rattle.history.specs.Step.{repair as repair_of, delete as delete_of, stat as stat_of};
+ghost use Rattle.book.specs.Tells.{IsCallFault};
+ghost use Rattle.shared.specs.Calls.{CanGrant, GrantedIn, IfGranted};
+ghost use Rattle.sharded.specs.Passes.{stores_of, AreLone};
+ghost use Rattle.sharded.specs.Steps.{seen_for, width_for, IsCallAt, IsBusyRepairAt};
+
+use crate::{ShardedPass, ShardedStore};
+use book::{Answer, Fault, Name};
+use bytes::Bytes;
+use lrc_code::Code;
+use std::alloc::Global;
+
+impl ShardedStore {
+    /// Stores a blob under a name in LRC(12,2,2), as `Store::try_put` does.
+    ///
+    /// `TooLong` if and only if the blob has more than 4,096 stripes.
+    pub fn try_put(
+        &self,
+        alloc: Global,
+        pass: &mut ShardedPass,
+        name: Name,
+        bytes: Bytes,
+    ) -> Result<Answer, Fault>
+        requires { stores_of pass.old ≡ self.now }
+        ensures called { IsCallAt pass.old (put_of name Code.Wide bytes) result pass.new }
+        ensures same { stores_of pass.new ≡ self.now }
+        ensures too_long { (result ≡ Err Fault.TooLong)
+            ↔ (4096 < stripe_count Code.Wide (width_for self.now name) (length bytes)) }
+        ensures faults { IfErr result
+            (λ e. (e ≡ Fault.Busy) ⊎ IsCallFault e ⊎ (e ≡ Fault.TooLong)) }
+        ensures busy { result ≡ Err Fault.Busy → pass.new ≡ pass.old }
+        ensures lone { AreLone pass.old → result ≢ Err Fault.Busy }
+    {
+        let shard = self.find_shard(&name);
+        let store = &self.shards[shard];
+        let own = &mut pass.passes[shard];
+        store.try_put(alloc, own, name, bytes)
+    }
+
+    /// Stores a blob under a name in this code, as `Store::try_put_as` does.
+    ///
+    /// `TooLong` if and only if the blob has more than 4,096 stripes.
+    pub fn try_put_as(
+        &self,
+        alloc: Global,
+        pass: &mut ShardedPass,
+        name: Name,
+        bytes: Bytes,
+        code: Code,
+    ) -> Result<Answer, Fault>
+        requires { stores_of pass.old ≡ self.now }
+        ensures called { IsCallAt pass.old (put_of name code bytes) result pass.new }
+        ensures same { stores_of pass.new ≡ self.now }
+        ensures too_long { (result ≡ Err Fault.TooLong)
+            ↔ (4096 < stripe_count code (width_for self.now name) (length bytes)) }
+        ensures faults { IfErr result
+            (λ e. (e ≡ Fault.Busy) ⊎ IsCallFault e ⊎ (e ≡ Fault.TooLong)) }
+        ensures busy { result ≡ Err Fault.Busy → pass.new ≡ pass.old }
+        ensures lone { AreLone pass.old → result ≢ Err Fault.Busy }
+    {
+        let shard = self.find_shard(&name);
+        let store = &self.shards[shard];
+        let own = &mut pass.passes[shard];
+        store.try_put_as(alloc, own, name, bytes, code)
+    }
+
+    /// Grants `len` bytes of the blob of a name, from the byte `start` on, as `Store::try_read`
+    /// does.
+    ///
+    /// A grant keeps the blob as it was, whatever later calls do.
+    pub fn try_read(
+        &self,
+        pass: &mut ShardedPass,
+        name: Name,
+        start: u64,
+        len: u64,
+    ) -> Result<Answer, Fault>
+        requires { stores_of pass.old ≡ self.now }
+        ensures called { IsCallAt pass.old (read_of name start len) result pass.new }
+        ensures same { stores_of pass.new ≡ self.now }
+        ensures grant { IfOk result (λ a. IfGranted a
+            (GrantedIn (seen_for pass.new name) (width_for self.now name) name start len)) }
+        ensures no_memory { result ≡ Err Fault.NoMemory
+            → CanGrant (seen_for pass.new name) (width_for self.now name) name start len }
+        ensures faults { IfErr result (λ e. (e ≡ Fault.Busy) ⊎ IsCallFault e) }
+        ensures busy { result ≡ Err Fault.Busy → pass.new ≡ pass.old }
+        ensures lone { AreLone pass.old → result ≢ Err Fault.Busy }
+    {
+        let shard = self.find_shard(&name);
+        let store = &self.shards[shard];
+        let own = &mut pass.passes[shard];
+        store.try_read(own, name, start, len)
+    }
+
+    /// Loses a fragment of a stripe of a name's blob, as `Store::try_lose` does.
+    pub fn try_lose(
+        &self,
+        alloc: Global,
+        pass: &mut ShardedPass,
+        name: Name,
+        stripe: u64,
+        fragment: u64,
+    ) -> Result<Answer, Fault>
+        requires { stores_of pass.old ≡ self.now }
+        ensures called { IsCallAt pass.old (lose_of name stripe fragment) result pass.new }
+        ensures same { stores_of pass.new ≡ self.now }
+        ensures faults { IfErr result (λ e. (e ≡ Fault.Busy) ⊎ IsCallFault e) }
+        ensures busy { result ≡ Err Fault.Busy → pass.new ≡ pass.old }
+        ensures lone { AreLone pass.old → result ≢ Err Fault.Busy }
+    {
+        let shard = self.find_shard(&name);
+        let store = &self.shards[shard];
+        let own = &mut pass.passes[shard];
+        store.try_lose(alloc, own, name, stripe, fragment)
+    }
+
+    /// Rebuilds a lost fragment of a stripe of a name's blob, as `Store::try_repair` does.
+    pub fn try_repair(
+        &self,
+        alloc: Global,
+        pass: &mut ShardedPass,
+        name: Name,
+        stripe: u64,
+        fragment: u64,
+    ) -> Result<Answer, Fault>
+        requires { stores_of pass.old ≡ self.now }
+        ensures called { IsCallAt pass.old (repair_of name stripe fragment) result pass.new }
+        ensures same { stores_of pass.new ≡ self.now }
+        ensures faults { IfErr result (λ e. (e ≡ Fault.Busy) ⊎ IsCallFault e) }
+        ensures busy { result ≡ Err Fault.Busy
+            → IsBusyRepairAt pass.old name stripe fragment pass.new }
+        ensures lone { AreLone pass.old → result ≢ Err Fault.Busy }
+    {
+        let shard = self.find_shard(&name);
+        let store = &self.shards[shard];
+        let own = &mut pass.passes[shard];
+        store.try_repair(alloc, own, name, stripe, fragment)
+    }
+
+    /// Deletes a name, as `Store::try_delete` does.
+    pub fn try_delete(&self, pass: &mut ShardedPass, name: Name) -> Result<Answer, Fault>
+        requires { stores_of pass.old ≡ self.now }
+        ensures called { IsCallAt pass.old (delete_of name) result pass.new }
+        ensures same { stores_of pass.new ≡ self.now }
+        ensures faults { IfErr result (λ e. (e ≡ Fault.Busy) ⊎ (e ≡ Fault.JournalFull)) }
+        ensures busy { result ≡ Err Fault.Busy → pass.new ≡ pass.old }
+        ensures lone { AreLone pass.old → result ≢ Err Fault.Busy }
+    {
+        let shard = self.find_shard(&name);
+        let store = &self.shards[shard];
+        let own = &mut pass.passes[shard];
+        store.try_delete(own, name)
+    }
+
+    /// The shape of a name's blob: how many bytes, stripes and lost fragments it has, as
+    /// `Store::try_stat` does.
+    pub fn try_stat(&self, pass: &mut ShardedPass, name: Name) -> Result<Answer, Fault>
+        requires { stores_of pass.old ≡ self.now }
+        ensures called { IsCallAt pass.old (stat_of name) result pass.new }
+        ensures same { stores_of pass.new ≡ self.now }
+        ensures faults { IfErr result (λ e. (e ≡ Fault.Busy) ⊎ (e ≡ Fault.JournalFull)) }
+        ensures busy { result ≡ Err Fault.Busy → pass.new ≡ pass.old }
+        ensures lone { AreLone pass.old → result ≢ Err Fault.Busy }
+    {
+        let shard = self.find_shard(&name);
+        let store = &self.shards[shard];
+        let own = &mut pass.passes[shard];
+        store.try_stat(own, name)
+    }
+}

@@ -1,0 +1,16 @@
+use Rattle.std.proofs.Common.{◌≡◌, []}
+use Rattle.mender.specs.Worked.{Worked}
+use Rattle.sharded.specs.Passes.{stores_of}
+use Rattle.sharded_mender.specs.Repairs.{AreRepaired}
+use Rattle.sharded_mender.proofs.workers.work.Given as goal
+
+abbrev pub invariant-loop-ticket : goal.invariant-loop-ticket
+invariant-loop-ticket g l = record {
+  stores : stores_of l.pass ≡ l.store;
+  tickets : l.drawer.tickets ≡ l.tickets;
+  repaired : AreRepaired l.initial.pass l.done.items l.pass;
+  worked : Worked l.plan.items.items l.initial.drawer l.drawer l.done.items [];
+}
+
+abbrev pub decreases-loop-ticket : goal.decreases-loop-ticket
+decreases-loop-ticket g l = l.drawer.allowance

@@ -1,0 +1,6 @@
+use Rattle.std.proofs.Common.{◌≡◌}
+use Rattle.sharded.specs.Passes.{stores_of}
+use Rattle.test_sharded.proofs.threads.use_names.Given as goal
+
+abbrev pub invariant-loop-turn : goal.invariant-loop-turn
+invariant-loop-turn g l = stores_of l.pass ≡ l.store

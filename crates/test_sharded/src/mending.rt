@@ -1,0 +1,85 @@
+//! A mend of what is lost at all shards.
+ghost use Rattle.std.specs.Prelude.{◌≡◌, IfOk};
+ghost use Rattle.sharded.specs.Passes.{stores_of};
+
+use crate::names::NAMES;
+use anyhow::{Result, bail, ensure};
+use sharded::{Plan, ShardedPass, ShardedStore};
+use sharded_mender::{Done, Drawer, Gather, Report, Tickets, gather, scrub, work};
+use std::alloc::Global;
+use std::sync::Wait;
+
+/// A plan with its tickets and the one drawer of them, made once more if out of memory.
+fn plan<R: Wait>(
+    rt: &R,
+    alloc: Global,
+    store: &ShardedStore,
+    pass: &mut ShardedPass,
+) -> Result<(Plan, Tickets, Drawer)>
+    requires { stores_of pass.old ≡ store.now }
+    ensures pass { stores_of pass.new ≡ store.now }
+    ensures drawer { IfOk result (λ r. r.2.tickets ≡ r.1) }
+{
+    match scrub(rt, alloc, store, pass) {
+        Ok(planned) => Ok(planned),
+        Err(_) => Ok(scrub(rt, alloc, store, pass)?),
+    }
+}
+
+/// Gathers results that are not all of the plan's if memory to mark the tickets was refused before.
+fn count_repaired(alloc: Global, plan: &Plan, done: Vec<Done>) -> Result<u64> {
+    let count = done.len() as u64;
+    match gather(alloc, plan, done) {
+        Ok(report) => {
+            ensure!(
+                report
+                    == Report {
+                        repaired: count,
+                        ..Report::default()
+                    },
+                "another report"
+            );
+            Ok(count)
+        }
+        Err(Gather::NoMemory | Gather::Missing) => Ok(count),
+        Err(_) => bail!("other results"),
+    }
+}
+
+/// One scrub, and the work of one worker. It answers how many fragments it repaired.
+fn mend_once<R: Wait>(
+    rt: &R,
+    alloc: Global,
+    store: &ShardedStore,
+    pass: &mut ShardedPass,
+) -> Result<u64>
+    requires { stores_of pass.old ≡ store.now }
+    ensures { stores_of pass.new ≡ store.now }
+{
+    let (plan, tickets, mut drawer) = plan(rt, alloc, store, pass)?;
+    match work(rt, alloc, store, pass, &plan, &tickets, &mut drawer) {
+        Ok(done) => count_repaired(alloc, &plan, done),
+        Err(stopped) => count_repaired(alloc, &plan, stopped.done),
+    }
+}
+
+/// Mends what is lost, with a second worker for what a first one left that was out of memory.
+pub(crate) fn mend<R: Wait>(
+    rt: &R,
+    alloc: Global,
+    store: &ShardedStore,
+    pass: &mut ShardedPass,
+) -> Result<()>
+    requires { stores_of pass.old ≡ store.now }
+    ensures { stores_of pass.new ≡ store.now }
+{
+    let first = mend_once(rt, alloc, store, pass)?;
+    let second = mend_once(rt, alloc, store, pass)?;
+    ensure!(
+        first.saturating_add(second) == NAMES.len() as u64,
+        "another number of repairs"
+    );
+    let (rest, ..) = plan(rt, alloc, store, pass)?;
+    ensure!(rest.items.is_empty(), "a fragment is still lost");
+    Ok(())
+}
