@@ -7,7 +7,7 @@ use Rattle.lent.specs.declared.grant.Grant.{Grant}
 use Rattle.book.specs.declared.answer.Answer.TheVariants.{Granted}
 use Rattle.shared.specs.Passes.{Shows}
 use Rattle.session.specs.declared.held.Held.{Held}
-use Rattle.session.specs.declared.held.Held.TheVariants.{Session, Lending}
+use Rattle.session.specs.declared.held.Held.TheVariants.{Lending}
 use Rattle.session.specs.declared.lending.LentSlice.{LentSlice}
 use Rattle.session.specs.LentFrom.{IsLentFrom}
 use Rattle.store_c.specs.Status.{bad_name, done, empty, no_memory, not_rebuilt, occupied}
@@ -24,14 +24,10 @@ pub data IsLend (v : Shows) (name : List ℕ) (start len status before after : �
   unbuilt_lend : IsName name → (g : Grant) → HasReply v (read name start len) (Ok (Granted g)) done before after w → status ≡ not_rebuilt → counts.1 ≡ counts.0 → given ≡ None
       → IsLend v name start len status before after counts w given
 
--- the first slot holds a session, and the other holds nothing; or nothing was done
-abbrev pub IsLendCall : Option Held → Option Held → List ℕ → ℕ → ℕ → ℕ → ℕ × ℕ → ℕ × ℕ → Option Held → Option Held → Type 0
-IsLendCall (Some (Session v number)) None name start len status versions counts (Some (Session w same)) given =
-    IsLend v name start len status versions.0 versions.1 counts w given × (same ≡ number)
-IsLendCall (Some (Session v number)) None name start len status versions counts new given = ⊥
-IsLendCall (Some (Session v number)) (Some x) name start len status versions counts new given =
-    (status ≡ occupied) × (versions.1 ≡ versions.0) × (counts.1 ≡ counts.0) × (new ≡ Some (Session v number)) × (given ≡ Some x)
-IsLendCall old other name start len status versions counts new given = (status ≡ empty) × (versions.1 ≡ versions.0) × (counts.1 ≡ counts.0) × (new ≡ old) × (given ≡ other)
+-- the other slot is empty before; or nothing was done
+abbrev pub IsLendTo : Shows → Option Held → List ℕ → ℕ → ℕ → ℕ → ℕ × ℕ → ℕ × ℕ → Shows → Option Held → Type 0
+IsLendTo v None name start len status versions counts w given = IsLend v name start len status versions.0 versions.1 counts w given
+IsLendTo v (Some x) name start len status versions counts w given = (status ≡ occupied) × (versions.1 ≡ versions.0) × (counts.1 ≡ counts.0) × (w ≡ v) × (given ≡ Some x)
 
 abbrev pub bytes_of_all : List LentSlice → List (List ℕ)
 bytes_of_all slices = map (λ s. s.bytes.now) slices

@@ -22,12 +22,10 @@ pub data IsPlan (v : Shows) (status : ℕ) (counts : ℕ × ℕ) (w : Shows) (gi
   plan_refused : (fault : Fault) → status ≡ status_of_fault fault → Takes v None w → (fault ≡ Busy → w ≡ v) → (v.room ≡ 64 → fault ≢ Busy) → counts.1 ≡ counts.0 → given ≡ None
       → IsPlan v status counts w given
 
--- the first slot holds a session, and the other nothing; or nothing was done
-abbrev pub IsPlanCall : Option Held → Option Held → ℕ → ℕ × ℕ → Option Held → Option Held → Type 0
-IsPlanCall (Some (Session v number)) None status counts (Some (Session w same)) given = IsPlan v status counts w given × (same ≡ number)
-IsPlanCall (Some (Session v number)) None status counts new given = ⊥
-IsPlanCall (Some (Session v number)) (Some x) status counts new given = (status ≡ occupied) × (counts.1 ≡ counts.0) × (new ≡ Some (Session v number)) × (given ≡ Some x)
-IsPlanCall old other status counts new given = (status ≡ empty) × (counts.1 ≡ counts.0) × (new ≡ old) × (given ≡ other)
+-- the other slot is empty before; or nothing was done
+abbrev pub IsPlanTo : Shows → Option Held → ℕ → ℕ × ℕ → Shows → Option Held → Type 0
+IsPlanTo v None status counts w given = IsPlan v status counts w given
+IsPlanTo v (Some x) status counts w given = (status ≡ occupied) × (counts.1 ≡ counts.0) × (w ≡ v) × (given ≡ Some x)
 
 -- the next item was repaired, with this reply
 pub record HasMended (v : Shows) (item : Item) (items : List Item) (status before after : ℕ) (w : Shows) (left : List Item) : Type 0 where

@@ -28,11 +28,15 @@ pub data IsSplit (v : Shows) (number who status : ℕ) (w : Shows) (given : Opti
   none_left : status ≡ no_pass → v.room ≡ 1 → w ≡ v → given ≡ None → IsSplit v number who status w given
   no_room_for_it : status ≡ no_memory → w ≡ v → given ≡ None → IsSplit v number who status w given
 
--- the first slot holds a session and the second nothing; or nothing was done
+-- the other slot is empty before; or nothing was done
+abbrev pub IsSplitTo : Shows → ℕ → Option Held → ℕ → ℕ → Shows → Option Held → Type 0
+IsSplitTo v number None who status w given = IsSplit v number who status w given
+IsSplitTo v number (Some x) who status w given = (status ≡ occupied) × (w ≡ v) × (given ≡ Some x)
+
+-- the first slot holds a session; or nothing was done
 abbrev pub IsSplitCall : Option Held → Option Held → ℕ → ℕ → Option Held → Option Held → Type 0
-IsSplitCall (Some (Session v number)) None who status (Some (Session w same)) given = IsSplit v number who status w given × (same ≡ number)
-IsSplitCall (Some (Session v number)) None who status new given = ⊥
-IsSplitCall (Some (Session v number)) (Some x) who status new given = (status ≡ occupied) × (new ≡ Some (Session v number)) × (given ≡ Some x)
+IsSplitCall (Some (Session v number)) other who status (Some (Session w same)) given = IsSplitTo v number other who status w given × (same ≡ number)
+IsSplitCall (Some (Session v number)) other who status new given = ⊥
 IsSplitCall old other who status new given = (status ≡ empty) × (new ≡ old) × (given ≡ other)
 
 -- the session v has taken in x

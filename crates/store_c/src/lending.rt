@@ -1,14 +1,14 @@
 //! Ranges that are lent.
 ghost use Rattle.std.specs.Prelude.{◌≡◌, None};
-ghost use Rattle.store_c.specs.Lend.{IsLend};
+ghost use Rattle.store_c.specs.Lend.{IsLend, IsLendTo};
 
 use crate::answers::{name_of, tell};
-use crate::status::{BAD_NAME, DONE, NO_MEMORY, NOT_REBUILT};
+use crate::status::{BAD_NAME, DONE, NO_MEMORY, NOT_REBUILT, OCCUPIED};
 use session::{Answer, Held, Lending, Session, Slot};
 use std::alloc::Global;
 use std::boxed::Box;
 
-pub(crate) fn lend(
+fn lend(
     alloc: Global,
     session: &mut Session,
     name: &[u8],
@@ -41,4 +41,23 @@ pub(crate) fn lend(
         }
         Err(_) => NOT_REBUILT,
     }
+}
+
+/// The same, if the other slot is empty.
+pub(crate) fn lend_to(
+    alloc: Global,
+    session: &mut Session,
+    name: &[u8],
+    start: u64,
+    len: u64,
+    other: &mut Slot,
+    version: &mut u64,
+    pieces: &mut u64,
+) -> u32
+    ensures { IsLendTo session.old other.old.held name.now start len result (version.old, version.new) (pieces.old, pieces.new) session.new other.new.held }
+{
+    if !other.is_vacant(alloc) {
+        return OCCUPIED;
+    }
+    lend(alloc, session, name, start, len, other, version, pieces)
 }

@@ -7,6 +7,7 @@
 mod answers;
 mod calls;
 mod lending;
+mod on_session;
 mod repairs;
 mod sessions;
 mod status;
@@ -14,8 +15,8 @@ mod status;
 ghost use Rattle.std.specs.Prelude.{◌≡◌, None};
 ghost use Rattle.history.specs.Step.{lose as lose_of, repair as repair_of, delete as delete_of};
 ghost use Rattle.store_c.specs.OnSession.{IsOnSession, IsNamedCall, IsPutCall, IsReadCall, IsStatCall, IsTrimCall};
-ghost use Rattle.store_c.specs.Lend.{IsLendCall, IsSlicesCall};
-ghost use Rattle.store_c.specs.Plan.{IsPlanCall, IsMendCall};
+ghost use Rattle.store_c.specs.Lend.{IsLendTo, IsSlicesCall};
+ghost use Rattle.store_c.specs.Plan.{IsPlanTo, IsMendCall};
 ghost use Rattle.store_c.specs.Sessions.{IsOpenCall, IsSplitCall, IsJoinCall, AreOfOneStore, IsCloseCall};
 
 use crate::status::{DONE, EMPTY, OCCUPIED};
@@ -49,7 +50,7 @@ pub extern "C" fn lrc_store_split(alloc: Global, slot: &mut Slot, who: u32, othe
     let Some(mut held) = slot.take(alloc) else {
         return EMPTY;
     };
-    let status = sessions::split(alloc, &mut held, who, other);
+    let status = on_session::split(alloc, &mut held, who, other);
     slot.put(held);
     status
 }
@@ -113,17 +114,7 @@ pub extern "C" fn lrc_store_put(
     let Some(mut held) = slot.take(alloc) else {
         return EMPTY;
     };
-    let status = match &mut *held {
-        Some(Held::Session { session, .. }) => calls::put(
-            alloc,
-            session,
-            name,
-            blob,
-            data_fragments,
-            version,
-        ),
-        _ => EMPTY,
-    };
+    let status = on_session::put(alloc, &mut held, name, blob, data_fragments, version);
     slot.put(held);
     status
 }
@@ -146,12 +137,7 @@ pub extern "C" fn lrc_store_read(
     let Some(mut held) = slot.take(alloc) else {
         return EMPTY;
     };
-    let status = match &mut *held {
-        Some(Held::Session { session, .. }) => calls::read(
-            alloc, session, name, start, target, version, lent, built,
-        ),
-        _ => EMPTY,
-    };
+    let status = on_session::read(alloc, &mut held, name, start, target, version, lent, built);
     slot.put(held);
     status
 }
@@ -247,12 +233,7 @@ pub extern "C" fn lrc_store_stat(
     let Some(mut held) = slot.take(alloc) else {
         return EMPTY;
     };
-    let status = match &mut *held {
-        Some(Held::Session { session, .. }) => calls::stat(
-            session, name, version, len, stripes, lost,
-        ),
-        _ => EMPTY,
-    };
+    let status = on_session::stat(&mut held, name, version, len, stripes, lost);
     slot.put(held);
     status
 }
@@ -292,21 +273,13 @@ pub extern "C" fn lrc_store_lend(
     version: &mut u64,
     pieces: &mut u64,
 ) -> u32
-    ensures { IsLendCall slot.old.held other.old.held name.now start len result (version.old, version.new) (pieces.old, pieces.new) slot.new.held other.new.held }
+    ensures { IsOnSession slot.old.held result slot.new.held ((version.new ≡ version.old) × (pieces.new ≡ pieces.old) × (other.new.held ≡ other.old.held))
+        (λ v w. IsLendTo v other.old.held name.now start len result (version.old, version.new) (pieces.old, pieces.new) w other.new.held) }
 {
     let Some(mut held) = slot.take(alloc) else {
         return EMPTY;
     };
-    let status = match &mut *held {
-        Some(Held::Session { session, .. }) => {
-            if other.is_vacant(alloc) {
-                lending::lend(alloc, session, name, start, len, other, version, pieces)
-            } else {
-                OCCUPIED
-            }
-        }
-        _ => EMPTY,
-    };
+    let status = on_session::lend(alloc, &mut held, name, start, len, other, version, pieces);
     slot.put(held);
     status
 }
@@ -343,21 +316,13 @@ pub extern "C" fn lrc_store_plan(
     other: &mut Slot,
     items: &mut u64,
 ) -> u32
-    ensures { IsPlanCall slot.old.held other.old.held result (items.old, items.new) slot.new.held other.new.held }
+    ensures { IsOnSession slot.old.held result slot.new.held ((items.new ≡ items.old) × (other.new.held ≡ other.old.held))
+        (λ v w. IsPlanTo v other.old.held result (items.old, items.new) w other.new.held) }
 {
     let Some(mut held) = slot.take(alloc) else {
         return EMPTY;
     };
-    let status = match &mut *held {
-        Some(Held::Session { session, .. }) => {
-            if other.is_vacant(alloc) {
-                repairs::plan(alloc, session, other, items)
-            } else {
-                OCCUPIED
-            }
-        }
-        _ => EMPTY,
-    };
+    let status = on_session::plan(alloc, &mut held, other, items);
     slot.put(held);
     status
 }

@@ -1,14 +1,14 @@
 //! The repairs of a plan.
 ghost use Rattle.std.specs.Prelude.{◌≡◌, None};
-ghost use Rattle.store_c.specs.Plan.{IsPlan, IsMendStep};
+ghost use Rattle.store_c.specs.Plan.{IsPlan, IsPlanTo, IsMendStep};
 
 use crate::answers::{number_of, tell};
-use crate::status::{DONE, NO_MEMORY, NOTHING_LEFT};
+use crate::status::{DONE, NO_MEMORY, NOTHING_LEFT, OCCUPIED};
 use session::{Held, Repairs, Session, Slot};
 use std::alloc::Global;
 use std::boxed::Box;
 
-pub(crate) fn plan(alloc: Global, session: &mut Session, other: &mut Slot, items: &mut u64) -> u32
+fn plan(alloc: Global, session: &mut Session, other: &mut Slot, items: &mut u64) -> u32
     requires { other.old.held ≡ None }
     ensures { IsPlan session.old result (items.old, items.new) session.new other.new.held }
 {
@@ -25,6 +25,21 @@ pub(crate) fn plan(alloc: Global, session: &mut Session, other: &mut Slot, items
         }
         Err(fault) => number_of(fault),
     }
+}
+
+/// The same, if the other slot is empty.
+pub(crate) fn plan_to(
+    alloc: Global,
+    session: &mut Session,
+    other: &mut Slot,
+    items: &mut u64,
+) -> u32
+    ensures { IsPlanTo session.old other.old.held result (items.old, items.new) session.new other.new.held }
+{
+    if !other.is_vacant(alloc) {
+        return OCCUPIED;
+    }
+    plan(alloc, session, other, items)
 }
 
 pub(crate) fn mend_step(

@@ -1,6 +1,6 @@
 //! Opening, splitting, joining and closing.
-ghost use Rattle.std.specs.Prelude.{◌≡◌, ◌⊎◌, None};
-ghost use Rattle.store_c.specs.Sessions.{IsOpening, IsSplitCall, IsJoinCall, AreOfOneStore, IsCloseCall, HasHistory};
+ghost use Rattle.std.specs.Prelude.{◌≡◌, ◌⊎◌, None, Some};
+ghost use Rattle.store_c.specs.Sessions.{IsOpening, IsSplitTo, IsJoinCall, AreOfOneStore, IsCloseCall, HasHistory};
 
 use crate::answers::number_of;
 use crate::status::{BAD_ARGUMENT, DONE, EMPTY, NO_MEMORY, NOT_ALONE, OCCUPIED};
@@ -28,12 +28,15 @@ pub(crate) fn open(alloc: Global, width: u32, limit: u32, number: u64, slot: &mu
     }
 }
 
-pub(crate) fn split(alloc: Global, held: &mut Option<Held>, who: u32, other: &mut Slot) -> u32
-    ensures { IsSplitCall held.old other.old.held who result held.new other.new.held }
+pub(crate) fn split_to(
+    alloc: Global,
+    session: &mut Session,
+    number: u64,
+    who: u32,
+    other: &mut Slot,
+) -> u32
+    ensures { IsSplitTo session.old number other.old.held who result session.new other.new.held }
 {
-    let Some(Held::Session { session, number }) = held else {
-        return EMPTY;
-    };
     if !other.is_vacant(alloc) {
         return OCCUPIED;
     }
@@ -42,10 +45,7 @@ pub(crate) fn split(alloc: Global, held: &mut Option<Held>, who: u32, other: &mu
     };
     match session.split(who) {
         Ok(session) => {
-            *given = Some(Held::Session {
-                session,
-                number: *number,
-            });
+            *given = Some(Held::Session { session, number });
             other.put(given);
             DONE
         }
@@ -57,29 +57,42 @@ pub(crate) fn join(held: &mut Option<Held>, given: &mut Option<Held>) -> u32
     requires { AreOfOneStore held.old given.old }
     ensures { IsJoinCall held.old given.old result held.new given.new }
 {
-    let Some(Held::Session { session, number }) = held else {
-        return EMPTY;
-    };
+    match held.take() {
+        Some(Held::Session { session, number }) => {
+            let (status, session) = join_at(session, number, given);
+            *held = Some(Held::Session { session, number });
+            status
+        }
+        kept => {
+            *held = kept;
+            EMPTY
+        }
+    }
+}
+
+/// The same, with the first session at hand. It comes back.
+fn join_at(mut session: Session, number: u64, given: &mut Option<Held>) -> (u32, Session)
+    requires { AreOfOneStore (Some (Held.Session session number)) given.old }
+    ensures { IsJoinCall (Some (Held.Session session number)) given.old result.0 (Some (Held.Session result.1 number)) given.new }
+{
     match given.take() {
-        Some(
-            Held::Session {
-                session: other,
-                number: theirs,
-            },
-        ) => {
-            if theirs != *number {
+        Some(Held::Session {
+            session: other,
+            number: theirs,
+        }) => {
+            if theirs != number {
                 *given = Some(Held::Session {
                     session: other,
                     number: theirs,
                 });
-                return BAD_ARGUMENT;
+                return (BAD_ARGUMENT, session);
             }
             session.join(other);
-            DONE
+            (DONE, session)
         }
         kept => {
             *given = kept;
-            EMPTY
+            (EMPTY, session)
         }
     }
 }
