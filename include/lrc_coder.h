@@ -40,10 +40,13 @@ enum {
 enum { LRC_NONE = 255 };
 
 /* Bytes that are read. */
+#ifndef LRC_SLICE
+#define LRC_SLICE
 typedef struct {
     const uint8_t *at;
     size_t len;
 } lrc_slice;
+#endif
 
 /* Writes the four parities of the data, which are given in the order of their numbers;
  * `data_fragments` is 12 or 6. LRC_BAD_ARGUMENT exactly where it is neither, or the lengths, of

@@ -1,5 +1,5 @@
 //! What is lost.
-ghost use Rattle.std.specs.Prelude.{◌≡◌, None, IfOk, IfErr};
+ghost use Rattle.std.specs.Prelude.{◌≡◌, ◌≢◌, ◌⊎◌, None, IfOk, IfErr};
 ghost use Rattle.history.specs.History.{state_of};
 ghost use Rattle.book.specs.Plan.{plan_of};
 ghost use Rattle.shared.specs.Deeds.{Takes};
@@ -23,5 +23,23 @@ impl Store {
         let plan = inside.value.plan(alloc).map_err(|_| Fault::NoMemory);
         self.gate.leave(&mut pass.seat, inside);
         plan
+    }
+
+    /// As `plan`, if no thread is in the critical section. Else `Busy`, which never comes with a
+    /// room of 64, and the pass is as it was.
+    pub fn try_plan(&self, alloc: Global, pass: &mut Pass) -> Result<Plan, Fault>
+        requires { pass.old.store ≡ self.now }
+        ensures takes { Takes pass.old None pass.new }
+        ensures ok { IfOk result (λ p. p.items.items ≡ plan_of (state_of pass.new.seen)) }
+        ensures faults { IfErr result (λ e. (e ≡ Fault.Busy) ⊎ (e ≡ Fault.NoMemory)) }
+        ensures busy { result ≡ Err Fault.Busy → pass.new ≡ pass.old }
+        ensures lone { pass.old.room ≡ 64 → result ≢ Err Fault.Busy }
+    {
+        let Some(inside) = self.gate.try_enter(&mut pass.seat) else {
+            return Err(Fault::Busy);
+        };
+        let result = inside.value.plan(alloc);
+        self.gate.leave(&mut pass.seat, inside);
+        result.map_err(|_| Fault::NoMemory)
     }
 }

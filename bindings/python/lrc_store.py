@@ -1,0 +1,240 @@
+"""An in-memory blob store that keeps each blob in a Local Reconstruction Code, by ctypes over liblrc_store.so.
+
+The library is looked for beside this file, or where the environment's LRC_STORE_SO says. include/lrc_store.h
+describes the functions. A call waits while other threads are in the critical section, and lets other threads of
+Python run.
+"""
+
+from __future__ import annotations
+
+import ctypes
+import itertools
+import os
+import time
+from typing import NamedTuple
+
+_TEXTS = {
+    2: "the name has no blob",
+    3: "the range does not lie inside the blob",
+    4: "the remaining fragments do not determine it",
+    5: "the blob has no such fragment",
+    6: "the fragment was lost before",
+    7: "the fragment is not lost",
+    8: "out of memory",
+    9: "the journal is full: trim it",
+    10: "the blob needs more than 4,096 stripes",
+    11: "a name has 1 to 32 bytes of a-z, 0-9, '.', '_' and '-'",
+    12: "the width is not in 1 to 65,536",
+    13: "no further session can be split off",
+    14: "the session is closed, or was joined",
+    16: "an argument is out of range, or the sessions are of two stores",
+    17: "the store has other sessions: join them first",
+    18: "out of memory for what is absent of the range",
+}
+_DONE, _BUSY, _NO_MEMORY, _JOURNAL_FULL, _NOTHING_LEFT = 0, 1, 8, 9, 19
+
+
+class StoreError(Exception):
+    """A call that was not done, with its status of lrc_store.h."""
+
+    def __init__(self, call: str, status: int) -> None:
+        super().__init__(f"{call}: {_TEXTS.get(status, f'status {status}')}")
+        self.status = status
+
+
+class _Slot(ctypes.Structure):
+    _fields_ = [("at", ctypes.c_void_p)]
+
+    def __del__(self) -> None:
+        _library.lrc_slot_release(self)
+
+
+class _Slice(ctypes.Structure):
+    _fields_ = [("at", ctypes.POINTER(ctypes.c_uint8)), ("len", ctypes.c_size_t)]
+
+
+_U32, _U64, _SIZE, _BYTES = ctypes.c_uint32, ctypes.c_uint64, ctypes.c_size_t, ctypes.c_char_p
+_SLOT, _OUT = ctypes.POINTER(_Slot), ctypes.POINTER(_U64)
+_NAMED = [_SLOT, _BYTES, _SIZE]
+DECLARED = {
+    "lrc_store_open": [_U32, _U32, _U64, _SLOT],
+    "lrc_store_split": [_SLOT, _U32, _SLOT],
+    "lrc_store_join": [_SLOT, _SLOT],
+    "lrc_store_close": [_SLOT, _OUT, ctypes.POINTER(_U32)],
+    "lrc_store_put": _NAMED + [ctypes.c_void_p, _SIZE, _U32, _OUT],
+    "lrc_store_lend": _NAMED + [_U64, _U64, _SLOT, _OUT, _OUT],
+    "lrc_slot_slices": [_SLOT, ctypes.POINTER(_Slice), _SIZE, _OUT],
+    "lrc_store_lose": _NAMED + [_U64, _U64, _OUT],
+    "lrc_store_repair": _NAMED + [_U64, _U64, _OUT],
+    "lrc_store_delete": _NAMED + [_OUT],
+    "lrc_store_stat": _NAMED + [_OUT, _OUT, _OUT, _OUT],
+    "lrc_store_trim": [_SLOT, _U64, _OUT],
+    "lrc_store_plan": [_SLOT, _SLOT, _OUT],
+    "lrc_store_mend_step": [_SLOT, _SLOT, _OUT],
+    "lrc_slot_release": [_SLOT],
+}
+_HERE = os.path.dirname(os.path.abspath(__file__))
+_library = ctypes.CDLL(os.environ.get("LRC_STORE_SO") or os.path.join(_HERE, "liblrc_store.so"))
+for _name, _types in DECLARED.items():
+    getattr(_library, _name).argtypes = _types
+    getattr(_library, _name).restype = _U32
+_library.lrc_slot_release.restype = None
+_numbers = itertools.count(1)
+
+
+def _status(name: str, *arguments) -> int:
+    """The status of a call, which is repeated while another thread is in the critical section."""
+    call = getattr(_library, name)
+    for attempt in itertools.count():
+        status = call(*arguments)
+        if status != _BUSY:
+            return status
+        time.sleep(0 if attempt < 64 else 5e-5)
+    raise AssertionError
+
+
+def _call(name: str, *arguments) -> None:
+    status = _status(name, *arguments)
+    if status != _DONE:
+        raise StoreError(name.removeprefix("lrc_store_"), status)
+
+
+def _named(name: str) -> tuple[bytes, int]:
+    text = name.encode()
+    return text, len(text)
+
+
+class Shape(NamedTuple):
+    """How many bytes, stripes and lost fragments a blob has."""
+
+    version: int
+    len: int
+    stripes: int
+    lost: int
+
+
+class Closed(NamedTuple):
+    """How many entries a closed store's journal has, and whether a check found them lawful."""
+
+    entries: int
+    is_checked: bool
+
+
+class Grant:
+    """A range of a blob that is lent, as memoryviews that are read-only. They are valid until it is released."""
+
+    def __init__(self, lent: _Slot, version: int, pieces: int) -> None:
+        self.version = version
+        self._lent = lent
+        slices, count = (_Slice * (pieces + 1))(), _U64()
+        for piece in slices:
+            piece.at = ctypes.cast(ctypes.c_char_p(b""), ctypes.POINTER(ctypes.c_uint8))
+        _call("lrc_slot_slices", lent, slices, pieces, count)
+        self.pieces = [self._view(piece) for piece in slices[: count.value]]
+
+    @staticmethod
+    def _view(piece: _Slice) -> memoryview:
+        address = ctypes.cast(piece.at, ctypes.c_void_p).value or 0
+        return memoryview((ctypes.c_uint8 * piece.len).from_address(address)).cast("B").toreadonly()
+
+    def __bytes__(self) -> bytes:
+        return b"".join(self.pieces)
+
+    def __enter__(self) -> Grant:
+        return self
+
+    def __exit__(self, *_: object) -> None:
+        self.pieces = []
+        _library.lrc_slot_release(self._lent)
+
+
+class Session:
+    """A session of a store, for one thread at a time. As a context manager it closes the store at the end."""
+
+    def __init__(self, slot: _Slot) -> None:
+        self._slot = slot
+
+    @classmethod
+    def open(cls, width: int, limit: int) -> Session:
+        """The first session of a new store: fragments of `width` bytes, at most `limit` journal entries."""
+        slot = _Slot()
+        _call("lrc_store_open", width, limit, next(_numbers), slot)
+        return cls(slot)
+
+    def split(self, who: int) -> Session:
+        """A further session, whose calls have the label `who` in the journal."""
+        other = _Slot()
+        _call("lrc_store_split", self._slot, who, other)
+        return Session(other)
+
+    def join(self, other: Session) -> None:
+        """Joins another session of the store into this one."""
+        _call("lrc_store_join", self._slot, other._slot)
+
+    def close(self) -> Closed:
+        """Closes the store, once all its sessions are joined into this one."""
+        entries, lawful = _U64(), _U32()
+        _call("lrc_store_close", self._slot, entries, lawful)
+        return Closed(entries.value, lawful.value == 1)
+
+    def put(self, name: str, blob: bytes | bytearray | memoryview, data_fragments: int = 12) -> int:
+        """Stores a copy of a blob, which may be any buffer, and gives its version."""
+        version = _U64()
+        view = memoryview(blob).cast("B")
+        source = (ctypes.c_uint8 * (len(view) or 1)).from_buffer(view) if view and not view.readonly else bytes(view)
+        address = source if isinstance(source, bytes) else ctypes.addressof(source)
+        _call("lrc_store_put", self._slot, *_named(name), address, len(view), data_fragments, version)
+        return version.value
+
+    def read(self, name: str, start: int, length: int) -> Grant:
+        """Lends `length` bytes of a blob, from the byte `start` on."""
+        lent, version, pieces = _Slot(), _U64(), _U64()
+        _call("lrc_store_lend", self._slot, *_named(name), start, length, lent, version, pieces)
+        return Grant(lent, version.value, pieces.value)
+
+    def lose(self, name: str, stripe: int, fragment: int) -> int:
+        """Loses a fragment of a stripe, as after a disk failure."""
+        version = _U64()
+        _call("lrc_store_lose", self._slot, *_named(name), stripe, fragment, version)
+        return version.value
+
+    def repair(self, name: str, stripe: int, fragment: int) -> int:
+        """Repairs a lost fragment of a stripe."""
+        version = _U64()
+        _call("lrc_store_repair", self._slot, *_named(name), stripe, fragment, version)
+        return version.value
+
+    def delete(self, name: str) -> int:
+        """Deletes a blob."""
+        version = _U64()
+        _call("lrc_store_delete", self._slot, *_named(name), version)
+        return version.value
+
+    def stat(self, name: str) -> Shape:
+        """The shape of a blob."""
+        numbers = [_U64() for _ in range(4)]
+        _call("lrc_store_stat", self._slot, *_named(name), *numbers)
+        return Shape(*(number.value for number in numbers))
+
+    def trim(self, keep: int) -> int:
+        """Discards all entries of the journal but the last `keep`, and gives how many these were."""
+        discarded = _U64()
+        _call("lrc_store_trim", self._slot, keep, discarded)
+        return discarded.value
+
+    def mend(self) -> int:
+        """Repairs all lost fragments that can be rebuilt, and gives how many these were."""
+        plan, items, version, repaired = _Slot(), _U64(), _U64(), 0
+        _call("lrc_store_plan", self._slot, plan, items)
+        while (status := _status("lrc_store_mend_step", self._slot, plan, version)) != _NOTHING_LEFT:
+            if status in (_NO_MEMORY, _JOURNAL_FULL):
+                raise StoreError("mend", status)
+            repaired += status == _DONE
+        return repaired
+
+    def __enter__(self) -> Session:
+        return self
+
+    def __exit__(self, failure: object, *_: object) -> None:
+        if failure is None:
+            self.close()

@@ -1,0 +1,332 @@
+//! An in-memory blob store, shared by the threads of a process, that keeps each blob in a Local Reconstruction
+//! Code: safe calls over the functions of `include/lrc_store.h`, which says what each of them does. A call waits
+//! while other threads are in the critical section.
+#![warn(missing_docs)]
+
+use std::fmt;
+use std::sync::atomic::{AtomicU64, Ordering};
+use std::thread;
+use std::time::Duration;
+
+/// The layout of `lrc_slot`.
+#[repr(C)]
+struct Slot {
+    at: *mut u8,
+}
+
+/// Bytes that are lent, with the layout of `lrc_slice`.
+#[repr(C)]
+#[derive(Clone, Copy)]
+struct Slice {
+    at: *const u8,
+    len: usize,
+}
+
+#[rustfmt::skip]
+extern "C" {
+    fn lrc_store_open(width: u32, limit: u32, number: u64, slot: *mut Slot) -> u32;
+    fn lrc_store_split(slot: *mut Slot, who: u32, other: *mut Slot) -> u32;
+    fn lrc_store_join(slot: *mut Slot, other: *mut Slot) -> u32;
+    fn lrc_store_close(slot: *mut Slot, entries: *mut u64, lawful: *mut u32) -> u32;
+    fn lrc_store_put(slot: *mut Slot, name: *const u8, name_len: usize, blob: *const u8, blob_len: usize, data_fragments: u32, version: *mut u64) -> u32;
+    fn lrc_store_lend(slot: *mut Slot, name: *const u8, name_len: usize, start: u64, len: u64, other: *mut Slot, version: *mut u64, pieces: *mut u64) -> u32;
+    fn lrc_slot_slices(slot: *mut Slot, slices: *mut Slice, capacity: usize, count: *mut u64) -> u32;
+    fn lrc_store_lose(slot: *mut Slot, name: *const u8, name_len: usize, stripe: u64, fragment: u64, version: *mut u64) -> u32;
+    fn lrc_store_repair(slot: *mut Slot, name: *const u8, name_len: usize, stripe: u64, fragment: u64, version: *mut u64) -> u32;
+    fn lrc_store_delete(slot: *mut Slot, name: *const u8, name_len: usize, version: *mut u64) -> u32;
+    fn lrc_store_stat(slot: *mut Slot, name: *const u8, name_len: usize, version: *mut u64, len: *mut u64, stripes: *mut u64, lost: *mut u64) -> u32;
+    fn lrc_store_trim(slot: *mut Slot, keep: u64, discarded: *mut u64) -> u32;
+    fn lrc_store_plan(slot: *mut Slot, other: *mut Slot, items: *mut u64) -> u32;
+    fn lrc_store_mend_step(slot: *mut Slot, other: *mut Slot, version: *mut u64) -> u32;
+    fn lrc_slot_release(slot: *mut Slot);
+}
+
+impl Slot {
+    fn empty() -> Slot {
+        Slot { at: std::ptr::null_mut() }
+    }
+}
+
+impl Drop for Slot {
+    fn drop(&mut self) {
+        unsafe { lrc_slot_release(self) }
+    }
+}
+
+/// Why a call was not done.
+#[derive(Clone, Copy, Debug, PartialEq, Eq)]
+#[non_exhaustive]
+pub enum Error {
+    /// The name has no blob.
+    NoName,
+    /// The range does not lie inside the blob.
+    OutOfRange,
+    /// The remaining fragments do not determine what was asked.
+    Unrecoverable,
+    /// The blob has no such fragment.
+    NoFragment,
+    /// The fragment was lost before.
+    AlreadyLost,
+    /// The fragment is not lost.
+    NotLost,
+    /// Out of memory.
+    NoMemory,
+    /// The journal has as many entries as its limit.
+    JournalFull,
+    /// The blob needs more than 4,096 stripes.
+    TooLong,
+    /// A name has 1 to 32 bytes of a-z, 0-9, '.', '_' and '-'.
+    BadName,
+    /// The width is not in 1 to 65,536.
+    BadWidth,
+    /// No further session can be split off.
+    NoPass,
+    /// An argument is out of range, or the sessions are of two stores.
+    BadArgument,
+    /// The store has other sessions.
+    NotAlone,
+    /// A status that this version does not know.
+    Other(u32),
+}
+
+impl fmt::Display for Error {
+    fn fmt(&self, f: &mut fmt::Formatter<'_>) -> fmt::Result {
+        f.write_str(match self {
+            Error::NoName => "the name has no blob",
+            Error::OutOfRange => "the range does not lie inside the blob",
+            Error::Unrecoverable => "the remaining fragments do not determine it",
+            Error::NoFragment => "the blob has no such fragment",
+            Error::AlreadyLost => "the fragment was lost before",
+            Error::NotLost => "the fragment is not lost",
+            Error::NoMemory => "out of memory",
+            Error::JournalFull => "the journal is full: trim it",
+            Error::TooLong => "the blob needs more than 4,096 stripes",
+            Error::BadName => "a name has 1 to 32 bytes of a-z, 0-9, '.', '_' and '-'",
+            Error::BadWidth => "the width is not in 1 to 65,536",
+            Error::NoPass => "no further session can be split off",
+            Error::BadArgument => "an argument is out of range, or the sessions are of two stores",
+            Error::NotAlone => "the store has other sessions: join them first",
+            Error::Other(status) => return write!(f, "status {status}"),
+        })
+    }
+}
+
+impl std::error::Error for Error {}
+
+const DONE: u32 = 0;
+const BUSY: u32 = 1;
+const NOTHING_LEFT: u32 = 19;
+
+fn done(status: u32) -> Result<(), Error> {
+    Err(match status {
+        DONE => return Ok(()),
+        2 => Error::NoName,
+        3 => Error::OutOfRange,
+        4 => Error::Unrecoverable,
+        5 => Error::NoFragment,
+        6 => Error::AlreadyLost,
+        7 => Error::NotLost,
+        8 | 18 => Error::NoMemory,
+        9 => Error::JournalFull,
+        10 => Error::TooLong,
+        11 => Error::BadName,
+        12 => Error::BadWidth,
+        13 => Error::NoPass,
+        16 => Error::BadArgument,
+        17 => Error::NotAlone,
+        other => Error::Other(other),
+    })
+}
+
+/// Repeats a call while another thread is in the critical section: it spins, then yields, then sleeps.
+fn wait(mut call: impl FnMut() -> u32) -> u32 {
+    for attempt in 0u32.. {
+        let status = call();
+        if status != BUSY {
+            return status;
+        }
+        match attempt {
+            0..=31 => std::hint::spin_loop(),
+            32..=255 => thread::yield_now(),
+            _ => thread::sleep(Duration::from_micros(50)),
+        }
+    }
+    BUSY
+}
+
+/// A code, by its number of data fragments.
+#[derive(Clone, Copy, Debug, PartialEq, Eq)]
+pub enum Code {
+    /// LRC(12,2,2).
+    Wide = 12,
+    /// LRC(6,2,2).
+    Small = 6,
+}
+
+/// How many bytes, stripes and lost fragments a blob has.
+#[derive(Clone, Copy, Debug, PartialEq, Eq)]
+pub struct Shape {
+    /// The number of its put.
+    pub version: u64,
+    /// In bytes.
+    pub len: u64,
+    /// All stripes.
+    pub stripes: u64,
+    /// All lost fragments.
+    pub lost: u64,
+}
+
+/// What closing a store leaves.
+#[derive(Clone, Copy, Debug, PartialEq, Eq)]
+pub struct Closed {
+    /// How many entries the journal has.
+    pub entries: u64,
+    /// Whether they were checked and found lawful; false if there was no memory for the check.
+    pub is_checked: bool,
+}
+
+/// A range of a blob that is lent. The bytes stay as they are for as long as this lives.
+pub struct Grant {
+    // The slices point into what the slot holds, which stays in its place.
+    _lent: Slot,
+    version: u64,
+    slices: Vec<Slice>,
+}
+
+// A grant is only read, and what it points to never changes.
+unsafe impl Send for Grant {}
+unsafe impl Sync for Grant {}
+
+impl Grant {
+    /// The number of the blob's put.
+    pub fn version(&self) -> u64 {
+        self.version
+    }
+
+    /// The pieces of the range, in order.
+    pub fn pieces(&self) -> impl Iterator<Item = &[u8]> {
+        self.slices.iter().map(|slice| unsafe { std::slice::from_raw_parts(slice.at, slice.len) })
+    }
+
+    /// A copy of the range.
+    pub fn to_vec(&self) -> Vec<u8> {
+        self.pieces().flatten().copied().collect()
+    }
+}
+
+/// A session of a store: one thread at a time calls by it, and it may go to another thread.
+pub struct Session {
+    slot: Slot,
+}
+
+// A session goes from thread to thread, and its raw address keeps it from being shared.
+unsafe impl Send for Session {}
+
+impl Session {
+    /// The first session of a new store, whose fragments have `width` bytes and whose journal has at most `limit` entries.
+    pub fn open(width: u32, limit: u32) -> Result<Session, Error> {
+        static NEXT: AtomicU64 = AtomicU64::new(1);
+        let number = NEXT.fetch_add(1, Ordering::Relaxed);
+        let mut slot = Slot::empty();
+        done(unsafe { lrc_store_open(width, limit, number, &mut slot) })?;
+        Ok(Session { slot })
+    }
+
+    /// Splits a session off, whose calls have the label `who` in the journal.
+    pub fn split(&mut self, who: u32) -> Result<Session, Error> {
+        let mut slot = Slot::empty();
+        done(unsafe { lrc_store_split(&mut self.slot, who, &mut slot) })?;
+        Ok(Session { slot })
+    }
+
+    /// Joins another session of the store into this one.
+    pub fn join(&mut self, mut other: Session) -> Result<(), Error> {
+        done(unsafe { lrc_store_join(&mut self.slot, &mut other.slot) })
+    }
+
+    /// Closes the store, once all its sessions are joined into this one.
+    pub fn close(mut self) -> Result<Closed, Error> {
+        let (mut entries, mut lawful) = (0, 0);
+        done(unsafe { lrc_store_close(&mut self.slot, &mut entries, &mut lawful) })?;
+        Ok(Closed { entries, is_checked: lawful == 1 })
+    }
+
+    /// Stores a copy of a blob, and gives its version.
+    pub fn put(&mut self, name: &str, blob: &[u8], code: Code) -> Result<u64, Error> {
+        let mut version = 0;
+        done(wait(|| unsafe {
+            lrc_store_put(&mut self.slot, name.as_ptr(), name.len(), blob.as_ptr(), blob.len(), code as u32, &mut version)
+        }))?;
+        Ok(version)
+    }
+
+    /// Lends `len` bytes of a blob, from the byte `start` on.
+    pub fn read(&mut self, name: &str, start: u64, len: u64) -> Result<Grant, Error> {
+        let (mut lent, mut version, mut pieces) = (Slot::empty(), 0, 0);
+        done(wait(|| unsafe {
+            lrc_store_lend(&mut self.slot, name.as_ptr(), name.len(), start, len, &mut lent, &mut version, &mut pieces)
+        }))?;
+        let none: &[u8] = &[];
+        let mut slices = vec![Slice { at: none.as_ptr(), len: 0 }; pieces as usize];
+        done(unsafe { lrc_slot_slices(&mut lent, slices.as_mut_ptr(), slices.len(), &mut pieces) })?;
+        Ok(Grant { _lent: lent, version, slices })
+    }
+
+    /// Loses a fragment of a stripe, as after a disk failure.
+    pub fn lose(&mut self, name: &str, stripe: u64, fragment: u64) -> Result<u64, Error> {
+        let mut version = 0;
+        done(wait(|| unsafe {
+            lrc_store_lose(&mut self.slot, name.as_ptr(), name.len(), stripe, fragment, &mut version)
+        }))?;
+        Ok(version)
+    }
+
+    /// Repairs a lost fragment of a stripe.
+    pub fn repair(&mut self, name: &str, stripe: u64, fragment: u64) -> Result<u64, Error> {
+        let mut version = 0;
+        done(wait(|| unsafe {
+            lrc_store_repair(&mut self.slot, name.as_ptr(), name.len(), stripe, fragment, &mut version)
+        }))?;
+        Ok(version)
+    }
+
+    /// Deletes a blob.
+    pub fn delete(&mut self, name: &str) -> Result<u64, Error> {
+        let mut version = 0;
+        done(wait(|| unsafe { lrc_store_delete(&mut self.slot, name.as_ptr(), name.len(), &mut version) }))?;
+        Ok(version)
+    }
+
+    /// The shape of a blob.
+    pub fn stat(&mut self, name: &str) -> Result<Shape, Error> {
+        let mut shape = Shape { version: 0, len: 0, stripes: 0, lost: 0 };
+        done(wait(|| unsafe {
+            lrc_store_stat(
+                &mut self.slot, name.as_ptr(), name.len(), &mut shape.version, &mut shape.len, &mut shape.stripes, &mut shape.lost,
+            )
+        }))?;
+        Ok(shape)
+    }
+
+    /// Discards all entries of the journal but the last `keep`, and gives how many these were.
+    pub fn trim(&mut self, keep: u64) -> Result<u64, Error> {
+        let mut discarded = 0;
+        done(wait(|| unsafe { lrc_store_trim(&mut self.slot, keep, &mut discarded) }))?;
+        Ok(discarded)
+    }
+
+    /// Repairs all lost fragments that can be rebuilt, and gives how many these were.
+    pub fn mend(&mut self) -> Result<u64, Error> {
+        let (mut plan, mut items, mut version, mut repaired) = (Slot::empty(), 0, 0, 0);
+        done(wait(|| unsafe { lrc_store_plan(&mut self.slot, &mut plan, &mut items) }))?;
+        loop {
+            let status = wait(|| unsafe { lrc_store_mend_step(&mut self.slot, &mut plan, &mut version) });
+            match done(status) {
+                _ if status == NOTHING_LEFT => return Ok(repaired),
+                Ok(()) => repaired += 1,
+                Err(error @ (Error::NoMemory | Error::JournalFull)) => return Err(error),
+                Err(_) => {}
+            }
+        }
+    }
+}

@@ -1,0 +1,5 @@
+pub mod Words
+pub mod Slots
+pub mod CopiedPieces
+pub mod Lendings
+pub mod RepairSteps

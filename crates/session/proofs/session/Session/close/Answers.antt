@@ -1,0 +1,23 @@
+use Rattle.std.proofs.Common.{◌≡◌, subst, sym, ap, ◌∙◌}
+use Rattle.shared.specs.Passes.{Shows, Which}
+use Rattle.session.specs.FreshSession.{IsClosing}
+use Rattle.session.proofs.session.Session.close.Goals as goal
+
+pub returns-in-Ok-clause-ok : goal.returns-in-Ok-clause-ok
+returns-in-Ok-clause-ok c =
+    let e = c.close.ensures in
+    let which : c.in-Ok.store ≡ c.self.inside.pass.store = c.in-Ok.ensures.ok ∙ sym c.self.invariant in
+    subst (λ (v : Shows). IsClosing v c.close.result) c.self.view_is
+    record {
+      room = sym c.room.ensures.value ∙ c.if-room-ne64.false;
+      told = e.told;
+      made = e.made;
+      count = e.count;
+      trimmed = e.trimmed;
+      agrees = e.agrees;
+      did = e.did;
+      did_count = e.did_count;
+      entries = e.entries;
+      width_kept = e.kept.0 ∙ ap (λ (s : Which). s.width) which;
+      limit_kept = e.kept.1 ∙ ap (λ (s : Which). s.limit) which;
+    }

@@ -1,0 +1,116 @@
+//! The calls of a session. None of them waits: `Busy` means that another thread was in the critical
+//! section, and then the session is as it was; it never comes with a room of 64. After another fault the
+//! call is in no history, and the session may have seen more.
+ghost use Rattle.std.specs.Prelude.{◌≡◌, ◌≢◌, ◌⊎◌, ◌↔◌, ◌<◌, None, length, IfOk, IfErr};
+ghost use Rattle.sealed.specs.Layout.{stripe_count};
+ghost use Rattle.history.specs.Step.{put as put_of, read as read_of, lose as lose_of, repair as repair_of, delete as delete_of, stat as stat_of};
+ghost use Rattle.history.specs.History.{state_of};
+ghost use Rattle.book.specs.Plan.{plan_of};
+ghost use Rattle.shared.specs.Calls.{Called, CanGrant, GrantedIn, IfGranted};
+ghost use Rattle.shared.specs.Deeds.{Takes, trim_deed};
+ghost use Rattle.shared.specs.Mends.{FoundBusy};
+
+use crate::Session;
+use shared::{Answer, Bytes, Code, Fault, Name, Plan};
+use std::alloc::Global;
+
+impl Session {
+    /// Stores a blob in a code.
+    pub fn put_as(
+        &mut self,
+        alloc: Global,
+        name: Name,
+        bytes: Bytes,
+        code: Code,
+    ) -> Result<Answer, Fault>
+        ensures called { Called self.old (put_of name code bytes) result self.new }
+        ensures too_long { (result ≡ Err Fault.TooLong) ↔ (4096 < stripe_count code self.old.store.width (length bytes)) }
+        ensures busy { result ≡ Err Fault.Busy → self.new ≡ self.old }
+        ensures lone { self.old.room ≡ 64 → result ≢ Err Fault.Busy }
+    {
+        self.store
+            .try_put_as(alloc, &mut self.pass, name, bytes, code)
+    }
+
+    /// Asks for a range of a blob.
+    pub fn read(&mut self, name: Name, start: u64, len: u64) -> Result<Answer, Fault>
+        ensures called { Called self.old (read_of name start len) result self.new }
+        ensures grant { IfOk result (λ a. IfGranted a (GrantedIn self.new.seen self.old.store.width name start len)) }
+        ensures busy { result ≡ Err Fault.Busy → self.new ≡ self.old }
+        ensures lone { self.old.room ≡ 64 → result ≢ Err Fault.Busy }
+    {
+        self.store.try_read(&mut self.pass, name, start, len)
+    }
+
+    /// Loses a fragment of a stripe.
+    pub fn lose(
+        &mut self,
+        alloc: Global,
+        name: Name,
+        stripe: u64,
+        fragment: u64,
+    ) -> Result<Answer, Fault>
+        ensures called { Called self.old (lose_of name stripe fragment) result self.new }
+        ensures busy { result ≡ Err Fault.Busy → self.new ≡ self.old }
+        ensures lone { self.old.room ≡ 64 → result ≢ Err Fault.Busy }
+    {
+        self.store
+            .try_lose(alloc, &mut self.pass, name, stripe, fragment)
+    }
+
+    /// Repairs a lost fragment of a stripe.
+    pub fn repair(
+        &mut self,
+        alloc: Global,
+        name: Name,
+        stripe: u64,
+        fragment: u64,
+    ) -> Result<Answer, Fault>
+        ensures called { Called self.old (repair_of name stripe fragment) result self.new }
+        ensures busy { result ≡ Err Fault.Busy → FoundBusy self.old name stripe fragment self.new }
+        ensures lone { self.old.room ≡ 64 → result ≢ Err Fault.Busy }
+    {
+        self.store
+            .try_repair(alloc, &mut self.pass, name, stripe, fragment)
+    }
+
+    /// Deletes a blob.
+    pub fn delete(&mut self, name: Name) -> Result<Answer, Fault>
+        ensures called { Called self.old (delete_of name) result self.new }
+        ensures busy { result ≡ Err Fault.Busy → self.new ≡ self.old }
+        ensures lone { self.old.room ≡ 64 → result ≢ Err Fault.Busy }
+    {
+        self.store.try_delete(&mut self.pass, name)
+    }
+
+    /// Asks for the shape of a blob.
+    pub fn stat(&mut self, name: Name) -> Result<Answer, Fault>
+        ensures called { Called self.old (stat_of name) result self.new }
+        ensures busy { result ≡ Err Fault.Busy → self.new ≡ self.old }
+        ensures lone { self.old.room ≡ 64 → result ≢ Err Fault.Busy }
+    {
+        self.store.try_stat(&mut self.pass, name)
+    }
+
+    /// Discards all entries of the journal but the last `keep`, and answers how many these were. It is no
+    /// call of the history.
+    pub fn trim(&mut self, alloc: Global, keep: u64) -> Result<u64, Fault>
+        ensures takes { Takes self.old (trim_deed keep result) self.new }
+        ensures faults { IfErr result (λ e. (e ≡ Fault.Busy) ⊎ (e ≡ Fault.NoMemory)) }
+        ensures busy { result ≡ Err Fault.Busy → self.new ≡ self.old }
+        ensures lone { self.old.room ≡ 64 → result ≢ Err Fault.Busy }
+    {
+        self.store.try_trim(alloc, &mut self.pass, keep)
+    }
+
+    /// The lost fragments of all blobs. It is no call of the history.
+    pub fn plan(&mut self, alloc: Global) -> Result<Plan, Fault>
+        ensures takes { Takes self.old None self.new }
+        ensures ok { IfOk result (λ p. p.items.items ≡ plan_of (state_of self.new.seen)) }
+        ensures faults { IfErr result (λ e. (e ≡ Fault.Busy) ⊎ (e ≡ Fault.NoMemory)) }
+        ensures busy { result ≡ Err Fault.Busy → self.new ≡ self.old }
+        ensures lone { self.old.room ≡ 64 → result ≢ Err Fault.Busy }
+    {
+        self.store.try_plan(alloc, &mut self.pass)
+    }
+}

@@ -1,0 +1,41 @@
+//! A granted range, copied out.
+ghost use Rattle.std.specs.Prelude.{◌≡◌, ℕ, List, length, IfOk, OnErr};
+ghost use Rattle.sealed.specs.Blob.{Lost};
+ghost use Rattle.sealed.specs.Sealed.{StandsFor};
+ghost use Rattle.lent.specs.Granted.{cut_of};
+ghost use Rattle.lent.specs.Walk.{HasAbsent};
+ghost use Rattle.session.specs.CopyOf.{IsCopy};
+
+use lrc_code::NoMemory;
+use shared::{Grant, Piece};
+use std::alloc::Global;
+
+/// How many bytes were lent as they were, and how many were built.
+#[derive(Clone, Copy, Drop)]
+pub struct Copied {
+    pub lent: u64,
+    pub built: u64,
+}
+
+/// Writes the bytes of a grant, piece by piece. `NoMemory` only where the fragment of one is absent, and then any of the target may have been written.
+pub fn copy_out(alloc: Global, grant: &Grant, target: &mut [u8]) -> Result<Copied, NoMemory>
+    requires length { length target.old ≡ grant.now.len }
+    requires stands { (b : List ℕ) × (lost : Lost) × StandsFor grant.now.sealed.value b lost }
+    ensures copy { IfOk result (λ k. IsCopy grant.now target.new k.lent k.built) }
+    ensures err { OnErr result (HasAbsent grant.now.sealed.value (cut_of grant.now)) }
+{
+    let mut walk = grant.walk();
+    let mut at = 0;
+    let mut copied = Copied { lent: 0, built: 0 };
+    while let Some(piece) = walk.next_piece(alloc)? {
+        let bytes = piece.bytes();
+        let len = bytes.len();
+        target[at..at + len].copy_from_slice(bytes);
+        at += len;
+        match piece {
+            Piece::Lent(_) => copied.lent += len as u64,
+            Piece::Built(_) => copied.built += len as u64,
+        }
+    }
+    Ok(copied)
+}

@@ -1,0 +1,108 @@
+//! A granted range that is lent from call to call.
+ghost use Rattle.std.specs.Prelude.{◌≡◌, ◌++◌, length, map, min, take, drop, IfOk};
+ghost use Rattle.session.specs.LentFrom.{IsLentFrom, HasRebuilt, items_of, needed, chosen};
+ghost use Rattle.lent.specs.Spans.{seen};
+
+use lent::{Grant, Piece, Span};
+use lrc_code::NoMemory;
+use std::alloc::Global;
+use std::marker::Model;
+
+/// Bytes that are lent, as C has them: an address and a length.
+#[repr(C)]
+#[derive(Clone, Copy, Drop)]
+pub struct LentSlice<'a> {
+    pub bytes: &'a [u8],
+}
+
+/// A granted range, with the bytes that were rebuilt for it: for each piece those that it needs, and none
+/// for a piece of a fragment that is there. A clause sees the bytes of each piece.
+#[derive(Drop)]
+pub struct Lending {
+    grant: Grant,
+    rebuilt: Vec<Vec<u8>>,
+}
+
+impl Model for Lending {
+    ghost use Rattle.std.specs.Prelude.{◌≡◌, ℕ, List, length};
+    ghost use Rattle.lent.specs.Granted.{cut_of};
+    ghost use Rattle.lent.specs.Spans.{spans_of};
+    ghost use Rattle.session.specs.LentFrom.{items_of, pieces_of};
+
+    ghost Value = { List (List ℕ) };
+
+    ghost view = { λ l. pieces_of (spans_of l.grant.sealed.value (cut_of l.grant)) (items_of l.rebuilt.items) };
+
+    ghost invariant = { λ l. length l.rebuilt.items ≡ length (cut_of l.grant) };
+}
+
+impl Lending {
+    /// Lends the range of a grant. What is absent of it is rebuilt at once: `NoMemory` if there is no
+    /// memory for that.
+    pub fn of(alloc: Global, grant: Grant) -> Result<Lending, NoMemory>
+        ensures { IfOk result (IsLentFrom grant) }
+    {
+        let rebuilt = rebuilt_of(alloc, &grant)?;
+        Ok(Lending { grant, rebuilt })
+    }
+
+    /// How many pieces the range has.
+    pub fn len(&self) -> u64
+        ensures { result ≡ length self.now }
+    {
+        self.rebuilt.len() as u64
+    }
+
+    /// Lends the pieces in order, as many as there are and the target takes, and answers how many these
+    /// are.
+    pub fn lend<'a>(&'a self, target: &mut [LentSlice<'a>]) -> usize
+        ensures count { result ≡ min (length target.old) (length self.now) }
+        ensures bytes { map (λ s. s.bytes.now) (take result target.new) ≡ take result self.now }
+        ensures kept { drop result target.new ≡ drop result target.old }
+    {
+        let mut spans = self.grant.spans();
+        let mut at = 0;
+        while at < target.len() {
+            let Some(span) = spans.next() else {
+                break;
+            };
+            target[at] = LentSlice {
+                bytes: choose(span, self.rebuilt[at].as_slice()),
+            };
+            at += 1;
+        }
+        at
+    }
+}
+
+/// For each piece of a granted range the bytes that have to be rebuilt.
+fn rebuilt_of(alloc: Global, grant: &Grant) -> Result<Vec<Vec<u8>>, NoMemory>
+    ensures { IfOk result (λ rebuilt. HasRebuilt grant.now (items_of rebuilt.items)) }
+{
+    let mut rebuilt = Vec::new(alloc);
+    let mut walk = grant.walk();
+    while let Some(piece) = walk.next_piece(alloc)? {
+        rebuilt.push(needed_of(alloc, piece))?;
+    }
+    Ok(rebuilt)
+}
+
+/// What has to be rebuilt for a piece.
+fn needed_of(alloc: Global, piece: Piece<'_>) -> Vec<u8>
+    ensures { result.items ≡ needed piece.entry }
+{
+    match piece {
+        Piece::Lent(_) => Vec::new(alloc),
+        Piece::Built(bytes) => bytes,
+    }
+}
+
+/// The bytes of a span, or those that were rebuilt for it.
+fn choose<'a>(span: Span<'a>, rebuilt: &'a [u8]) -> &'a [u8]
+    ensures { result.now ≡ chosen (seen span.entry) rebuilt.now }
+{
+    match span.bytes {
+        Some(bytes) => bytes,
+        None => rebuilt,
+    }
+}

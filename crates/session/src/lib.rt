@@ -1,0 +1,23 @@
+//! What a program in C keeps of a store from call to call: a slot, which owns a session of the store, a
+//! range that is lent, what a plan has left, or a buffer.
+#![tactic(auto)]
+
+mod calls;
+mod copying;
+mod held;
+mod lending;
+mod loose;
+mod repairs;
+mod session;
+mod slot;
+mod slot_lends;
+
+pub use copying::{Copied, copy_out};
+pub use held::Held;
+pub use lending::{Lending, LentSlice};
+pub use repairs::Repairs;
+pub use session::Session;
+pub use shared::{
+    Answer, Book, Bytes, Code, Fault, Grant, Item, Limit, Name, Plan, is_lawful_from,
+};
+pub use slot::Slot;

@@ -1,0 +1,99 @@
+//! A pass with its store.
+ghost use Rattle.std.specs.Prelude.{◌≡◌, ◌⊎◌, ◌↔◌, ◌≤◌, ◌+◌, ◌-◌, ◌++◌, ℕ, [], length, IfOk, IfErr, OnOk, OnErr};
+ghost use mathlib.Core.List.{IsPrefix};
+ghost use Rattle.gate.specs.Places.{AreApart, times};
+ghost use Rattle.book.specs.Tells.{Tells};
+ghost use Rattle.shared.specs.Passes.{Agrees, IsWhole};
+ghost use Rattle.session.specs.FreshSession.{IsFresh, IsSplitOff, IsClosing};
+
+use shared::{Book, Fault, Limit, Pass, Store};
+use std::alloc::Global;
+use std::marker::Model;
+use std::sync::Arc;
+
+/// A pass and the store that it is to. A clause sees what the pass shows.
+#[derive(Drop)]
+pub struct Session {
+    pub(crate) store: Arc<Store>,
+    pub(crate) pass: Pass,
+}
+
+impl Model for Session {
+    ghost use Rattle.std.specs.Prelude.{◌≡◌};
+    ghost use Rattle.shared.specs.Passes.{Shows};
+
+    ghost Value = { Shows };
+
+    ghost view = { λ s. s.pass };
+
+    ghost invariant = { λ s. s.pass.store ≡ s.store.value };
+}
+
+impl Session {
+    /// The one session of a new store, which has no blob.
+    pub fn open(alloc: Global, width: u32, limit: Limit) -> Result<Session, Fault>
+        ensures opened { IfOk result (IsFresh width limit) }
+        ensures bad_width { (result ≡ Err Fault.BadWidth) ↔ ((1 ≤ width) × (width ≤ 65536) → ⊥) }
+        ensures faults { IfErr result (λ e. (e ≡ Fault.NoMemory) ⊎ (e ≡ Fault.BadWidth)) }
+    {
+        match Store::open(alloc, width, limit) {
+            Ok((store, pass)) => match Arc::new(alloc, store) {
+                Ok(store) => Ok(Session { store, pass }),
+                Err(_) => Err(Fault::NoMemory),
+            },
+            Err(fault) => Err(fault),
+        }
+    }
+
+    /// A second session of the store, with a new pass that has this label and a room of 1.
+    pub fn split(&mut self, who: u32) -> Result<Session, Fault>
+        ensures kept { OnOk result (self.new ≡ record self.old { room = self.old.room - 1 }) }
+        ensures given { IfOk result (IsSplitOff self.old who) }
+        ensures no_pass { (result ≡ Err Fault.NoPass) ↔ (self.old.room ≡ 1) }
+        ensures faults { IfErr result (λ e. (e ≡ Fault.NoMemory) ⊎ (e ≡ Fault.NoPass)) }
+        ensures err { OnErr result (self.new ≡ self.old) }
+    {
+        if self.pass.room() <= 1 {
+            return Err(Fault::NoPass);
+        }
+        let Ok(store) = Arc::try_clone(&self.store) else {
+            return Err(Fault::NoMemory);
+        };
+        match self.pass.split(&self.store, who) {
+            Ok(pass) => Ok(Session { store, pass }),
+            Err(fault) => Err(fault),
+        }
+    }
+
+    /// Takes in another session of the same store.
+    pub fn join(&mut self, other: Session)
+        requires { other.store ≡ self.old.store }
+        ensures kept { (self.new.store ≡ self.old.store) × (self.new.who ≡ self.old.who) × (self.new.room ≡ self.old.room + other.room) }
+        ensures one { ((self.new.seen ≡ self.old.seen) × (self.new.trimmed ≡ self.old.trimmed)) ⊎ ((self.new.seen ≡ other.seen) × (self.new.trimmed ≡ other.trimmed)) }
+        ensures seen { IsPrefix self.old.seen self.new.seen × IsPrefix other.seen self.new.seen }
+        ensures made { self.new.made ≡ self.old.made ++ other.made }
+        ensures acts { IsPrefix self.old.acts self.new.acts × IsPrefix other.acts self.new.acts }
+        ensures did { self.new.did ≡ self.old.did ++ other.did }
+        ensures whole { self.new.room ≡ 64 → IsWhole self.new }
+        ensures apart { AreApart self.old.made other.made }
+    {
+        let Session { store, pass } = other;
+        self.pass.join(&self.store, pass);
+        drop(store);
+    }
+
+    /// Gives the book, if all other sessions of the store were joined. Else the session as it was.
+    pub fn close(self) -> Result<Book, Session>
+        ensures ok { IfOk result (IsClosing self) }
+        ensures err { IfErr result (λ s. s ≡ self) }
+    {
+        let Session { store, pass } = self;
+        if pass.room() != 64 {
+            return Err(Session { store, pass });
+        }
+        match Arc::try_unwrap(store) {
+            Ok(store) => Ok(store.close(pass)),
+            Err(store) => Err(Session { store, pass }),
+        }
+    }
+}

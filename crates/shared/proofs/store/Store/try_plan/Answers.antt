@@ -1,0 +1,35 @@
+use Rattle.std.proofs.Common.{[], None, refl, subst}
+use Rattle.shared.specs.Passes.{shows}
+use Rattle.shared.specs.Deeds.{Takes}
+use Rattle.shared.proofs.Requests.{did_nothing}
+use Rattle.shared.proofs.Steps.{Stepped, stepped, same_goes_on, takes, unchanged}
+use Rattle.shared.proofs.Looks.{planned}
+use Rattle.shared.proofs.store.Store.try_plan.Goals as goal
+
+steps : (c : goal.After-map_err) → Stepped c.pass.inside.seat c.leave.new.seat c.in-Some.inside.value [] 0
+steps c =
+    let e = c.try_enter.ensures in
+    let l = c.leave.ensures in
+    stepped c.pass.inside.seat c.try_enter.new.seat c.leave.new.seat c.in-Some.inside.value c.in-Some.inside.value [] 0 c.pass.invariant
+    (record { same = (e.kept.0, e.kept.1, e.kept.2); seen = e.seen; found = c.in-Some.ensures.found.1; lone = λ all. (e.lone all).1 })
+    (record { same = l.kept; list = l.list; own = l.own })
+    (same_goes_on c.in-Some.inside.value.0.value c.in-Some.inside.value.0.value refl)
+
+pub leave-requires-clause-follows : goal.leave-requires-clause-follows
+leave-requires-clause-follows c = unchanged _ c.in-Some.inside.value c.in-Some.ensures.found.1
+
+pub invariant_of-pass-2 : goal.invariant_of-pass-2
+invariant_of-pass-2 c = (steps c).pass
+
+pub returns-clause-ok : goal.returns-clause-ok
+returns-clause-ok c =
+    planned c.plan-result.result c.map_err.result c.pass.inside.seat c.leave.new.seat c.in-Some.inside.value _ (steps c) c.map_err.ensures.variant c.map_err.ensures.cases c.plan-result.ensures
+
+pub returns-clause-takes : goal.returns-clause-takes
+returns-clause-takes c =
+    subst (λ v. Takes v None (shows c.leave.new.seat c.pass.inside.who)) c.pass.view_is
+    (takes c.pass.inside.seat c.leave.new.seat c.in-Some.inside.value [] 0 c.pass.inside.who None (steps c) refl tt)
+
+pub returns-in_default-clause-takes : goal.returns-in_default-clause-takes
+returns-in_default-clause-takes c =
+    did_nothing c.pass.inside.seat c.try_enter.new.seat c.pass.inside.who c.args.pass.now c.pass.invariant c.in_default.ensures.none c.pass.view_is

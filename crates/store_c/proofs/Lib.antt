@@ -1,0 +1,4 @@
+mod Replies
+mod NameTexts
+mod Grants
+mod Joins

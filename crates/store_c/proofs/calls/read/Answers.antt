@@ -1,0 +1,46 @@
+use Rattle.std.proofs.Common.{◌≡◌, ℕ, length, Ok, Result, refl, sym, ap, subst, ◌∙◌}
+use Rattle.sealed.specs.declared.fault.Fault.{Fault}
+use Rattle.book.specs.declared.answer.Answer.{Answer}
+use Rattle.book.specs.declared.answer.Answer.TheVariants.{Granted}
+use Rattle.history.specs.Step.{read}
+use Rattle.store_c.specs.Status.{status_of}
+use Rattle.store_c.specs.OnSession.{HasReply, granted_read, unbuilt_read}
+use Rattle.store_c.proofs.Grants.{granted, has_bytes}
+use Rattle.store_c.proofs.Replies.{replied}
+use Rattle.store_c.proofs.calls.read.Goals as goal
+
+pub copy_out-requires-clause-stands : goal.copy_out-requires-clause-stands
+copy_out-requires-clause-stands c =
+    let call = c.read-reply in
+    let here = granted call.result c.in-Ok-Granted.grant call.new.self.seen c.args.session.now.store.width c.in-Some.name c.args.name.now c.args.start (length c.args.target.now)
+    (c.in-Ok-Granted.is ∙ ap Ok c.in-Ok-Granted.field-0-is) c.in-Some.ensures.0 call.ensures.grant in
+    (here.blob.bytes, here.blob.lost, here.represents.stands)
+
+pub returns-in-Ok : goal.returns-in-Ok
+returns-in-Ok c =
+    let name = c.in-Some in
+    let call = c.read-reply in
+    let v = c.args.session.now in
+    let g = c.in-Ok-Granted.grant in
+    let len : ℕ = length c.args.target.now in
+    let reply_is : call.result ≡ Ok (Granted g) = c.in-Ok-Granted.is ∙ ap Ok c.in-Ok-Granted.field-0-is in
+    let is = replied v (read name.name c.args.start len) (read c.args.name.now c.args.start len) call.result 0 c.args.version.now c.tell-status.new.version call.new.self
+    (λ i. read (name.ensures.0 i) c.args.start len) call.ensures.called (sym (ap status_of reply_is)) c.tell-status.ensures.version call.ensures.busy call.ensures.lone in
+    let so = subst (λ (r : Result Answer Fault). HasReply v (read c.args.name.now c.args.start len) r 0 c.args.version.now c.tell-status.new.version call.new.self) reply_is is in
+    let here = granted call.result g call.new.self.seen v.store.width name.name c.args.name.now c.args.start len reply_is name.ensures.0 call.ensures.grant in
+    let copy = c.in-Ok.ensures.copy in
+    granted_read name.ensures.1 g so refl copy
+    (has_bytes call.result g call.new.self.seen v.store.width c.args.name.now c.args.start len _ c.args.version.now _ reply_is here (copy.range_is here.blob.bytes here.blob.lost here.represents.stands) c.tell-status.ensures.version)
+
+pub returns : goal.returns
+returns c =
+    let name = c.in-Some in
+    let call = c.read-reply in
+    let v = c.args.session.now in
+    let g = c.in-Ok-Granted.grant in
+    let len : ℕ = length c.args.target.now in
+    let reply_is : call.result ≡ Ok (Granted g) = c.in-Ok-Granted.is ∙ ap Ok c.in-Ok-Granted.field-0-is in
+    let is = replied v (read name.name c.args.start len) (read c.args.name.now c.args.start len) call.result 0 c.args.version.now c.tell-status.new.version call.new.self
+    (λ i. read (name.ensures.0 i) c.args.start len) call.ensures.called (sym (ap status_of reply_is)) c.tell-status.ensures.version call.ensures.busy call.ensures.lone in
+    let so = subst (λ (r : Result Answer Fault). HasReply v (read c.args.name.now c.args.start len) r 0 c.args.version.now c.tell-status.new.version call.new.self) reply_is is in
+    unbuilt_read name.ensures.1 g so refl c.in-Err.ensures.err refl

@@ -1,0 +1,12 @@
+use Rattle.history.specs.Step.{repair}
+use Rattle.store_c.specs.OnSession.{named}
+use Rattle.store_c.proofs.Replies.{replied}
+use Rattle.store_c.proofs.calls.repair.Goals as goal
+
+pub returns : goal.returns
+returns c =
+    let name = c.in-Some in
+    let call = c.repair-reply in
+    let is = replied c.args.session.now (repair name.name c.args.stripe c.args.fragment) (repair c.args.name.now c.args.stripe c.args.fragment) call.result c.tell.result c.args.version.now c.tell.new.version call.new.self
+    (λ i. repair (name.ensures.0 i) c.args.stripe c.args.fragment) call.ensures.called c.tell.ensures.number c.tell.ensures.version call.ensures.busy call.ensures.lone in
+    named name.ensures.1 (call.result, is)

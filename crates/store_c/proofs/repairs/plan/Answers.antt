@@ -1,0 +1,11 @@
+use Rattle.std.proofs.Common.{Err, refl, ap, ◌∙◌}
+use Rattle.store_c.specs.Plan.{planned, plan_refused}
+use Rattle.store_c.proofs.repairs.plan.Goals as goal
+
+pub returns-in-Ok-plan : goal.returns-in-Ok-plan
+returns-in-Ok-plan c = planned c.of-repairs.result refl c.in-Ok-plan.ensures.takes (c.of-repairs.ensures ∙ c.in-Ok-plan.ensures.ok) c.len.ensures c.put.ensures
+
+pub returns-in-Err : goal.returns-in-Err
+returns-in-Err c =
+    let plan = c.plan.ensures in
+    plan_refused c.in-Err.fault c.number_of.ensures plan.takes (λ busy. plan.busy (c.in-Err.is ∙ ap Err busy)) (λ room busy. plan.lone room (c.in-Err.is ∙ ap Err busy)) refl c.requires

@@ -1,0 +1,5 @@
+pub mod Status
+pub mod OnSession
+pub mod Sessions
+pub mod Lend
+pub mod Plan

@@ -1,0 +1,46 @@
+-- The repairs of a plan, for C.
+use Rattle.std.specs.Prelude.{◌≡◌, ◌≢◌, ℕ, List, [], ◌∷◌, length, Result, Ok, Err, Option, Some, None}
+use Rattle.sealed.specs.declared.fault.Fault.{Fault}
+use Rattle.sealed.specs.declared.fault.Fault.TheVariants.{Busy}
+use Rattle.history.specs.Step.{repair}
+use Rattle.history.specs.History.{state_of}
+use Rattle.book.specs.declared.answer.Answer.{Answer}
+use Rattle.book.specs.declared.plan.Item.{Item}
+use Rattle.book.specs.Plan.{plan_of}
+use Rattle.shared.specs.Passes.{Shows}
+use Rattle.shared.specs.Deeds.{Takes}
+use Rattle.session.specs.declared.held.Held.{Held}
+use Rattle.session.specs.declared.held.Held.TheVariants.{Session, Repairs}
+use Rattle.session.specs.RepairStep.{items_after}
+use Rattle.store_c.specs.Status.{done, empty, no_memory, nothing_left, occupied, status_of_fault}
+use Rattle.store_c.specs.OnSession.{HasReply}
+
+-- With `done` the other slot holds the lost fragments of all blobs, and C gets how many they are. Else it holds nothing
+pub data IsPlan (v : Shows) (status : ℕ) (counts : ℕ × ℕ) (w : Shows) (given : Option Held) : Type 0 where
+  planned : (items : List Item) → status ≡ done → Takes v None w → items ≡ plan_of (state_of w.seen) → counts.1 ≡ length items → given ≡ Some (Repairs items) → IsPlan v status counts w given
+  no_room_for_plan : status ≡ no_memory → counts.1 ≡ counts.0 → w ≡ v → given ≡ None → IsPlan v status counts w given
+  plan_refused : (fault : Fault) → status ≡ status_of_fault fault → Takes v None w → (fault ≡ Busy → w ≡ v) → (v.room ≡ 64 → fault ≢ Busy) → counts.1 ≡ counts.0 → given ≡ None
+      → IsPlan v status counts w given
+
+-- the other slot is empty before; or nothing was done
+abbrev pub IsPlanTo : Shows → Option Held → ℕ → ℕ × ℕ → Shows → Option Held → Type 0
+IsPlanTo v None status counts w given = IsPlan v status counts w given
+IsPlanTo v (Some x) status counts w given = (status ≡ occupied) × (counts.1 ≡ counts.0) × (w ≡ v) × (given ≡ Some x)
+
+-- the next item was repaired, with this reply
+pub record HasMended (v : Shows) (item : Item) (items : List Item) (status before after : ℕ) (w : Shows) (left : List Item) : Type 0 where
+  pub reply : Result Answer Fault
+  pub is : HasReply v (repair item.name item.stripe item.f) reply status before after w
+  pub left_is : left ≡ items_after item items reply
+
+-- the next item was repaired, or there is none
+abbrev pub IsMendStep : Shows → List Item → ℕ → ℕ → ℕ → Shows → List Item → Type 0
+IsMendStep v [] status before after w left = (status ≡ nothing_left) × (after ≡ before) × (w ≡ v) × (left ≡ [])
+IsMendStep v (item ∷ items) status before after w left = HasMended v item items status before after w left
+
+-- the first slot holds a session, and the other what a plan has left; or nothing was done
+abbrev pub IsMendCall : Option Held → Option Held → ℕ → ℕ × ℕ → Option Held → Option Held → Type 0
+IsMendCall (Some (Session v number)) (Some (Repairs items)) status versions (Some (Session w same)) (Some (Repairs left)) =
+    IsMendStep v items status versions.0 versions.1 w left × (same ≡ number)
+IsMendCall (Some (Session v number)) (Some (Repairs items)) status versions new given = ⊥
+IsMendCall old other status versions new given = (status ≡ empty) × (versions.1 ≡ versions.0) × (new ≡ old) × (given ≡ other)

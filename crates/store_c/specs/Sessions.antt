@@ -1,0 +1,84 @@
+-- Slots whose sessions are opened, split, joined and closed.
+use Rattle.std.specs.Prelude.{◌≡◌, ◌≢◌, ◌⊎◌, ◌+◌, ◌-◌, ◌≤◌, ◌++◌, ℕ, length, Option, Some, None}
+use mathlib.Core.List.{IsPrefix}
+use Rattle.gate.specs.Places.{AreApart}
+use Rattle.history.specs.History.{History}
+use Rattle.book.specs.Contents.{Contents}
+use Rattle.book.specs.Tells.{Tells}
+use Rattle.shared.specs.Passes.{Shows, IsWhole}
+use Rattle.session.specs.declared.held.Held.{Held}
+use Rattle.session.specs.declared.held.Held.TheVariants.{Session}
+use Rattle.session.specs.FreshSession.{IsFresh, IsSplitOff, IsClosing}
+use Rattle.store_c.specs.Status.{bad_argument, bad_width, done, empty, no_memory, no_pass, not_alone, occupied}
+
+-- a store was opened, and its first session is held; or nothing was done
+pub data IsOpening (width limit number status : ℕ) (new : Option Held) : Type 0 where
+  opened : (v : Shows) → status ≡ done → IsFresh width limit v → new ≡ Some (Session v number) → IsOpening width limit number status new
+  limit_refused : status ≡ bad_argument → ((1 ≤ limit) × (limit ≤ 1048576) → ⊥) → new ≡ None → IsOpening width limit number status new
+  width_refused : status ≡ bad_width → ((1 ≤ width) × (width ≤ 65536) → ⊥) → new ≡ None → IsOpening width limit number status new
+  memory_refused : status ≡ no_memory → new ≡ None → IsOpening width limit number status new
+
+abbrev pub IsOpenCall : Option Held → ℕ → ℕ → ℕ → ℕ → Option Held → Type 0
+IsOpenCall None width limit number status new = IsOpening width limit number status new
+IsOpenCall (Some held) width limit number status new = (status ≡ occupied) × (new ≡ Some held)
+
+-- the session was split, and the other slot holds the new one; or nothing was done
+pub data IsSplit (v : Shows) (number who status : ℕ) (w : Shows) (given : Option Held) : Type 0 where
+  split_off : (x : Shows) → status ≡ done → w ≡ record v { room = v.room - 1 } → IsSplitOff v who x → given ≡ Some (Session x number) → IsSplit v number who status w given
+  none_left : status ≡ no_pass → v.room ≡ 1 → w ≡ v → given ≡ None → IsSplit v number who status w given
+  no_room_for_it : status ≡ no_memory → w ≡ v → given ≡ None → IsSplit v number who status w given
+
+-- the other slot is empty before; or nothing was done
+abbrev pub IsSplitTo : Shows → ℕ → Option Held → ℕ → ℕ → Shows → Option Held → Type 0
+IsSplitTo v number None who status w given = IsSplit v number who status w given
+IsSplitTo v number (Some x) who status w given = (status ≡ occupied) × (w ≡ v) × (given ≡ Some x)
+
+-- the first slot holds a session; or nothing was done
+abbrev pub IsSplitCall : Option Held → Option Held → ℕ → ℕ → Option Held → Option Held → Type 0
+IsSplitCall (Some (Session v number)) other who status (Some (Session w same)) given = IsSplitTo v number other who status w given × (same ≡ number)
+IsSplitCall (Some (Session v number)) other who status new given = ⊥
+IsSplitCall old other who status new given = (status ≡ empty) × (new ≡ old) × (given ≡ other)
+
+-- the session v has taken in x
+pub record IsJoinOf (v x w : Shows) : Type 0 where
+  pub store_is : w.store ≡ v.store
+  pub who_is : w.who ≡ v.who
+  pub room_is : w.room ≡ v.room + x.room
+  pub one : ((w.seen ≡ v.seen) × (w.trimmed ≡ v.trimmed)) ⊎ ((w.seen ≡ x.seen) × (w.trimmed ≡ x.trimmed))
+  pub seen : IsPrefix v.seen w.seen × IsPrefix x.seen w.seen
+  pub made : w.made ≡ v.made ++ x.made
+  pub acts : IsPrefix v.acts w.acts × IsPrefix x.acts w.acts
+  pub did : w.did ≡ v.did ++ x.did
+  pub whole : w.room ≡ 64 → IsWhole w
+  pub apart : AreApart v.made x.made
+
+-- two sessions with one number were joined; or nothing was done
+pub data IsJoin (v : Shows) (number : ℕ) (x : Shows) (theirs status : ℕ) (new given : Option Held) : Type 0 where
+  joined : (w : Shows) → status ≡ done → theirs ≡ number → IsJoinOf v x w → new ≡ Some (Session w number) → given ≡ None → IsJoin v number x theirs status new given
+  of_two_stores : status ≡ bad_argument → theirs ≢ number → new ≡ Some (Session v number) → given ≡ Some (Session x theirs) → IsJoin v number x theirs status new given
+
+abbrev pub IsJoinCall : Option Held → Option Held → ℕ → Option Held → Option Held → Type 0
+IsJoinCall (Some (Session v number)) (Some (Session x theirs)) status new given = IsJoin v number x theirs status new given
+IsJoinCall old other status new given = (status ≡ empty) × (new ≡ old) × (given ≡ other)
+
+-- sessions with one number are of one store
+abbrev pub AreOfOneStore : Option Held → Option Held → Type 0
+AreOfOneStore (Some (Session v number)) (Some (Session x theirs)) = theirs ≡ number → x.store ≡ v.store
+AreOfOneStore old other = Unit {0}
+
+-- The book that was closed. C gets how many entries it has, and that these are lawful: 1, or 2 if there was no memory to find out
+pub record IsReportOf (v : Shows) (entries lawful : ℕ) : Type 0 where
+  pub book : Contents
+  pub closes : IsClosing v book
+  pub entries_is : entries ≡ length book.entries
+  pub lawful_is : (lawful ≡ 1) ⊎ (lawful ≡ 2)
+
+-- the book tells some history
+abbrev pub HasHistory : Contents → Type 0
+HasHistory book = (h : History) × Tells book h
+
+-- the slot held the last session of a store, and holds nothing; or nothing was done
+abbrev pub IsCloseCall : Option Held → ℕ → ℕ × ℕ → ℕ × ℕ → Option Held → Type 0
+IsCloseCall (Some (Session v number)) status before after None = (status ≡ done) × IsReportOf v after.0 after.1
+IsCloseCall (Some (Session v number)) status before after new = (status ≡ not_alone) × (after ≡ before) × (new ≡ Some (Session v number))
+IsCloseCall old status before after new = (status ≡ empty) × (after ≡ before) × (new ≡ old)

@@ -1,0 +1,136 @@
+//! The calls on a session, with the arguments that C passed.
+ghost use Rattle.std.specs.Prelude.{◌≡◌};
+ghost use Rattle.history.specs.Step.{lose as lose_of, repair as repair_of, delete as delete_of};
+ghost use Rattle.store_c.specs.OnSession.{IsNamedCall, IsPutCall, IsReadCall, IsStatCall, IsTrimCall};
+
+use crate::answers::{code_of, name_of, number_of, tell, tell_shape};
+use crate::status::{BAD_ARGUMENT, BAD_NAME, DONE, NO_MEMORY, NOT_REBUILT};
+use session::{Answer, Bytes, Session, copy_out};
+use std::alloc::Global;
+
+pub(crate) fn put(
+    alloc: Global,
+    session: &mut Session,
+    name: &[u8],
+    blob: &[u8],
+    data_fragments: u32,
+    version: &mut u64,
+) -> u32
+    ensures { IsPutCall session.old name.now blob.now data_fragments result version.old version.new session.new }
+{
+    let Some(name) = name_of(name) else {
+        return BAD_NAME;
+    };
+    let Some(code) = code_of(data_fragments) else {
+        return BAD_ARGUMENT;
+    };
+    let Ok(bytes) = Bytes::copy_from_slice(alloc, blob) else {
+        return NO_MEMORY;
+    };
+    let reply = session.put_as(alloc, name, bytes, code);
+    tell(&reply, version)
+}
+
+pub(crate) fn read(
+    alloc: Global,
+    session: &mut Session,
+    name: &[u8],
+    start: u64,
+    target: &mut [u8],
+    version: &mut u64,
+    lent: &mut u64,
+    built: &mut u64,
+) -> u32
+    ensures { IsReadCall session.old name.now start target.old target.new result version.old version.new (lent.old, built.old) (lent.new, built.new) session.new }
+{
+    let Some(name) = name_of(name) else {
+        return BAD_NAME;
+    };
+    let reply = session.read(name, start, target.len() as u64);
+    let status = tell(&reply, version);
+    let Ok(Answer::Granted(grant)) = reply else {
+        return status;
+    };
+    match copy_out(alloc, &grant, target) {
+        Ok(copied) => {
+            *lent = copied.lent;
+            *built = copied.built;
+            DONE
+        }
+        Err(_) => NOT_REBUILT,
+    }
+}
+
+pub(crate) fn lose(
+    alloc: Global,
+    session: &mut Session,
+    name: &[u8],
+    stripe: u64,
+    fragment: u64,
+    version: &mut u64,
+) -> u32
+    ensures { IsNamedCall session.old name.now (λ n. lose_of n stripe fragment) result version.old version.new session.new }
+{
+    let Some(name) = name_of(name) else {
+        return BAD_NAME;
+    };
+    let reply = session.lose(alloc, name, stripe, fragment);
+    tell(&reply, version)
+}
+
+pub(crate) fn repair(
+    alloc: Global,
+    session: &mut Session,
+    name: &[u8],
+    stripe: u64,
+    fragment: u64,
+    version: &mut u64,
+) -> u32
+    ensures { IsNamedCall session.old name.now (λ n. repair_of n stripe fragment) result version.old version.new session.new }
+{
+    let Some(name) = name_of(name) else {
+        return BAD_NAME;
+    };
+    let reply = session.repair(alloc, name, stripe, fragment);
+    tell(&reply, version)
+}
+
+pub(crate) fn delete(session: &mut Session, name: &[u8], version: &mut u64) -> u32
+    ensures { IsNamedCall session.old name.now (λ n. delete_of n) result version.old version.new session.new }
+{
+    let Some(name) = name_of(name) else {
+        return BAD_NAME;
+    };
+    let reply = session.delete(name);
+    tell(&reply, version)
+}
+
+pub(crate) fn stat(
+    session: &mut Session,
+    name: &[u8],
+    version: &mut u64,
+    len: &mut u64,
+    stripes: &mut u64,
+    lost: &mut u64,
+) -> u32
+    ensures { IsStatCall session.old name.now result version.old version.new (len.old, stripes.old, lost.old) (len.new, stripes.new, lost.new) session.new }
+{
+    let Some(name) = name_of(name) else {
+        return BAD_NAME;
+    };
+    let reply = session.stat(name);
+    tell_shape(&reply, len, stripes, lost);
+    tell(&reply, version)
+}
+
+pub(crate) fn trim(alloc: Global, session: &mut Session, keep: u64, discarded: &mut u64) -> u32
+    ensures { IsTrimCall session.old keep result discarded.old discarded.new session.new }
+{
+    match session.trim(alloc, keep) {
+        Ok(count) => {
+            *discarded = count;
+            DONE
+        }
+        Err(fault) => number_of(fault),
+    }
+}

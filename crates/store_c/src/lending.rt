@@ -1,0 +1,63 @@
+//! Ranges that are lent.
+ghost use Rattle.std.specs.Prelude.{◌≡◌, None};
+ghost use Rattle.store_c.specs.Lend.{IsLend, IsLendTo};
+
+use crate::answers::{name_of, tell};
+use crate::status::{BAD_NAME, DONE, NO_MEMORY, NOT_REBUILT, OCCUPIED};
+use session::{Answer, Held, Lending, Session, Slot};
+use std::alloc::Global;
+use std::boxed::Box;
+
+fn lend(
+    alloc: Global,
+    session: &mut Session,
+    name: &[u8],
+    start: u64,
+    len: u64,
+    other: &mut Slot,
+    version: &mut u64,
+    pieces: &mut u64,
+) -> u32
+    requires { other.old.held ≡ None }
+    ensures { IsLend session.old name.now start len result version.old version.new (pieces.old, pieces.new) session.new other.new.held }
+{
+    let Some(name) = name_of(name) else {
+        return BAD_NAME;
+    };
+    let Ok(mut given) = Box::new(alloc, None::<Held>) else {
+        return NO_MEMORY;
+    };
+    let reply = session.read(name, start, len);
+    let status = tell(&reply, version);
+    let Ok(Answer::Granted(grant)) = reply else {
+        return status;
+    };
+    match Lending::of(alloc, grant) {
+        Ok(lending) => {
+            *pieces = lending.len();
+            *given = Some(Held::Lending(lending));
+            other.put(given);
+            DONE
+        }
+        Err(_) => NOT_REBUILT,
+    }
+}
+
+/// The same, if the other slot is empty.
+pub(crate) fn lend_to(
+    alloc: Global,
+    session: &mut Session,
+    name: &[u8],
+    start: u64,
+    len: u64,
+    other: &mut Slot,
+    version: &mut u64,
+    pieces: &mut u64,
+) -> u32
+    ensures { IsLendTo session.old other.old.held name.now start len result (version.old, version.new) (pieces.old, pieces.new) session.new other.new.held }
+{
+    if !other.is_vacant(alloc) {
+        return OCCUPIED;
+    }
+    lend(alloc, session, name, start, len, other, version, pieces)
+}

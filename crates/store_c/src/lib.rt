@@ -1,0 +1,365 @@
+//! The store for C: `include/lrc_store.h` declares these functions.
+//!
+//! C lends a slot to each call. A call tests each of its arguments, and answers a status; unless the
+//! status says that something was done, the slots and what else C passed are as they were.
+#![tactic(auto)]
+
+mod answers;
+mod calls;
+mod lending;
+mod on_session;
+mod repairs;
+mod sessions;
+mod status;
+
+ghost use Rattle.std.specs.Prelude.{◌≡◌, None};
+ghost use Rattle.history.specs.Step.{lose as lose_of, repair as repair_of, delete as delete_of};
+ghost use Rattle.store_c.specs.OnSession.{IsOnSession, IsNamedCall, IsPutCall, IsReadCall, IsStatCall, IsTrimCall};
+ghost use Rattle.store_c.specs.Lend.{IsLendTo, IsSlicesCall};
+ghost use Rattle.store_c.specs.Plan.{IsPlanTo, IsMendCall};
+ghost use Rattle.store_c.specs.Sessions.{IsOpenCall, IsSplitCall, IsJoinCall, AreOfOneStore, IsCloseCall};
+
+use crate::status::{DONE, EMPTY, OCCUPIED};
+use session::{Held, LentSlice, Slot};
+use std::alloc::Global;
+
+/// Opens a store whose fragments have `width` bytes and whose journal holds at most `limit` entries. Its
+/// first session is put into an empty slot. Stores with different `number`s are not mixed up by
+/// `lrc_store_join`.
+#[unsafe(no_mangle)]
+pub extern "C" fn lrc_store_open(
+    alloc: Global,
+    width: u32,
+    limit: u32,
+    number: u64,
+    slot: &mut Slot,
+) -> u32
+    ensures { IsOpenCall slot.old.held width limit number result slot.new.held }
+{
+    if !slot.is_vacant(alloc) {
+        return OCCUPIED;
+    }
+    sessions::open(alloc, width, limit, number, slot)
+}
+
+/// Splits a session off the slot's, for calls with the label `who`, and puts it into an empty slot.
+#[unsafe(no_mangle)]
+pub extern "C" fn lrc_store_split(alloc: Global, slot: &mut Slot, who: u32, other: &mut Slot) -> u32
+    ensures { IsSplitCall slot.old.held other.old.held who result slot.new.held other.new.held }
+{
+    let Some(mut held) = slot.take(alloc) else {
+        return EMPTY;
+    };
+    let status = on_session::split(alloc, &mut held, who, other);
+    slot.put(held);
+    status
+}
+
+/// Joins the second slot's session into the first one's, which has made all its calls then. The second
+/// slot is empty afterwards.
+#[unsafe(no_mangle)]
+pub extern "C" fn lrc_store_join(alloc: Global, slot: &mut Slot, other: &mut Slot) -> u32
+    requires { AreOfOneStore slot.old.held other.old.held }
+    ensures { IsJoinCall slot.old.held other.old.held result slot.new.held other.new.held }
+{
+    let Some(mut held) = slot.take(alloc) else {
+        return EMPTY;
+    };
+    let Some(mut given) = other.take(alloc) else {
+        slot.put(held);
+        return EMPTY;
+    };
+    let status = sessions::join(&mut held, &mut given);
+    slot.put(held);
+    if given.is_some() {
+        other.put(given);
+    }
+    status
+}
+
+/// Closes the store of the slot's session, once all its sessions are joined into this one, and empties
+/// the slot: how many entries the journal has, and whether they are lawful.
+#[unsafe(no_mangle)]
+pub extern "C" fn lrc_store_close(
+    alloc: Global,
+    slot: &mut Slot,
+    entries: &mut u64,
+    lawful: &mut u32,
+) -> u32
+    ensures { IsCloseCall slot.old.held result (entries.old, lawful.old) (entries.new, lawful.new) slot.new.held }
+{
+    let Some(mut held) = slot.take(alloc) else {
+        return EMPTY;
+    };
+    let status = sessions::close(alloc, &mut held, entries, lawful);
+    if held.is_some() {
+        slot.put(held);
+    }
+    status
+}
+
+/// Stores a copy of a blob under a name, in the code with so many data fragments.
+#[unsafe(no_mangle)]
+pub extern "C" fn lrc_store_put(
+    alloc: Global,
+    slot: &mut Slot,
+    name: &[u8],
+    blob: &[u8],
+    data_fragments: u32,
+    version: &mut u64,
+) -> u32
+    ensures { IsOnSession slot.old.held result slot.new.held (version.new ≡ version.old)
+        (λ v w. IsPutCall v name.now blob.now data_fragments result version.old version.new w) }
+{
+    let Some(mut held) = slot.take(alloc) else {
+        return EMPTY;
+    };
+    let status = on_session::put(alloc, &mut held, name, blob, data_fragments, version);
+    slot.put(held);
+    status
+}
+
+/// Copies as many bytes of a name's blob as the target has, from `start` on. Absent fragments are rebuilt.
+#[unsafe(no_mangle)]
+pub extern "C" fn lrc_store_read(
+    alloc: Global,
+    slot: &mut Slot,
+    name: &[u8],
+    start: u64,
+    target: &mut [u8],
+    version: &mut u64,
+    lent: &mut u64,
+    built: &mut u64,
+) -> u32
+    ensures { IsOnSession slot.old.held result slot.new.held ((version.new ≡ version.old) × (target.new ≡ target.old) × (lent.new ≡ lent.old) × (built.new ≡ built.old))
+        (λ v w. IsReadCall v name.now start target.old target.new result version.old version.new (lent.old, built.old) (lent.new, built.new) w) }
+{
+    let Some(mut held) = slot.take(alloc) else {
+        return EMPTY;
+    };
+    let status = on_session::read(alloc, &mut held, name, start, target, version, lent, built);
+    slot.put(held);
+    status
+}
+
+/// Loses a fragment of a stripe of a name's blob.
+#[unsafe(no_mangle)]
+pub extern "C" fn lrc_store_lose(
+    alloc: Global,
+    slot: &mut Slot,
+    name: &[u8],
+    stripe: u64,
+    fragment: u64,
+    version: &mut u64,
+) -> u32
+    ensures { IsOnSession slot.old.held result slot.new.held (version.new ≡ version.old)
+        (λ v w. IsNamedCall v name.now (λ n. lose_of n stripe fragment) result version.old version.new w) }
+{
+    let Some(mut held) = slot.take(alloc) else {
+        return EMPTY;
+    };
+    let status = match &mut *held {
+        Some(Held::Session { session, .. }) => calls::lose(
+            alloc, session, name, stripe, fragment, version,
+        ),
+        _ => EMPTY,
+    };
+    slot.put(held);
+    status
+}
+
+/// Repairs a lost fragment of a stripe of a name's blob.
+#[unsafe(no_mangle)]
+pub extern "C" fn lrc_store_repair(
+    alloc: Global,
+    slot: &mut Slot,
+    name: &[u8],
+    stripe: u64,
+    fragment: u64,
+    version: &mut u64,
+) -> u32
+    ensures { IsOnSession slot.old.held result slot.new.held (version.new ≡ version.old)
+        (λ v w. IsNamedCall v name.now (λ n. repair_of n stripe fragment) result version.old version.new w) }
+{
+    let Some(mut held) = slot.take(alloc) else {
+        return EMPTY;
+    };
+    let status = match &mut *held {
+        Some(Held::Session { session, .. }) => calls::repair(
+            alloc, session, name, stripe, fragment, version,
+        ),
+        _ => EMPTY,
+    };
+    slot.put(held);
+    status
+}
+
+/// Deletes a name's blob.
+#[unsafe(no_mangle)]
+pub extern "C" fn lrc_store_delete(
+    alloc: Global,
+    slot: &mut Slot,
+    name: &[u8],
+    version: &mut u64,
+) -> u32
+    ensures { IsOnSession slot.old.held result slot.new.held (version.new ≡ version.old)
+        (λ v w. IsNamedCall v name.now (λ n. delete_of n) result version.old version.new w) }
+{
+    let Some(mut held) = slot.take(alloc) else {
+        return EMPTY;
+    };
+    let status = match &mut *held {
+        Some(Held::Session { session, .. }) => calls::delete(session, name, version),
+        _ => EMPTY,
+    };
+    slot.put(held);
+    status
+}
+
+/// Asks for the shape of a name's blob: how many bytes, stripes and lost fragments it has.
+#[unsafe(no_mangle)]
+pub extern "C" fn lrc_store_stat(
+    alloc: Global,
+    slot: &mut Slot,
+    name: &[u8],
+    version: &mut u64,
+    len: &mut u64,
+    stripes: &mut u64,
+    lost: &mut u64,
+) -> u32
+    ensures { IsOnSession slot.old.held result slot.new.held ((version.new ≡ version.old) × (len.new ≡ len.old) × (stripes.new ≡ stripes.old) × (lost.new ≡ lost.old))
+        (λ v w. IsStatCall v name.now result version.old version.new (len.old, stripes.old, lost.old) (len.new, stripes.new, lost.new) w) }
+{
+    let Some(mut held) = slot.take(alloc) else {
+        return EMPTY;
+    };
+    let status = on_session::stat(&mut held, name, version, len, stripes, lost);
+    slot.put(held);
+    status
+}
+
+/// Discards all entries of the journal but the last `keep`: how many these were.
+#[unsafe(no_mangle)]
+pub extern "C" fn lrc_store_trim(
+    alloc: Global,
+    slot: &mut Slot,
+    keep: u64,
+    discarded: &mut u64,
+) -> u32
+    ensures { IsOnSession slot.old.held result slot.new.held (discarded.new ≡ discarded.old)
+        (λ v w. IsTrimCall v keep result discarded.old discarded.new w) }
+{
+    let Some(mut held) = slot.take(alloc) else {
+        return EMPTY;
+    };
+    let status = match &mut *held {
+        Some(Held::Session { session, .. }) => calls::trim(alloc, session, keep, discarded),
+        _ => EMPTY,
+    };
+    slot.put(held);
+    status
+}
+
+/// Lends `len` bytes of a name's blob, from `start` on. They are put into an empty slot, as so many pieces.
+/// Absent fragments are rebuilt at once.
+#[unsafe(no_mangle)]
+pub extern "C" fn lrc_store_lend(
+    alloc: Global,
+    slot: &mut Slot,
+    name: &[u8],
+    start: u64,
+    len: u64,
+    other: &mut Slot,
+    version: &mut u64,
+    pieces: &mut u64,
+) -> u32
+    ensures { IsOnSession slot.old.held result slot.new.held ((version.new ≡ version.old) × (pieces.new ≡ pieces.old) × (other.new.held ≡ other.old.held))
+        (λ v w. IsLendTo v other.old.held name.now start len result (version.old, version.new) (pieces.old, pieces.new) w other.new.held) }
+{
+    let Some(mut held) = slot.take(alloc) else {
+        return EMPTY;
+    };
+    let status = on_session::lend(alloc, &mut held, name, start, len, other, version, pieces);
+    slot.put(held);
+    status
+}
+
+/// Gives the pieces of a range that is lent, in order: as many as there are and the target takes. They
+/// stay where they are until the slot is passed to another call.
+#[unsafe(no_mangle)]
+pub extern "C" fn lrc_slot_slices<'a>(
+    alloc: Global,
+    slot: &'a mut Slot,
+    target: &mut [LentSlice<'a>],
+    count: &mut u64,
+) -> u32
+    ensures { IsSlicesCall slot.old.held result (count.old, count.new) target.old target.new }
+{
+    if slot.is_vacant(alloc) {
+        return EMPTY;
+    }
+    let held: &'a Option<Held> = slot.get_mut();
+    match held {
+        Some(Held::Lending(lending)) => {
+            *count = lending.lend(target) as u64;
+            DONE
+        }
+        _ => EMPTY,
+    }
+}
+
+/// Plans the repair of all lost fragments, and puts the plan into an empty slot.
+#[unsafe(no_mangle)]
+pub extern "C" fn lrc_store_plan(
+    alloc: Global,
+    slot: &mut Slot,
+    other: &mut Slot,
+    items: &mut u64,
+) -> u32
+    ensures { IsOnSession slot.old.held result slot.new.held ((items.new ≡ items.old) × (other.new.held ≡ other.old.held))
+        (λ v w. IsPlanTo v other.old.held result (items.old, items.new) w other.new.held) }
+{
+    let Some(mut held) = slot.take(alloc) else {
+        return EMPTY;
+    };
+    let status = on_session::plan(alloc, &mut held, other, items);
+    slot.put(held);
+    status
+}
+
+/// Repairs the next fragment of a plan. An item that is answered leaves the plan, and one that is refused
+/// stays the next.
+#[unsafe(no_mangle)]
+pub extern "C" fn lrc_store_mend_step(
+    alloc: Global,
+    slot: &mut Slot,
+    other: &mut Slot,
+    version: &mut u64,
+) -> u32
+    ensures { IsMendCall slot.old.held other.old.held result (version.old, version.new) slot.new.held other.new.held }
+{
+    let Some(mut held) = slot.take(alloc) else {
+        return EMPTY;
+    };
+    let Some(mut plan) = other.take(alloc) else {
+        slot.put(held);
+        return EMPTY;
+    };
+    let status = match (&mut *held, &mut *plan) {
+        (Some(Held::Session { session, .. }), Some(Held::Repairs(left))) => {
+            repairs::mend_step(alloc, session, left, version)
+        }
+        _ => EMPTY,
+    };
+    slot.put(held);
+    other.put(plan);
+    status
+}
+
+/// Drops what the slot holds.
+#[unsafe(no_mangle)]
+pub extern "C" fn lrc_slot_release(alloc: Global, slot: &mut Slot)
+    ensures { slot.new.held ≡ None }
+{
+    drop(slot.take(alloc));
+}

@@ -1,0 +1,137 @@
+//! Opening, splitting, joining and closing.
+ghost use Rattle.std.specs.Prelude.{◌≡◌, ◌⊎◌, None, Some};
+ghost use Rattle.store_c.specs.Sessions.{IsOpening, IsSplitTo, IsJoinCall, AreOfOneStore, IsCloseCall, HasHistory};
+
+use crate::answers::number_of;
+use crate::status::{BAD_ARGUMENT, DONE, EMPTY, NO_MEMORY, NOT_ALONE, OCCUPIED};
+use session::{Book, Held, Limit, Session, Slot, is_lawful_from};
+use std::alloc::Global;
+use std::boxed::Box;
+
+pub(crate) fn open(alloc: Global, width: u32, limit: u32, number: u64, slot: &mut Slot) -> u32
+    requires { slot.old.held ≡ None }
+    ensures { IsOpening width limit number result slot.new.held }
+{
+    let Some(limit) = Limit::new(limit) else {
+        return BAD_ARGUMENT;
+    };
+    let Ok(mut held) = Box::new(alloc, None::<Held>) else {
+        return NO_MEMORY;
+    };
+    match Session::open(alloc, width, limit) {
+        Ok(session) => {
+            *held = Some(Held::Session { session, number });
+            slot.put(held);
+            DONE
+        }
+        Err(fault) => number_of(fault),
+    }
+}
+
+pub(crate) fn split_to(
+    alloc: Global,
+    session: &mut Session,
+    number: u64,
+    who: u32,
+    other: &mut Slot,
+) -> u32
+    ensures { IsSplitTo session.old number other.old.held who result session.new other.new.held }
+{
+    if !other.is_vacant(alloc) {
+        return OCCUPIED;
+    }
+    let Ok(mut given) = Box::new(alloc, None::<Held>) else {
+        return NO_MEMORY;
+    };
+    match session.split(who) {
+        Ok(session) => {
+            *given = Some(Held::Session { session, number });
+            other.put(given);
+            DONE
+        }
+        Err(fault) => number_of(fault),
+    }
+}
+
+pub(crate) fn join(held: &mut Option<Held>, given: &mut Option<Held>) -> u32
+    requires { AreOfOneStore held.old given.old }
+    ensures { IsJoinCall held.old given.old result held.new given.new }
+{
+    match held.take() {
+        Some(Held::Session { session, number }) => {
+            let (status, session) = join_at(session, number, given);
+            *held = Some(Held::Session { session, number });
+            status
+        }
+        kept => {
+            *held = kept;
+            EMPTY
+        }
+    }
+}
+
+/// The same, with the first session at hand. It comes back.
+fn join_at(mut session: Session, number: u64, given: &mut Option<Held>) -> (u32, Session)
+    requires { AreOfOneStore (Some (Held.Session session number)) given.old }
+    ensures { IsJoinCall (Some (Held.Session session number)) given.old result.0 (Some (Held.Session result.1 number)) given.new }
+{
+    match given.take() {
+        Some(Held::Session {
+            session: other,
+            number: theirs,
+        }) => {
+            if theirs != number {
+                *given = Some(Held::Session {
+                    session: other,
+                    number: theirs,
+                });
+                return (BAD_ARGUMENT, session);
+            }
+            session.join(other);
+            (DONE, session)
+        }
+        kept => {
+            *given = kept;
+            (EMPTY, session)
+        }
+    }
+}
+
+pub(crate) fn close(
+    alloc: Global,
+    held: &mut Option<Held>,
+    entries: &mut u64,
+    lawful: &mut u32,
+) -> u32
+    ensures { IsCloseCall held.old result (entries.old, lawful.old) (entries.new, lawful.new) held.new }
+{
+    match held.take() {
+        Some(Held::Session { session, number }) => match session.close() {
+            Ok(book) => {
+                *entries = book.entries().len() as u64;
+                *lawful = lawful_number(alloc, &book);
+                DONE
+            }
+            Err(session) => {
+                *held = Some(Held::Session { session, number });
+                NOT_ALONE
+            }
+        },
+        kept => {
+            *held = kept;
+            EMPTY
+        }
+    }
+}
+
+/// Whether the entries of a book are lawful: 1, or 2 if there was no memory to find out.
+fn lawful_number(alloc: Global, book: &Book) -> u32
+    requires { HasHistory book.now }
+    ensures { (result ≡ 1) ⊎ (result ≡ 2) }
+{
+    match is_lawful_from(alloc, book.base(), book.entries(), book.width()) {
+        Ok(true) => 1,
+        Ok(false) => 0,
+        Err(_) => 2,
+    }
+}

@@ -1,0 +1,82 @@
+#!/usr/bin/env python3
+"""The store from Python: errors, buffers, grants that outlive their blob, and threads."""
+
+import threading
+
+import lrc_store
+
+
+def status_of(call, *arguments):
+    """The status with which a call is refused, or None."""
+    try:
+        call(*arguments)
+    except lrc_store.StoreError as error:
+        return error.status
+    return None
+
+
+def errors(session):
+    assert status_of(session.put, "A", b"x") == 11
+    assert status_of(session.put, "a", b"x", 7) == 16
+    assert status_of(session.stat, "none") == 2
+    assert status_of(lrc_store.Session.open, 0, 10) == 12
+
+
+def buffers(session):
+    blob = bytes(range(200))
+    for source in (blob, bytearray(blob), memoryview(blob)[50:], memoryview(bytearray(blob))[3:], b""):
+        session.put("a", source)
+        with session.read("a", 0, len(source)) as grant:
+            assert bytes(grant) == bytes(source)
+
+
+def grants(session):
+    session.put("a", bytes(range(100)))
+    session.lose("a", 0, 1)
+    grant = session.read("a", 2, 90)
+    assert all(piece.readonly for piece in grant.pieces)
+    session.put("a", bytes(100))
+    session.delete("a")
+    assert bytes(grant) == bytes(range(2, 92))
+
+
+def mending(session):
+    session.put("a", bytes(range(100)))
+    for fragment in (0, 1, 6, 7):
+        session.lose("a", 0, fragment)
+    assert session.stat("a").lost == 4 and session.mend() == 4 and session.stat("a").lost == 0
+
+
+def work(session, who, wrong):
+    for number in range(50):
+        blob = bytes([who, number]) * 40
+        session.put(f"own-{who}", blob, 6)
+        session.lose(f"own-{who}", 0, number % 6)
+        with session.read(f"own-{who}", 0, 80) as grant:
+            if bytes(grant) != blob:
+                wrong.append(who)
+
+
+def threads(session):
+    parts, wrong = [session.split(who) for who in range(1, 5)], []
+    running = [threading.Thread(target=work, args=(part, who, wrong)) for who, part in enumerate(parts, 1)]
+    for thread in running:
+        thread.start()
+    for thread, part in zip(running, parts):
+        thread.join()
+        session.join(part)
+    assert not wrong
+
+
+def main():
+    session = lrc_store.Session.open(4, 10000)
+    for test in (errors, buffers, grants, mending, threads):
+        test(session)
+    closed = session.close()
+    assert closed.is_checked and closed.entries > 400
+    assert status_of(session.stat, "a") == 14
+    print("Python: 5 tests passed")
+
+
+if __name__ == "__main__":
+    main()

@@ -1,0 +1,174 @@
+/* Each call of the store from C, with each status but those of refused memory. */
+#include "store_test.h"
+
+static const char FOX[] = "the quick brown fox jumps over the lazy dog 0123456789";
+#define FOX_BYTES (const uint8_t *)FOX, sizeof FOX - 1
+
+static void open_and_close(void)
+{
+    lrc_slot slot = LRC_SLOT_EMPTY, other = LRC_SLOT_EMPTY;
+    uint64_t entries = 9, version = 99;
+    uint32_t lawful = 9;
+    EXPECT(lrc_store_lose(&slot, NAME("a"), 0, 0, &version), LRC_STORE_EMPTY);
+    EXPECT(version, 99);
+    EXPECT(lrc_store_open(0, 64, 1, &slot), LRC_STORE_BAD_WIDTH);
+    EXPECT(lrc_store_open(4, 0, 1, &slot), LRC_STORE_BAD_ARGUMENT);
+    EXPECT(lrc_store_open(4, 64, 1, &slot), LRC_STORE_DONE);
+    EXPECT(lrc_store_open(4, 64, 1, &slot), LRC_STORE_OCCUPIED);
+    EXPECT(lrc_store_split(&other, 1, &slot), LRC_STORE_EMPTY);
+    EXPECT(lrc_store_split(&slot, 1, &other), LRC_STORE_DONE);
+    EXPECT(lrc_store_split(&slot, 1, &other), LRC_STORE_OCCUPIED);
+    EXPECT(lrc_store_close(&slot, &entries, &lawful), LRC_STORE_NOT_ALONE);
+    EXPECT(entries, 9);
+    EXPECT(lrc_store_join(&slot, &other), LRC_STORE_DONE);
+    EXPECT(lrc_store_join(&slot, &other), LRC_STORE_EMPTY);
+    EXPECT(lrc_store_close(&slot, &entries, &lawful), LRC_STORE_DONE);
+    EXPECT(entries, 0);
+    EXPECT(lawful, 1);
+    EXPECT(lrc_store_close(&slot, &entries, &lawful), LRC_STORE_EMPTY);
+}
+
+static void two_stores_are_not_joined(void)
+{
+    lrc_slot first = LRC_SLOT_EMPTY, second = LRC_SLOT_EMPTY;
+    uint64_t entries = 0;
+    uint32_t lawful = 0;
+    EXPECT(lrc_store_open(4, 64, 1, &first), LRC_STORE_DONE);
+    EXPECT(lrc_store_open(4, 64, 2, &second), LRC_STORE_DONE);
+    EXPECT(lrc_store_join(&first, &second), LRC_STORE_BAD_ARGUMENT);
+    EXPECT(lrc_store_close(&first, &entries, &lawful), LRC_STORE_DONE);
+    EXPECT(lrc_store_close(&second, &entries, &lawful), LRC_STORE_DONE);
+}
+
+static void put_and_read(lrc_slot *slot)
+{
+    uint64_t version = 99, lent = 0, built = 0, len = 0, stripes = 0, lost = 0;
+    uint8_t got[64] = { 0 };
+    EXPECT(lrc_store_put(slot, NAME("A"), FOX_BYTES, 12, &version), LRC_STORE_BAD_NAME);
+    EXPECT(lrc_store_put(slot, NAME("fox"), FOX_BYTES, 7, &version), LRC_STORE_BAD_ARGUMENT);
+    EXPECT(version, 99);
+    EXPECT(lrc_store_put(slot, NAME("fox"), FOX_BYTES, 12, &version), LRC_STORE_DONE);
+    EXPECT(version, 1);
+    EXPECT(lrc_store_lose(slot, NAME("fox"), 0, 1, &version), LRC_STORE_DONE);
+    EXPECT(lrc_store_lose(slot, NAME("fox"), 0, 1, &version), LRC_STORE_ALREADY_LOST);
+    EXPECT(lrc_store_read(slot, NAME("fox"), 2, got, 20, &version, &lent, &built), LRC_STORE_DONE);
+    EXPECT(memcmp(got, FOX + 2, 20), 0);
+    EXPECT(lent, 16);
+    EXPECT(built, 4);
+    EXPECT(lrc_store_read(slot, NAME("fox"), 50, got, 20, &version, &lent, &built), LRC_STORE_OUT_OF_RANGE);
+    EXPECT(lrc_store_read(slot, NAME("none"), 0, got, 1, &version, &lent, &built), LRC_STORE_NO_NAME);
+    EXPECT(lrc_store_stat(slot, NAME("fox"), &version, &len, &stripes, &lost), LRC_STORE_DONE);
+    EXPECT(len, 54);
+    EXPECT(stripes, 2);
+    EXPECT(lost, 1);
+    EXPECT(lrc_store_repair(slot, NAME("fox"), 0, 1, &version), LRC_STORE_DONE);
+    EXPECT(lrc_store_repair(slot, NAME("fox"), 0, 1, &version), LRC_STORE_NOT_LOST);
+    EXPECT(lrc_store_repair(slot, NAME("fox"), 9, 1, &version), LRC_STORE_NO_FRAGMENT);
+}
+
+static void lend_and_change(lrc_slot *slot)
+{
+    lrc_slot lent = LRC_SLOT_EMPTY;
+    lrc_slice one = { (const uint8_t *)"", 0 };
+    uint64_t version = 0, pieces = 0, count = 0;
+    uint8_t got[64] = { 0 };
+    EXPECT(lrc_store_lose(slot, NAME("fox"), 1, 0, &version), LRC_STORE_DONE);
+    EXPECT(lrc_store_lend(slot, NAME("fox"), 50, 9, &lent, &version, &pieces), LRC_STORE_OUT_OF_RANGE);
+    EXPECT(lrc_slot_slices(&lent, &one, 1, &count), LRC_STORE_EMPTY);
+    EXPECT(lrc_slot_slices(slot, &one, 1, &count), LRC_STORE_EMPTY);
+    EXPECT(lrc_store_lend(slot, NAME("fox"), 1, 53, &lent, &version, &pieces), LRC_STORE_DONE);
+    EXPECT(pieces, 14);
+    EXPECT(lrc_store_lend(slot, NAME("fox"), 1, 53, &lent, &version, &pieces), LRC_STORE_OCCUPIED);
+    EXPECT(lrc_slot_slices(&lent, &one, 1, &count), LRC_STORE_DONE);
+    EXPECT(count, 1);
+    EXPECT(one.len, 3);
+    EXPECT(lrc_store_lose(slot, NAME("fox"), 0, 2, &version), LRC_STORE_DONE);
+    EXPECT(lrc_store_put(slot, NAME("fox"), (const uint8_t *)"other", 5, 6, &version), LRC_STORE_DONE);
+    EXPECT(lrc_store_delete(slot, NAME("fox"), &version), LRC_STORE_DONE);
+    EXPECT(lrc_store_delete(slot, NAME("fox"), &version), LRC_STORE_NO_NAME);
+    EXPECT(gather(&lent, got), 53);
+    EXPECT(gather(&lent, got), 53);
+    EXPECT(memcmp(got, FOX + 1, 53), 0);
+    lrc_slot_release(&lent);
+    EXPECT(lrc_slot_slices(&lent, &one, 1, &count), LRC_STORE_EMPTY);
+}
+
+static void plan_and_mend(lrc_slot *slot)
+{
+    lrc_slot plan = LRC_SLOT_EMPTY;
+    uint64_t version = 0, items = 0, len = 0, stripes = 0, lost = 0;
+    EXPECT(lrc_store_put(slot, NAME("fox"), FOX_BYTES, 12, &version), LRC_STORE_DONE);
+    for (uint64_t f = 0; f < 8; f++)
+        EXPECT(lrc_store_lose(slot, NAME("fox"), 0, f, &version), LRC_STORE_DONE);
+    uint8_t got[4];
+    uint64_t lent = 0, built = 0;
+    EXPECT(lrc_store_read(slot, NAME("fox"), 0, got, 4, &version, &lent, &built), LRC_STORE_UNRECOVERABLE);
+    EXPECT(lrc_store_put(slot, NAME("fox"), FOX_BYTES, 12, &version), LRC_STORE_DONE);
+    EXPECT(lrc_store_lose(slot, NAME("fox"), 0, 3, &version), LRC_STORE_DONE);
+    EXPECT(lrc_store_lose(slot, NAME("fox"), 1, 15, &version), LRC_STORE_DONE);
+    EXPECT(lrc_store_mend_step(slot, &plan, &version), LRC_STORE_EMPTY);
+    EXPECT(lrc_store_plan(slot, &plan, &items), LRC_STORE_DONE);
+    EXPECT(items, 2);
+    EXPECT(lrc_store_plan(slot, &plan, &items), LRC_STORE_OCCUPIED);
+    EXPECT(lrc_store_repair(slot, NAME("fox"), 0, 3, &version), LRC_STORE_DONE);
+    EXPECT(lrc_store_mend_step(slot, &plan, &version), LRC_STORE_NOT_LOST);
+    EXPECT(lrc_store_mend_step(slot, &plan, &version), LRC_STORE_DONE);
+    EXPECT(lrc_store_mend_step(slot, &plan, &version), LRC_STORE_NOTHING_LEFT);
+    lrc_slot_release(&plan);
+    EXPECT(lrc_store_stat(slot, NAME("fox"), &version, &len, &stripes, &lost), LRC_STORE_DONE);
+    EXPECT(lost, 0);
+}
+
+static void all_sessions_of_a_store(void)
+{
+    static lrc_slot slots[65];
+    uint64_t entries = 0;
+    uint32_t lawful = 0;
+    EXPECT(lrc_store_open(1, 3, 3, &slots[0]), LRC_STORE_DONE);
+    for (uint32_t k = 1; k < 64; k++)
+        EXPECT(lrc_store_split(&slots[0], k, &slots[k]), LRC_STORE_DONE);
+    EXPECT(lrc_store_split(&slots[0], 64, &slots[64]), LRC_STORE_NO_PASS);
+    EXPECT(lrc_store_split(&slots[5], 64, &slots[64]), LRC_STORE_NO_PASS);
+    for (uint32_t k = 63; k > 0; k--)
+        EXPECT(lrc_store_join(&slots[k - 1], &slots[k]), LRC_STORE_DONE);
+    EXPECT(lrc_store_close(&slots[0], &entries, &lawful), LRC_STORE_DONE);
+    EXPECT(lawful, 1);
+}
+
+static void limits_of_a_store(void)
+{
+    static uint8_t big[12 * 4096 + 1];
+    lrc_slot slot = LRC_SLOT_EMPTY;
+    uint64_t version = 77, entries = 0, discarded = 0, len = 0, stripes = 0, lost = 0;
+    uint32_t lawful = 0;
+    EXPECT(lrc_store_open(1, 2, 4, &slot), LRC_STORE_DONE);
+    EXPECT(lrc_store_put(&slot, NAME("big"), big, sizeof big, 12, &version), LRC_STORE_TOO_LONG);
+    EXPECT(lrc_store_put(&slot, NAME("big"), big, sizeof big - 1, 12, &version), LRC_STORE_DONE);
+    EXPECT(lrc_store_delete(&slot, NAME("big"), &version), LRC_STORE_DONE);
+    version = 77;
+    EXPECT(lrc_store_stat(&slot, NAME("big"), &version, &len, &stripes, &lost), LRC_STORE_JOURNAL_FULL);
+    EXPECT(version, 77);
+    EXPECT(lrc_store_trim(&slot, 1, &discarded), LRC_STORE_DONE);
+    EXPECT(discarded, 1);
+    EXPECT(lrc_store_close(&slot, &entries, &lawful), LRC_STORE_DONE);
+    EXPECT(entries, 1);
+    EXPECT(lawful, 1);
+}
+
+int main(void)
+{
+    lrc_slot slot = LRC_SLOT_EMPTY;
+    uint64_t entries = 0;
+    uint32_t lawful = 0;
+    open_and_close();
+    two_stores_are_not_joined();
+    EXPECT(lrc_store_open(4, 1000, 5, &slot), LRC_STORE_DONE);
+    put_and_read(&slot);
+    lend_and_change(&slot);
+    plan_and_mend(&slot);
+    EXPECT(lrc_store_close(&slot, &entries, &lawful), LRC_STORE_DONE);
+    EXPECT(lawful, 1);
+    all_sessions_of_a_store();
+    limits_of_a_store();
+    return report("calls");
+}

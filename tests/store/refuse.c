@@ -1,0 +1,98 @@
+/* Each request for memory is refused in turn. The call that meets the refusal answers NO_MEMORY or
+ * NOT_REBUILT, leaves its slots as they were, and does what was asked when it is made again. Link with
+ * -Wl,--wrap=malloc -Wl,--wrap=realloc. */
+#include "store_test.h"
+
+void *__real_malloc(size_t size);
+void *__real_realloc(void *old, size_t size);
+void *__wrap_malloc(size_t size);
+void *__wrap_realloc(void *old, size_t size);
+
+static long ahead = -1, refused;
+
+/* whether this request is the one to refuse */
+static int refuse(void)
+{
+    if (ahead < 0)
+        return 0;
+    return ahead-- == 0;
+}
+
+void *__wrap_malloc(size_t size)
+{
+    return refuse() ? NULL : __real_malloc(size);
+}
+
+void *__wrap_realloc(void *old, size_t size)
+{
+    return refuse() ? NULL : __real_realloc(old, size);
+}
+
+/* the call, and again if memory was refused */
+#define CALL(call)                                                              \
+    do {                                                                        \
+        uint32_t status = (call);                                               \
+        if (status == LRC_STORE_NO_MEMORY || status == LRC_STORE_NOT_REBUILT) { \
+            refused++;                                                          \
+            status = (call);                                                    \
+        }                                                                       \
+        EXPECT(status, LRC_STORE_DONE);                                         \
+    } while (0)
+
+static const char FOX[] = "the quick brown fox jumps over the lazy dog 0123456789";
+
+static void reads(lrc_slot *slot)
+{
+    lrc_slot lent = LRC_SLOT_EMPTY;
+    uint64_t version = 0, copied = 0, built = 0, pieces = 0;
+    uint8_t got[54];
+    CALL(lrc_store_read(slot, NAME("a"), 0, got, 54, &version, &copied, &built));
+    EXPECT(memcmp(got, FOX, 54), 0);
+    CALL(lrc_store_lend(slot, NAME("a"), 0, 54, &lent, &version, &pieces));
+    memset(got, 0, sizeof got);
+    EXPECT(gather(&lent, got), 54);
+    EXPECT(memcmp(got, FOX, 54), 0);
+    lrc_slot_release(&lent);
+}
+
+static void run(void)
+{
+    lrc_slot slot = LRC_SLOT_EMPTY, other = LRC_SLOT_EMPTY, plan = LRC_SLOT_EMPTY;
+    uint64_t version = 0, a = 0, b = 0, c = 0;
+    uint32_t lawful = 0;
+    CALL(lrc_store_open(4, 100, 1, &slot));
+    CALL(lrc_store_put(&slot, NAME("a"), (const uint8_t *)FOX, 54, 12, &version));
+    CALL(lrc_store_lose(&slot, NAME("a"), 0, 1, &version));
+    CALL(lrc_store_lose(&slot, NAME("a"), 1, 0, &version));
+    reads(&slot);
+    CALL(lrc_store_split(&slot, 5, &other));
+    CALL(lrc_store_put(&other, NAME("b"), (const uint8_t *)"0123456789", 10, 6, &version));
+    CALL(lrc_store_repair(&other, NAME("a"), 0, 1, &version));
+    CALL(lrc_store_plan(&other, &plan, &a));
+    EXPECT(a, 1);
+    CALL(lrc_store_mend_step(&other, &plan, &version));
+    lrc_slot_release(&plan);
+    CALL(lrc_store_trim(&slot, 2, &c));
+    CALL(lrc_store_stat(&other, NAME("a"), &version, &a, &b, &c));
+    EXPECT(c, 0);
+    CALL(lrc_store_delete(&slot, NAME("b"), &version));
+    CALL(lrc_store_join(&slot, &other));
+    CALL(lrc_store_close(&slot, &c, &lawful));
+    EXPECT(lawful == 1 || lawful == 2, 1);
+    EXPECT(slot.at || other.at || plan.at, 0);
+}
+
+int main(void)
+{
+    long at = 0;
+    for (; at < 1000; at++) {
+        ahead = at;
+        run();
+        if (ahead >= 0)
+            break;
+    }
+    EXPECT(at > 30 && at < 1000, 1);
+    EXPECT(refused > 30, 1);
+    printf("%ld requests for memory, %ld calls met a refusal\n", at, refused);
+    return report("refuse");
+}
