@@ -1,5 +1,5 @@
 -- A range that is lent to C.
-use Rattle.std.specs.Prelude.{◌≡◌, ◌≢◌, ℕ, List, length, map, min, take, drop, Result, Ok, Option, Some, None}
+use Rattle.std.specs.Prelude.{◌≡◌, ◌≢◌, ℕ, List, length, map, min, take, drop, Ok, Option, Some, None}
 use Rattle.std.specs.List.{concat}
 use Rattle.history.specs.Names.{IsName}
 use Rattle.history.specs.Step.{read}

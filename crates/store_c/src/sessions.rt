@@ -76,10 +76,12 @@ fn join_at(mut session: Session, number: u64, given: &mut Option<Held>) -> (u32,
     ensures { IsJoinCall (Some (Held.Session session number)) given.old result.0 (Some (Held.Session result.1 number)) given.new }
 {
     match given.take() {
-        Some(Held::Session {
-            session: other,
-            number: theirs,
-        }) => {
+        Some(
+            Held::Session {
+                session: other,
+                number: theirs,
+            },
+        ) => {
             if theirs != number {
                 *given = Some(Held::Session {
                     session: other,
