@@ -11,6 +11,4 @@ pub enum Held {
     Lending(Lending),
     /// What a plan has left.
     Repairs(Repairs),
-    /// The bytes of a blob that is to be put.
-    Buffer(Vec<u8>),
 }
