@@ -4,40 +4,10 @@
 # The last line says how many passed, and what was skipped. A package that is missing is installed by its name where apt-get can.
 set -u
 cd "$(dirname "$0")/.."
-work=$(mktemp -d)
-trap 'rm -rf "$work"' EXIT
+# shellcheck source=tests/runner.sh
+. tests/runner.sh
 archive=crates/coder_c/out/libcoder_c.a
 backend=integrations/liberasurecode
-passed=0
-failed=0
-skipped=()
-
-install() {
-    apt-get install -y --no-install-recommends "$1"
-}
-
-# Whether a command or a file is here, once the package that has it was asked for. On a new machine the lists of packages come first.
-has() {
-    command -v "$1" > /dev/null || [ -e "$1" ] && return
-    if [ "$(id -u)" = 0 ] && command -v apt-get > /dev/null; then
-        { install "$2" || { apt-get update && install "$2"; }; } > "$work/apt" 2>&1
-    fi
-    command -v "$1" > /dev/null || [ -e "$1" ]
-}
-
-# test_of NAME COMMAND PACKAGE FUNCTION WORD..: calls the function with the words, or skips it where the command is missing.
-test_of() {
-    local name=$1 command=$2 package=$3
-    shift 3
-    if ! has "$command" "$package"; then
-        skipped+=("$name: no $package")
-    elif "$@"; then
-        passed=$((passed + 1))
-    else
-        failed=$((failed + 1))
-        echo "failed: $name"
-    fi
-}
 
 warnings=(-Wall -Wextra -Wpedantic -Wconversion -Wshadow -Werror -I include)
 sanitizers=(-g -fsanitize=address,undefined -fno-sanitize-recover=all)
@@ -151,5 +121,4 @@ test_of "liberasurecode" "$header" liberasurecode-dev liberasurecode
 test_of "liberasurecode, sanitizers of gcc" "$header" liberasurecode-dev liberasurecode_sanitized
 test_of "PyECLib" /usr/lib/python3/dist-packages/pyeclib python3-pyeclib pyeclib
 ceph
-printf '%d tests of the library passed, %d failed, %d skipped%s\n' "$passed" "$failed" "${#skipped[@]}" "${skipped[*]:+ (${skipped[*]})}"
-[ "$failed" = 0 ]
+summary library

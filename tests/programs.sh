@@ -13,3 +13,4 @@ python3 tests/statuses.py
 python3 tests/pictures.py
 python3 tests/refused_memory.py
 tests/library.sh
+tests/store.sh

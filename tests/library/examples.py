@@ -5,6 +5,16 @@ import re
 
 TOP = os.path.dirname(os.path.dirname(os.path.dirname(os.path.abspath(__file__))))
 
+PROGRAMS = [
+    "bindings/c/store.c",
+    "bindings/cpp/store.cpp",
+    "bindings/rust_store/examples/store.rs",
+    "bindings/python/store.py",
+    "bindings/c/rebuild.c",
+    "bindings/rust/examples/rebuild.rs",
+    "bindings/python/rebuild.py",
+]
+
 
 def main():
     with open(os.path.join(TOP, "docs", "library.md"), encoding="utf-8") as document:
@@ -12,8 +22,8 @@ def main():
     for path, text in blocks:
         with open(os.path.join(TOP, path), encoding="utf-8") as file:
             assert file.read() == text, f"docs/library.md has another text of {path}"
-    assert [path for path, _ in blocks] == ["bindings/c/rebuild.c", "bindings/rust/examples/rebuild.rs", "bindings/python/rebuild.py"]
-    print(f"examples: {len(blocks)} programs rebuild two fragments, and docs/library.md has their text")
+    assert [path for path, _ in blocks] == PROGRAMS
+    print(f"examples: docs/library.md has the text of {len(blocks)} programs")
 
 
 if __name__ == "__main__":
