@@ -1,6 +1,6 @@
 /* What a call of the store for C costs, beside the same reads made inside Rattle: a table of nanoseconds,
- * each the median of 31 rounds of 2,000 calls that take turns. `cost THREADS MILLIS`: how many reads of 256
- * bytes so many threads make in that time, of the blob that bench/library.py's clients read. */
+ * each the median of 31 rounds of 2,000 calls that take turns. `cost THREADS MILLIS`: how many calls so many
+ * threads make in that time, the same that bench/clients makes as `walks`. */
 #include "lrc_store.h"
 #include <pthread.h>
 #include <stdio.h>
@@ -93,21 +93,30 @@ struct reader {
     pthread_t thread;
     lrc_slot slot;
     double until;
-    uint64_t reads;
+    uint64_t calls;
 };
 
-static void *read_on(void *argument)
+/* One call: a read, or now and then a loss and its repair. */
+static uint32_t call(struct reader *reader)
+{
+    uint64_t version, lent, built;
+    uint8_t target[256];
+    switch (reader->calls % 200) {
+    case 198: return lrc_store_lose_wait(&reader->slot, NAME, 0, 1, &version, -1);
+    case 199: return lrc_store_repair_wait(&reader->slot, NAME, 0, 1, &version, -1);
+    default: return lrc_store_read_wait(&reader->slot, NAME, 0, target, sizeof target, &version, &lent, &built, -1);
+    }
+}
+
+static void *call_on(void *argument)
 {
     struct reader *reader = argument;
-    uint64_t version, lent, built, discarded;
-    uint8_t target[256];
-    while (reader->reads % 64 || now() < reader->until) {
-        const uint32_t status = lrc_store_read_wait(&reader->slot, NAME, 64, target, sizeof target, &version, &lent, &built, -1);
-        if (status == LRC_STORE_JOURNAL_FULL)
+    uint64_t discarded;
+    while (reader->calls % 64 || now() < reader->until)
+        if (call(reader) == LRC_STORE_JOURNAL_FULL)
             lrc_store_trim_wait(&reader->slot, 0, &discarded, -1);
         else
-            reader->reads++;
-    }
+            reader->calls++;
     return NULL;
 }
 
@@ -115,9 +124,10 @@ static int threads(unsigned number, double millis)
 {
     static struct reader readers[MOST_THREADS];
     lrc_slot slot = LRC_SLOT_EMPTY;
-    uint64_t version, reads = 0;
+    uint64_t version, calls = 0;
     double start;
-    if (number > MOST_THREADS || lrc_store_open(64, 65536, 1, &slot) || lrc_store_put(&slot, NAME, blob, 768, 12, &version))
+    if (number > MOST_THREADS || lrc_store_open(64, 65536, 1, &slot) || lrc_store_put(&slot, NAME, blob, 768, 12, &version)
+        || lrc_store_lose(&slot, NAME, 0, 0, &version))
         return 1;
     for (unsigned i = 0; i < number; i++)
         if (lrc_store_split(&slot, i + 1, &readers[i].slot))
@@ -125,15 +135,15 @@ static int threads(unsigned number, double millis)
     start = now();
     for (unsigned i = 0; i < number; i++) {
         readers[i].until = start + millis * 1e6;
-        pthread_create(&readers[i].thread, NULL, read_on, &readers[i]);
+        pthread_create(&readers[i].thread, NULL, call_on, &readers[i]);
     }
     for (unsigned i = 0; i < number; i++) {
         pthread_join(readers[i].thread, NULL);
-        reads += readers[i].reads;
+        calls += readers[i].calls;
         if (lrc_store_join(&slot, &readers[i].slot))
             return 1;
     }
-    printf("calls %llu nanos %.0f\n", (unsigned long long)reads, now() - start);
+    printf("calls %llu nanos %.0f\n", (unsigned long long)calls, now() - start);
     lrc_slot_release(&slot);
     return 0;
 }

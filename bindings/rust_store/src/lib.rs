@@ -146,8 +146,8 @@ fn wait(mut call: impl FnMut() -> u32) -> u32 {
             return status;
         }
         match attempt {
-            0..=31 => std::hint::spin_loop(),
-            32..=255 => thread::yield_now(),
+            0..=63 => (0..64 << attempt.min(4)).for_each(|_| std::hint::spin_loop()),
+            64..=255 => thread::yield_now(),
             _ => thread::sleep(Duration::from_micros(50)),
         }
     }
