@@ -1,6 +1,6 @@
 /* What a call of the store for C costs, beside the same reads made inside Rattle: a table of nanoseconds,
- * each the median of 31 rounds of 2,000 calls that take turns. `cost THREADS MILLIS`: how many calls so many
- * threads make in that time, the same that bench/clients makes as `walks`. */
+ * each the median of 31 rounds of 2,000 calls that take turns. `cost THREADS MILLIS`: how many reads of 256
+ * bytes so many threads make of one blob in that time, from C and then inside Rattle. */
 #include "lrc_store.h"
 #include <pthread.h>
 #include <stdio.h>
@@ -96,33 +96,36 @@ struct reader {
     uint64_t calls;
 };
 
-/* One call: a read, or now and then a loss and its repair. */
-static uint32_t call(struct reader *reader)
-{
-    uint64_t version, lent, built;
-    uint8_t target[256];
-    switch (reader->calls % 200) {
-    case 198: return lrc_store_lose_wait(&reader->slot, NAME, 0, 1, &version, -1);
-    case 199: return lrc_store_repair_wait(&reader->slot, NAME, 0, 1, &version, -1);
-    default: return lrc_store_read_wait(&reader->slot, NAME, 0, target, sizeof target, &version, &lent, &built, -1);
-    }
-}
-
-static void *call_on(void *argument)
+static void *read_from_c_on(void *argument)
 {
     struct reader *reader = argument;
-    uint64_t discarded;
+    uint64_t version, lent, built, discarded;
+    uint8_t target[256];
     while (reader->calls % 64 || now() < reader->until)
-        if (call(reader) == LRC_STORE_JOURNAL_FULL)
-            lrc_store_trim_wait(&reader->slot, 0, &discarded, -1);
+        if (lrc_store_read_wait(&reader->slot, NAME, 0, target, sizeof target, &version, &lent, &built, -1))
+            lrc_store_trim_wait(&reader->slot, 0, &discarded, -1); /* the journal is full */
         else
             reader->calls++;
     return NULL;
 }
 
-static int threads(unsigned number, double millis)
+static void *read_inside_on(void *argument)
 {
-    static struct reader readers[MOST_THREADS];
+    struct reader *reader = argument;
+    uint64_t discarded;
+    uint8_t target[256];
+    while (now() < reader->until) {
+        const uint64_t done = timed_reads(&reader->slot, NAME, 0, target, sizeof target, 64);
+        reader->calls += done;
+        if (!done)
+            lrc_store_trim(&reader->slot, 0, &discarded); /* the journal is full, or others were inside each time */
+    }
+    return NULL;
+}
+
+static int threads(unsigned number, double millis, void *(*work)(void *), const char *what)
+{
+    struct reader readers[MOST_THREADS] = { 0 };
     lrc_slot slot = LRC_SLOT_EMPTY;
     uint64_t version, calls = 0;
     double start;
@@ -135,7 +138,7 @@ static int threads(unsigned number, double millis)
     start = now();
     for (unsigned i = 0; i < number; i++) {
         readers[i].until = start + millis * 1e6;
-        pthread_create(&readers[i].thread, NULL, call_on, &readers[i]);
+        pthread_create(&readers[i].thread, NULL, work, &readers[i]);
     }
     for (unsigned i = 0; i < number; i++) {
         pthread_join(readers[i].thread, NULL);
@@ -143,7 +146,7 @@ static int threads(unsigned number, double millis)
         if (lrc_store_join(&slot, &readers[i].slot))
             return 1;
     }
-    printf("calls %llu nanos %.0f\n", (unsigned long long)calls, now() - start);
+    printf("%s: %.2f million reads a second\n", what, (double)calls * 1e3 / (now() - start));
     lrc_slot_release(&slot);
     return 0;
 }
@@ -156,7 +159,8 @@ int main(int count, char **words)
     for (size_t i = 0; i < sizeof blob; i++)
         blob[i] = (uint8_t)(i * 31);
     if (count > 2)
-        return threads((unsigned)atoi(words[1]), atof(words[2]));
+        return threads((unsigned)atoi(words[1]), atof(words[2]), read_from_c_on, "from C")
+            || threads((unsigned)atoi(words[1]), atof(words[2]), read_inside_on, "inside Rattle");
     if (lrc_store_open(WIDTH, 1000000, 1, &slot) || lrc_store_put(&slot, NAME, blob, sizeof blob, 12, &version))
         return 1;
     row(&slot, 64);

@@ -33,3 +33,4 @@ gcc -std=gnu11 -O2 -I "$folder/include" "$bench/cost.c" "$folder/crates/timed_st
 lscpu | sed -n 's/^Model name: */processor: /p'
 echo "load: $(cut -d ' ' -f 1-3 /proc/loadavg)"
 "$folder/cost"
+"$folder/cost" 4 60
