@@ -27,18 +27,25 @@ _TEXTS = {
     12: "the width is not in 1 to 65,536",
     13: "no further session can be split off",
     14: "the session is closed, or was joined",
-    16: "an argument is out of range, or the sessions are of two stores",
     17: "the store has other sessions: join them first",
     18: "out of memory for what is absent of the range",
 }
-_DONE, _BUSY, _NO_MEMORY, _JOURNAL_FULL, _NOTHING_LEFT = 0, 1, 8, 9, 19
+_BAD_ARGUMENTS = {
+    "open": "the limit is not in 1 to 1,048,576",
+    "put": "a blob has 12 or 6 data fragments",
+    "join": "the sessions are of two stores, or are one session",
+}
+_DONE, _BUSY, _BAD_ARGUMENT = 0, 1, 16
+_NO_MEMORY, _JOURNAL_FULL, _NOTHING_LEFT = 8, 9, 19
 
 
 class StoreError(Exception):
-    """A call that was not done, with its status of lrc_store.h."""
+    """A call that was not done, with its arguments and its status of lrc_store.h."""
 
-    def __init__(self, call: str, status: int) -> None:
-        super().__init__(f"{call}: {_TEXTS.get(status, f'status {status}')}")
+    def __init__(self, call: str, arguments: tuple, status: int) -> None:
+        texts = _BAD_ARGUMENTS.get(call) if status == _BAD_ARGUMENT else _TEXTS.get(status)
+        told = ", ".join(map(repr, arguments))
+        super().__init__(f"{call}({told}): {texts or f'status {status}'}")
         self.status = status
 
 
@@ -74,7 +81,11 @@ DECLARED = {
     "lrc_slot_release": [_SLOT],
 }
 _HERE = os.path.dirname(os.path.abspath(__file__))
-_library = ctypes.CDLL(os.environ.get("LRC_STORE_SO") or os.path.join(_HERE, "liblrc_store.so"))
+_path = os.environ.get("LRC_STORE_SO") or os.path.join(_HERE, "liblrc_store.so")
+try:
+    _library = ctypes.CDLL(_path)
+except OSError as error:
+    raise ImportError(f"{error}: build it as docs/library.md says, or set LRC_STORE_SO to its path") from error
 for _name, _types in DECLARED.items():
     getattr(_library, _name).argtypes = _types
     getattr(_library, _name).restype = _U32
@@ -82,9 +93,12 @@ _library.lrc_slot_release.restype = None
 _numbers = itertools.count(1)
 
 
-def _status(name: str, *arguments) -> int:
+def _status(function: str, *arguments) -> int:
     """The status of a call, which is repeated while another thread is in the critical section."""
-    call = getattr(_library, name)
+    call = getattr(_library, function)
+    for kind, argument in zip(call.argtypes, arguments):
+        if kind in (_U32, _U64, _SIZE) and not 0 <= argument < 1 << 8 * ctypes.sizeof(kind):
+            raise ValueError(f"{function}: {argument} is not in 0 to 2**{8 * ctypes.sizeof(kind)} - 1")
     for attempt in itertools.count():
         status = call(*arguments)
         if status != _BUSY:
@@ -93,10 +107,10 @@ def _status(name: str, *arguments) -> int:
     raise AssertionError
 
 
-def _call(name: str, *arguments) -> None:
-    status = _status(name, *arguments)
+def _check(status: int, call: str, *arguments) -> None:
+    """Raises if the call with these arguments was not done."""
     if status != _DONE:
-        raise StoreError(name.removeprefix("lrc_store_"), status)
+        raise StoreError(call, arguments, status)
 
 
 def _named(name: str) -> tuple[bytes, int]:
@@ -121,7 +135,8 @@ class Closed(NamedTuple):
 
 
 class Grant:
-    """A range of a blob that is lent, as memoryviews that are read-only. They are valid until it is released."""
+    """A range of a blob that is lent, as memoryviews that are read-only. The memory is given back when the
+    last of them is gone, and the grant released."""
 
     def __init__(self, lent: _Slot, version: int, pieces: int) -> None:
         self.version = version
@@ -129,13 +144,14 @@ class Grant:
         slices, count = (_Slice * (pieces + 1))(), _U64()
         for piece in slices:
             piece.at = ctypes.cast(ctypes.c_char_p(b""), ctypes.POINTER(ctypes.c_uint8))
-        _call("lrc_slot_slices", lent, slices, pieces, count)
+        _check(_status("lrc_slot_slices", lent, slices, pieces, count), "read")
         self.pieces = [self._view(piece) for piece in slices[: count.value]]
 
-    @staticmethod
-    def _view(piece: _Slice) -> memoryview:
+    def _view(self, piece: _Slice) -> memoryview:
         address = ctypes.cast(piece.at, ctypes.c_void_p).value or 0
-        return memoryview((ctypes.c_uint8 * piece.len).from_address(address)).cast("B").toreadonly()
+        array = (ctypes.c_uint8 * piece.len).from_address(address)
+        array.owner = self._lent
+        return memoryview(array).cast("B").toreadonly()
 
     def __bytes__(self) -> bytes:
         return b"".join(self.pieces)
@@ -145,7 +161,7 @@ class Grant:
 
     def __exit__(self, *_: object) -> None:
         self.pieces = []
-        _library.lrc_slot_release(self._lent)
+        self._lent = None
 
 
 class Session:
@@ -158,23 +174,25 @@ class Session:
     def open(cls, width: int, limit: int) -> Session:
         """The first session of a new store: fragments of `width` bytes, at most `limit` journal entries."""
         slot = _Slot()
-        _call("lrc_store_open", width, limit, next(_numbers), slot)
+        _check(_status("lrc_store_open", width, limit, next(_numbers), slot), "open", width, limit)
         return cls(slot)
 
     def split(self, who: int) -> Session:
         """A further session, whose calls have the label `who` in the journal."""
         other = _Slot()
-        _call("lrc_store_split", self._slot, who, other)
+        _check(_status("lrc_store_split", self._slot, who, other), "split", who)
         return Session(other)
 
     def join(self, other: Session) -> None:
         """Joins another session of the store into this one."""
-        _call("lrc_store_join", self._slot, other._slot)
+        if other is self:
+            raise StoreError("join", (), _BAD_ARGUMENT)
+        _check(_status("lrc_store_join", self._slot, other._slot), "join")
 
     def close(self) -> Closed:
         """Closes the store, once all its sessions are joined into this one."""
         entries, lawful = _U64(), _U32()
-        _call("lrc_store_close", self._slot, entries, lawful)
+        _check(_status("lrc_store_close", self._slot, entries, lawful), "close")
         return Closed(entries.value, lawful.value == 1)
 
     def put(self, name: str, blob: bytes | bytearray | memoryview, data_fragments: int = 12) -> int:
@@ -183,52 +201,54 @@ class Session:
         view = memoryview(blob).cast("B")
         source = (ctypes.c_uint8 * (len(view) or 1)).from_buffer(view) if view and not view.readonly else bytes(view)
         address = source if isinstance(source, bytes) else ctypes.addressof(source)
-        _call("lrc_store_put", self._slot, *_named(name), address, len(view), data_fragments, version)
+        status = _status("lrc_store_put", self._slot, *_named(name), address, len(view), data_fragments, version)
+        _check(status, "put", name, data_fragments)
         return version.value
 
     def read(self, name: str, start: int, length: int) -> Grant:
         """Lends `length` bytes of a blob, from the byte `start` on."""
         lent, version, pieces = _Slot(), _U64(), _U64()
-        _call("lrc_store_lend", self._slot, *_named(name), start, length, lent, version, pieces)
+        status = _status("lrc_store_lend", self._slot, *_named(name), start, length, lent, version, pieces)
+        _check(status, "read", name, start, length)
         return Grant(lent, version.value, pieces.value)
 
     def lose(self, name: str, stripe: int, fragment: int) -> int:
         """Loses a fragment of a stripe, as after a disk failure."""
         version = _U64()
-        _call("lrc_store_lose", self._slot, *_named(name), stripe, fragment, version)
+        _check(_status("lrc_store_lose", self._slot, *_named(name), stripe, fragment, version), "lose", name, stripe, fragment)
         return version.value
 
     def repair(self, name: str, stripe: int, fragment: int) -> int:
         """Repairs a lost fragment of a stripe."""
         version = _U64()
-        _call("lrc_store_repair", self._slot, *_named(name), stripe, fragment, version)
+        _check(_status("lrc_store_repair", self._slot, *_named(name), stripe, fragment, version), "repair", name, stripe, fragment)
         return version.value
 
     def delete(self, name: str) -> int:
         """Deletes a blob."""
         version = _U64()
-        _call("lrc_store_delete", self._slot, *_named(name), version)
+        _check(_status("lrc_store_delete", self._slot, *_named(name), version), "delete", name)
         return version.value
 
     def stat(self, name: str) -> Shape:
         """The shape of a blob."""
         numbers = [_U64() for _ in range(4)]
-        _call("lrc_store_stat", self._slot, *_named(name), *numbers)
+        _check(_status("lrc_store_stat", self._slot, *_named(name), *numbers), "stat", name)
         return Shape(*(number.value for number in numbers))
 
     def trim(self, keep: int) -> int:
         """Discards all entries of the journal but the last `keep`, and gives how many these were."""
         discarded = _U64()
-        _call("lrc_store_trim", self._slot, keep, discarded)
+        _check(_status("lrc_store_trim", self._slot, keep, discarded), "trim", keep)
         return discarded.value
 
     def mend(self) -> int:
         """Repairs all lost fragments that can be rebuilt, and gives how many these were."""
         plan, items, version, repaired = _Slot(), _U64(), _U64(), 0
-        _call("lrc_store_plan", self._slot, plan, items)
+        _check(_status("lrc_store_plan", self._slot, plan, items), "mend")
         while (status := _status("lrc_store_mend_step", self._slot, plan, version)) != _NOTHING_LEFT:
             if status in (_NO_MEMORY, _JOURNAL_FULL):
-                raise StoreError("mend", status)
+                raise StoreError("mend", (), status)
             repaired += status == _DONE
         return repaired
 

@@ -1,6 +1,7 @@
 #!/usr/bin/env python3
 """The store from Python: errors, buffers, grants that outlive their blob, and threads."""
 
+import gc
 import threading
 
 import lrc_store
@@ -20,6 +21,18 @@ def errors(session):
     assert status_of(session.put, "a", b"x", 7) == 16
     assert status_of(session.stat, "none") == 2
     assert status_of(lrc_store.Session.open, 0, 10) == 12
+    assert status_of(session.join, session) == status_of(session.join, lrc_store.Session.open(4, 10)) == 16
+    for too_much in ((session.lose, "a", 2**64, 0), (session.lose, "a", -1, 0), (lrc_store.Session.open, 2**32 + 4, 10)):
+        try:
+            too_much[0](*too_much[1:])
+        except ValueError as error:
+            assert str(too_much[2 if too_much[1] == "a" else 1]) in str(error)
+        else:
+            raise AssertionError(too_much)
+    try:
+        session.read("none", 3, 4)
+    except lrc_store.StoreError as error:
+        assert str(error) == "read('none', 3, 4): the name has no blob"
 
 
 def buffers(session):
@@ -38,6 +51,10 @@ def grants(session):
     session.put("a", bytes(100))
     session.delete("a")
     assert bytes(grant) == bytes(range(2, 92))
+    pieces = grant.pieces
+    del grant
+    gc.collect()
+    assert b"".join(pieces) == bytes(range(2, 92))
 
 
 def mending(session):
