@@ -72,8 +72,9 @@ enum {
     LRC_STORE_BAD_ARGUMENT = 16, /* a limit not in 1 to 1,048,576; a number of data fragments other than
                                   * 12 and 6; or sessions of two stores */
     LRC_STORE_NOT_ALONE = 17,    /* the store has other sessions */
-    LRC_STORE_NOT_REBUILT = 18,  /* out of memory for what is absent of the range; the call is in the
-                                  * history, `version` is written, and so may be any of `target` */
+    LRC_STORE_NOT_REBUILT = 18,  /* out of memory for what is absent of the range, or for the list of the
+                                  * pieces of lrc_store_lend; the call is in the history, `version` is
+                                  * written, and so may be any of `target` */
     LRC_STORE_NOTHING_LEFT = 19  /* the plan has no item left */
 };
 
@@ -106,8 +107,8 @@ uint32_t lrc_store_read(lrc_slot *slot, const uint8_t *name, size_t name_len, ui
                         size_t len, uint64_t *version, uint64_t *lent, uint64_t *built);
 
 /* Lends `len` bytes of the blob, from the byte `start` on: puts them into `other`, which is empty before.
- * `pieces`: how many pieces lrc_slot_slices gives. Only absent fragments cost memory. The bytes stay as
- * they are while others put, lose, repair and delete, until `other` is released. */
+ * `pieces`: how many pieces lrc_slot_slices gives. It takes memory for a list of the pieces and for the
+ * bytes of absent fragments. The bytes stay as they are while others put, lose, repair and delete, until `other` is released. */
 uint32_t lrc_store_lend(lrc_slot *slot, const uint8_t *name, size_t name_len, uint64_t start, uint64_t len,
                         lrc_slot *other, uint64_t *version, uint64_t *pieces);
 

@@ -22,7 +22,8 @@ inline const char *text_of(uint32_t status)
         "the remaining fragments do not determine it", "the blob has no such fragment", "the fragment was lost before",
         "the fragment is not lost", "out of memory", "the journal is full: trim it", "the blob needs more than 4,096 stripes",
         "a name has 1 to 32 bytes of a-z, 0-9, '.', '_' and '-'", "the width is not in 1 to 65,536",
-        "no further session can be split off", "the slot is empty", "the slot is occupied", "an argument is out of range",
+        "no further session can be split off", "the session is closed, or was joined", "the slot is occupied",
+        "the limit is not in 1 to 1,048,576, the data fragments are not 12 or 6, or the sessions are of two stores",
         "the store has other sessions: join them first", "out of memory for what is absent of the range", "the plan has no item left"
     };
     return status < sizeof texts / sizeof *texts ? texts[status] : "unknown status";
@@ -103,7 +104,11 @@ public:
         return made;
     }
 
-    void join(session &&other) { done("join", lrc_store_join(held.get(), other.held.get())); }
+    // On an error, the other session is as it was.
+    void join(session &&other)
+    {
+        done("join", &other == this ? uint32_t{ LRC_STORE_BAD_ARGUMENT } : lrc_store_join(held.get(), other.held.get()));
+    }
 
     closed close()
     {

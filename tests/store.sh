@@ -56,10 +56,12 @@ example() { [ "$("$@")" = "HELLO, WORLD" ] || { echo "the example prints somethi
 
 in_c() { program gcc gnu11 bindings/c/store.c && "$work/program"; }
 in_cpp() { program g++ c++17 bindings/cpp/store.cpp "$@" && "$work/program"; }
-in_rust() {
+rust() {
     LRC_STORE_DIR="$PWD/crates/store_c/out" LRC_LIBC_DIR="$(dirname "$libc")" CARGO_TARGET_DIR="$work/cargo" CARGO_TERM_COLOR=never \
-        cargo run --quiet --offline --release --manifest-path bindings/rust_store/Cargo.toml --example store
+        cargo "$1" --quiet --offline --release --manifest-path bindings/rust_store/Cargo.toml "${@:2}"
 }
+in_rust() { rust run --example store; }
+rust_tests() { rust test > "$work/rust" 2>&1 || { cat "$work/rust"; return 1; }; }
 python() { LRC_STORE_SO="$work/liblrc_store.so" PYTHONDONTWRITEBYTECODE=1 PYTHONPATH=bindings/python python3 "$@"; }
 
 for crate in coder_c store_c; do
@@ -79,6 +81,7 @@ test_of "lost sets" gcc gcc lost_sets
 test_of "C example" gcc gcc example in_c
 test_of "C++ example" g++ g++ example in_cpp "${sanitizers[@]}"
 test_of "Rust example" cargo cargo example in_rust
+test_of "Rust" cargo cargo rust_tests
 test_of "Python example" python3 python3 example python bindings/python/store.py
 test_of "Python" python3 python3 python tests/store/bindings.py
 summary store

@@ -81,8 +81,10 @@ pub enum Error {
     BadWidth,
     /// No further session can be split off.
     NoPass,
-    /// An argument is out of range, or the sessions are of two stores.
-    BadArgument,
+    /// The limit is not in 1 to 1,048,576.
+    BadLimit,
+    /// The sessions are of two stores.
+    TwoStores,
     /// The store has other sessions.
     NotAlone,
     /// A status that this version does not know.
@@ -104,7 +106,8 @@ impl fmt::Display for Error {
             Error::BadName => "a name has 1 to 32 bytes of a-z, 0-9, '.', '_' and '-'",
             Error::BadWidth => "the width is not in 1 to 65,536",
             Error::NoPass => "no further session can be split off",
-            Error::BadArgument => "an argument is out of range, or the sessions are of two stores",
+            Error::BadLimit => "the limit is not in 1 to 1,048,576",
+            Error::TwoStores => "the sessions are of two stores",
             Error::NotAlone => "the store has other sessions: join them first",
             Error::Other(status) => return write!(f, "status {status}"),
         })
@@ -112,6 +115,34 @@ impl fmt::Display for Error {
 }
 
 impl std::error::Error for Error {}
+
+/// A join or a close that was not done, with the session that was passed to it.
+pub struct Refused {
+    /// As it was.
+    pub session: Session,
+    /// Why.
+    pub error: Error,
+}
+
+impl fmt::Debug for Refused {
+    fn fmt(&self, f: &mut fmt::Formatter<'_>) -> fmt::Result {
+        f.debug_struct("Refused").field("error", &self.error).finish_non_exhaustive()
+    }
+}
+
+impl fmt::Display for Refused {
+    fn fmt(&self, f: &mut fmt::Formatter<'_>) -> fmt::Result {
+        self.error.fmt(f)
+    }
+}
+
+impl std::error::Error for Refused {}
+
+impl From<Refused> for Error {
+    fn from(refused: Refused) -> Error {
+        refused.error
+    }
+}
 
 const DONE: u32 = 0;
 const BUSY: u32 = 1;
@@ -132,7 +163,7 @@ fn done(status: u32) -> Result<(), Error> {
         11 => Error::BadName,
         12 => Error::BadWidth,
         13 => Error::NoPass,
-        16 => Error::BadArgument,
+        16 => Error::BadLimit, // of open; a join has another meaning for it
         17 => Error::NotAlone,
         other => Error::Other(other),
     })
@@ -239,16 +270,21 @@ impl Session {
         Ok(Session { slot })
     }
 
-    /// Joins another session of the store into this one.
-    pub fn join(&mut self, mut other: Session) -> Result<(), Error> {
-        done(unsafe { lrc_store_join(&mut self.slot, &mut other.slot) })
+    /// Joins another session of the store into this one. A session of another store comes back.
+    pub fn join(&mut self, mut other: Session) -> Result<(), Refused> {
+        match unsafe { lrc_store_join(&mut self.slot, &mut other.slot) } {
+            DONE => Ok(()),
+            _ => Err(Refused { session: other, error: Error::TwoStores }),
+        }
     }
 
-    /// Closes the store, once all its sessions are joined into this one.
-    pub fn close(mut self) -> Result<Closed, Error> {
+    /// Closes the store, if all its sessions are joined into this one. Else the session comes back.
+    pub fn close(mut self) -> Result<Closed, Refused> {
         let (mut entries, mut lawful) = (0, 0);
-        done(unsafe { lrc_store_close(&mut self.slot, &mut entries, &mut lawful) })?;
-        Ok(Closed { entries, is_checked: lawful == 1 })
+        match unsafe { lrc_store_close(&mut self.slot, &mut entries, &mut lawful) } {
+            DONE => Ok(Closed { entries, is_checked: lawful == 1 }),
+            _ => Err(Refused { session: self, error: Error::NotAlone }),
+        }
     }
 
     /// Stores a copy of a blob, and gives its version.
