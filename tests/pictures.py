@@ -1,5 +1,5 @@
 #!/usr/bin/env python3
-"""The pictures of docs/pictures are what tools/ draws today, and its rule of what is open agrees with the program.
+"""The pictures of docs/pictures are what tools/ draws today, and its rule of what is unrecoverable agrees with the program.
 
 For the rule a blob is put, some of its fragments are lost, and all of it is read and repaired. Each note of the history is compared with what
 tools/history.py makes of the call, over every lost set of up to four fragments of LRC(12,2,2) and every lost set of LRC(6,2,2).
@@ -52,13 +52,16 @@ def are_calls_noted():
 def wrong_pictures():
     wanted = {name: draw() for name, draw in draw_pictures.PICTURES.items()}
     for name, script in RUNS.items():
-        printed = draw_run.run(os.path.join(EXAMPLES, script), [])
-        wanted[name] = draw_run.draw(printed, 1, "The run of " + script)
+        path = os.path.join(EXAMPLES, script)
+        printed = draw_run.run(path, [])
+        wanted[name] = draw_run.draw(printed, 1, "The run of " + script, draw_run.has_only_mends(path))
     if os.path.exists(sharded.RESULTS):
         wanted["sharded.svg"] = sharded.picture(sharded.kept()[0])
     unknown = set(os.listdir(PICTURES)) - set(wanted)
     if not are_calls_noted():
         unknown.add("passes_and_history.svg")
+    if any(lrc.rebuilt_from("Wide", frozenset(lost), 0) != built for lost, built in draw_pictures.recipes().items()):
+        unknown.add("degraded_read.svg")
     return [name for name, text in wanted.items() if drawn(name) != text] + sorted(unknown)
 
 

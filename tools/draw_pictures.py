@@ -1,7 +1,8 @@
 #!/usr/bin/env python3
-"""Draws the pictures of the documents: tools/draw_pictures.py [FOLDER], or docs/pictures where none is given.
+"""Draws the pictures of the documents: tools/draw_pictures.py [FOLDER], or docs/pictures without one.
 
-The codes come from the crate `lrc_code`; from which fragments a lost one is built comes from what the program `guide` prints.
+The codes come from the crate `lrc_code`; which fragments a lost one is rebuilt from is what the
+program `guide` prints; the layers are those of crates.txt, and the plan's numbers those of `survey`.
 """
 
 import os
@@ -9,14 +10,16 @@ import re
 import sys
 
 import lrc
+from draw_layers import layers
+from draw_planner import planner
 from svg import FIRST, GREY, INK, MADE, RED, SECOND, WHITE, box, drawing, group_fill, line, middle, text
 
 CODE = "Wide"
 DATA, ALL = lrc.data_fragments(CODE), lrc.fragments(CODE)
 HALF = DATA // 2
 GLOBALS = f"{DATA + 2} and {DATA + 3} sum both groups, each fragment times its weight, or its weight squared."
-UNRECOVERABLE = "they are open: two stripes agree on all that is left, and differ in them. All others can be read"
-# Who makes which call, in the order in which they enter, and what is noted.
+UNRECOVERABLE = "unrecoverable: two stripes agree on all remaining fragments and differ in these. All others can be read"
+# Which pass makes which call, in the order in which they enter, and what is noted.
 CALLS = [
     ("p", "put a → stored 1"),
     ("q", "lose a 0 0 → lost 1"),
@@ -71,13 +74,13 @@ def blob_in_stripes():
             shapes += [line(x1, y + 62, x2, y + 62, INK), middle((x1 + x2) / 2, y + 80, name, 12)]
     shapes += [
         text(left, 380, f"Parity {DATA} is the sum of group X, {DATA + 1} that of Y. {GLOBALS}", 12),
-        text(left, 399, "Dashed: the last stripe is filled up with zero bytes. They are stored, and can be lost like all else.", 12),
+        text(left, 399, "Dashed: the last stripe is filled up with zero bytes, which are stored and can be lost.", 12),
     ]
     return drawing(930, 416, "A blob in its stripes", shapes)
 
 
 def stripe_row(y, title, below, lost, built_from):
-    """One stripe with what is lost, and from which fragments the first one is built, if it can be."""
+    """One stripe with its lost fragments, and those that the first one is rebuilt from, if there are."""
     left, shapes = 24, [text(24, y, title, 14, bold=True), text(24, y + 18, below, 12, fill=GREY)]
     for f in range(ALL):
         x, is_lost = place(f, left, 50), f in lost
@@ -95,12 +98,12 @@ def stripe_row(y, title, below, lost, built_from):
         for f in built_from:
             shapes.append(line(place(f, left, 50) + 22, y + 65, x + 22, y + 92))
         shapes += [box(x, y + 92, 44, 26, MADE), middle(x + 22, y + 110, lost[0], 14, bold=True)]
-        shapes.append(text(x + 54, y + 110, f"built from {len(built_from)} fragments", 12))
+        shapes.append(text(x + 54, y + 110, f"rebuilt from {len(built_from)} fragments", 12))
     return shapes
 
 
 def recipes():
-    """From which fragments the first lost one is built, by the lost ones: as the program `guide` prints it."""
+    """The fragments that the first lost one is rebuilt from, by the lost ones, as `guide` prints it."""
     printed = lrc.definition("guide", "stdout")
     found = {}
     for lost, built in re.findall(r"^lost ([\d ]+): 0 is (open|built from [\d ]+)$", printed, re.M):
@@ -111,18 +114,18 @@ def recipes():
 def degraded_read():
     built = recipes()
     rows = [
-        ((0,), "Fragment 0 is lost", "alone in its group: the sum of the others and of the group's parity"),
-        ((0, 1), "Two of one group are lost", "the group alone can't tell: a global parity helps, and with it the other group's data"),
-        ((0, 1, 6, 7), "Two of each group are lost", "both global parities are used up"),
+        ((0,), "Fragment 0 is lost", "the only loss of its group: the sum of the rest of the group and its parity"),
+        ((0, 1), "Two of one group are lost", "a global parity makes good the second loss, and the data of the other group is read with it"),
+        ((0, 1, 6, 7), "Two of each group are lost", "both global parities are needed"),
         ((0, 1, 2, 3), "Four of one group are lost", UNRECOVERABLE),
     ]
     shapes = [
-        text(24, 30, "A read of what is lost", 16, bold=True),
-        text(24, 50, "Struck out: lost. Crossed out: open. Thick: what the lost one is built from. Yellow: built.", 12, fill=GREY),
+        text(24, 30, "Reading lost fragments", 16, bold=True),
+        text(24, 50, "Struck out: lost. Crossed out: unrecoverable. Thick: read to rebuild fragment 0. Yellow: rebuilt.", 12, fill=GREY),
     ]
     for place_of_row, (lost, title, below) in enumerate(rows):
         shapes += stripe_row(88 + place_of_row * 148, title, below, lost, built[lost])
-    return drawing(880, 622, "A read of what is lost", shapes)
+    return drawing(880, 622, "Reading lost fragments", shapes)
 
 
 def passes_and_history():
@@ -150,18 +153,24 @@ def passes_and_history():
             if is_seen:
                 shapes.append(middle(195 + i * 56, y + 17, i, 12, bold=own))
     words = [
-        "A call that is answered: the history begins with",
+        "After an answered call the history begins with",
         "all that the pass had seen, and ends with this call,",
         "at one new place of its own.",
         "",
-        "Two passes have no place of their own in common.",
-        "Once all are joined, every place is the pass's own.",
+        "No place is the own place of two passes. Once all",
+        "are joined, every place is the pass's own.",
     ]
     shapes += [text(480, 280 + 20 * i, sentence, 12) for i, sentence in enumerate(words)]
     return drawing(910, 436, "Threads, their passes, and the one history", shapes)
 
 
-PICTURES = {"blob_in_stripes.svg": blob_in_stripes, "degraded_read.svg": degraded_read, "passes_and_history.svg": passes_and_history}
+PICTURES = {
+    "blob_in_stripes.svg": blob_in_stripes,
+    "degraded_read.svg": degraded_read,
+    "passes_and_history.svg": passes_and_history,
+    "layers.svg": layers,
+    "planner.svg": planner,
+}
 
 
 def main(folder):

@@ -1,8 +1,9 @@
 #!/usr/bin/env python3
 """Draws a run: tools/draw_run.py SCRIPT PICTURE [--width N] [--workers K] [--limit J]
 
-The script is run by the program with `--history`. For each blob there is a row for each of its calls, with the fragments as the call left them:
-which are there, lost, open (no read and no repair gives them) and mended, and which a read asks for.
+The script is run by the program with `--history`. For each blob there is a row for each of its
+calls, with the fragments as the call left them: which are stored, lost, unrecoverable and repaired,
+and which a read or a repair used.
 """
 
 import os
@@ -15,8 +16,14 @@ from history import CODES, Replay, entries
 from svg import GREY, INK, MADE, RED, WHITE, box, drawing, group_fill, line, middle, text
 
 PROGRAM = os.path.join(lrc.TOP, "crates", "lrcstore", "out", "lrcstore")
-LEFT, FIRST_BOX, STEP, ROW = 24, 330, 30, 30
-LEGEND = "Each row: the fragments after the call. Struck out: lost. Crossed out: open. Thick: read. Yellow: mended by the call."
+LEFT, FIRST_BOX, STEP, ROW = 24, 360, 30, 30
+# What the drawing may have, beside what it means.
+LEGEND = [
+    ("lost", "Struck out: lost."),
+    ("unrecoverable", "Crossed out: unrecoverable."),
+    ("used", "Thick: read by the call."),
+    ("repaired", "Yellow: repaired by the call."),
+]
 
 
 def run(script, options):
@@ -35,14 +42,14 @@ def x_of(data, f):
     return FIRST_BOX + f * STEP + 10 * sum(f >= border for border in (data // 2, data, data + 2))
 
 
-def stripe_boxes(y, blob, stripe, asked, mended):
-    """The fragments of a stripe after a call: those that it asked for, and those that it mended."""
+def stripe_boxes(y, blob, stripe, used, repaired):
+    """The fragments of a stripe after a call: those that it read, and those that it repaired."""
     data, shapes = lrc.data_fragments(blob.code), []
     for f in range(lrc.fragments(blob.code)):
         x, at = x_of(data, f), (stripe, f)
         is_lost = at in blob.lost
-        paint = MADE if at in mended else WHITE if is_lost else group_fill(data, f)
-        shapes.append(box(x, y, 26, 22, paint, RED if is_lost else INK, 2.8 if at in asked else 1.1, is_lost))
+        paint = MADE if at in repaired else WHITE if is_lost else group_fill(data, f)
+        shapes.append(box(x, y, 26, 22, paint, RED if is_lost else INK, 2.8 if at in used else 1.1, is_lost))
         if is_lost:
             shapes.append(line(x + 5, y + 4, x + 21, y + 18, RED, 1.2))
         if blob.is_open(*at):
@@ -50,17 +57,47 @@ def stripe_boxes(y, blob, stripe, asked, mended):
     return shapes
 
 
+def sources_of(blob, stripe, f):
+    """The fragments that are read for one: itself if it is stored, else those that it is rebuilt from."""
+    lost = blob.lost_of(stripe)
+    return {(stripe, i) for i in lrc.rebuilt_from(blob.code, lost, f)} if f in lost else {(stripe, f)}
+
+
+def used_by(blob, entry):
+    """The fragments that a call read."""
+    if entry.word == "read" and entry.note.startswith("granted"):
+        return set().union(*(sources_of(blob, j, f) for j, f in blob.covers(*entry.numbers)))
+    if entry.note.startswith("repaired"):
+        stripe, f = entry.numbers
+        return sources_of(replace(blob, lost=blob.lost | {(stripe, f)}), stripe, f)
+    return set()
+
+
+def call_of(entry, is_mend):
+    """A call in words: of a put how many bytes it has, and of a mend's repair that it is one."""
+    if entry.word in CODES:
+        return f"{entry.word}, {entry.numbers[0]} bytes"
+    words = " ".join([entry.word, *map(str, entry.numbers)])
+    return f"mend: {words}" if is_mend and entry.word == "repair" else words
+
+
 class Panel:
     """The calls of one blob, from its put on, and the stripes that are shown: the first, and those of which a fragment was lost."""
 
-    def __init__(self, blob, name):
-        self.blob, self.name, self.calls = blob, name, []
+    def __init__(self, blob, name, is_mend):
+        self.blob, self.name, self.is_mend, self.calls = blob, name, is_mend, []
 
     def add(self, entry):
         """Notes a call that was made, with what is lost after it."""
         repaired = {tuple(entry.numbers)} if entry.note.startswith("repaired") else set()
-        asked = set(self.blob.covers(*entry.numbers)) if entry.word == "read" and entry.note != "out-of-range" else set()
-        self.calls.append((entry, frozenset(self.blob.lost), asked, repaired))
+        self.calls.append((entry, frozenset(self.blob.lost), used_by(self.blob, entry), repaired))
+
+    def shows(self):
+        """What occurs in the drawing, in the legend's words."""
+        for entry, lost, used, repaired in self.calls:
+            yield from (word for word, those in (("lost", lost), ("used", used), ("repaired", repaired)) if those)
+            if any(replace(self.blob, lost=set(lost)).is_open(*at) for at in lost):
+                yield "unrecoverable"
 
     def shown(self):
         return sorted({0} | {j for _, lost, _, _ in self.calls for j, _ in lost}) if self.blob.stripes() else []
@@ -77,27 +114,27 @@ class Panel:
             shapes.append(text(LEFT, y + 16, f"stripe {stripe}" if blob.stripes() > 1 else "", 12, fill=GREY))
             shapes += [middle(x_of(data, f) + 13, y + 16, f, 11, GREY) for f in range(lrc.fragments(blob.code))]
             y += 22
-            for entry, lost, asked, repaired in self.calls:
-                call = " ".join([entry.word, *map(str, entry.numbers)])
-                shapes.append(text(LEFT, y + 16, f"{entry.number}.  {call}", 12))
-                shapes.append(text(LEFT + 120, y + 16, f"→ {entry.note}", 12, fill=RED if "unrecoverable" in entry.note else GREY))
+            for entry, lost, used, repaired in self.calls:
+                ink = RED if "unrecoverable" in entry.note else GREY
+                shapes.append(text(LEFT, y + 16, f"{entry.number}.  {call_of(entry, self.is_mend)}", 12))
+                shapes.append(text(LEFT + 150, y + 16, f"→ {entry.note}", 12, fill=ink))
                 if entry.word != "delete":
-                    shapes += stripe_boxes(y, replace(blob, lost=set(lost)), stripe, asked, repaired)
+                    shapes += stripe_boxes(y, replace(blob, lost=set(lost)), stripe, used, repaired)
                 y += ROW
         return shapes, y + 26
 
 
-def panels(printed, width):
+def panels(printed, width, is_mend):
     """A panel for each put whose entry is in the history, in order."""
     replay, current, made = Replay(width), {}, []
     for entry in entries(printed):
         if entry.number != 1 and not made:
-            sys.exit("the beginning of the journal was given up")
+            sys.exit("the beginning of the journal was discarded")
         note = replay.note(entry)
         if note != entry.note:
             sys.exit(f"entry {entry.number}: {entry.note}, and by the rule {note}")
         if entry.word in CODES:
-            current[entry.name] = Panel(replay.blobs[entry.name], entry.name)
+            current[entry.name] = Panel(replay.blobs[entry.name], entry.name, is_mend)
             made.append(current[entry.name])
         if entry.name in current:
             current[entry.name].add(entry)
@@ -106,23 +143,32 @@ def panels(printed, width):
     return made
 
 
-def draw(printed, width, title):
-    shapes = [
-        text(LEFT, 30, title, 16, bold=True),
-        text(LEFT, 50, LEGEND, 12, fill=GREY),
-    ]
+def has_only_mends(script):
+    """Whether all repairs of a script are those of its mends."""
+    with open(script, encoding="utf-8") as rows:
+        words = [row.split(",")[2] for row in rows if row.count(",") > 4]
+    return "mend" in words and "repair" not in words
+
+
+def draw(printed, width, title, is_mend=False):
+    made = panels(printed, width, is_mend)
+    shown = {word for panel in made for word in panel.shows()}
+    legend = ["Each row: a call of the history, and the fragments after it."]
+    legend += [meaning for word, meaning in LEGEND if word in shown]
+    shapes = [text(LEFT, 30, title, 16, bold=True), text(LEFT, 50, " ".join(legend), 12, fill=GREY)]
     y = 82
-    for panel in panels(printed, width):
+    for panel in made:
         more, y = panel.draw(y)
         shapes += more
-    return drawing(880, y - 20, title, shapes)
+    return drawing(910, y - 20, title, shapes)
 
 
 def main(words):
     if len(words) < 2:
         sys.exit(__doc__)
     script, picture, *options = words
-    drawn = draw(run(script, options), width_of(options), "The run of " + os.path.basename(script))
+    title = "The run of " + os.path.basename(script)
+    drawn = draw(run(script, options), width_of(options), title, has_only_mends(script))
     with open(picture, "w", encoding="utf-8") as out:
         out.write(drawn)
 

@@ -1,5 +1,7 @@
-"""The two codes, read from the definitions that the proofs stand on, and the one rule of this folder: which lost fragments are open."""
+"""The two codes, read from the definitions that the proofs stand on, which lost fragments are
+unrecoverable, and which others a lost one is rebuilt from."""
 
+import itertools
 import os
 import re
 from functools import lru_cache
@@ -67,3 +69,43 @@ def is_open(code, lost, f):
         scale = INVERSE[pivot[column]]
         rows = [[x ^ product(product(row[column], scale), y) for x, y in zip(row, pivot)] for row in rows]
     return not any(row[-1] for row in rows)
+
+
+def scales_for(rows, others):
+    """Numbers by which the rows add up to 0 at each of the others, free ones being 1."""
+    equations = [[row[i] for row in rows] for i in others]
+    pivots = []
+    for column in range(len(rows)):
+        found = next((e for e in equations[len(pivots) :] if e[column]), None)
+        if found is None:
+            continue
+        equations.remove(found)
+        found = [product(INVERSE[found[column]], x) for x in found]
+        equations.insert(len(pivots), found)
+        for place, other in enumerate(equations):
+            if other is not found and other[column]:
+                equations[place] = [x ^ product(other[column], y) for x, y in zip(other, found)]
+        pivots.append(column)
+    free = [column for column in range(len(rows)) if column not in pivots]
+    scales = [1] * len(rows)
+    for pivot, equation in zip(pivots, equations):
+        scales[pivot] = 0
+        for column in free:
+            scales[pivot] ^= equation[column]
+    return scales if free else [0] * len(rows)
+
+
+@lru_cache(maxsize=None)
+def rebuilt_from(code, lost, f):
+    """The fragments from which a lost one is rebuilt: those of the first sum of equations that weighs
+    it and nothing else that is lost. Fewer equations come first. `lost` is a frozenset; an
+    unrecoverable fragment is rebuilt from none.
+    """
+    for size in range(1, 5):
+        for rows in itertools.combinations(WEIGHTS[code], size):
+            total = [0] * fragments(code)
+            for scale, row in zip(scales_for(rows, sorted(lost - {f})), rows):
+                total = [x ^ product(scale, y) for x, y in zip(total, row)]
+            if total[f]:
+                return [i for i, weight in enumerate(total) if weight and i != f]
+    return []
