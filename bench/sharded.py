@@ -21,6 +21,7 @@ import platform
 import subprocess
 import sys
 import tempfile
+import textwrap
 
 import library
 from library import TOP
@@ -183,12 +184,14 @@ def kept():
 
 def section(rates, where):
     """The section of docs/performance.md."""
+    words = (
+        "Each figure is in times the calls that one thread makes of a plain store, by the greatest of many"
+        f" short runs. The machine: {where}. [Threads](threads.md#when-to-shard) says when to shard."
+    )
     yield from (
         HEADING,
         "",
-        "Each figure is in times the calls that one thread makes of a plain store, by the greatest",
-        f"of many short runs. The machine: {where}.",
-        "[Sharding](sharding.md) says when to shard. The command:",
+        *textwrap.wrap(words, 100, break_long_words=False, break_on_hyphens=False),
         "",
         "    bench/sharded.py --write",
         "",

@@ -1,9 +1,11 @@
 #!/usr/bin/env python3
 """The documents' code is the code: tests/documents.py
 
-Each block of Rattle in README.md and docs/guide.md stands in a file of the crates `hello` and `guide`, and each block of what is printed in what
-one of them prints. Each clause that README.md quotes is the function's own. Each file that a document names is there. README.md keeps to 90 lines
-of 100 characters. The section that bench/sharded.py writes is what its kept figures make.
+Each block of Rattle is part of `hello` or `guide`, each block of C, C++ or Python part of a file in
+bindings/, and each block `text` a clause of a function, or what a program prints. Links lead to files
+and headings, paths exist, and pages that a script writes are what it writes. Every crate has a
+README.md, every page a line in docs/README.md, every status a place in docs/errors.md. Figures of the
+coder are those of bench/results/.
 """
 
 import glob
@@ -15,17 +17,31 @@ import textwrap
 import sources
 from sources import CRATES, TOP, read
 
-sys.path.insert(0, os.path.join(TOP, "bench"))
+sys.path[:0] = [os.path.join(TOP, "bench"), os.path.join(TOP, "tools")]
+import reference  # noqa: E402
 import sharded  # noqa: E402
 
 PROGRAMS = ("hello", "guide")
-BLOCK = re.compile(r"^```(\w+)\n(.*?)^```$", re.M | re.S)
+PRINTING = (*PROGRAMS, "survey")
+FENCE = re.compile(r"^```(\w*)\n(.*?)^```$", re.M | re.S)
 QUOTED = re.compile(r"^(?:\d +)?([\w:]+) +(ensures .*)$")
-LINK = re.compile(r"\]\(([^)#:]+)\)")
-FOLDERS = "bindings|crates|docs|examples|include|integrations|tests|tools"
+NAMED = re.compile(r"`([A-Za-z]\w*(?:::\w+)*)`: (`\w+`(?:, `\w+`)*)")
+LINK = re.compile(r"\]\(([^)#:\s]*)(?:#([\w-]+))?\)")
+FOLDERS = "bench|bindings|crates|docs|examples|include|integrations|tests|tools"
 PATH = re.compile(rf"`((?:{FOLDERS})/[\w./-]*\w)`")
-DOCUMENTS = ("docs", "integrations/*", "tests/corpus")
-MOST_LINES, LONGEST = 90, 100
+COMMAND = re.compile(rf"(?<![\w./$-])((?:{FOLDERS})/[\w./-]*\w)")
+FIGURE = re.compile(r"\b\d[\d.]* \(\d+\.\d+\)")
+MOST_LINES, LONGEST = 110, 100
+CHECKED_CLAUSES = ("README.md", "docs/theorem.md", "docs/proof.md", "docs/codes.md")
+
+
+def documents():
+    """README.md and all other documents, with paths from the top."""
+    found = ["README.md"]
+    for pattern in ("*.md", "docs/*.md", "integrations/*/*.md", "tests/corpus/*.md", "crates/*.md", "crates/*/README.md"):
+        paths = glob.glob(os.path.join(TOP, pattern))
+        found += sorted(os.path.relpath(path, TOP) for path in paths)
+    return list(dict.fromkeys(found))
 
 
 def spaced(text):
@@ -34,7 +50,7 @@ def spaced(text):
 
 
 def is_part(block, text):
-    """Whether the lines of a block stand in a text one after the other, further in by the same blanks."""
+    """Whether the lines of a block are lines of a text, one after the other, further in by the same blanks."""
     wanted, lines = block.splitlines(), text.splitlines()
     for start in range(len(lines) - len(wanted) + 1):
         if textwrap.dedent("\n".join(lines[start : start + len(wanted)])).splitlines() == wanted:
@@ -42,10 +58,31 @@ def is_part(block, text):
     return False
 
 
-def program_texts():
-    """The sources of the programs, and what they print."""
-    code = [read(path) for name in PROGRAMS for path in sources.files_of(os.path.join(CRATES, name, "src"))]
-    return code, [read(os.path.join(CRATES, name, "stdout")) for name in PROGRAMS]
+class Code:
+    """What blocks are compared with: sources of programs, of bindings, and what programs print."""
+
+    def __init__(self):
+        rattle = [path for name in PROGRAMS for path in sources.files_of(os.path.join(CRATES, name, "src"))]
+        bound = glob.glob(os.path.join(TOP, "bindings", "**", "*.*"), recursive=True)
+        printed = [os.path.join(CRATES, name, "stdout") for name in PRINTING]
+        printed += glob.glob(os.path.join(TOP, "examples", "*.txt"))
+        self.rust = [read(path) for path in rattle]
+        self.bound = [read(path) for path in bound if path.endswith((".c", ".cpp", ".py", ".rs"))]
+        self.printed = [read(path) for path in printed]
+        texts = [read(path) for path in sources.files_of(CRATES)]
+        self.functions = [(text, f) for text in texts for f in sources.functions_of(text)]
+        self.clauses = {(f.path(), clause) for _, f in self.functions for clause in f.clauses}
+        self.clauses |= {(f.name, clause) for _, f in self.functions if not f.owner for clause in f.clauses}
+
+    def texts(self, language):
+        if language == "rust":
+            return self.rust + self.bound
+        return {"c": self.bound, "cpp": self.bound, "python": self.bound, "text": self.printed}.get(language)
+
+    def is_clause(self, function, clause):
+        """Whether a clause is in the header of a function of this name."""
+        heads = [text[f.start : f.end] for text, f in self.functions if function in (f.path(), f.name if not f.owner else "")]
+        return any(spaced(clause) in spaced(head) for head in heads)
 
 
 def quotes(block):
@@ -60,52 +97,78 @@ def quotes(block):
     return found
 
 
-def is_clause(function, clause, texts):
-    """Whether a clause stands in the header of a function of this name."""
-    name = function.rpartition("::")[2]
-    headers = [text[f.start : f.end] for text, functions in texts for f in functions if f.path() == function or f.name == name and f.owner == ""]
-    return any(spaced(clause) in spaced(header) for header in headers)
+def wrong_blocks(name, text, code):
+    for language, block in FENCE.findall(text):
+        clauses, texts = quotes(block), code.texts(language)
+        for function, clause in clauses:
+            if not code.is_clause(function, clause):
+                yield f"{name}: no clause of {function} is: {spaced(clause)}"
+        if not clauses and texts is not None and not any(is_part(block, one) for one in texts):
+            yield f"{name}: no file has the block that begins {block.splitlines()[0]}"
+    if name in CHECKED_CLAUSES:
+        for function, listed in NAMED.findall(text):
+            for clause in re.findall(r"`(\w+)`", listed):
+                if (function, clause) not in code.clauses:
+                    yield f"{name}: {function} has no clause {clause}"
 
 
-def wrong_blocks(document, texts, code, printed):
-    for language, block in BLOCK.findall(read(os.path.join(TOP, document))):
-        clauses = quotes(block)
-        if clauses:
-            yield from (f"{document}: no clause of {f} is: {clause}" for f, clause in clauses if not is_clause(f, clause, texts))
-        elif language in ("rust", "text") and not any(is_part(block, text) for text in (code if language == "rust" else printed)):
-            yield f"{document}: no program has the block that begins {block.splitlines()[0]}"
+def anchors(text):
+    """The anchors of a page's headings, as web hosts make them."""
+    for heading in re.findall(r"^#+ (.*)$", text, re.M):
+        yield re.sub(r"[^\w\- ]", "", heading.lower().replace("`", "")).replace(" ", "-")
 
 
-def wrong_paths(document):
-    text = read(os.path.join(TOP, document))
-    folder = os.path.dirname(document)
-    for link in LINK.findall(text):
-        if not os.path.exists(os.path.join(TOP, folder, link)):
-            yield f"{document}: no file is {link}"
-    for path in PATH.findall(text):
-        if "NAME" not in path and "/out/" not in path and not os.path.exists(os.path.join(TOP, path)):
-            yield f"{document}: no file is {path}"
+def wrong_links(name, text):
+    folder = os.path.dirname(os.path.join(TOP, name))
+    for link, anchor in LINK.findall(text):
+        path = os.path.normpath(os.path.join(folder, link)) if link else os.path.join(TOP, name)
+        if not os.path.exists(path):
+            yield f"{name}: no file is {link}"
+        elif anchor and path.endswith(".md") and anchor not in anchors(read(path)):
+            yield f"{name}: {link} has no heading #{anchor}"
+    commands = "\n".join(line for line in text.splitlines() if line.startswith("    "))
+    for path in PATH.findall(text) + COMMAND.findall(commands):
+        if "NAME" not in path and "mine" not in path and "FOLDER" not in path and "/out" not in path and "liblrc_" not in path:
+            if not os.path.exists(os.path.join(TOP, path)):
+                yield f"{name}: no file is {path}"
 
 
-def long_readme():
-    lines = read(os.path.join(TOP, "README.md")).splitlines()
+def wrong_readme(text):
+    lines = text.splitlines()
     if len(lines) > MOST_LINES:
         yield f"README.md has {len(lines)} lines"
-    yield from (f"README.md:{n}: {len(line)} characters" for n, line in enumerate(lines, 1) if len(line) > LONGEST)
+    figures = FIGURE.findall(text)
+    shown, kept = read(os.path.join(TOP, "docs", "performance.md")), read(os.path.join(TOP, "bench", "results", "coder.txt"))
+    yield from (f"README.md: docs/performance.md has no figure {f}" for f in figures if f not in shown)
+    yield from (f"docs/performance.md: bench/results/coder.txt has no figure {f}" for f in FIGURE.findall(shown) if f not in kept)
+
+
+def unlisted():
+    """Crates without a README.md, pages that the index lacks, and statuses that docs/errors.md lacks."""
+    for crate in sources.crates():
+        if not os.path.exists(os.path.join(CRATES, crate, "README.md")):
+            yield f"crates/{crate} has no README.md"
+    index, errors = read(os.path.join(TOP, "docs", "README.md")), read(os.path.join(TOP, "docs", "errors.md"))
+    for page in sorted(os.listdir(os.path.join(TOP, "docs"))):
+        if page.endswith(".md") and page != "README.md" and f"]({page})" not in index:
+            yield f"docs/README.md does not list {page}"
+    for header, prefix in (("lrc_store.h", "LRC_STORE_"), ("lrc_coder.h", "LRC_")):
+        statuses = re.findall(rf"^    {prefix}(\w+) = \d", read(os.path.join(TOP, "include", header)), re.M)
+        yield from (f"docs/errors.md lacks {prefix}{one}" for one in statuses if f"`{one}`" not in errors)
+    faults = re.search(r"pub enum Fault \{(.*?)^\}", read(os.path.join(CRATES, "sealed", "src", "fault.rt")), re.S | re.M)
+    yield from (f"docs/errors.md lacks {one}" for one in re.findall(r"^    (\w+),", faults.group(1), re.M) if f"`{one}`" not in errors)
 
 
 def main():
-    documents = ["README.md", "CHANGES.md"]
-    for folder in DOCUMENTS:
-        found = glob.glob(os.path.join(TOP, folder, "*.md"))
-        documents += sorted(os.path.relpath(path, TOP) for path in found)
-    texts = [(read(path), sources.functions_of(read(path))) for path in sources.files_of(CRATES)]
-    code, printed = program_texts()
-    wrong = [w for document in ("README.md", "docs/guide.md") for w in wrong_blocks(document, texts, code, printed)]
-    wrong += [w for document in documents for w in wrong_paths(document)]
-    wrong += long_readme()
-    wrong += sharded.wrong_pages()
-    print(*wrong, f"{len(documents)} documents, {len(wrong)} wrong", sep="\n")
+    names, code, wrong = documents(), Code(), []
+    for name in names:
+        text = read(os.path.join(TOP, name))
+        if name not in reference.PAGES:
+            wrong += wrong_blocks(name, text, code)
+        wrong += wrong_links(name, text)
+    wrong += wrong_readme(read(os.path.join(TOP, "README.md")))
+    wrong += [*unlisted(), *reference.wrong_pages(), *sharded.wrong_pages()]
+    print(*wrong, f"{len(names)} documents, {len(wrong)} wrong", sep="\n")
     return 1 if wrong else 0
 
 

@@ -59,12 +59,14 @@ rust_tests() {
     echo "Rust: $(grep -c '^test result: ok' "$work/rust") test programs passed"
 }
 
-# The programs of docs/library.md say what is left of the text, and the document has them as they are.
+# The programs of docs/library.md and docs/network.md print what they rebuild, and docs/library.md
+# has them as they are.
 examples() {
     local each
     for each in c python rust; do
         [ "$("example_in_$each")" = HELL ] || { echo "the example in $each prints something else"; return 1; }
     done
+    [ "$(c_program gcc c11 bindings/c/network.c)" = "$(printf 'HELL\nHALL')" ] || { echo "the example of the network prints something else"; return 1; }
     python3 tests/library/examples.py
 }
 

@@ -1,10 +1,11 @@
 #!/usr/bin/env bash
-# Tests of what the documents name, and then over the programs that the merge gate has built: the statuses of lrcstore, the pictures, and each request for
-# memory refused in turn.
+# Tests of documents, then of the programs that `rt ci` has built: the statuses of lrcstore, the
+# pictures, and each allocation refused in turn. Last, the libraries.
 set -eu
 cd "$(dirname "$0")/.."
 python3 tests/promises.py
 python3 tests/documents.py
+python3 tests/prose.py
 python3 tests/believed.py
 [ -x crates/refuse_each/out/refuse_each ] || (cd crates/refuse_each && rt run > /dev/null)
 [ -x crates/test_sharded/out/test_sharded ] || (cd crates/test_sharded && rt run > /dev/null)

@@ -1,10 +1,11 @@
 #!/usr/bin/env python3
-"""Holds docs/promises.md to the code: tests/promises.py [--write]
+"""Holds docs/promises.md to the code: tests/promises.py [--write | --edits]
 
-It fails where a clause of a public function, a must-fail edit or a test is not named there, where something is named that is not there, or where
-docs/edits.md is not what the edits make it. With --write it makes docs/edits.md anew, takes out the names of edits and tests that are gone, names
-each missing edit in the row of the function that it changes, and adds rows for missing clauses and tests. What such a row says is to be filled in
-by hand: an empty cell fails too.
+It fails if a clause of a public function, a mutant (a must-fail edit) or a test is not named there,
+or if something is named that is not there. With --write it removes the names of mutants and tests
+that are gone, names each missing mutant in the row of the function that it changes, and adds rows
+for missing clauses and tests. What such a row says is filled in by hand: an empty cell fails too.
+With --edits it prints each mutant with its change.
 """
 
 import os
@@ -15,9 +16,8 @@ import sources
 from sources import RESULT, TOP
 
 PROMISES = os.path.join(TOP, "docs", "promises.md")
-EDITS = os.path.join(TOP, "docs", "edits.md")
-HEAD = ["| Function, clauses | What it says | Wrong bodies | Test |", "|---|---|---|---|"]
-INDEX = "Wrong bodies, and what refuses them"
+HEAD = ["| Function, clauses | What it says | Mutants | Test |", "|---|---|---|---|"]
+INDEX = "Mutants, and what rejects them"
 OTHERS = "## The other crates"
 WORDS = re.compile(r"`([^`]+)`")
 # A test reaches a function through another one, or through another crate.
@@ -239,22 +239,18 @@ def code(text):
 
 
 def edits_text(crates):
-    """docs/edits.md: each edit, the function that it changes first, and the change."""
-    lines = [
-        "# The edits that the prover must refuse",
-        "",
-        "Made by `tests/promises.py --write` from `crates/NAME/must-fail/*.edit`. Each is a wrong body, by its change of the",
-        "code; `docs/promises.md` says for which clauses it stands.",
-    ]
+    """Each mutant, the function that it changes first, and the change."""
+    lines = []
     for name, crate in crates.items():
         if not crate.edits:
             continue
-        lines += ["", f"## {name}", "", "| Edit | Changes | From | To |", "|---|---|---|---|"]
+        lines += ["", f"## {name}", "", "| Mutant | Changes | From | To |", "|---|---|---|---|"]
         for edit, (path, target, pairs) in crate.edits.items():
             where = f"`{target.path()}`" if target else path
             more = f" and {len(pairs) - 1} more" if len(pairs) > 1 else ""
-            lines.append(f"| `{edit}` | {where} | {code(pairs[0][0])} | {code(pairs[0][1])}{more} |")
-    return "\n".join(lines) + "\n"
+            old, new = map(code, pairs[0])
+            lines.append(f"| `{edit}` | {where} | {old} | {new}{more} |")
+    return "\n".join(lines[1:])
 
 
 def write(path, text):
@@ -264,18 +260,17 @@ def write(path, text):
 
 def main(arguments):
     check = Check(sources.read(PROMISES))
-    edits = edits_text(check.crates)
+    if "--edits" in arguments:
+        print(edits_text(check.crates))
+        return 0
     if "--write" in arguments:
-        write(EDITS, edits)
         write(PROMISES, with_stubs(check))
         check = Check(sources.read(PROMISES))
     count = check.report()
-    if not os.path.exists(EDITS) or sources.read(EDITS) != edits:
-        print("docs/edits.md is not what the edits make it: tests/promises.py --write makes it anew")
-        count += 1
     crates = check.crates.values()
-    clauses, made = sum(len(f.clauses) for c in crates for f in c.public()), sum(len(c.edits) for c in crates)
-    print(clauses, "public clauses,", made, "edits and", sum(len(c.tests) for c in crates), "tests,", count, "wrong")
+    clauses = sum(len(f.clauses) for c in crates for f in c.public())
+    edits, tests = sum(len(c.edits) for c in crates), sum(len(c.tests) for c in crates)
+    print(clauses, "public clauses,", edits, "mutants and", tests, "tests,", count, "wrong")
     return 1 if count else 0
 
 

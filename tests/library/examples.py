@@ -1,4 +1,5 @@
-"""Compares the programs in docs/library.md with the files that it names: a line `FILE:` and then a block with the file's text."""
+"""Compares the programs in docs/library.md with the files that it names: a line `FILE:`, and then a
+block with the file's text."""
 
 import os
 import re
@@ -7,11 +8,8 @@ TOP = os.path.dirname(os.path.dirname(os.path.dirname(os.path.abspath(__file__))
 
 PROGRAMS = [
     "bindings/c/store.c",
-    "bindings/cpp/store.cpp",
-    "bindings/rust_store/examples/store.rs",
     "bindings/python/store.py",
     "bindings/c/rebuild.c",
-    "bindings/rust/examples/rebuild.rs",
     "bindings/python/rebuild.py",
 ]
 
