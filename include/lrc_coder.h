@@ -9,13 +9,13 @@
  *     6                0 to 2        3 to 5         6, 7             8, 9
  *
  * All fragments of a stripe have one length, in bytes. A set of lost fragments is a number: bit i
- * is set where fragment i is lost. Bits past the code's fragments are not looked at.
+ * is set if and only if fragment i is lost. Bits past the code's fragments are ignored.
  *
- * Each function tests its arguments, but for these, which C has to keep: an address is not NULL,
- * also where the length is 0, and valid for its length; and a target overlaps no other argument.
- * No function asks for memory, keeps anything or wants an address aligned to more than its C type,
- * so any number of threads may call them at once. What is not LRC_DONE leaves every target as it
- * was. */
+ * Functions validate their arguments. The caller ensures what they cannot check: an address is not
+ * NULL, also at length 0, and is valid for its length; a target overlaps no other argument.
+ * No function allocates, keeps state, or needs an address aligned to more than its C type. So any
+ * number of threads may call them at once. On any other status than LRC_DONE, every target is
+ * unchanged. */
 #ifndef LRC_CODER_H
 #define LRC_CODER_H
 
@@ -28,18 +28,19 @@ extern "C" {
 
 /* What a function returns. */
 enum {
-    /* what was asked was done; of lrc_is_open: the fragment is left, or can be rebuilt */
+    /* done; from lrc_is_open: the fragment is not lost, or can be rebuilt */
     LRC_DONE = 0,
-    /* nothing that is left tells the fragment: two stripes agree on all of it, and differ there */
+    /* the fragment is unrecoverable: two stripes agree on every remaining fragment and differ in
+     * this one */
     LRC_OPEN = 1,
-    /* an argument is none that the function takes */
+    /* an argument is invalid */
     LRC_BAD_ARGUMENT = 2
 };
 
-/* Among the numbers of lrc_decode: no fragment. */
+/* In the numbers of lrc_decode: no fragment. */
 enum { LRC_NONE = 255 };
 
-/* Bytes that are read. */
+/* Bytes that a function reads. */
 #ifndef LRC_SLICE
 #define LRC_SLICE
 typedef struct {
@@ -48,69 +49,69 @@ typedef struct {
 } lrc_slice;
 #endif
 
-/* Writes the four parities of the data, which are given in the order of their numbers;
- * `data_fragments` is 12 or 6. LRC_BAD_ARGUMENT exactly where it is neither, or the lengths, of
- * data and parities, are not all one. */
+/* Writes the four parities of the data fragments, which are given in the order of their numbers.
+ * LRC_BAD_ARGUMENT if and only if `data_fragments` is neither 12 nor 6, or the lengths of data and
+ * parities are not all equal. */
 uint32_t lrc_encode(const lrc_slice *data, size_t data_fragments,
                     uint8_t *first, size_t first_len, uint8_t *second, size_t second_len,
                     uint8_t *third, size_t third_len, uint8_t *fourth, size_t fourth_len);
 
-/* Adds the data fragment with the number `fragment` into the four parities. Into parities of
- * zeros, one call for each data fragment, in any order, comes to what lrc_encode writes. To write
- * over a data fragment, add the exclusive or of its old and its new bytes. LRC_BAD_ARGUMENT
- * exactly where `data_fragments` is neither 12 nor 6, `fragment` is not below it, or the five
- * lengths are not all one. */
+/* Adds the data fragment with the number `fragment` to the four parities. Calling it once for each
+ * data fragment, in any order, on zeroed parities gives the result of lrc_encode. To overwrite a
+ * data fragment, add the exclusive or of its old and its new bytes. LRC_BAD_ARGUMENT if and only
+ * if `data_fragments` is neither 12 nor 6, `fragment` is not below it, or the five lengths are not
+ * all equal. */
 uint32_t lrc_encode_add(size_t data_fragments, uint8_t fragment, const uint8_t *source, size_t source_len,
                         uint8_t *first, size_t first_len, uint8_t *second, size_t second_len,
                         uint8_t *third, size_t third_len, uint8_t *fourth, size_t fourth_len);
 
-/* LRC_OPEN exactly where nothing that is left tells `fragment`. LRC_BAD_ARGUMENT exactly where
- * there is no such code or fragment. */
+/* LRC_OPEN if and only if `fragment` is unrecoverable. LRC_BAD_ARGUMENT if and only if there is no
+ * such code or fragment. */
 uint32_t lrc_is_open(size_t data_fragments, uint16_t lost, uint8_t fragment);
 
-/* Writes the bytes from..from+len of the lost `fragment` into `target`, as every stripe has them
- * that agrees with the fragments left. Of the sixteen slices those of lost fragments, and those
- * past the code's, are not looked at: give them any address but NULL, and the length 0. LRC_OPEN
- * exactly where nothing that is left tells the fragment, and no argument is refused.
- * LRC_BAD_ARGUMENT exactly where there is no such code or fragment, it is not in `lost`, a
- * fragment left has less than from+len bytes, or that sum is more than SIZE_MAX. */
+/* Writes the bytes from..from+len of the lost `fragment` into `target`: those of every stripe that
+ * agrees with the remaining fragments. The slices of lost fragments, and those past the code's, are
+ * ignored: give them any address except NULL, and the length 0. LRC_OPEN if and only if the
+ * fragment is unrecoverable and all arguments are valid. LRC_BAD_ARGUMENT if and only if there is
+ * no such code or fragment, it is not in `lost`, a remaining fragment has fewer than from+len bytes,
+ * or that sum is more than SIZE_MAX. */
 uint32_t lrc_rebuild(size_t data_fragments, const lrc_slice fragments[16], uint16_t lost, uint8_t fragment,
                      size_t from, uint8_t *target, size_t len);
 
 /* Writes the bytes from..from+len of up to four lost fragments at once, which takes less time than
  * one call of lrc_rebuild for each. `numbers` has the number of the fragment for each of the four
- * targets, or LRC_NONE. A target for LRC_NONE is not looked at: give it any address but NULL, and
- * the length 0. The sixteen slices are those of lrc_rebuild. LRC_OPEN if and only if no argument
- * is refused, and nothing that is left tells one of the numbered fragments: of more than four lost
- * fragments there is always such a one. LRC_BAD_ARGUMENT if and only if there is no such code, a
- * numbered fragment is not the code's or not in `lost`, its target has not `len` bytes, a fragment
- * left has less than from+len bytes, or that sum is more than SIZE_MAX. */
+ * targets, or LRC_NONE. A target for LRC_NONE is ignored: give it any address except NULL, and the
+ * length 0. The sixteen slices are those of lrc_rebuild. LRC_OPEN if and only if all arguments are
+ * valid and a numbered fragment is unrecoverable. Of more than four lost fragments, at least one is
+ * unrecoverable. LRC_BAD_ARGUMENT if and only if there is no such code, a numbered fragment is not the code's or
+ * not in `lost`, its target does not have `len` bytes, a remaining fragment has fewer than from+len
+ * bytes, or that sum is more than SIZE_MAX. */
 uint32_t lrc_decode(size_t data_fragments, const lrc_slice fragments[16], uint16_t lost, const uint8_t numbers[4],
                     size_t from, size_t len,
                     uint8_t *first, size_t first_len, uint8_t *second, size_t second_len,
                     uint8_t *third, size_t third_len, uint8_t *fourth, size_t fourth_len);
 
-/* Writes how the lost `fragment` comes from those left: their numbers, a coefficient for each, and
- * how many they are, at most 15. The fragment is their sum, each times its coefficient. Alone lost
- * in its group, it comes from the six (or three) others of its group, and no recipe has fewer.
- * LRC_OPEN as by lrc_rebuild; LRC_BAD_ARGUMENT exactly where there is no such code or fragment, or
- * it is not in `lost`. */
+/* Writes a recipe for the lost `fragment`: the numbers of other fragments, a coefficient for each,
+ * and their count, at most 15. The fragment is their sum, each times its coefficient. If it is the
+ * only loss of its group, they are the six (or three) others, and no recipe has fewer. LRC_OPEN as
+ * from lrc_rebuild. LRC_BAD_ARGUMENT if and only if there is no such code or fragment, or it is not
+ * in `lost`. */
 uint32_t lrc_recipe(size_t data_fragments, uint16_t lost, uint8_t fragment,
                     uint8_t fragments[16], uint8_t coefficients[16], uint32_t *count);
 
 /* Adds `source` times `coefficient` to `target`, byte by byte, in the field. With lrc_recipe it
- * rebuilds as fragments arrive: into zeros, one call for each term, in any order and any cut of
- * the bytes. LRC_BAD_ARGUMENT exactly where the lengths differ. */
+ * rebuilds as fragments arrive: call it on a zeroed target, once for each term, in any order and in
+ * any parts. LRC_BAD_ARGUMENT if and only if the lengths differ. */
 uint32_t lrc_add(uint8_t *target, size_t target_len, uint8_t coefficient,
                  const uint8_t *source, size_t source_len);
 
-/* In liblrc_coder.a and liblrc_coder.so, as tools/build_coder.sh makes them: the level of the
- * processor whose code is used, "x86-64-v2" or "x86-64-v3". libcoder_c.a does not have it. */
+/* The processor level whose code is used, "x86-64-v2" or "x86-64-v3". Only liblrc_coder.a and
+ * liblrc_coder.so from tools/build_coder.sh have it. */
 const char *lrc_coder_cpu(void);
 
-/* ---- The same with plain arrays of addresses, each of `len` bytes. A NULL means a lost fragment
- * among the fragments of lrc_rebuild_arrays and lrc_decode_arrays, and no target among the targets
- * of lrc_decode_arrays; anywhere else it is LRC_BAD_ARGUMENT. */
+/* ---- The same with plain arrays of addresses, each of `len` bytes. NULL means a lost fragment in
+ * the fragments of lrc_rebuild_arrays and lrc_decode_arrays, and no target in the targets of
+ * lrc_decode_arrays. Anywhere else it is LRC_BAD_ARGUMENT. */
 
 /* `data` has `data_fragments` addresses and `parities` four. */
 static inline uint32_t lrc_encode_arrays(size_t data_fragments, size_t len,
@@ -147,8 +148,8 @@ static inline uint32_t lrc_encode_add_arrays(size_t data_fragments, size_t len, 
                           parities[2], len, parities[3], len);
 }
 
-/* `fragments` has data_fragments + 4 addresses: NULL where the fragment is lost. `fragment` counts
- * as lost, also where an address is given for it. */
+/* `fragments` has data_fragments + 4 addresses, NULL for a lost one. `fragment` counts as lost, also
+ * if an address is given for it. */
 static inline uint32_t lrc_rebuild_arrays(size_t data_fragments, size_t len, const uint8_t *const *fragments,
                                           uint8_t fragment, uint8_t *target)
 {
@@ -169,7 +170,7 @@ static inline uint32_t lrc_rebuild_arrays(size_t data_fragments, size_t len, con
 }
 
 /* `fragments` and `targets` have data_fragments + 4 addresses each. A fragment that has a target
- * counts as lost, also where an address is given for it. */
+ * counts as lost, also if an address is given for it. */
 static inline uint32_t lrc_decode_arrays(size_t data_fragments, size_t len, const uint8_t *const *fragments,
                                          uint8_t *const *targets)
 {

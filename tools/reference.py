@@ -136,10 +136,10 @@ def api_page():
     yield from (
         "# Rattle API",
         "",
-        "For developers who call the crates: every public type and function with its docstring and clauses.",
-        "`tools/reference.py --write` writes this page. In a clause, `x.old` and `x.new` are a value at the",
-        "call and at the return, and `x.now` a value that does not change. The words are those of [the",
-        "definitions](definitions.md); the docstrings use [the glossary](glossary.md).",
+        "For developers who call the crates: every public type and function with its docstring and",
+        "clauses. `tools/reference.py --write` writes this page. In a clause, `x.old` and `x.new` are a",
+        "value at the call and at the return, and `x.now` a value that does not change. The words are",
+        "those of [the definitions](definitions.md) and [the glossary](glossary.md).",
         "",
         *filled("Crates: " + ", ".join(f"[`{name}`](#{name})" for name in API) + ".", "", ""),
     )
@@ -168,9 +168,9 @@ def c_page():
     yield from (
         "# C API",
         "",
-        "For developers in C and C++: the declarations of `include/lrc_store.h` and `include/lrc_coder.h`, with",
-        "their comments. `tools/reference.py --write` writes this page. [The tutorial](library.md) has whole",
-        "programs, and [errors](errors.md) all statuses beside those of other interfaces.",
+        "For developers in C and C++: the declarations of `include/lrc_store.h` and `include/lrc_coder.h`,",
+        "with their comments. `tools/reference.py --write` writes this page. [The tutorial](library.md) has",
+        "whole programs, and [errors](errors.md) all statuses beside those of other interfaces.",
     )
     for header in HEADERS:
         declared = list(c_declarations(header))
@@ -205,9 +205,10 @@ def crates_page():
     yield from (
         "# Crates",
         "",
-        "For readers of the code: what each crate is, from the bottom up, and which crates it uses. Start with",
-        "[`history`](history/README.md), the sequential specification, then [`shared`](shared/README.md), the",
-        "store, and [`play`](play/README.md), which has the theorem about the program.",
+        "For readers of the code: what each crate is, from the bottom up, and which crates it uses. Start",
+        "with [`history`](history/README.md), the sequential specification. Then read",
+        "[`shared`](shared/README.md), the store, and [`play`](play/README.md), which has the theorem about",
+        "the program.",
         "`tools/reference.py --write` writes this page from `crates.txt` and the crates' own `README.md`.",
         "",
         "![The crates in layers, and which use which](../docs/pictures/layers.svg)",
