@@ -92,7 +92,7 @@ def table(rates):
     yield "| " + " | ".join(["Calls", "Names", "Threads", *heads]) + " |"
     yield "|---" * (3 + len(columns)) + "|"
     for calls, names, threads in itertools.product(CALLS, NAMES, THREADS):
-        ratios = (rates[calls, names, threads, *column] / base(rates, calls) for column in columns)
+        ratios = (rates[(calls, names, threads, *column)] / base(rates, calls) for column in columns)
         cells = [calls, NAMES[names], str(threads), *(f"{ratio:.2f}" for ratio in ratios)]
         yield "| " + " | ".join(cells) + " |"
 

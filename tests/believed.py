@@ -53,7 +53,7 @@ class Definitions:
     def read_specs(self, crate):
         folder = os.path.join(CRATES, crate, "specs")
         for name in sorted(os.listdir(folder)) if os.path.isdir(folder) else []:
-            text, module = read(os.path.join(folder, name)), name.removesuffix(".antt")
+            text, module = read(os.path.join(folder, name)), name[: -len(".antt")]
             self.imports[crate, module] = imports_of(text)
             for names, lines in definitions_of(text):
                 key = (crate, module, names[0])
