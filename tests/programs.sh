@@ -5,6 +5,7 @@ set -eu
 cd "$(dirname "$0")/.."
 python3 tests/promises.py
 python3 tests/documents.py
+python3 tests/figures.py
 python3 tests/prose.py
 python3 tests/believed.py
 [ -x crates/refuse_each/out/refuse_each ] || (cd crates/refuse_each && rt run > /dev/null)
