@@ -2,10 +2,10 @@
 """The documents' code is the code: tests/documents.py
 
 Each block of Rattle is part of `hello` or `guide`, each block of C, C++ or Python part of a file in
-bindings/, and each block `text` a clause of a function, or what a program prints. Links lead to files
-and headings, paths exist, and pages that a script writes are what it writes. Every crate has a
-README.md, every page a line in docs/README.md, every status a place in docs/errors.md. Figures of the
-coder are those of bench/results/.
+bindings/, and each block `text` a clause of a function, or what a program prints. Links lead to
+files and headings, paths exist, and pages that a script writes are what it writes. Every crate has
+a README.md, every page a line in docs/README.md, every status a place in docs/errors.md. Figures of
+the coder are those of bench/results/.
 """
 
 import glob
@@ -38,7 +38,14 @@ CHECKED_CLAUSES = ("README.md", "docs/theorem.md", "docs/proof.md", "docs/codes.
 def documents():
     """README.md and all other documents, with paths from the top."""
     found = ["README.md"]
-    for pattern in ("*.md", "docs/*.md", "integrations/*/*.md", "tests/corpus/*.md", "crates/*.md", "crates/*/README.md"):
+    for pattern in (
+        "*.md",
+        "docs/*.md",
+        "integrations/*/*.md",
+        "tests/corpus/*.md",
+        "crates/*.md",
+        "crates/*/README.md",
+    ):
         paths = glob.glob(os.path.join(TOP, pattern))
         found += sorted(os.path.relpath(path, TOP) for path in paths)
     return list(dict.fromkeys(found))
@@ -50,7 +57,7 @@ def spaced(text):
 
 
 def is_part(block, text):
-    """Whether the lines of a block are lines of a text, one after the other, further in by the same blanks."""
+    """Whether the lines of a block are consecutive lines of a text, less an indent."""
     wanted, lines = block.splitlines(), text.splitlines()
     for start in range(len(lines) - len(wanted) + 1):
         if textwrap.dedent("\n".join(lines[start : start + len(wanted)])).splitlines() == wanted:
@@ -62,7 +69,11 @@ class Code:
     """What blocks are compared with: sources of programs, of bindings, and what programs print."""
 
     def __init__(self):
-        rattle = [path for name in PROGRAMS for path in sources.files_of(os.path.join(CRATES, name, "src"))]
+        rattle = [
+            path
+            for name in PROGRAMS
+            for path in sources.files_of(os.path.join(CRATES, name, "src"))
+        ]
         bound = glob.glob(os.path.join(TOP, "bindings", "**", "*.*"), recursive=True)
         printed = [os.path.join(CRATES, name, "stdout") for name in PRINTING]
         printed += glob.glob(os.path.join(TOP, "examples", "*.txt"))
@@ -72,16 +83,24 @@ class Code:
         texts = [read(path) for path in sources.files_of(CRATES)]
         self.functions = [(text, f) for text in texts for f in sources.functions_of(text)]
         self.clauses = {(f.path(), clause) for _, f in self.functions for clause in f.clauses}
-        self.clauses |= {(f.name, clause) for _, f in self.functions if not f.owner for clause in f.clauses}
+        self.clauses |= {
+            (f.name, clause) for _, f in self.functions if not f.owner for clause in f.clauses
+        }
 
     def texts(self, language):
         if language == "rust":
             return self.rust + self.bound
-        return {"c": self.bound, "cpp": self.bound, "python": self.bound, "text": self.printed}.get(language)
+        return {"c": self.bound, "cpp": self.bound, "python": self.bound, "text": self.printed}.get(
+            language
+        )
 
     def is_clause(self, function, clause):
         """Whether a clause is in the header of a function of this name."""
-        heads = [text[f.start : f.end] for text, f in self.functions if function in (f.path(), f.name if not f.owner else "")]
+        heads = [
+            text[f.start : f.end]
+            for text, f in self.functions
+            if function in (f.path(), f.name if not f.owner else "")
+        ]
         return any(spaced(clause) in spaced(head) for head in heads)
 
 
@@ -128,7 +147,13 @@ def wrong_links(name, text):
             yield f"{name}: {link} has no heading #{anchor}"
     commands = "\n".join(line for line in text.splitlines() if line.startswith("    "))
     for path in PATH.findall(text) + COMMAND.findall(commands):
-        if "NAME" not in path and "mine" not in path and "FOLDER" not in path and "/out" not in path and "liblrc_" not in path:
+        if (
+            "NAME" not in path
+            and "mine" not in path
+            and "FOLDER" not in path
+            and "/out" not in path
+            and "liblrc_" not in path
+        ):
             if not os.path.exists(os.path.join(TOP, path)):
                 yield f"{name}: no file is {path}"
 
@@ -138,25 +163,47 @@ def wrong_readme(text):
     if len(lines) > MOST_LINES:
         yield f"README.md has {len(lines)} lines"
     figures = FIGURE.findall(text)
-    shown, kept = read(os.path.join(TOP, "docs", "performance.md")), read(os.path.join(TOP, "bench", "results", "coder.txt"))
-    yield from (f"README.md: docs/performance.md has no figure {f}" for f in figures if f not in shown)
-    yield from (f"docs/performance.md: bench/results/coder.txt has no figure {f}" for f in FIGURE.findall(shown) if f not in kept)
+    shown, kept = read(os.path.join(TOP, "docs", "performance.md")), read(
+        os.path.join(TOP, "bench", "results", "coder.txt")
+    )
+    yield from (
+        f"README.md: docs/performance.md has no figure {f}" for f in figures if f not in shown
+    )
+    yield from (
+        f"docs/performance.md: bench/results/coder.txt has no figure {f}"
+        for f in FIGURE.findall(shown)
+        if f not in kept
+    )
 
 
 def unlisted():
-    """Crates without a README.md, pages that the index lacks, and statuses that docs/errors.md lacks."""
+    """Crates without README.md, pages that the index lacks, statuses that docs/errors.md lacks."""
     for crate in sources.crates():
         if not os.path.exists(os.path.join(CRATES, crate, "README.md")):
             yield f"crates/{crate} has no README.md"
-    index, errors = read(os.path.join(TOP, "docs", "README.md")), read(os.path.join(TOP, "docs", "errors.md"))
+    index, errors = read(os.path.join(TOP, "docs", "README.md")), read(
+        os.path.join(TOP, "docs", "errors.md")
+    )
     for page in sorted(os.listdir(os.path.join(TOP, "docs"))):
         if page.endswith(".md") and page != "README.md" and f"]({page})" not in index:
             yield f"docs/README.md does not list {page}"
     for header, prefix in (("lrc_store.h", "LRC_STORE_"), ("lrc_coder.h", "LRC_")):
-        statuses = re.findall(rf"^    {prefix}(\w+) = \d", read(os.path.join(TOP, "include", header)), re.M)
-        yield from (f"docs/errors.md lacks {prefix}{one}" for one in statuses if f"`{one}`" not in errors)
-    faults = re.search(r"pub enum Fault \{(.*?)^\}", read(os.path.join(CRATES, "sealed", "src", "fault.rt")), re.S | re.M)
-    yield from (f"docs/errors.md lacks {one}" for one in re.findall(r"^    (\w+),", faults.group(1), re.M) if f"`{one}`" not in errors)
+        statuses = re.findall(
+            rf"^    {prefix}(\w+) = \d", read(os.path.join(TOP, "include", header)), re.M
+        )
+        yield from (
+            f"docs/errors.md lacks {prefix}{one}" for one in statuses if f"`{one}`" not in errors
+        )
+    faults = re.search(
+        r"pub enum Fault \{(.*?)^\}",
+        read(os.path.join(CRATES, "sealed", "src", "fault.rt")),
+        re.S | re.M,
+    )
+    yield from (
+        f"docs/errors.md lacks {one}"
+        for one in re.findall(r"^    (\w+),", faults.group(1), re.M)
+        if f"`{one}`" not in errors
+    )
 
 
 def main():

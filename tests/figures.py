@@ -14,13 +14,25 @@ import lrc  # noqa: E402
 
 # A line of docs/limits.md, and what the code has of it.
 LIMITS = [
-    ("| width: bytes of a fragment | 1 to 65,536 |", "crates/command_line/src/reading.rt", "MAX_WIDTH: u32 = 65_536"),
+    (
+        "| width: bytes of a fragment | 1 to 65,536 |",
+        "crates/command_line/src/reading.rt",
+        "MAX_WIDTH: u32 = 65_536",
+    ),
     ("| stripes of a blob | 4,096 |", "crates/history/src/replay.rt", "len ≤ 4096"),
     ("1 to 1,048,576 |", "crates/history/src/limit.rt", "entries ≤ 1048576"),
     ("| passes (sessions in C) to a store | 64 |", "crates/shared/src/store.rt", "room = 64"),
-    ("| shards of a sharded store | 1 to 64 |", "crates/sharded/src/store.rt", "(1 ≤ count) × (count ≤ 64)"),
+    (
+        "| shards of a sharded store | 1 to 64 |",
+        "crates/sharded/src/store.rt",
+        "(1 ≤ count) × (count ≤ 64)",
+    ),
     ("| name | 1 to 32 bytes of", "crates/history/src/name.rt", "ArrayString<32>"),
-    ("| rows of a script, workers of a script | 65,536 and 16 |", "crates/play/src/run.rt", "length rows.items ≤ 65536"),
+    (
+        "| rows of a script, workers of a script | 65,536 and 16 |",
+        "crates/play/src/run.rt",
+        "length rows.items ≤ 65536",
+    ),
 ]
 
 
@@ -39,7 +51,9 @@ def wrong_limits():
 
 def wrong_weights():
     """Each row of the table of weights in docs/definitions.md."""
-    row = re.compile(r"(\d+)(?: \.\. (\d+))? \| ([0-9A-F ]+) \| ([0-9A-F ]+) \| ([0-9A-F ]+) \| ([0-9A-F ]+)")
+    row = re.compile(
+        r"(\d+)(?: \.\. (\d+))? \| ([0-9A-F ]+) \| ([0-9A-F ]+) \| ([0-9A-F ]+) \| ([0-9A-F ]+)"
+    )
     count = 0
     for line in page("docs", "definitions.md").splitlines():
         halves = line.strip("| ").split(" | | ")
@@ -59,7 +73,9 @@ def wrong_weights():
 
 def wrong_counts():
     """How many lost sets are recoverable, and what a rebuild reads, computed anew."""
-    lost_sets = [frozenset(lost) for size in range(5) for lost in itertools.combinations(range(16), size)]
+    lost_sets = [
+        frozenset(lost) for size in range(5) for lost in itertools.combinations(range(16), size)
+    ]
     whole = sum(not any(lrc.is_open("Wide", lost, f) for f in lost) for lost in lost_sets)
     reads = sum(len(lrc.rebuilt_from("Wide", frozenset([f]), f)) for f in range(16)) / 16
     wanted = f"{whole:,} of {len(lost_sets):,}"
@@ -71,7 +87,11 @@ def wrong_counts():
 
 def wrong_output():
     """The lines that README.md says a script prints."""
-    printed = {line for path in glob.glob(os.path.join(TOP, "examples", "*.txt")) for line in read(path).splitlines()}
+    printed = {
+        line
+        for path in glob.glob(os.path.join(TOP, "examples", "*.txt"))
+        for line in read(path).splitlines()
+    }
     for line in re.findall(r"^    (\d+ [a-z].*|calls \d+|lawful \w+)$", page("README.md"), re.M):
         if line not in printed:
             yield f"README.md: no example prints {line}"
@@ -81,9 +101,17 @@ def wrong_words():
     """The words with which a script is refused, and the replies of its rows."""
     text = page("docs", "script.md")
     words = re.findall(r"Word::\w+ => \"(\w+)\"", page("crates", "script", "src", "rows.rt"))
-    yield from (f"docs/script.md has no word {word}" for word in words if f"| `{word}` |" not in text)
-    for word in re.findall(r"^  (\w+)(?:, (\w+))? ", page("crates", "command_line", "src", "help.rt"), re.M):
-        yield from (f"docs/script.md has no operation {one}" for one in word if one and f"`{one}`" not in text)
+    yield from (
+        f"docs/script.md has no word {word}" for word in words if f"| `{word}` |" not in text
+    )
+    for word in re.findall(
+        r"^  (\w+)(?:, (\w+))? ", page("crates", "command_line", "src", "help.rt"), re.M
+    ):
+        yield from (
+            f"docs/script.md has no operation {one}"
+            for one in word
+            if one and f"`{one}`" not in text
+        )
 
 
 def main():

@@ -74,7 +74,13 @@ class Check:
     def __init__(self, text):
         self.crates, self.lines = sources.crates(), text.splitlines()
         self.rows, self.index = parse(self.lines, self.crates)
-        self.wrong, self.uncovered, self.unnamed_edits, self.unnamed_tests, self.misnamed = [], [], [], [], []
+        self.wrong, self.uncovered, self.unnamed_edits, self.unnamed_tests, self.misnamed = (
+            [],
+            [],
+            [],
+            [],
+            [],
+        )
         self.tests = {test for crate in self.crates.values() for test in crate.tests}
         self.check()
 
@@ -90,34 +96,49 @@ class Check:
             if len(named) == 1 or row.is_inner:
                 found += named
             elif named:
-                self.complain(row.number, f"`{name}` is " + " or ".join(f"`{f.path()}`" for f in named))
+                self.complain(
+                    row.number, f"`{name}` is " + " or ".join(f"`{f.path()}`" for f in named)
+                )
             elif not crate.named(name) and name.split("::")[0] not in types_of(row.crate):
                 self.complain(row.number, f"no public function of {row.crate} is `{name}`")
         return found
 
     def is_test(self, row, word):
-        """Whether a word names a test, of this crate or with its crate before it, a program, or a file."""
+        """Whether a word names a test, of this crate or with its crate, a program, or a file."""
         crate, _, test = word.rpartition("::")
         crate = crate or row.crate
         if crate in self.crates and test in self.crates[crate].tests:
             return True
-        return word in self.crates and self.crates[word].is_program or os.path.exists(os.path.join(TOP, word))
+        return (
+            word in self.crates
+            and self.crates[word].is_program
+            or os.path.exists(os.path.join(TOP, word))
+        )
 
     def check_row(self, row):
         if len(row.cells) != 4 or not all(row.cells):
             return self.complain(row.number, "a cell is to be filled in, or there are not four")
         functions = self.functions(row)
         for function in functions[:1] if row.is_inner else functions:
-            has = [clause for f in functions for clause in f.clauses] if row.is_inner else function.clauses
+            has = (
+                [clause for f in functions for clause in f.clauses]
+                if row.is_inner
+                else function.clauses
+            )
             for clause in row.clauses:
                 if clause not in has:
-                    self.complain(row.number, f"`{function.path()}` has no clause {clause}: it has " + ", ".join(has))
+                    self.complain(
+                        row.number,
+                        f"`{function.path()}` has no clause {clause}: it has " + ", ".join(has),
+                    )
         for edit in words(row.cells[2]):
             if edit not in self.crates[row.crate].edits:
                 self.complain(row.number, f"no edit of {row.crate} is `{edit}`")
                 row.take_out(2, edit)
         for through in THROUGH.findall(row.cells[3]):
-            if through not in self.crates and not any(crate.named(through) for crate in self.crates.values()):
+            if through not in self.crates and not any(
+                crate.named(through) for crate in self.crates.values()
+            ):
                 self.complain(row.number, f"`{through}` is no function or crate")
         for test in words(THROUGH.sub("", row.cells[3])):
             if not self.is_test(row, test):
@@ -125,7 +146,11 @@ class Check:
                 row.take_out(3, test)
 
     def check_index(self):
-        known = {edit for crate in self.crates.values() for edit in crate.edits} | self.tests | set(self.crates)
+        known = (
+            {edit for crate in self.crates.values() for edit in crate.edits}
+            | self.tests
+            | set(self.crates)
+        )
         known |= {f.name for crate in self.crates.values() for f in crate.functions}
         for number, line in self.index:
             for word in words(line.split(" | ", 1)[-1]):
@@ -134,12 +159,24 @@ class Check:
 
     def check_whole(self):
         """Whether all clauses, edits and tests are named."""
-        named_tests = {word.rpartition("::")[2] for row in self.rows for word in words(row.cells[-1])}
+        named_tests = {
+            word.rpartition("::")[2] for row in self.rows for word in words(row.cells[-1])
+        }
         for name, crate in self.crates.items():
             mine = [row for row in self.rows if row.crate == name]
-            covered = {(f.path(), clause) for row in mine if not row.is_inner for f in self.quiet_functions(row) for clause in row.clauses}
+            covered = {
+                (f.path(), clause)
+                for row in mine
+                if not row.is_inner
+                for f in self.quiet_functions(row)
+                for clause in row.clauses
+            }
             for function in crate.public():
-                lacking = [clause for clause in function.clauses if (function.path(), clause) not in covered]
+                lacking = [
+                    clause
+                    for clause in function.clauses
+                    if (function.path(), clause) not in covered
+                ]
                 if lacking:
                     self.uncovered.append((name, function, lacking))
             named = {edit for row in mine for edit in words(row.cells[2])} if mine else set()
@@ -168,7 +205,12 @@ class Check:
             print(f"{crate}: no row has the test `{test}`")
         for crate, file, wanted in self.misnamed:
             print(f"crates/{crate}/must-fail/{file} is to be named {wanted}, by what it changes")
-        return sum(map(len, (self.wrong, self.uncovered, self.unnamed_edits, self.unnamed_tests, self.misnamed)))
+        return sum(
+            map(
+                len,
+                (self.wrong, self.uncovered, self.unnamed_edits, self.unnamed_tests, self.misnamed),
+            )
+        )
 
 
 class Stubs:
@@ -188,7 +230,12 @@ class Stubs:
         for function, clauses, edits, tests in self.rows[crate]:
             inside = "" if clauses else "inside, "
             first = f"{inside}`{function.path()}`" if function else "inside"
-            told = ": " + ", ".join(clause if clause == RESULT else f"`{clause}`" for clause in clauses) if clauses else ""
+            told = (
+                ": "
+                + ", ".join(clause if clause == RESULT else f"`{clause}`" for clause in clauses)
+                if clauses
+                else ""
+            )
             yield f"| {first}{told} |  | {listed(edits)} | {listed(tests)} |"
 
 
@@ -197,16 +244,26 @@ def listed(names):
 
 
 def stubs_of(check):
-    """Rows for clauses, and for the edits and tests that find no row. An edit goes to the first row of the function that it changes."""
+    """Rows for clauses, and for mutants and tests without one. A mutant goes to the first row of the
+    function that it changes."""
     stubs = Stubs()
     for crate, function, lacking in check.uncovered:
         stubs.add(crate, function, lacking, [], [])
     for crate, edit in check.unnamed_edits:
         target = check.crates[crate].edits[edit][1]
-        row = next((r for r in check.rows if r.crate == crate and target and {target.name, target.path()} & set(r.names)), None)
+        row = next(
+            (
+                r
+                for r in check.rows
+                if r.crate == crate and target and {target.name, target.path()} & set(r.names)
+            ),
+            None,
+        )
         stub = stubs.of(crate, target)
         if row:
-            row.cells[2] = f"`{edit}`" if row.cells[2].startswith("none") else f"{row.cells[2]}, `{edit}`"
+            row.cells[2] = (
+                f"`{edit}`" if row.cells[2].startswith("none") else f"{row.cells[2]}, `{edit}`"
+            )
         elif stub:
             stub[2].append(edit)
         else:

@@ -90,7 +90,11 @@ def main():
     lines = sum(WRITTEN.sub("", texts[name]).count("\n") for name in by_hand)
     if lines > MOST_LINES:
         wrong.append(f"docs/ has {lines} lines that are written by hand, and may have {MOST_LINES}")
-    print(*wrong, f"{len(names)} documents, {lines} lines by hand in docs/, {len(wrong)} wrong", sep="\n")
+    print(
+        *wrong,
+        f"{len(names)} documents, {lines} lines by hand in docs/, {len(wrong)} wrong",
+        sep="\n",
+    )
     return 1 if wrong else 0
 
 

@@ -4,7 +4,21 @@ import os
 import re
 
 import lrc
-from svg import FIRST, FIRST_PARITY, GLOBAL, GREY, INK, MADE, SECOND, WHITE, box, drawing, line, middle, text
+from svg import (
+    FIRST,
+    FIRST_PARITY,
+    GLOBAL,
+    GREY,
+    INK,
+    MADE,
+    SECOND,
+    WHITE,
+    box,
+    drawing,
+    line,
+    middle,
+    text,
+)
 
 ROW, WIDE, HIGH, GAP, LEFT, TOP_EDGE = 58, 106, 28, 12, 24, 84
 # The colours of the crates, by what they are for.
@@ -32,7 +46,10 @@ def below(name, used):
 
 def neighbours(used):
     """The crates that each uses, but those that it uses through another one."""
-    return {name: [one for one in ones if not any(one in below(other, used) for other in ones)] for name, ones in used.items()}
+    return {
+        name: [one for one in ones if not any(one in below(other, used) for other in ones)]
+        for name, ones in used.items()
+    }
 
 
 def level(name, used):
@@ -86,5 +103,7 @@ def layers():
     for name, (x, y) in at.items():
         shapes += [box(x, y, WIDE, HIGH, fill(name)), middle(x + WIDE / 2, y + 19, name, 11.5, INK)]
     y = TOP_EDGE + len(rows) * ROW - 8
-    shapes.append(text(LEFT, y, "A line leads from a crate to the nearest ones that it uses.", 12, fill=GREY))
+    shapes.append(
+        text(LEFT, y, "A line leads from a crate to the nearest ones that it uses.", 12, fill=GREY)
+    )
     return drawing(width + 2 * LEFT, y + 16, "The crates in layers", shapes)

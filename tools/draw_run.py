@@ -49,7 +49,9 @@ def stripe_boxes(y, blob, stripe, used, repaired):
         x, at = x_of(data, f), (stripe, f)
         is_lost = at in blob.lost
         paint = MADE if at in repaired else WHITE if is_lost else group_fill(data, f)
-        shapes.append(box(x, y, 26, 22, paint, RED if is_lost else INK, 2.8 if at in used else 1.1, is_lost))
+        shapes.append(
+            box(x, y, 26, 22, paint, RED if is_lost else INK, 2.8 if at in used else 1.1, is_lost)
+        )
         if is_lost:
             shapes.append(line(x + 5, y + 4, x + 21, y + 18, RED, 1.2))
         if blob.is_open(*at):
@@ -58,9 +60,11 @@ def stripe_boxes(y, blob, stripe, used, repaired):
 
 
 def sources_of(blob, stripe, f):
-    """The fragments that are read for one: itself if it is stored, else those that it is rebuilt from."""
+    """What is read for a fragment: itself if it is stored, else those that it is rebuilt from."""
     lost = blob.lost_of(stripe)
-    return {(stripe, i) for i in lrc.rebuilt_from(blob.code, lost, f)} if f in lost else {(stripe, f)}
+    return (
+        {(stripe, i) for i in lrc.rebuilt_from(blob.code, lost, f)} if f in lost else {(stripe, f)}
+    )
 
 
 def used_by(blob, entry):
@@ -82,7 +86,7 @@ def call_of(entry, is_mend):
 
 
 class Panel:
-    """The calls of one blob, from its put on, and the stripes that are shown: the first, and those of which a fragment was lost."""
+    """The calls of one blob from its put on, with the first stripe and those that lost something."""
 
     def __init__(self, blob, name, is_mend):
         self.blob, self.name, self.is_mend, self.calls = blob, name, is_mend, []
@@ -95,12 +99,20 @@ class Panel:
     def shows(self):
         """What occurs in the drawing, in the legend's words."""
         for entry, lost, used, repaired in self.calls:
-            yield from (word for word, those in (("lost", lost), ("used", used), ("repaired", repaired)) if those)
+            yield from (
+                word
+                for word, those in (("lost", lost), ("used", used), ("repaired", repaired))
+                if those
+            )
             if any(replace(self.blob, lost=set(lost)).is_open(*at) for at in lost):
                 yield "unrecoverable"
 
     def shown(self):
-        return sorted({0} | {j for _, lost, _, _ in self.calls for j, _ in lost}) if self.blob.stripes() else []
+        return (
+            sorted({0} | {j for _, lost, _, _ in self.calls for j, _ in lost})
+            if self.blob.stripes()
+            else []
+        )
 
     def draw(self, y):
         """The panel's shapes, and where the next one begins."""
@@ -111,12 +123,19 @@ class Panel:
         shapes = [text(LEFT, y, title, 14, bold=True)]
         y += 16
         for stripe in self.shown():
-            shapes.append(text(LEFT, y + 16, f"stripe {stripe}" if blob.stripes() > 1 else "", 12, fill=GREY))
-            shapes += [middle(x_of(data, f) + 13, y + 16, f, 11, GREY) for f in range(lrc.fragments(blob.code))]
+            shapes.append(
+                text(LEFT, y + 16, f"stripe {stripe}" if blob.stripes() > 1 else "", 12, fill=GREY)
+            )
+            shapes += [
+                middle(x_of(data, f) + 13, y + 16, f, 11, GREY)
+                for f in range(lrc.fragments(blob.code))
+            ]
             y += 22
             for entry, lost, used, repaired in self.calls:
                 ink = RED if "unrecoverable" in entry.note else GREY
-                shapes.append(text(LEFT, y + 16, f"{entry.number}.  {call_of(entry, self.is_mend)}", 12))
+                shapes.append(
+                    text(LEFT, y + 16, f"{entry.number}.  {call_of(entry, self.is_mend)}", 12)
+                )
                 shapes.append(text(LEFT + 150, y + 16, f"→ {entry.note}", 12, fill=ink))
                 if entry.word != "delete":
                     shapes += stripe_boxes(y, replace(blob, lost=set(lost)), stripe, used, repaired)

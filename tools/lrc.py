@@ -14,12 +14,16 @@ def definition(*path):
         return text.read()
 
 
-MODULUS = int(re.search(r"^modulus = (\w+)", definition("gf256", "specs", "Field.antt"), re.M).group(1), 0)
+MODULUS = int(
+    re.search(r"^modulus = (\w+)", definition("gf256", "specs", "Field.antt"), re.M).group(1), 0
+)
 
 
 def read_weights(code):
-    """What each fragment weighs in the four equations: the table `weights` of the crate `lrc_code`."""
-    table = re.search(rf"^weights {code} =\n((?:    .*\n)+)", definition("lrc_code", "specs", "Code.antt"), re.M).group(1)
+    """What each fragment weighs in the four equations: the table `weights` of `lrc_code`."""
+    table = re.search(
+        rf"^weights {code} =\n((?:    .*\n)+)", definition("lrc_code", "specs", "Code.antt"), re.M
+    ).group(1)
     rows = re.findall(r"\(([^()]*) ∷ \[\]\)", table)
     return [[int(number, 0) for number in row.split(" ∷ ")] for row in rows]
 
@@ -54,9 +58,9 @@ INVERSE = {a: b for a in range(1, 256) for b in range(1, 256) if product(a, b) =
 def is_open(code, lost, f):
     """Whether two columns agree on every fragment that is not in `lost`, and differ at `f`.
 
-    A column meets the four equations. The difference of two columns does so too, so `f` is open exactly where the equations,
-    over the lost fragments alone, have a solution that is not zero at `f`: where no sum of equations weighs `f` and nothing
-    else that is lost. `lost` is a frozenset.
+    A column meets the four equations, and so does the difference of two columns. So `f` is open if
+    and only if the equations, over the lost fragments alone, have a solution that is not zero at
+    `f`: if no sum of equations weighs `f` and no other lost fragment. `lost` is a frozenset.
     """
     if f not in lost:
         return False
@@ -67,7 +71,10 @@ def is_open(code, lost, f):
             continue
         rows.remove(pivot)
         scale = INVERSE[pivot[column]]
-        rows = [[x ^ product(product(row[column], scale), y) for x, y in zip(row, pivot)] for row in rows]
+        rows = [
+            [x ^ product(product(row[column], scale), y) for x, y in zip(row, pivot)]
+            for row in rows
+        ]
     return not any(row[-1] for row in rows)
 
 
@@ -97,8 +104,8 @@ def scales_for(rows, others):
 
 @lru_cache(maxsize=None)
 def rebuilt_from(code, lost, f):
-    """The fragments from which a lost one is rebuilt: those of the first sum of equations that weighs
-    it and nothing else that is lost. Fewer equations come first. `lost` is a frozenset; an
+    """The fragments that a lost one is rebuilt from: those of the first sum of equations that
+    weighs it and nothing else that is lost. Fewer equations come first. `lost` is a frozenset; an
     unrecoverable fragment is rebuilt from none.
     """
     for size in range(1, 5):

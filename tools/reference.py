@@ -1,9 +1,9 @@
 #!/usr/bin/env python3
 """Writes the pages that come from the code: tools/reference.py [--write]
 
-docs/api.md from docstrings, signatures and clauses of the crates that users call; docs/c-api.md from
-the headers; crates/README.md from crates.txt and the crates' own README.md. Without --write it names
-the pages that are not what it would write, and fails if there is one.
+docs/api.md from docstrings, signatures and clauses of the crates that users call; docs/c-api.md
+from the headers; crates/README.md from crates.txt and the crates' own README.md. Without --write it
+names the pages that are not what it would write, and fails if there is one.
 """
 
 import os
@@ -18,12 +18,25 @@ import sources  # noqa: E402
 
 # The crates that users call, from the top down.
 API = [
-    "shared", "mender", "sharded", "sharded_mender", "lent", "book", "history", "sealed", "lrc_code", "decode",
+    "shared",
+    "mender",
+    "sharded",
+    "sharded_mender",
+    "lent",
+    "book",
+    "history",
+    "sealed",
+    "lrc_code",
+    "decode",
 ]
 HEADERS = ["lrc_store.h", "lrc_coder.h"]
 CLAUSE = re.compile(r"\s*(requires|ensures)\*?(?:\s+(\w+))?\s*\{")
-TYPE = re.compile(r"((?:^ *///.*\n)+)?(?:^ *#\[.*\n)*^pub (struct|enum|trait) (\w+)([^{;]*)([{;])", re.M)
-MEMBER = re.compile(r"((?:^    ///.*\n)*)(?:^    #\[.*\n)*^    (pub )?([A-Za-z_]\w*)([^\n]*?),?$", re.M)
+TYPE = re.compile(
+    r"((?:^ *///.*\n)+)?(?:^ *#\[.*\n)*^pub (struct|enum|trait) (\w+)([^{;]*)([{;])", re.M
+)
+MEMBER = re.compile(
+    r"((?:^    ///.*\n)*)(?:^    #\[.*\n)*^    (pub )?([A-Za-z_]\w*)([^\n]*?),?$", re.M
+)
 DECLARATION = re.compile(
     r"/\*.*?\*/"
     r"|^typedef struct \{.*?^\} \w+;"
@@ -37,11 +50,17 @@ DECLARATION = re.compile(
 def filled(text, lead, later):
     """Some words on lines of at most 100 characters."""
     return textwrap.wrap(
-        " ".join(text.split()), 100, initial_indent=lead, subsequent_indent=later, break_long_words=False, break_on_hyphens=False
+        " ".join(text.split()),
+        100,
+        initial_indent=lead,
+        subsequent_indent=later,
+        break_long_words=False,
+        break_on_hyphens=False,
     )
 
 
 # ---- the crates that users call
+
 
 def docs_before(text, place):
     """The paragraphs of the docstring that ends right before a place."""
@@ -73,7 +92,11 @@ def function_lines(text, function):
     stop = re.compile(r"[^{};]*?(?=\b(?:requires|ensures)\b|\{|;)", re.S).match(code, end).end()
     head = " ".join(text[function.start : stop].split())
     head = re.sub(r"\( ", "(", head).replace(",)", ")").replace(", )", ")")
-    head = re.sub(r"^pub ((?:const |extern \"C\" )*)fn \w+", lambda found: f"{found.group(1)}fn {function.path()}", head)
+    head = re.sub(
+        r"^pub ((?:const |extern \"C\" )*)fn \w+",
+        lambda found: f"{found.group(1)}fn {function.path()}",
+        head,
+    )
     yield from filled(head, "", "    ")
     while True:
         clause = CLAUSE.match(code, stop)
@@ -101,7 +124,9 @@ def type_lines(text, found):
             words = " ".join(line.strip()[3:].strip() for line in documents.splitlines())
             members += filled(words, "    /// ", "    /// ") if words else []
             if rest.endswith("{"):
-                inner = body[member.end() : sources.closing(sources.blanked(body), member.end() - 1) - 1]
+                inner = body[
+                    member.end() : sources.closing(sources.blanked(body), member.end() - 1) - 1
+                ]
                 rest = f" {{ {' '.join(re.sub(r'///.*', '', inner).split()).rstrip(',')} }}"
             members.append(f"    {name_of}{rest},")
     parameters = parameters.rstrip()
@@ -122,7 +147,11 @@ def api_of(name):
         if sources.is_test_file(path, folder):
             continue
         text = sources.read(path)
-        types += [list(type_lines(text, found)) for found in TYPE.finditer(text) if found.group(3) in exported]
+        types += [
+            list(type_lines(text, found))
+            for found in TYPE.finditer(text)
+            if found.group(3) in exported
+        ]
         for function in sources.functions_of(text):
             if function.is_public and (function.path(), tuple(function.clauses)) in public:
                 owned.setdefault(function.owner, []).append(list(function_lines(text, function)))
@@ -136,10 +165,15 @@ def api_page():
     yield from (
         "# Rattle API",
         "",
-        "For developers who call the crates: every public type and function with its docstring and",
-        "clauses. `tools/reference.py --write` writes this page. In a clause, `x.old` and `x.new` are a",
-        "value at the call and at the return, and `x.now` a value that does not change. The words are",
-        "those of [the definitions](definitions.md) and [the glossary](glossary.md).",
+        *filled(
+            "For developers who call the crates: every public type and function with its "
+            "docstring and clauses. `tools/reference.py --write` writes this page. In a "
+            "clause, `x.old` and `x.new` are a value at the call and at the return, and "
+            "`x.now` a value that does not change. The words are those of [the "
+            "definitions](definitions.md) and [the glossary](glossary.md).",
+            "",
+            "",
+        ),
         "",
         *filled("Crates: " + ", ".join(f"[`{name}`](#{name})" for name in API) + ".", "", ""),
     )
@@ -154,6 +188,7 @@ def api_page():
 
 # ---- C
 
+
 def c_declarations(header):
     """The comments and declarations of a header, without guards and bodies."""
     text = sources.read(os.path.join(TOP, "include", header))
@@ -161,28 +196,40 @@ def c_declarations(header):
     text = re.sub(r"(?m)^#define LRC_STORE_WAIT\(.*?(?<!\\)\n(?=\n)", "", text, flags=re.S)
     for found in DECLARATION.finditer(text):
         said = found.group()
-        yield said if said.startswith(("/*", "typedef", "enum", "#")) else re.sub(r"\s*\{$", ";", said)
+        yield said if said.startswith(("/*", "typedef", "enum", "#")) else re.sub(
+            r"\s*\{$", ";", said
+        )
 
 
 def c_page():
     yield from (
         "# C API",
         "",
-        "For developers in C and C++: the declarations of `include/lrc_store.h` and `include/lrc_coder.h`,",
-        "with their comments. `tools/reference.py --write` writes this page. [The tutorial](library.md) has",
-        "whole programs, and [errors](errors.md) all statuses beside those of other interfaces.",
+        *filled(
+            "For developers in C and C++: the declarations of `include/lrc_store.h` and "
+            "`include/lrc_coder.h`, with their comments. `tools/reference.py --write` writes "
+            "this page. [The tutorial](library.md) has whole programs, and "
+            "[errors](errors.md) all statuses beside those of other interfaces.",
+            "",
+            "",
+        ),
     )
     for header in HEADERS:
         declared = list(c_declarations(header))
         yield from ("", f"## {header}", "", "```c")
         for number, said in enumerate(declared):
-            if number and (said.startswith("/*") or declared[number - 1].endswith((";", "}")) and not said.startswith("#")):
+            if number and (
+                said.startswith("/*")
+                or declared[number - 1].endswith((";", "}"))
+                and not said.startswith("#")
+            ):
                 yield ""
             yield from said.splitlines()
         yield "```"
 
 
 # ---- the crates
+
 
 def purpose(name):
     """The first paragraph of a crate's README.md."""
@@ -191,7 +238,7 @@ def purpose(name):
 
 
 def layers():
-    """The crates of crates.txt with those that they use, under the comments that stand before them."""
+    """The crates of crates.txt with those that they use, under the comments before them."""
     title = None
     for line in sources.read(os.path.join(TOP, "crates.txt")).splitlines():
         if line.startswith("#"):
@@ -205,11 +252,16 @@ def crates_page():
     yield from (
         "# Crates",
         "",
-        "For readers of the code: what each crate is, from the bottom up, and which crates it uses. Start",
-        "with [`history`](history/README.md), the sequential specification. Then read",
-        "[`shared`](shared/README.md), the store, and [`play`](play/README.md), which has the theorem about",
-        "the program.",
-        "`tools/reference.py --write` writes this page from `crates.txt` and the crates' own `README.md`.",
+        *filled(
+            "For readers of the code: what each crate is, from the bottom up, and which "
+            "crates it uses. Start with [`history`](history/README.md), the sequential "
+            "specification. Then read [`shared`](shared/README.md), the store, and "
+            "[`play`](play/README.md), which has the theorem about the program. "
+            "`tools/reference.py --write` writes this page from `crates.txt` and the crates' "
+            "own `README.md`.",
+            "",
+            "",
+        ),
         "",
         "![The crates in layers, and which use which](../docs/pictures/layers.svg)",
     )
@@ -217,7 +269,13 @@ def crates_page():
     last = None
     for title, name, used in layers():
         if title != last:
-            yield from ("", f"## {title}" if title else "", "", "| Crate | What it is | Uses |", "|---|---|---|")
+            yield from (
+                "",
+                f"## {title}" if title else "",
+                "",
+                "| Crate | What it is | Uses |",
+                "|---|---|---|",
+            )
             last = title
         first = re.split(r"(?<=[.:]) ", " ".join(purpose(name).split()))[0].rstrip(":.")
         first = re.sub(r"\]\((?:\.\./)+", "](../", first)
