@@ -411,7 +411,7 @@ static void print_blob(void) {
     }
 }
 
-// Each set of lost fragments by itself: ISA-L, all at once, and one after the other.
+// Each set of lost fragments: ISA-L, all at once, and one after the other.
 static void run_losses(int w, int rounds) {
     static const Row rows[DECODE_ROWS] = {ROW("ISA-L", isal_decode, 0), ROW("v2 lrc_decode", v2_decode, 0), ROW("v2 lrc_rebuild, each", v2_rebuild_each, 0),
                                           ROW("v3 lrc_decode", v3_decode, 0), ROW("v3 lrc_rebuild, each", v3_rebuild_each, 0)};
