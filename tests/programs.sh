@@ -1,6 +1,7 @@
 #!/usr/bin/env bash
-# Tests of what the documents name, and then over the programs that the merge gate has built: the statuses of lrcstore, the pictures, and each request for
-# memory refused in turn.
+# Tests of what the documents name, and then over the programs that the merge gate has built: the
+# statuses of lrcstore, the pictures, runs at the limits, and each request for memory and each thread
+# refused in turn.
 set -eu
 cd "$(dirname "$0")/.."
 python3 tests/promises.py
@@ -11,6 +12,7 @@ python3 tests/believed.py
 [ -x crates/lrcstore/out/lrcstore ] || (cd crates/lrcstore && rt run -- ../examples/data/first_path.csv --workers 2 > /dev/null)
 python3 tests/statuses.py
 python3 tests/pictures.py
+python3 tests/limits.py
 python3 tests/refused_memory.py
 tests/library.sh
 tests/store.sh
