@@ -1,8 +1,8 @@
 #!/usr/bin/env python3
 """Which definitions a reader has to believe: tests/believed.py [--list]
 
-They are those that the clauses of `Store`, `Pass`, `Grant` and `play` cite, with what these stand on, all the way down to the
-kit's words. It prints how many lines of each crate they are, without comments, with --list their names, by file, and fails where
+They are those that the clauses of `Store`, `Pass`, `Grant`, `play` and `run_words` cite, with what
+these stand on, all the way down to the kit's words. It prints how many lines of each crate they are, without comments, with --list their names, by file, and fails where
 docs/definitions.md says another number.
 """
 
@@ -13,7 +13,7 @@ from collections import defaultdict
 
 from sources import CRATES, blanked, closing, files_of, functions_of, read
 
-ROOTS = {("shared", "Store"), ("shared", "Pass"), ("lent", "Grant"), ("play", "")}
+ROOTS = {("shared", "Store"), ("shared", "Pass"), ("lent", "Grant"), ("play", ""), ("program", "")}
 HEAD = re.compile(r"^ *(?:(?:abbrev|unfoldable) pub |pub (?:record|data) )(\S+)", re.M)
 IMPORT = re.compile(r"use Rattle\.(\w+)\.specs\.([\w.]+?)(?:\.\{([^}]*)\}|\.TheVariants as (\w+)| as (\w+))")
 WORD = re.compile(r"[A-Za-z_][\w-]*(?:\.[A-Za-z_][\w-]*)*")

@@ -1,6 +1,7 @@
 #!/usr/bin/env bash
 # Tests of documents, then of the programs that `rt ci` has built: the statuses of lrcstore, the
-# pictures, and each allocation refused in turn. Last, the libraries.
+# pictures, runs at the limits, and each allocation and each thread refused in turn. Last, the
+# libraries.
 set -eu
 cd "$(dirname "$0")/.."
 python3 tests/promises.py
@@ -13,6 +14,7 @@ python3 tests/believed.py
 [ -x crates/lrcstore/out/lrcstore ] || (cd crates/lrcstore && rt run -- ../examples/data/first_path.csv --workers 2 > /dev/null)
 python3 tests/statuses.py
 python3 tests/pictures.py
+python3 tests/limits.py
 python3 tests/refused_memory.py
 tests/library.sh
 tests/store.sh

@@ -1,11 +1,14 @@
-// For tests, loaded before the C library: the request for memory of number REFUSE is refused, counted from 1 over malloc, calloc and realloc, and the
-// thread of number REFUSE_THREAD is not started. The file REFUSED is made when either happens.
+// For tests, loaded before the C library: the request for memory of number REFUSE is refused, counted
+// from 1 over malloc, calloc and realloc, and the thread of number REFUSE_THREAD is not started. The
+// file REFUSED is made when either happens. At its end the program writes into the file STARTED how
+// many threads it started.
 #define _GNU_SOURCE
 #include <dlfcn.h>
 #include <errno.h>
 #include <fcntl.h>
 #include <pthread.h>
 #include <stdatomic.h>
+#include <stdio.h>
 #include <stdlib.h>
 #include <unistd.h>
 
@@ -16,6 +19,18 @@ struct counted {
 };
 
 static struct counted memory = {"REFUSE", 0, -1}, threads = {"REFUSE_THREAD", 0, -1};
+
+static atomic_long started;
+
+// dprintf takes no memory for so short a line.
+__attribute__((destructor)) static void write_started(void) {
+    const char *path = getenv("STARTED");
+    int file = path ? open(path, O_CREAT | O_WRONLY | O_TRUNC, 0600) : -1;
+    if (file >= 0) {
+        dprintf(file, "%ld", atomic_load(&started));
+        close(file);
+    }
+}
 
 static int refused(struct counted *it) {
     if (it->wanted < 0) {
@@ -54,5 +69,9 @@ int pthread_create(pthread_t *thread, const pthread_attr_t *attributes, void *(*
     if (!create) {
         create = dlsym(RTLD_NEXT, "pthread_create");
     }
-    return create ? create(thread, attributes, start, argument) : EAGAIN;
+    int status = create ? create(thread, attributes, start, argument) : EAGAIN;
+    if (status == 0) {
+        atomic_fetch_add(&started, 1);
+    }
+    return status;
 }

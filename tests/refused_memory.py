@@ -1,87 +1,183 @@
 #!/usr/bin/env python3
-"""Refuses each request for memory in turn, and then each thread, over the programs that the merge gate has built.
+"""Refuses each request for memory in turn, and then each thread: tests/refused_memory.py
 
-The programs refuse_each and test_sharded must print the same whichever request is refused. The program lrcstore must end with status 3 and nothing on standard output, or print
-what it prints with ample memory, and never that it was stopped. Where a thread is refused it must end so, with the line for that. `tests/programs.sh` runs it.
+It runs the programs that the merge gate has built. `refuse_each` and `test_sharded` must print the
+same whichever request is refused. `lrcstore` must end with status 3, nothing on standard output and
+the message of what was refused, or print what it prints with ample memory. Where a thread is refused
+it must end so. In each run the threads are counted: with ample memory one for each worker that has
+rows in a round, and for each worker of a mend; where one is refused, those before it.
+`tests/programs.sh` runs it.
 """
 
 import os
 import subprocess
 import sys
 import tempfile
+from collections import namedtuple
 
 HERE = os.path.dirname(os.path.abspath(__file__))
 TOP = os.path.dirname(HERE)
 DATA = os.path.join(TOP, "crates", "examples", "data")
+# The workers of the scripts that `meeting_of` makes.
+MEETINGS = (4, 16)
 RUNS = [
     ["first_path.csv", "--workers", "2"],
     ["degraded_read.csv", "--history"],
     ["trimmed_journal.csv", "--limit", "3", "--history"],
     ["mend.csv"],
     ["mend.csv", "--workers", "4"],
+    ["meeting_4.csv", "--workers", "4"],
 ]
 # Programs that make a refused call again. With a word test_sharded starts no thread.
 AGAIN = [["refuse_each"], ["test_sharded", "calls"]]
-THREADED = [["first_path.csv", "--workers", "2"], ["mend.csv", "--workers", "4"]]
+THREADED = [
+    ["first_path.csv", "--workers", "2"],
+    ["mend.csv", "--workers", "4"],
+    ["meeting_4.csv", "--workers", "4"],
+    ["meeting_16.csv", "--workers", "16"],
+]
 NO_THREAD = b"lrcstore: cannot start a worker\n"
-# So many numbers in a row at which nothing was refused end a range: with several threads the count of requests differs between runs.
+# A thread is not started either where the memory for it is refused.
+MESSAGES = (b"lrcstore: out of memory\n", NO_THREAD)
+# So many numbers in a row at which nothing was refused end a range: with several threads the count
+# of requests differs between runs.
 BEHIND = 8
 
-
-def refusals(command, library, folder, what="REFUSE"):
-    """The runs of a command in which a request was refused, or a thread, each with its number."""
-    number, behind = 0, 0
-    while behind < BEHIND:
-        number += 1
-        mark = os.path.join(folder, "refused")
-        variables = {"LD_PRELOAD": library, what: str(number), "REFUSED": mark}
-        run = subprocess.run(command, cwd=DATA, env=variables, capture_output=True, timeout=60)
-        if os.path.exists(mark):
-            os.remove(mark)
-            behind = 0
-            yield number, run
-        else:
-            behind += 1
+Ran = namedtuple("Ran", "status out err threads is_refused")
 
 
-def is_short(words, seen, least):
-    """Whether fewer refusals were seen than there must be, as where the library was not loaded."""
-    if seen < least:
-        print(*words, "only", seen, "refused, of", least, "at least")
-    return seen < least
+def meeting_of(workers):
+    """A script: two rounds with several rows of each worker over a blob of its own, and a mend."""
+    rows = [f"1,1,put,n{k},text,HELLO" for k in range(1, workers + 1)]
+    texts = ("read,{},0,5", "lose,{},0,0", "read,{},0,2", "stat,{},,")
+    rows += [f"{r},{k},{text.format(f'n{k}')}" for r in (2, 3)
+             for text in texts for k in range(1, workers + 1)]
+    return "\n".join(rows + ["4,0,mend,,,", "5,1,stat,n1,,", ""])
+
+
+def threads_of(path, workers):
+    """How many threads a script takes: one for each worker with rows in a round, all for a mend."""
+    with open(path, encoding="utf-8") as script:
+        heads = {tuple(line.split(",")[:2]) for line in script if line.strip()}
+    return sum(workers if worker == "0" else 1 for _, worker in heads)
+
+
+class Runs:
+    """Runs of programs in a folder with all scripts, under the library that counts and refuses."""
+
+    def __init__(self, folder):
+        self.folder, self.library = folder, os.path.join(folder, "refuse.so")
+        source = os.path.join(HERE, "refuse.c")
+        flags = ["-O1", "-shared", "-fPIC"]
+        subprocess.run(["cc", *flags, "-o", self.library, source], check=True)
+        for name in os.listdir(DATA):
+            if name.endswith(".csv"):
+                os.symlink(os.path.join(DATA, name), os.path.join(folder, name))
+        for workers in MEETINGS:
+            path = os.path.join(folder, f"meeting_{workers}.csv")
+            with open(path, "w", encoding="utf-8") as script:
+                script.write(meeting_of(workers))
+
+    def run(self, command, what="REFUSE", number=0):
+        """A run in which the request or the thread of this number is refused, none if it is 0."""
+        refused, started = (os.path.join(self.folder, name) for name in ("refused", "started"))
+        variables = {"LD_PRELOAD": self.library, what: str(number)}
+        variables.update(REFUSED=refused, STARTED=started)
+        ran = subprocess.run(command, cwd=self.folder, env=variables, timeout=60,
+                             stdout=subprocess.PIPE, stderr=subprocess.PIPE)
+        with open(started, encoding="utf-8") as text:
+            threads = int(text.read())
+        os.remove(started)
+        is_refused = os.path.exists(refused)
+        if is_refused:
+            os.remove(refused)
+        return Ran(ran.returncode, ran.stdout, ran.stderr, threads, is_refused)
+
+    def refusals(self, command, what="REFUSE"):
+        """The runs in which something was refused, each with its number."""
+        number, behind = 0, 0
+        while behind < BEHIND:
+            number += 1
+            ran = self.run(command, what, number)
+            behind = 0 if ran.is_refused else behind + 1
+            if ran.is_refused:
+                yield number, ran
+
+
+class Test:
+    """Counts what was refused, and the runs that ended wrong."""
+
+    def __init__(self, runs):
+        self.runs, self.seen, self.wrong = runs, 0, 0
+
+    def complain(self, *words):
+        self.wrong += 1
+        print(*words)
+
+    def check(self, command, least, is_right, what="REFUSE"):
+        """Whether each run with a refusal is right; of these there must be so many."""
+        before = self.seen
+        for number, ran in self.runs.refusals(command, what):
+            self.seen += 1
+            if not is_right(number, ran):
+                self.complain(*command, what, number, ran)
+        # Fewer are seen where the library was not loaded.
+        if self.seen - before < least:
+            self.complain(*command, "only", self.seen - before, "refused, of", least, "at least")
+
+    def ample(self, command, threads=None):
+        """A run with ample memory, whose threads are counted if it is said how many they are."""
+        ran = self.runs.run(command)
+        if ran.status or ran.err or ran.is_refused or threads not in (None, ran.threads):
+            self.complain(*command, "of", threads, "threads, with ample memory:", ran)
+        return ran
 
 
 def program(name):
     return os.path.join(TOP, "crates", name, "out", name)
 
 
+def test_again(test):
+    for name, *words in AGAIN:
+        ample = test.ample([program(name), *words])
+        test.check([program(name), *words], 1, lambda _, ran: ran[:3] == ample[:3])
+
+
+def workers_of(words):
+    return int(words[words.index("--workers") + 1]) if "--workers" in words else 1
+
+
+def test_memory(test, words):
+    threads = threads_of(os.path.join(test.runs.folder, words[0]), workers_of(words))
+    ample = test.ample([program("lrcstore"), *words], threads)
+
+    def is_right(_, ran):
+        is_ended = ran.status == 3 and not ran.out and ran.err in MESSAGES
+        return ran[:4] == ample[:4] or is_ended and ran.threads <= threads
+
+    test.check([program("lrcstore"), *words], 1, is_right)
+
+
+def test_threads(test, words):
+    threads = threads_of(os.path.join(test.runs.folder, words[0]), workers_of(words))
+    test.ample([program("lrcstore"), *words], threads)
+
+    def is_right(number, ran):
+        return ran[:4] == (3, b"", NO_THREAD, number - 1)
+
+    test.check([program("lrcstore"), *words], threads, is_right, "REFUSE_THREAD")
+
+
 def main():
-    wrong, seen = 0, 0
     with tempfile.TemporaryDirectory() as folder:
-        library = os.path.join(folder, "refuse.so")
-        subprocess.run(["cc", "-O1", "-shared", "-fPIC", "-o", library, os.path.join(HERE, "refuse.c")], check=True)
-        again = [[program(name), *words] for name, *words in AGAIN]
-        for command in again + [[program("lrcstore")] + words for words in RUNS]:
-            ample = subprocess.run(command, cwd=DATA, capture_output=True, check=True).stdout
-            before = seen
-            for number, run in refusals(command, library, folder):
-                seen += 1
-                same = run.returncode == 0 and run.stdout == ample
-                ended = run.returncode == 3 and not run.stdout and b"stopped" not in run.stderr
-                if not (same or ended and command not in again):
-                    wrong += 1
-                    print(*command, "request", number, "refused: status", run.returncode, run.stdout, run.stderr)
-            wrong += is_short(command, seen - before, 1)
+        test = Test(Runs(folder))
+        test_again(test)
+        for words in RUNS:
+            test_memory(test, words)
         for words in THREADED:
-            before = seen
-            for number, run in refusals([program("lrcstore")] + words, library, folder, "REFUSE_THREAD"):
-                seen += 1
-                if (run.returncode, run.stdout, run.stderr) != (3, b"", NO_THREAD):
-                    wrong += 1
-                    print(*words, "thread", number, "refused: status", run.returncode, run.stdout, run.stderr)
-            wrong += is_short(words, seen - before, int(words[-1]))
-    print(seen, "requests refused,", wrong, "runs wrong")
-    return 1 if wrong else 0
+            test_threads(test, words)
+    print(test.seen, "requests refused,", test.wrong, "runs wrong")
+    return 1 if test.wrong else 0
 
 
 if __name__ == "__main__":

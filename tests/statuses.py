@@ -31,13 +31,15 @@ HELPS = ["put", "put6", "read", "lose", "repair", "delete", "stat", "trim", "men
 MOST_ROWS = 65536
 
 
-def run(folder, words, out=subprocess.PIPE, given=None):
-    return subprocess.run([PROGRAM, *words], cwd=folder, input=given, stdout=out, stderr=subprocess.PIPE, env={}, timeout=60)
+def run(folder, words, out=subprocess.PIPE, given=None, err=subprocess.PIPE):
+    return subprocess.run([PROGRAM, *words], cwd=folder, input=given, stdout=out, stderr=err, env={},
+                          timeout=60)
 
 
 def ended(what, ran, status, out, err):
-    """Whether a run ended so; `err` may be None, for some text of another's."""
-    is_right = ran.returncode == status and (out is None or ran.stdout == out) and (bool(ran.stderr) if err is None else ran.stderr == err)
+    """Whether a run ended so; `err` may be None, for some text of the parser's."""
+    is_right = ran.returncode == status and (out is None or ran.stdout == out)
+    is_right &= ran.stderr.startswith(b"error: ") if err is None else ran.stderr == err
     if not is_right:
         print(what, "ended with", ran.returncode, ran.stdout, ran.stderr)
     return is_right
@@ -67,6 +69,11 @@ def main():
         with open("/dev/full", "wb") as full:
             for words in (["script.csv"], ["--help"], ["--version"]):
                 results.append(ended(f"{words[0]} to a full device", run(folder, words, full), 1, None, b"lrcstore: cannot write\n"))
+            # Where the message can't be written, the status is that of the ending.
+            for words, status in (([], 2), (["none.csv"], 1), (["cut.csv"], 1)):
+                ran = run(folder, words, err=full)
+                ran.stderr = b""
+                results.append(ended("a message to a full device", ran, status, b"", b""))
         for words in REFUSED:
             results.append(ended(" ".join(words) or "no words", run(folder, words), 2, b"", None))
         print(len(results), "runs to a status,", results.count(False), "wrong")

@@ -26,7 +26,7 @@ KINDS = [
     ("coding", FIRST, "gf256 kernels lrc_code syndromes decode"),
     ("blobs", SECOND, "sealed lent"),
     ("store", FIRST_PARITY, "history book gate requests shared mender sharded sharded_mender"),
-    ("scripts", MADE, "script command_line transcript rounds play lrcstore"),
+    ("scripts", MADE, "script command_line transcript rounds play program lrcstore"),
     ("for C", GLOBAL, "coder_c session store_c"),
 ]
 

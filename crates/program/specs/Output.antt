@@ -1,0 +1,21 @@
+-- What the program writes of a run.
+use Rattle.std.specs.Prelude.{◌≡◌, ℕ, List, Option, IfSome, map}
+use Rattle.std.specs.Io.KnownBytes.{Appends}
+use Rattle.command_line.specs.declared.line.Options.{Options}
+use Rattle.script.specs.Fields.{row_of}
+use Rattle.script.specs.Script.{script_records}
+use Rattle.script.specs.declared.rows.Row.{Row}
+use Rattle.play.specs.Fails.{IsAccepted}
+use Rattle.play.specs.Printed.{printed}
+use Rattle.play.specs.Runs.{IsRun}
+use Rattle.play.specs.Steps.{Step}
+
+-- a run of the rows in the script's bytes, with the options' width, limit and workers, is printed,
+-- with the history if the options say so; and no row is refused
+pub record HasOutput (options : Options) (script old new : Option (List ℕ)) : Type 0 where
+  pub rows : List Row
+  pub steps : List Step
+  pub run : IsRun options.width options.limit options.workers rows steps
+  pub appends : Appends old new (printed options.width options.history rows steps)
+  pub read : IfSome script (λ text. rows ≡ map row_of (script_records text))
+  pub accepted : IfSome script (IsAccepted options.workers)

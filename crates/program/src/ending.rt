@@ -1,0 +1,41 @@
+//! How the program ends.
+
+ghost use Rattle.program.specs.Endings.{HasStatus};
+
+use play::Fail;
+
+/// How the program ends.
+#[derive(Clone, Copy, PartialEq, Eq, Debug)]
+pub enum Ending {
+    /// The script ran, and its output is written.
+    Success,
+    /// The words ask for the help or the version, and its text is written.
+    HelpText,
+    /// The parser refuses the words.
+    UsageError,
+    /// The script has no output, or a text can't be written.
+    Failure(Fail),
+}
+
+impl Ending {
+    /// The exit status: 0 for `Success` and `HelpText`, 2 for `UsageError`, 3 for want of memory
+    /// or of a thread, and 1 for any other failure.
+    pub fn status(&self) -> u8
+        ensures { HasStatus self.now result }
+    {
+        match self {
+            Ending::Success | Ending::HelpText => 0,
+            Ending::UsageError => 2,
+            Ending::Failure(fail) => fail.status(),
+        }
+    }
+}
+
+/// The end of the program, and whether its message was written.
+#[derive(Clone, Copy, PartialEq, Eq, Debug)]
+pub struct Exit {
+    /// How the program ends.
+    pub ending: Ending,
+    /// False if the message that belongs to the ending couldn't be written to standard error.
+    pub is_reported: bool,
+}

@@ -1,0 +1,132 @@
+//! A run of the program's words.
+
+ghost use Rattle.std.specs.Prelude.{◌≡◌, ◌≢◌, ◌⊎◌, Err, IfErr, IfSome, Ok, OnOk, map, string_bytes, true};
+ghost use Rattle.std.specs.Fn.{FnOnceReturnsAt};
+ghost use Rattle.std.specs.Io.KnownBytes.{Appends, Keeps};
+ghost use Rattle.command_line.specs.Line.{Says};
+ghost use Rattle.command_line.specs.Ranges.{InRange};
+ghost use Rattle.play.specs.Fails.{Tells};
+ghost use Rattle.program.specs.Endings.{IfFailure, IsEndingOf, IsQuiet, IsSuccess, message_of};
+ghost use Rattle.program.specs.Output.{HasOutput};
+ghost use Rattle.program.specs.Words.{HasHelpRequest, HasOptions, HasScript, HasUsageError, IsUnopened};
+
+use crate::ending::{Ending, Exit};
+use command_line::{BadLine, Options, options};
+use play::{Always, Fail, play};
+use std::alloc::Global;
+use std::io;
+use std::io::{Read, Write};
+use std::sync::Wait;
+use std::thread::Threads;
+
+/// Writes the message of a failure to standard error.
+pub fn report<E: Write>(fail: Fail, errors: &mut E) -> Exit
+    ensures ending { result.ending ≡ Ending.Failure fail }
+    ensures message { result.is_reported ≡ true
+        → Appends (E.contents errors.old) (E.contents errors.new) (message_of fail) }
+{
+    let is_reported = writeln!(errors, "lrcstore: {fail}").is_ok();
+    Exit {
+        ending: Ending::Failure(fail),
+        is_reported,
+    }
+}
+
+/// Writes the parser's text: the help or the version to the output, a refusal to standard error.
+fn print_parser_text<W: Write, E: Write>(error: clap::Error, output: &mut W, errors: &mut E) -> Exit
+    ensures ending { IsEndingOf error result.ending }
+    ensures no_output { IsQuiet result.ending
+        → Keeps (W.contents output.old) (W.contents output.new) }
+    ensures no_errors { IsSuccess result.ending
+        → Keeps (E.contents errors.old) (E.contents errors.new) }
+    ensures message { result.is_reported ≡ true → IfFailure (λ fail.
+        Appends (E.contents errors.old) (E.contents errors.new) (message_of fail)) result.ending }
+{
+    if error.use_stderr() {
+        let is_reported = write!(errors, "{error}").is_ok();
+        return Exit {
+            ending: Ending::UsageError,
+            is_reported,
+        };
+    }
+    match write!(output, "{error}") {
+        Ok(()) => Exit {
+            ending: Ending::HelpText,
+            is_reported: true,
+        },
+        Err(_) => report(Fail::Write, errors),
+    }
+}
+
+/// Opens the script and runs it.
+fn run_script<
+    Rt: Threads + Wait + Sync,
+    R: Read + Drop,
+    F: FnOnce(&str) -> io::Result<R>,
+    W: Write,
+>(rt: &Rt, alloc: Global, options: &Options, opener: F, output: &mut W) -> Result<(), Fail>
+    requires opener { F.IsAlwaysCallable opener }
+    requires width { InRange options.now.width 65536 }
+    requires workers { InRange options.now.workers 16 }
+    requires limit { InRange options.now.limit 1048576 }
+    ensures prints { OnOk result (HasScript (FnOnceReturnsAt F.FnOnce opener) options.now (λ file.
+        HasOutput options.now (R.remaining file) (W.contents output.old) (W.contents output.new))) }
+    ensures no_output { IfErr result (λ fail. fail ≢ Fail.Write
+        → Keeps (W.contents output.old) (W.contents output.new)) }
+    ensures cause { IfErr result (λ fail.
+        ((fail ≡ Fail.Read) × IsUnopened (FnOnceReturnsAt F.FnOnce opener) options.now)
+        ⊎ HasScript (FnOnceReturnsAt F.FnOnce opener) options.now (λ file.
+        IfSome (R.remaining file) (λ text. Tells options.now.workers text fail))) }
+{
+    match opener(options.script.as_str()) {
+        Ok(file) => play(rt, alloc, options, file, output, &Always),
+        Err(_) => Err(Fail::Read),
+    }
+}
+
+/// Runs the program's words, those after its name: reads what they say, opens their script, runs
+/// it, and writes its output. The message of a failure goes to standard error.
+pub fn run_words<
+    Rt: Threads + Wait + Sync,
+    R: Read + Drop,
+    F: FnOnce(&str) -> io::Result<R>,
+    W: Write,
+    E: Write,
+>(rt: &Rt, alloc: Global, words: &[&str], opener: F, output: &mut W, errors: &mut E) -> Exit
+    requires opener { F.IsAlwaysCallable opener }
+    ensures prints { result.ending ≡ Ending.Success
+        → HasOptions (map (λ w. w.now) words.now) (λ options.
+        HasScript (FnOnceReturnsAt F.FnOnce opener) options (λ file.
+        HasOutput options (R.remaining file)
+        (W.contents output.old) (W.contents output.new))) }
+    ensures help { result.ending ≡ Ending.HelpText → HasHelpRequest (map (λ w. w.now) words.now) }
+    ensures usage { result.ending ≡ Ending.UsageError
+        → HasUsageError (map (λ w. w.now) words.now) }
+    // a request for memory may be refused at any time
+    ensures cause { IfFailure (λ fail. (fail ≡ Fail.Memory)
+        ⊎ (((fail ≡ Fail.Write) × HasHelpRequest (map (λ w. w.now) words.now))
+        ⊎ HasOptions (map (λ w. w.now) words.now) (λ options.
+        ((fail ≡ Fail.Read) × IsUnopened (FnOnceReturnsAt F.FnOnce opener) options)
+        ⊎ HasScript (FnOnceReturnsAt F.FnOnce opener) options (λ file.
+        IfSome (R.remaining file) (λ text. Tells options.workers text fail)))))
+        result.ending }
+    ensures no_output { IsQuiet result.ending
+        → Keeps (W.contents output.old) (W.contents output.new) }
+    ensures no_errors { IsSuccess result.ending
+        → Keeps (E.contents errors.old) (E.contents errors.new) }
+    ensures message { result.is_reported ≡ true → IfFailure (λ fail.
+        Appends (E.contents errors.old) (E.contents errors.new) (message_of fail)) result.ending }
+{
+    let options = match options(alloc, words) {
+        Ok(options) => options,
+        Err(BadLine::Clap(error)) => return print_parser_text(error, output, errors),
+        Err(BadLine::NoMemory) => return report(Fail::Memory, errors),
+    };
+    match run_script(rt, alloc, &options, opener, output) {
+        Ok(()) => Exit {
+            ending: Ending::Success,
+            is_reported: true,
+        },
+        Err(fail) => report(fail, errors),
+    }
+}

@@ -1,0 +1,345 @@
+#!/usr/bin/env python3
+"""Runs lrcstore at its limits with ample memory, and compares what it prints: tests/limits.py
+
+Each case is a script with its options, and one run of the program. What it must print is computed
+here, from the lost fragments that `tools/lrc.py` finds open and from the bytes that were put. The
+entries of one round or of one mend are compared in the order of each worker, or of the plan.
+"""
+
+import os
+import random
+import re
+import string
+import subprocess
+import sys
+from collections import Counter, namedtuple
+from itertools import groupby
+
+TOP = os.path.dirname(os.path.dirname(os.path.abspath(__file__)))
+PROGRAM = os.path.join(TOP, "crates", "lrcstore", "out", "lrcstore")
+sys.path.insert(0, os.path.join(TOP, "tools"))
+import lrc  # noqa: E402
+
+CODES = {"put": "Wide", "put6": "Small"}
+MOST_STRIPES = 4096
+# A longer blob is not read whole, since each byte is printed as two digits.
+MOST_READ = 4 << 20
+WORKERS = (1, 4, 16)
+# Width and number of stripes. A blob of 4,096 stripes at the greatest width has 3 GiB.
+SHAPES = [(1, 1), (1, 64), (1, 65), (1, 4096), (64, 1), (64, 64), (64, 65), (64, 4096), (65536, 1)]
+SHAPES += [(65536, 4), (65536, 65)]
+TRIMS = [0, 1, 2, 3, 64, 1000, 100_000]
+NAMES = [0, 1, 2, 3, 5000]
+MENDS = [0, 1, 2, 15, 16, 17, 64, 65, 4095, 4096, 4097, 9000]
+ROWS = [1, 2, 63, 64, 65, 300]
+
+LETTERS = (string.ascii_letters + string.digits + ".-").encode() * 4
+
+Row = namedtuple("Row", "round worker op name a b", defaults=("", "", ""))
+Entry = namedtuple("Entry", "round who call note")
+Case = namedtuple("Case", "what words rows")
+
+
+class Blob:
+    """A blob: its version, its bytes, its code, and the lost fragments of each stripe."""
+
+    def __init__(self, version, data, code, width):
+        self.version, self.data, self.code, self.width = version, data, code, width
+        self.lost = {}
+
+    def stripes(self):
+        return -(-len(self.data) // (lrc.data_fragments(self.code) * self.width))
+
+    def has(self, stripe, f):
+        return stripe < self.stripes() and f < lrc.fragments(self.code)
+
+    def lost_of(self, stripe):
+        return self.lost.get(stripe, frozenset())
+
+    def is_open(self, stripe, f):
+        return lrc.is_open(self.code, self.lost_of(stripe), f)
+
+    def parts(self, start, length):
+        """The (stripe, fragment) of each part into which a range is cut."""
+        if not length:
+            return []
+        numbers = range(start // self.width, -(-(start + length) // self.width))
+        return [divmod(number, lrc.data_fragments(self.code)) for number in numbers]
+
+    def all_lost(self):
+        return [(j, f) for j in sorted(self.lost) for f in sorted(self.lost[j])]
+
+
+class Model:
+    """The store of one thread with its journal: the replies that a script prints."""
+
+    def __init__(self, width, limit):
+        self.width, self.limit = width, limit
+        self.puts, self.blobs, self.journal, self.trimmed = 0, {}, [], 0
+
+    def reply(self, row):
+        """What a row prints, and the change that it makes."""
+        if row.op == "trim":
+            return self.trim(int(row.a))
+        if row.op == "mend":
+            return self.mend(row)
+        if row.op in CODES and self.is_too_long(row):
+            return "too-long"
+        if len(self.journal) == self.limit:
+            return "full"
+        note, text = self.step(row)
+        call = [row.op, row.name]
+        call += [str(len(row.b))] if row.op in CODES else [x for x in (row.a, row.b) if x != ""]
+        self.journal.append(Entry(row.round, row.worker, " ".join(call), note))
+        return note + text
+
+    def is_too_long(self, row):
+        return Blob(0, row.b, CODES[row.op], self.width).stripes() > MOST_STRIPES
+
+    def trim(self, keep):
+        trimmed = max(0, len(self.journal) - keep)
+        self.journal = self.journal[trimmed:]
+        self.trimmed += trimmed
+        return f"trimmed {trimmed}"
+
+    def mend(self, row):
+        told = Counter()
+        blobs = sorted(self.blobs.items())
+        for name, stripe, f in [(n, *at) for n, blob in blobs for at in blob.all_lost()]:
+            repair = Row(row.round, 0, "repair", name, str(stripe), str(f))
+            reply = self.reply(repair)
+            if reply == "full":
+                return reply
+            told[reply.split()[0]] += 1
+        return f"mended {told['repaired']} 0 0 {told['unrecoverable']}"
+
+    def step(self, row):
+        """The note of a call, and what is printed behind it."""
+        if row.op in CODES:
+            self.puts += 1
+            self.blobs[row.name] = Blob(self.puts, row.b, CODES[row.op], self.width)
+            return f"stored {self.puts}", ""
+        blob = self.blobs.get(row.name)
+        if blob is None:
+            return "no-name", ""
+        if row.op == "delete":
+            del self.blobs[row.name]
+            return f"deleted {blob.version}", ""
+        if row.op == "stat":
+            lost = sum(map(len, blob.lost.values()))
+            return f"shape {blob.version} {len(blob.data)} {blob.stripes()} {lost}", ""
+        if row.op == "read":
+            return read(blob, int(row.a), int(row.b))
+        return change(blob, row.op, int(row.a), int(row.b)), ""
+
+
+def read(blob, start, length):
+    if start > len(blob.data) or length > len(blob.data) - start:
+        return "out-of-range", ""
+    parts = blob.parts(start, length)
+    if any(blob.lost and blob.is_open(*at) for at in parts):
+        return f"unrecoverable {blob.version}", ""
+    built = sum(f in blob.lost_of(j) for j, f in parts)
+    digits = blob.data[start : start + length].hex() or "-"
+    return f"granted {blob.version}", f" {len(parts) - built} {built} {digits}"
+
+
+def change(blob, op, stripe, f):
+    """The note of a loss or of a repair."""
+    lost = blob.lost_of(stripe)
+    if not blob.has(stripe, f):
+        return "no-fragment"
+    if op == "lose":
+        blob.lost[stripe] = lost | {f}
+        return "already-lost" if f in lost else f"lost {blob.version}"
+    if f not in lost:
+        return "not-lost"
+    if blob.is_open(stripe, f):
+        return f"unrecoverable {blob.version}"
+    blob.lost[stripe] = lost - {f}
+    return f"repaired {blob.version}"
+
+
+def data_of(length):
+    """So many letters and digits, with no short period."""
+    bits = random.Random(length).getrandbits(8 * length + 8)
+    return bits.to_bytes(length + 1, "little")[:length].translate(LETTERS)
+
+
+def line_of(row):
+    """A row's line in the script. Short blobs are written in digits."""
+    a, b = row.a, row.b
+    if row.op in CODES:
+        a, b = ("hex", b.hex()) if len(b) < 100 else ("text", b.decode())
+    return f"{row.round},{row.worker},{row.op},{row.name},{a},{b}\n"
+
+
+def calls(*texts, name="a", round=1, worker=1):
+    """Rows from texts as `lose 0 1`."""
+    words = [text.split() for text in texts]
+    return [Row(round, worker, op, name, *rest) for op, *rest in words]
+
+
+def shape_rows(op, width, stripes):
+    """Each call over a blob of so many stripes, the last one not filled by a byte."""
+    data = lrc.data_fragments(CODES[op])
+    length = stripes * data * width - 1
+    last, end = stripes - 1, length - 1
+    whole = f"read 0 {length}" if length <= MOST_READ else f"read {end - width} {width}"
+    reads = [whole, "read 0 1", f"read {end} 1", f"read {length} 0", f"read {length} 1"]
+    far = [f"lose {last} {f}" for f in range(data // 2)]
+    rows = [Row(1, 1, op, "a", "", data_of(length))] + calls("stat", *reads)
+    rows += calls("lose 0 0", "lose 0 0", f"lose {stripes} 0", f"lose 0 {data + 4}")
+    rows += calls(f"lose {last} {data - 1}", f"lose {last} {data}", *reads, "stat")
+    rows += calls("repair 0 0", "repair 0 0", f"repair {stripes} 0", "read 0 1")
+    rows += calls(*far, f"repair {last} 0", f"read {end} 1", f"read {last * data * width} 1")
+    rows += [Row(2, 0, "mend")] + calls(*reads, "stat", "delete", "read 0 1", round=3)
+    return rows
+
+
+def shapes():
+    for width, stripes in SHAPES:
+        for op in CODES:
+            rows = shape_rows(op, width, stripes)
+            yield Case(f"{op}, {stripes} stripes of width {width}", ["--width", width], rows)
+    for op, code in CODES.items():
+        most = MOST_STRIPES * lrc.data_fragments(code)
+        rows = [Row(1, 1, op, "a", "", data_of(length)) for length in (most, most + 1, 1, 0)]
+        yield Case(f"{op} at the most stripes and past them", [], rows + calls("stat", "read 0 0"))
+
+
+def trims():
+    """Journals of which so many entries are discarded: losses, and as many repairs by a mend."""
+    for trimmed in TRIMS:
+        puts = [Row(1, 1, "put", name, "", data_of(49152)) for name in "abcd"]
+        each = trimmed // 8
+        spots = [(j, f) for f in (12, 13, 14, 15) for j in range(MOST_STRIPES)][:each]
+        rows = puts + [row for name in "abcd" for j, f in spots
+                       for row in calls(f"lose {j} {f}", name=name)]
+        rows += [Row(2, 0, "mend")] + calls(*["stat"] * (trimmed % 8), round=3)
+        rows += [Row(3, 1, "trim", "", "4"), Row(3, 1, "trim", "", "4"), *calls("stat", round=3)]
+        yield Case(f"a trim of {trimmed}", ["--limit", 1048576], rows)
+
+
+def names():
+    """A base and a journal of so many names."""
+    for many in NAMES:
+        named = [f"n{k}" for k in range(many)]
+        rows = [Row(1, 1, "put", name, "", b"%x" % k) for k, name in enumerate(named)]
+        rows += [row for name in named[::7] for row in calls("lose 0 12", name=name)]
+        rows += [Row(1, 1, "trim", "", "0")]
+        rows += [row for name in named[::3] for row in calls("stat", "read 0 1", name=name)]
+        rows += [row for name in named[1::2] for row in calls("delete", "delete", name=name)]
+        rows += [Row(2, 0, "mend"), Row(3, 1, "trim", "", "1")]
+        rows += calls("stat", "read 0 1", name="n0", round=3)
+        yield Case(f"{many} names", ["--limit", 65536, "--history"], rows)
+
+
+def mends():
+    """Mends of so many fragments, some of which are open, by each number of workers."""
+    for many in MENDS:
+        spots = [(j, f) for f in (5, 12, 14) for j in range(MOST_STRIPES)][:many]
+        rows = [Row(1, 1, "put", "a", "", data_of(49152)), Row(1, 1, "put6", "b", "", b"ABCDEFG")]
+        rows += calls(*(f"lose {j} {f}" for j, f in spots))
+        rows += calls(*(f"lose 1 {f}" for f in (0, 1, 2, 6)), name="b") if many % 2 else []
+        rows += [Row(2, 0, "mend"), Row(3, 0, "mend")]
+        rows += calls("stat", "read 0 49152", round=4) + calls("stat", name="b", round=4)
+        for workers in WORKERS:
+            words = ["--workers", workers, "--limit", 65536, "--history"]
+            yield Case(f"a mend of {many} by {workers}", words, rows)
+
+
+def full_journals():
+    """A journal that is full: behind a call, and in a mend by one worker."""
+    rows = [Row(1, 1, "put", "a", "", b"ABC"), *calls("stat", "stat", "lose 0 0", "lose 0 1")]
+    rows += [Row(2, 0, "mend"), Row(3, 1, "trim", "", "0"), *calls("stat", round=3)]
+    for limit in (1, 2, 3, 4, 5, 6, 7):
+        yield Case(f"a journal of at most {limit}", ["--limit", limit, "--history"], rows)
+
+
+def workers():
+    """So many rows of each worker in one round, each worker over a blob of its own."""
+    turn = ["read 0 5", "lose 0 {}", "read 3 2", "repair 0 {}", "stat"]
+    for many in WORKERS:
+        for each in ROWS:
+            rows = [Row(1, 1, "put", f"n{k}", "", b"%07x" % k) for k in range(1, many + 1)]
+            for n in range(each):
+                text = turn[n % 5].format(n // 5 % 12)
+                for k in range(1, many + 1):
+                    rows += calls(text, name=f"n{k}", round=2, worker=k)
+            words = ["--workers", many, "--limit", 65536, "--history"]
+            yield Case(f"{each} rows of each of {many} workers", words, rows)
+
+
+def cases():
+    for table in (shapes, trims, names, mends, full_journals, workers):
+        yield from table()
+
+
+def in_order(entries, mends_in):
+    """The entries, those of a round by worker, and those of a mend by what they repair."""
+    def key(entry):
+        if entry.round not in mends_in:
+            return (0, entry.who)
+        return (1, *[int(n) if n.isdigit() else n for n in entry.call.split()])
+    ordered = []
+    for round, group in groupby(entries, lambda entry: entry.round):
+        is_mend = round in mends_in
+        for entry in sorted(group, key=key):
+            ordered.append((0 if is_mend else entry.who, entry.call, entry.note))
+    return ordered
+
+
+def printed_entries(lines, model):
+    """The entries among the printed lines, in the rounds of the model's; None if one is bent."""
+    found = []
+    if len(lines) != len(model.journal):
+        return None
+    for number, (line, own) in enumerate(zip(lines, model.journal), model.trimmed + 1):
+        words = own.call.split(" ")
+        bent = re.fullmatch(rf"h {number} (\d+) ((?:\S+ ?){{{len(words)}}}) (.*)", line)
+        if not bent:
+            return None
+        found.append(Entry(own.round, int(bent.group(1)), bent.group(2), bent.group(3)))
+    return found
+
+
+def fault(case):
+    """What is wrong with a run, or None."""
+    words = [str(word) for word in case.words]
+    value = dict(zip(words, words[1:]))
+    model = Model(int(value.get("--width", 1)), int(value.get("--limit", 4096)))
+    script = "".join(map(line_of, case.rows)).encode()
+    ran = subprocess.run([PROGRAM, "/dev/stdin", *words], input=script, env={}, timeout=60,
+                         stdout=subprocess.PIPE, stderr=subprocess.PIPE)
+    if ran.returncode or ran.stderr:
+        return f"status {ran.returncode}, {ran.stderr}"
+    replies = [f"{n} {model.reply(row)}" for n, row in enumerate(case.rows, 1)]
+    tail = [f"calls {model.trimmed + len(model.journal)}", "lawful yes", ""]
+    lines = ran.stdout.decode().split("\n")
+    middle = lines[len(replies) : len(lines) - len(tail)]
+    wrong = [f"{a[:80]} for {b[:80]}" for a, b in zip(lines, replies) if a != b]
+    if wrong or lines[len(lines) - len(tail) :] != tail:
+        return (wrong + lines[-3:])[0]
+    mends_in = {row.round for row in case.rows if row.op == "mend"}
+    entries = printed_entries(middle, model) if "--history" in words else middle and None
+    wanted = model.journal if "--history" in words else []
+    if entries is None or in_order(entries, mends_in) != in_order(wanted, mends_in):
+        return "another history"
+    return None
+
+
+def main():
+    made, wrong = 0, 0
+    for case in cases():
+        made += 1
+        complaint = fault(case)
+        if complaint:
+            wrong += 1
+            print(f"{case.what}: {complaint}")
+    print(made, "runs at the limits,", wrong, "wrong")
+    return 1 if wrong else 0
+
+
+if __name__ == "__main__":
+    sys.exit(main())
