@@ -14,3 +14,4 @@ python3 tests/pictures.py
 python3 tests/refused_memory.py
 tests/library.sh
 tests/store.sh
+tests/install.sh
