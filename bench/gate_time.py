@@ -1,9 +1,9 @@
 #!/usr/bin/env python3
 """Runs rt ci, and says what each crate took of the processors: bench/gate_time.py [words for rt ci]
 
-Twice a second it reads the processor time of the provers that the run has started. It prints a table in the end: by
-crate the seconds for its proof, for that of its tests and for its must-fail edits. What ends within half a second of its
-start is not seen. The status is that of rt ci.
+Each second it reads the processor time of the provers that the run has started. At the end it prints
+for each crate the seconds for its proof, for that of its tests and for its must-fail edits, and their sum
+in minutes. What ends within a second of its start is not seen. The status is that of rt ci.
 """
 
 import os
@@ -59,11 +59,12 @@ def watch(run):
                 work = took[pid, began][:2] if (pid, began) in took else work_of(pid)
                 if work:
                     took[pid, began] = *work, seconds
-        time.sleep(0.5)
+        time.sleep(1)
     return took.values()
 
 
 def main():
+    start = time.monotonic()
     run = subprocess.Popen(["rt", "ci", *sys.argv[1:]])
     sums = {}
     for crate, kind, seconds in watch(run):
@@ -73,8 +74,10 @@ def main():
     print("|---" * 4 + "|")
     for crate, row in sums.items():
         print(f"| {crate} | " + " | ".join(f"{row[kind]:.0f}" for kind in KINDS) + " |")
-    whole = (sum(row[kind] for row in sums.values()) for kind in KINDS)
+    whole = [sum(row[kind] for row in sums.values()) for kind in KINDS]
     print("| all | " + " | ".join(f"{seconds:.0f}" for seconds in whole) + " |")
+    minutes = (time.monotonic() - start) / 60
+    print(f"{sum(whole) / 60:.0f} minutes of the processors, {minutes:.0f} by the clock on {os.cpu_count()} processors")
     return run.returncode
 
 

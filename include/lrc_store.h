@@ -2,9 +2,9 @@
  * Local Reconstruction Code. It is read and repaired while fragments are lost. The functions down to
  * lrc_slot_release are proved, from libstore_c.a; the waiting forms at the end are plain C.
  *
- * Slots. An lrc_slot holds one thing or nothing: a session of a store, a range that is lent, or what a
- * plan of repairs has left. It begins as LRC_SLOT_EMPTY. A program passes its address on, and never
- * reads, writes or copies what is inside.
+ * Slots. An lrc_slot holds one thing or nothing: a session of a store, a range that is lent, what a plan
+ * of repairs has left, a buffer to be put, or the journal of a closed store. It begins as LRC_SLOT_EMPTY.
+ * A program passes its address on, and never reads, writes or copies what is inside.
  *
  * Threads. Each thread has a session of its own, in a slot of its own. Any number of threads call at
  * once. All their calls together have the replies of one sequential store: each session knows one legal
@@ -50,6 +50,31 @@ typedef struct {
 } lrc_slice;
 #endif
 
+/* A buffer to be filled. */
+typedef struct {
+    uint8_t *at;
+    size_t len;
+} lrc_buffer;
+
+/* What an entry of a journal says was called. */
+enum {
+    LRC_CALL_PUT = 0,
+    LRC_CALL_READ = 1,
+    LRC_CALL_LOSE = 2,
+    LRC_CALL_REPAIR = 3,
+    LRC_CALL_DELETE = 4,
+    LRC_CALL_STAT = 5
+};
+
+/* An entry of a journal. What a call or a reply does not have is 0. */
+typedef struct {
+    lrc_slice name;
+    uint64_t first, second; /* data fragments and bytes of a put; start and length; stripe and fragment */
+    uint64_t version;       /* of the reply */
+    uint64_t len, stripes, lost; /* of the reply to a stat */
+    uint32_t who, call, status;  /* the caller's label, LRC_CALL_.., LRC_STORE_.. */
+} lrc_entry;
+
 /* What a function returns. Unless a comment says more, nothing but LRC_STORE_DONE changes a slot's
  * content or an output. */
 enum {
@@ -75,7 +100,7 @@ enum {
     LRC_STORE_NOT_REBUILT = 18,  /* out of memory for what is absent of the range, or for the list of the
                                   * pieces of lrc_store_lend; the call is in the history, `version` is
                                   * written, and so may be any of `target` */
-    LRC_STORE_NOTHING_LEFT = 19  /* the plan has no item left */
+    LRC_STORE_NOTHING_LEFT = 19  /* the plan has no item left, or the journal no such entry */
 };
 
 /* Opens a store whose fragments have `width` bytes and whose journal holds at most `limit` entries. Its
@@ -96,10 +121,29 @@ uint32_t lrc_store_join(lrc_slot *slot, lrc_slot *other);
  * is proved that the check never fails. LRC_STORE_NOT_ALONE if other sessions were not joined. */
 uint32_t lrc_store_close(lrc_slot *slot, uint64_t *entries, uint32_t *lawful);
 
+/* The same, and puts the journal into `other`, which is empty before. `discarded`: how many entries it had
+ * that were trimmed. The memory of the store is freed when `other` is released. */
+uint32_t lrc_store_close_to(lrc_slot *slot, lrc_slot *other, uint64_t *discarded, uint64_t *entries, uint32_t *lawful);
+
+/* Gives the entry of a journal at an index, from 0. `entry->name` is a valid slice before, such as
+ * { (const uint8_t *)"", 0 }; afterwards it is valid until the slot is passed to another function.
+ * LRC_STORE_NOTHING_LEFT if the journal has no such entry. */
+uint32_t lrc_slot_entry(lrc_slot *slot, size_t index, lrc_entry *entry);
+
 /* Stores a copy of the blob under the name, in place of an older one, in LRC(12,2,2) or LRC(6,2,2) as
  * `data_fragments` is 12 or 6. `version`: the number of this put in the store's history. */
 uint32_t lrc_store_put(lrc_slot *slot, const uint8_t *name, size_t name_len, const uint8_t *blob, size_t blob_len,
                        uint32_t data_fragments, uint64_t *version);
+
+/* To put a blob without a copy: reserves `len` bytes, which are 0, in a slot that is empty before; gives
+ * their address to be filled; and stores them under the name. `*buffer` is valid before, such as
+ * { (uint8_t *)"", 0 }; afterwards it is valid until the slot is passed to another function. With
+ * LRC_STORE_DONE of the put, `other` is empty afterwards. On another status it still has the bytes: they
+ * can be put again, and no longer be written (lrc_slot_buffer returns LRC_STORE_EMPTY). */
+uint32_t lrc_slot_reserve(size_t len, lrc_slot *slot);
+uint32_t lrc_slot_buffer(lrc_slot *slot, lrc_buffer *buffer);
+uint32_t lrc_store_put_from(lrc_slot *slot, const uint8_t *name, size_t name_len, lrc_slot *other,
+                            uint32_t data_fragments, uint64_t *version);
 
 /* Copies `len` bytes of the blob, from the byte `start` on, into `target`. Bytes of absent fragments are
  * rebuilt. `lent`, `built`: how many bytes were copied from fragments, and how many were rebuilt. */
@@ -188,6 +232,12 @@ static inline uint32_t lrc_store_put_wait(lrc_slot *slot, const uint8_t *name, s
                                           int64_t timeout_ms)
 {
     LRC_STORE_WAIT(timeout_ms, lrc_store_put(slot, name, name_len, blob, blob_len, data_fragments, version));
+}
+
+static inline uint32_t lrc_store_put_from_wait(lrc_slot *slot, const uint8_t *name, size_t name_len, lrc_slot *other,
+                                               uint32_t data_fragments, uint64_t *version, int64_t timeout_ms)
+{
+    LRC_STORE_WAIT(timeout_ms, lrc_store_put_from(slot, name, name_len, other, data_fragments, version));
 }
 
 static inline uint32_t lrc_store_read_wait(lrc_slot *slot, const uint8_t *name, size_t name_len, uint64_t start,

@@ -76,6 +76,49 @@ private:
     std::vector<lrc_slice> pieces;
 };
 
+// Bytes to be filled and then put without a copy. After a put it has none to be filled.
+class buffer {
+public:
+    buffer(buffer &&) = delete;
+    explicit buffer(size_t len)
+    {
+        const uint32_t status = lrc_slot_reserve(len, reserved.get());
+        if (status != LRC_STORE_DONE)
+            throw store_error("reserve", status);
+        lrc_slot_buffer(reserved.get(), &bytes);
+    }
+    uint8_t *data() { return bytes.at; }
+    size_t size() const { return bytes.len; }
+
+private:
+    friend class session;
+    static inline uint8_t none = 0;
+    slot reserved;
+    lrc_buffer bytes{ &none, 0 };
+};
+
+// The journal of a store that was closed. An entry's name is valid until the next call.
+class journal {
+public:
+    uint64_t discarded() const { return trimmed; }
+    uint64_t size() const { return count; }
+    bool is_checked() const { return lawful == 1; } // it was found lawful, or there was no memory to find out
+    lrc_entry entry(size_t index)
+    {
+        lrc_entry told{ { reinterpret_cast<const uint8_t *>(""), 0 }, 0, 0, 0, 0, 0, 0, 0, 0, 0 };
+        const uint32_t status = lrc_slot_entry(held.get(), index, &told);
+        if (status != LRC_STORE_DONE)
+            throw store_error("entry", status);
+        return told;
+    }
+
+private:
+    friend class session;
+    slot held;
+    uint64_t trimmed = 0, count = 0;
+    uint32_t lawful = 0;
+};
+
 struct shape {
     uint64_t version, len, stripes, lost;
 };
@@ -117,6 +160,23 @@ public:
         done("close", lrc_store_close(held.get(), &told.entries, &lawful));
         told.is_checked = lawful == 1;
         return told;
+    }
+
+    // The same, and gives the journal.
+    journal close_to_journal()
+    {
+        journal made;
+        done("close", lrc_store_close_to(held.get(), made.held.get(), &made.trimmed, &made.count, &made.lawful));
+        return made;
+    }
+
+    // Without a copy. After an error the same bytes can be put again.
+    uint64_t put(std::string_view name, buffer &blob, uint32_t data_fragments = 12)
+    {
+        uint64_t version = 0;
+        blob.bytes = lrc_buffer{ &buffer::none, 0 };
+        done("put", lrc_store_put_from_wait(held.get(), bytes(name), name.size(), blob.reserved.get(), data_fragments, &version, -1));
+        return version;
     }
 
     uint64_t put(std::string_view name, std::string_view blob, uint32_t data_fragments = 12)

@@ -18,3 +18,4 @@ python3 tests/limits.py
 python3 tests/refused_memory.py
 tests/library.sh
 tests/store.sh
+tests/install.sh

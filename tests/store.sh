@@ -21,6 +21,15 @@ calls() { program "$1" gnu11 tests/store/calls.c "${@:2}" && "$work/program"; }
 
 threads() { program gcc gnu11 tests/store/threads.c && "$work/program" 4 && "$work/program" 16; }
 
+# The journal of a run, by a replay that shares no code with the store.
+journal() {
+    local number
+    program gcc gnu11 tests/store/threads.c || return
+    for number in 4 16; do
+        "$work/program" $number journal > "$work/printed" && python3 tests/store/journal.py < "$work/printed" || return
+    done
+}
+
 # ThreadSanitizer sees what the C side does. It knows nothing of the locks of a library that it did not compile, so that it is told to
 # leave out what that calls.
 threads_sanitized() {
@@ -55,6 +64,7 @@ shared_library() {
 example() { [ "$("$@")" = "HELLO, WORLD" ] || { echo "the example prints something else: $*"; return 1; }; }
 
 in_c() { program gcc gnu11 bindings/c/store.c && "$work/program"; }
+cpp() { program g++ c++17 tests/store/bindings.cpp "$@" && "$work/program"; }
 in_cpp() { program g++ c++17 bindings/cpp/store.cpp "$@" && "$work/program"; }
 rust() {
     LRC_STORE_DIR="$PWD/crates/store_c/out" LRC_LIBC_DIR="$(dirname "$libc")" CARGO_TARGET_DIR="$work/cargo" CARGO_TERM_COLOR=never \
@@ -72,6 +82,7 @@ test_of "calls" gcc gcc calls gcc
 test_of "calls, sanitizers of gcc" gcc gcc calls gcc "${sanitizers[@]}"
 test_of "calls, sanitizers of clang" clang clang calls clang "${sanitizers[@]}"
 test_of "threads" gcc gcc threads
+test_of "journal" gcc gcc journal
 test_of "shared library" gcc gcc shared_library
 test_of "threads, ThreadSanitizer" gcc gcc threads_sanitized
 test_of "refused memory" gcc gcc refuse
@@ -79,6 +90,7 @@ test_of "refused memory, sanitizers of gcc" gcc gcc refuse "${sanitizers[@]}"
 test_of "refused memory, valgrind" valgrind valgrind memory
 test_of "lost sets" gcc gcc lost_sets
 test_of "C example" gcc gcc example in_c
+test_of "C++" g++ g++ cpp "${sanitizers[@]}"
 test_of "C++ example" g++ g++ example in_cpp "${sanitizers[@]}"
 test_of "Rust example" cargo cargo example in_rust
 test_of "Rust" cargo cargo rust_tests

@@ -60,6 +60,15 @@ class _Slice(ctypes.Structure):
     _fields_ = [("at", ctypes.POINTER(ctypes.c_uint8)), ("len", ctypes.c_size_t)]
 
 
+class _Entry(ctypes.Structure):
+    _fields_ = [
+        ("name", _Slice),
+        *((field, ctypes.c_uint64) for field in ("first", "second", "version", "len", "stripes", "lost")),
+        *((field, ctypes.c_uint32) for field in ("who", "call", "status")),
+    ]
+
+
+_CALLS = ("put", "read", "lose", "repair", "delete", "stat")
 _U32, _U64, _SIZE, _BYTES = ctypes.c_uint32, ctypes.c_uint64, ctypes.c_size_t, ctypes.c_char_p
 _SLOT, _OUT = ctypes.POINTER(_Slot), ctypes.POINTER(_U64)
 _NAMED = [_SLOT, _BYTES, _SIZE]
@@ -68,6 +77,8 @@ DECLARED = {
     "lrc_store_split": [_SLOT, _U32, _SLOT],
     "lrc_store_join": [_SLOT, _SLOT],
     "lrc_store_close": [_SLOT, _OUT, ctypes.POINTER(_U32)],
+    "lrc_store_close_to": [_SLOT, _SLOT, _OUT, _OUT, ctypes.POINTER(_U32)],
+    "lrc_slot_entry": [_SLOT, _SIZE, ctypes.POINTER(_Entry)],
     "lrc_store_put": _NAMED + [ctypes.c_void_p, _SIZE, _U32, _OUT],
     "lrc_store_lend": _NAMED + [_U64, _U64, _SLOT, _OUT, _OUT],
     "lrc_slot_slices": [_SLOT, ctypes.POINTER(_Slice), _SIZE, _OUT],
@@ -134,6 +145,27 @@ class Closed(NamedTuple):
     is_checked: bool
 
 
+class Entry(NamedTuple):
+    """An entry of a journal: the call's two numbers are 0 if it has none, and `shape` is that of a stat."""
+
+    who: int
+    call: str
+    name: str
+    first: int
+    second: int
+    status: int
+    version: int
+    shape: Shape | None
+
+
+class Journal(NamedTuple):
+    """The entries of a closed store's journal, how many were trimmed before, and whether these were found lawful."""
+
+    discarded: int
+    entries: list[Entry]
+    is_checked: bool
+
+
 class Grant:
     """A range of a blob that is lent, as memoryviews that are read-only. The memory is given back when the
     last of them is gone, and the grant released."""
@@ -162,6 +194,16 @@ class Grant:
     def __exit__(self, *_: object) -> None:
         self.pieces = []
         self._lent = None
+
+
+def _entry(held: _Slot, index: int) -> Entry:
+    """The entry of a journal at an index."""
+    raw = _Entry()
+    raw.name.at = ctypes.cast(ctypes.c_char_p(b""), ctypes.POINTER(ctypes.c_uint8))
+    _check(_status("lrc_slot_entry", held, index, raw), "entry", index)
+    name, call = bytes(raw.name.at[: raw.name.len]).decode(), _CALLS[raw.call]
+    shape = Shape(raw.version, raw.len, raw.stripes, raw.lost) if call == "stat" and raw.status == _DONE else None
+    return Entry(raw.who, call, name, raw.first, raw.second, raw.status, raw.version, shape)
 
 
 class Session:
@@ -194,6 +236,12 @@ class Session:
         entries, lawful = _U64(), _U32()
         _check(_status("lrc_store_close", self._slot, entries, lawful), "close")
         return Closed(entries.value, lawful.value == 1)
+
+    def close_to_journal(self) -> Journal:
+        """Closes the store, and gives the entries of its journal."""
+        held, discarded, entries, lawful = _Slot(), _U64(), _U64(), _U32()
+        _check(_status("lrc_store_close_to", self._slot, held, discarded, entries, lawful), "close")
+        return Journal(discarded.value, [_entry(held, index) for index in range(entries.value)], lawful.value == 1)
 
     def put(self, name: str, blob: bytes | bytearray | memoryview, data_fragments: int = 12) -> int:
         """Stores a copy of a blob, which may be any buffer, and gives its version."""

@@ -85,6 +85,20 @@ def threads(session):
     assert not wrong
 
 
+def journal():
+    session = lrc_store.Session.open(4, 100)
+    other = session.split(3)
+    other.put("a", bytes(10), 6)
+    assert status_of(session.close_to_journal) == 17
+    assert status_of(other.read, "a", 8, 9) == 3
+    other.stat("a")
+    session.trim(2)
+    session.join(other)
+    told = session.close_to_journal()
+    assert (told.discarded, told.is_checked) == (1, True)
+    assert told.entries == [(3, "read", "a", 8, 9, 3, 0, None), (3, "stat", "a", 0, 0, 0, 1, (1, 10, 1, 0))]
+
+
 def main():
     session = lrc_store.Session.open(4, 10000)
     for test in (errors, buffers, grants, mending, threads):
@@ -92,7 +106,8 @@ def main():
     closed = session.close()
     assert closed.is_checked and closed.entries > 400
     assert status_of(session.stat, "a") == 14
-    print("Python: 5 tests passed")
+    journal()
+    print("Python: 6 tests passed")
 
 
 if __name__ == "__main__":

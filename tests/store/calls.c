@@ -93,6 +93,82 @@ static void lend_and_change(lrc_slot *slot)
     EXPECT(lrc_slot_slices(&lent, &one, 1, &count), LRC_STORE_EMPTY);
 }
 
+/* Filled, refused, and then put: by the journal's limit of one entry, the second put is refused at first. */
+static void reserve_and_put(void)
+{
+    lrc_slot slot = LRC_SLOT_EMPTY, other = LRC_SLOT_EMPTY;
+    lrc_buffer buffer = { (uint8_t *)"", 0 };
+    uint64_t version = 9, lent = 0, built = 0, discarded = 0, entries = 0;
+    uint32_t lawful = 0;
+    uint8_t got[54];
+    EXPECT(lrc_store_open(4, 1, 6, &slot), LRC_STORE_DONE);
+    EXPECT(lrc_slot_buffer(&other, &buffer), LRC_STORE_EMPTY);
+    EXPECT(lrc_store_put_from(&slot, NAME("fox"), &other, 12, &version), LRC_STORE_EMPTY);
+    for (unsigned turn = 0; turn < 2; turn++) {
+        EXPECT(lrc_slot_reserve(sizeof FOX - 1, &other), LRC_STORE_DONE);
+        EXPECT(lrc_slot_reserve(1, &other), LRC_STORE_OCCUPIED);
+        EXPECT(lrc_slot_buffer(&other, &buffer), LRC_STORE_DONE);
+        EXPECT(buffer.len, 54);
+        EXPECT(buffer.at[0] | buffer.at[53], 0);
+        memcpy(buffer.at, FOX_BYTES);
+        if (turn == 0)
+            EXPECT(lrc_store_put_from(&slot, NAME("fox"), &other, 12, &version), LRC_STORE_DONE);
+    }
+    EXPECT(version, 1);
+    EXPECT(lrc_store_put_from(&slot, NAME("Fox"), &other, 6, &version), LRC_STORE_BAD_NAME);
+    EXPECT(lrc_slot_buffer(&other, &buffer), LRC_STORE_EMPTY);
+    EXPECT(lrc_store_put_from(&slot, NAME("fox"), &other, 8, &version), LRC_STORE_BAD_ARGUMENT);
+    EXPECT(lrc_store_put_from(&slot, NAME("fox"), &other, 6, &version), LRC_STORE_JOURNAL_FULL);
+    EXPECT(version, 1);
+    EXPECT(lrc_store_trim(&slot, 0, &discarded), LRC_STORE_DONE);
+    EXPECT(lrc_store_put_from(&slot, NAME("fox"), &other, 6, &version), LRC_STORE_DONE);
+    EXPECT(version, 2);
+    EXPECT(lrc_store_trim(&slot, 0, &discarded), LRC_STORE_DONE);
+    EXPECT(lrc_store_read(&slot, NAME("fox"), 0, got, 54, &version, &lent, &built), LRC_STORE_DONE);
+    EXPECT(memcmp(got, FOX_BYTES), 0);
+    EXPECT(lrc_store_close(&slot, &entries, &lawful), LRC_STORE_DONE);
+}
+
+static void close_to_journal(void)
+{
+    lrc_slot slot = LRC_SLOT_EMPTY, other = LRC_SLOT_EMPTY;
+    lrc_entry entry = { { (const uint8_t *)"", 0 }, 9, 9, 9, 9, 9, 9, 9, 9, 9 };
+    uint64_t version = 0, len = 0, stripes = 0, lost = 0, discarded = 9, entries = 9;
+    uint32_t lawful = 9;
+    EXPECT(lrc_store_open(4, 100, 7, &slot), LRC_STORE_DONE);
+    EXPECT(lrc_slot_entry(&slot, 0, &entry), LRC_STORE_EMPTY);
+    EXPECT(lrc_store_split(&slot, 5, &other), LRC_STORE_DONE);
+    EXPECT(lrc_store_close_to(&slot, &other, &discarded, &entries, &lawful), LRC_STORE_OCCUPIED);
+    EXPECT(lrc_store_put(&other, NAME("fox"), FOX_BYTES, 6, &version), LRC_STORE_DONE);
+    EXPECT(lrc_store_read(&other, NAME("none"), 1, (uint8_t *)&len, 8, &version, &stripes, &lost), LRC_STORE_NO_NAME);
+    EXPECT(lrc_store_lose(&other, NAME("fox"), 2, 9, &version), LRC_STORE_DONE);
+    EXPECT(lrc_store_stat(&other, NAME("fox"), &version, &len, &stripes, &lost), LRC_STORE_DONE);
+    EXPECT(lrc_store_trim(&slot, 3, &discarded), LRC_STORE_DONE);
+    EXPECT(lrc_store_join(&slot, &other), LRC_STORE_DONE);
+    EXPECT(lrc_store_close_to(&slot, &other, &discarded, &entries, &lawful), LRC_STORE_DONE);
+    EXPECT(discarded, 1);
+    EXPECT(entries, 3);
+    EXPECT(lawful, 1);
+    EXPECT(lrc_store_close_to(&other, &slot, &discarded, &entries, &lawful), LRC_STORE_EMPTY);
+    EXPECT(lrc_slot_entry(&other, 3, &entry), LRC_STORE_NOTHING_LEFT);
+    EXPECT(entry.call + entry.who + entry.first, 27);
+    EXPECT(lrc_slot_entry(&other, 0, &entry), LRC_STORE_DONE);
+    EXPECT(entry.call, LRC_CALL_READ);
+    EXPECT(entry.status, LRC_STORE_NO_NAME);
+    EXPECT(entry.first * 100 + entry.second, 108);
+    EXPECT(lrc_slot_entry(&other, 1, &entry), LRC_STORE_DONE);
+    EXPECT(entry.call, LRC_CALL_LOSE);
+    EXPECT(entry.first * 100 + entry.second, 209);
+    EXPECT(lrc_slot_entry(&other, 2, &entry), LRC_STORE_DONE);
+    EXPECT(entry.call, LRC_CALL_STAT);
+    EXPECT(entry.who, 5);
+    EXPECT(entry.name.len, 3);
+    EXPECT(memcmp(entry.name.at, "fox", 3), 0);
+    EXPECT(entry.version, 1);
+    EXPECT(entry.len * 100 + entry.stripes * 10 + entry.lost, 5431);
+    lrc_slot_release(&other);
+}
+
 static void plan_and_mend(lrc_slot *slot)
 {
     lrc_slot plan = LRC_SLOT_EMPTY;
@@ -161,6 +237,8 @@ int main(void)
     uint64_t entries = 0;
     uint32_t lawful = 0;
     open_and_close();
+    reserve_and_put();
+    close_to_journal();
     two_stores_are_not_joined();
     EXPECT(lrc_store_open(4, 1000, 5, &slot), LRC_STORE_DONE);
     put_and_read(&slot);

@@ -58,6 +58,7 @@ static void reads(lrc_slot *slot)
 static void run(void)
 {
     lrc_slot slot = LRC_SLOT_EMPTY, other = LRC_SLOT_EMPTY, plan = LRC_SLOT_EMPTY;
+    lrc_buffer buffer = { (uint8_t *)"", 0 };
     uint64_t version = 0, a = 0, b = 0, c = 0;
     uint32_t lawful = 0;
     CALL(lrc_store_open(4, 100, 1, &slot));
@@ -77,8 +78,13 @@ static void run(void)
     EXPECT(c, 0);
     CALL(lrc_store_delete(&slot, NAME("b"), &version));
     CALL(lrc_store_join(&slot, &other));
-    CALL(lrc_store_close(&slot, &c, &lawful));
+    CALL(lrc_slot_reserve(54, &other));
+    EXPECT(lrc_slot_buffer(&other, &buffer), LRC_STORE_DONE);
+    memcpy(buffer.at, FOX, 54);
+    CALL(lrc_store_put_from(&slot, NAME("c"), &other, 12, &version));
+    CALL(lrc_store_close_to(&slot, &other, &a, &c, &lawful));
     EXPECT(lawful == 1 || lawful == 2, 1);
+    lrc_slot_release(&other);
     EXPECT(slot.at || other.at || plan.at, 0);
 }
 

@@ -1,6 +1,7 @@
-/* Threads that share a store, each with a session of its own: threads NUMBER. Each puts, loses, reads,
- * lends and repairs a blob of its own, reads a shared one that another thread replaces and deletes, and
- * mends. Then the sessions are joined, and the store is closed. */
+/* Threads that share a store, each with a session of its own: threads NUMBER [journal]. Each puts, loses,
+ * reads, lends and repairs a blob of its own, reads a shared one that another thread replaces and deletes,
+ * and mends. Then the sessions are joined, and the store is closed. With `journal` nothing is trimmed, and
+ * the journal is printed as `lrcstore --history` prints one. */
 #include "store_test.h"
 #include <pthread.h>
 #include <stdlib.h>
@@ -12,6 +13,8 @@ struct worker {
     unsigned who;
     long bad;
 };
+
+static int is_trimmed = 1;
 
 static void check(struct worker *worker, int holds)
 {
@@ -61,7 +64,8 @@ static void mend(struct worker *worker)
     while (lrc_store_mend_step_wait(&worker->slot, &plan, &version, FOREVER) != LRC_STORE_NOTHING_LEFT)
         ;
     lrc_slot_release(&plan);
-    check(worker, !lrc_store_trim_wait(&worker->slot, 10, &discarded, FOREVER));
+    if (is_trimmed)
+        check(worker, !lrc_store_trim_wait(&worker->slot, 10, &discarded, FOREVER));
 }
 
 static void *work(void *argument)
@@ -78,14 +82,43 @@ static void *work(void *argument)
     return NULL;
 }
 
+static void print_reply(const lrc_entry *entry)
+{
+    static const char *const done[] = { "stored", "granted", "lost", "repaired", "deleted", "shape" };
+    static const char *const refused[] = { "", "", "no-name", "out-of-range", "unrecoverable", "no-fragment", "already-lost", "not-lost" };
+    printf(" %s", entry->status ? refused[entry->status] : done[entry->call]);
+    if (entry->version)
+        printf(" %" PRIu64, entry->version);
+    if (entry->call == LRC_CALL_STAT && !entry->status)
+        printf(" %" PRIu64 " %" PRIu64 " %" PRIu64, entry->len, entry->stripes, entry->lost);
+    putchar('\n');
+}
+
+static void print_journal(lrc_slot *journal, uint64_t entries)
+{
+    static const char *const calls[] = { "put", "read", "lose", "repair", "delete", "stat" };
+    for (size_t i = 0; i < entries; i++) {
+        lrc_entry entry = { { (const uint8_t *)"", 0 }, 0, 0, 0, 0, 0, 0, 0, 0, 0 };
+        EXPECT(lrc_slot_entry(journal, i, &entry), LRC_STORE_DONE);
+        printf("h %zu %" PRIu32 " %s%s %.*s", i + 1, entry.who, calls[entry.call],
+               entry.call == LRC_CALL_PUT && entry.first == 6 ? "6" : "", (int)entry.name.len, (const char *)entry.name.at);
+        if (entry.call == LRC_CALL_PUT)
+            printf(" %" PRIu64, entry.second);
+        else if (entry.call < LRC_CALL_DELETE)
+            printf(" %" PRIu64 " %" PRIu64, entry.first, entry.second);
+        print_reply(&entry);
+    }
+}
+
 int main(int count, char **words)
 {
     static struct worker workers[63];
     static pthread_t threads[63];
     unsigned number = count > 1 ? (unsigned)atoi(words[1]) : 4;
-    lrc_slot slot = LRC_SLOT_EMPTY;
-    uint64_t entries = 0;
+    lrc_slot slot = LRC_SLOT_EMPTY, journal = LRC_SLOT_EMPTY;
+    uint64_t entries = 0, discarded = 0;
     uint32_t lawful = 0;
+    is_trimmed = count < 3;
     EXPECT(lrc_store_open(4, 100000, 1, &slot), LRC_STORE_DONE);
     for (unsigned i = 0; i < number; i++) {
         workers[i].who = i + 1;
@@ -99,7 +132,10 @@ int main(int count, char **words)
         EXPECT(workers[i].bad, 0);
         EXPECT(lrc_store_join(&slot, &workers[i].slot), LRC_STORE_DONE);
     }
-    EXPECT(lrc_store_close(&slot, &entries, &lawful), LRC_STORE_DONE);
+    EXPECT(lrc_store_close_to(&slot, &journal, &discarded, &entries, &lawful), LRC_STORE_DONE);
     EXPECT(lawful, 1);
-    return report("threads");
+    if (!is_trimmed)
+        print_journal(&journal, entries);
+    lrc_slot_release(&journal);
+    return is_trimmed ? report("threads") : wrong != 0;
 }

@@ -22,12 +22,39 @@ struct Slice {
     len: usize,
 }
 
+/// The layout of `lrc_buffer`.
+#[repr(C)]
+struct RawBuffer {
+    at: *mut u8,
+    len: usize,
+}
+
+/// The layout of `lrc_entry`.
+#[repr(C)]
+struct RawEntry {
+    name: Slice,
+    first: u64,
+    second: u64,
+    version: u64,
+    len: u64,
+    stripes: u64,
+    lost: u64,
+    who: u32,
+    call: u32,
+    status: u32,
+}
+
 #[rustfmt::skip]
 extern "C" {
     fn lrc_store_open(width: u32, limit: u32, number: u64, slot: *mut Slot) -> u32;
     fn lrc_store_split(slot: *mut Slot, who: u32, other: *mut Slot) -> u32;
     fn lrc_store_join(slot: *mut Slot, other: *mut Slot) -> u32;
     fn lrc_store_close(slot: *mut Slot, entries: *mut u64, lawful: *mut u32) -> u32;
+    fn lrc_store_close_to(slot: *mut Slot, other: *mut Slot, discarded: *mut u64, entries: *mut u64, lawful: *mut u32) -> u32;
+    fn lrc_slot_entry(slot: *mut Slot, index: usize, entry: *mut RawEntry) -> u32;
+    fn lrc_slot_reserve(len: usize, slot: *mut Slot) -> u32;
+    fn lrc_slot_buffer(slot: *mut Slot, buffer: *mut RawBuffer) -> u32;
+    fn lrc_store_put_from(slot: *mut Slot, name: *const u8, name_len: usize, other: *mut Slot, data_fragments: u32, version: *mut u64) -> u32;
     fn lrc_store_put(slot: *mut Slot, name: *const u8, name_len: usize, blob: *const u8, blob_len: usize, data_fragments: u32, version: *mut u64) -> u32;
     fn lrc_store_lend(slot: *mut Slot, name: *const u8, name_len: usize, start: u64, len: u64, other: *mut Slot, version: *mut u64, pieces: *mut u64) -> u32;
     fn lrc_slot_slices(slot: *mut Slot, slices: *mut Slice, capacity: usize, count: *mut u64) -> u32;
@@ -146,6 +173,7 @@ impl From<Refused> for Error {
 
 const DONE: u32 = 0;
 const BUSY: u32 = 1;
+const NO_MEMORY: u32 = 8;
 const NOTHING_LEFT: u32 = 19;
 
 fn done(status: u32) -> Result<(), Error> {
@@ -157,7 +185,7 @@ fn done(status: u32) -> Result<(), Error> {
         5 => Error::NoFragment,
         6 => Error::AlreadyLost,
         7 => Error::NotLost,
-        8 | 18 => Error::NoMemory,
+        NO_MEMORY | 18 => Error::NoMemory,
         9 => Error::JournalFull,
         10 => Error::TooLong,
         11 => Error::BadName,
@@ -212,6 +240,118 @@ pub struct Shape {
 pub struct Closed {
     /// How many entries the journal has.
     pub entries: u64,
+    /// Whether they were checked and found lawful; false if there was no memory for the check.
+    pub is_checked: bool,
+}
+
+/// Bytes to be filled and then put without a copy, by [`Session::put_buffer`].
+pub struct Buffer {
+    slot: Slot,
+    at: *mut u8,
+    len: usize,
+}
+
+// A buffer is its own owner of its bytes.
+unsafe impl Send for Buffer {}
+
+impl Buffer {
+    /// So many bytes, which are 0.
+    pub fn new(len: usize) -> Result<Buffer, Error> {
+        let mut slot = Slot::empty();
+        done(unsafe { lrc_slot_reserve(len, &mut slot) })?;
+        let none: &mut [u8] = &mut [];
+        let mut raw = RawBuffer { at: none.as_mut_ptr(), len: 0 };
+        done(unsafe { lrc_slot_buffer(&mut slot, &mut raw) })?;
+        Ok(Buffer { slot, at: raw.at, len: raw.len })
+    }
+
+    /// The bytes that can be filled: none after a put.
+    pub fn as_mut_slice(&mut self) -> &mut [u8] {
+        unsafe { std::slice::from_raw_parts_mut(self.at, self.len) }
+    }
+}
+
+/// What an entry of a journal says was called.
+#[derive(Clone, Copy, Debug, PartialEq, Eq)]
+pub enum Call {
+    /// To store so many bytes.
+    Put {
+        /// The blob's code.
+        code: Code,
+        /// In bytes.
+        len: u64,
+    },
+    /// To read a range.
+    Read {
+        /// Its first byte.
+        start: u64,
+        /// In bytes.
+        len: u64,
+    },
+    /// To lose a fragment.
+    Lose {
+        /// From 0.
+        stripe: u64,
+        /// From 0.
+        fragment: u64,
+    },
+    /// To repair a lost fragment.
+    Repair {
+        /// From 0.
+        stripe: u64,
+        /// From 0.
+        fragment: u64,
+    },
+    /// To delete the blob.
+    Delete,
+    /// To ask for the blob's shape.
+    Stat,
+}
+
+/// An entry of a journal.
+#[derive(Clone, Debug, PartialEq, Eq)]
+pub struct Entry {
+    /// The label of the caller.
+    pub who: u32,
+    /// The name of the blob.
+    pub name: String,
+    /// What was called.
+    pub call: Call,
+    /// The blob's version in the reply, or why nothing was done.
+    pub reply: Result<u64, Error>,
+    /// The reply to a stat.
+    pub shape: Option<Shape>,
+}
+
+impl Entry {
+    fn of(raw: &RawEntry) -> Entry {
+        let name = unsafe { std::slice::from_raw_parts(raw.name.at, raw.name.len) };
+        let call = match raw.call {
+            0 => Call::Put { code: if raw.first == 6 { Code::Small } else { Code::Wide }, len: raw.second },
+            1 => Call::Read { start: raw.first, len: raw.second },
+            2 => Call::Lose { stripe: raw.first, fragment: raw.second },
+            3 => Call::Repair { stripe: raw.first, fragment: raw.second },
+            4 => Call::Delete,
+            _ => Call::Stat,
+        };
+        let shape = Shape { version: raw.version, len: raw.len, stripes: raw.stripes, lost: raw.lost };
+        Entry {
+            who: raw.who,
+            name: String::from_utf8_lossy(name).into_owned(),
+            call,
+            reply: done(raw.status).map(|()| raw.version),
+            shape: (call == Call::Stat && raw.status == DONE).then_some(shape),
+        }
+    }
+}
+
+/// What closing a store leaves, with the entries of its journal.
+#[derive(Clone, Debug, PartialEq, Eq)]
+pub struct Journal {
+    /// How many entries were trimmed before these.
+    pub discarded: u64,
+    /// The others, in order.
+    pub entries: Vec<Entry>,
     /// Whether they were checked and found lawful; false if there was no memory for the check.
     pub is_checked: bool,
 }
@@ -285,6 +425,36 @@ impl Session {
             DONE => Ok(Closed { entries, is_checked: lawful == 1 }),
             _ => Err(Refused { session: self, error: Error::NotAlone }),
         }
+    }
+
+    /// The same, and gives the entries of the journal.
+    pub fn close_to_journal(mut self) -> Result<Journal, Refused> {
+        let (mut held, mut discarded, mut entries, mut lawful) = (Slot::empty(), 0, 0, 0);
+        match unsafe { lrc_store_close_to(&mut self.slot, &mut held, &mut discarded, &mut entries, &mut lawful) } {
+            DONE => {}
+            NO_MEMORY => return Err(Refused { session: self, error: Error::NoMemory }),
+            _ => return Err(Refused { session: self, error: Error::NotAlone }),
+        }
+        let entry = |index| {
+            let none: &[u8] = &[];
+            let name = Slice { at: none.as_ptr(), len: 0 };
+            let mut raw =
+                RawEntry { name, first: 0, second: 0, version: 0, len: 0, stripes: 0, lost: 0, who: 0, call: 0, status: 0 };
+            let status = unsafe { lrc_slot_entry(&mut held, index, &mut raw) };
+            (status == DONE).then(|| Entry::of(&raw))
+        };
+        let entries = (0..entries as usize).map_while(entry).collect();
+        Ok(Journal { discarded, entries, is_checked: lawful == 1 })
+    }
+
+    /// Stores a blob without a copy, and gives its version. After an error the same bytes can be put again.
+    pub fn put_buffer(&mut self, name: &str, buffer: &mut Buffer, code: Code) -> Result<u64, Error> {
+        let mut version = 0;
+        buffer.len = 0; // no longer to be filled, whatever the reply
+        done(wait(|| unsafe {
+            lrc_store_put_from(&mut self.slot, name.as_ptr(), name.len(), &mut buffer.slot, code as u32, &mut version)
+        }))?;
+        Ok(version)
     }
 
     /// Stores a copy of a blob, and gives its version.

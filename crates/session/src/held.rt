@@ -1,6 +1,7 @@
 //! What a slot can hold.
 
 use crate::{Lending, Repairs, Session};
+use shared::{Book, Bytes};
 
 /// What a slot can hold.
 #[derive(Drop)]
@@ -11,4 +12,10 @@ pub enum Held {
     Lending(Lending),
     /// What a plan has left.
     Repairs(Repairs),
+    /// Bytes that C fills, to be put as a blob.
+    Buffer(Vec<u8>),
+    /// Those of a buffer whose put was refused: they can be put again, and not be written.
+    Refused(Bytes),
+    /// The journal of a store that was closed.
+    Journal(Book),
 }

@@ -15,6 +15,13 @@ pub struct LentSlice<'a> {
     pub bytes: &'a [u8],
 }
 
+/// Bytes that are lent to be written, as C has them: an address and a length.
+#[repr(C)]
+#[derive(Drop)]
+pub struct LentBuffer<'a> {
+    pub bytes: &'a mut [u8],
+}
+
 /// A granted range, with the bytes that were rebuilt for it: for each piece those that it needs, and none
 /// for a piece of a fragment that is there. A clause sees the bytes of each piece.
 #[derive(Drop)]

@@ -1,5 +1,5 @@
 //! What a program in C keeps of a store from call to call: a slot, which owns a session of the store, a
-//! range that is lent, what a plan has left, or a buffer.
+//! range that is lent, what a plan has left, bytes to be put, or a journal.
 #![tactic(auto)]
 
 mod calls;
@@ -14,10 +14,11 @@ mod slot_lends;
 
 pub use copying::{Copied, copy_out};
 pub use held::Held;
-pub use lending::{Lending, LentSlice};
+pub use lending::{Lending, LentBuffer, LentSlice};
 pub use repairs::Repairs;
 pub use session::Session;
 pub use shared::{
-    Answer, Book, Bytes, Code, Fault, Grant, Item, Limit, Name, Plan, is_lawful_from,
+    Answer, Book, Bytes, Call, Code, Entry, Fault, Grant, Item, Limit, Name, Note, Plan,
+    is_lawful_from,
 };
 pub use slot::Slot;

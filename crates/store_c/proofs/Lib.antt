@@ -2,3 +2,5 @@ mod Replies
 mod NameTexts
 mod Grants
 mod Joins
+mod Puts
+mod Closings

@@ -3,3 +3,5 @@ pub mod OnSession
 pub mod Sessions
 pub mod Lend
 pub mod Plan
+pub mod Buffers
+pub mod Journal

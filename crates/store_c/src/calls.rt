@@ -18,16 +18,30 @@ pub(crate) fn put(
 ) -> u32
     ensures { IsPutCall session.old name.now blob.now data_fragments result version.old version.new session.new }
 {
+    let Ok(bytes) = Bytes::copy_from_slice(alloc, blob) else {
+        return NO_MEMORY;
+    };
+    put_bytes(alloc, session, name, bytes, data_fragments, version)
+}
+
+/// The same without a copy.
+pub(crate) fn put_bytes(
+    alloc: Global,
+    session: &mut Session,
+    name: &[u8],
+    blob: Bytes,
+    data_fragments: u32,
+    version: &mut u64,
+) -> u32
+    ensures { IsPutCall session.old name.now blob data_fragments result version.old version.new session.new }
+{
     let Some(name) = name_of(name) else {
         return BAD_NAME;
     };
     let Some(code) = code_of(data_fragments) else {
         return BAD_ARGUMENT;
     };
-    let Ok(bytes) = Bytes::copy_from_slice(alloc, blob) else {
-        return NO_MEMORY;
-    };
-    let reply = session.put_as(alloc, name, bytes, code);
+    let reply = session.put_as(alloc, name, blob, code);
     tell(&reply, version)
 }
 

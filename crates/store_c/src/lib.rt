@@ -5,7 +5,9 @@
 #![tactic(auto)]
 
 mod answers;
+mod buffers;
 mod calls;
+mod journal;
 mod lending;
 mod on_session;
 mod repairs;
@@ -15,12 +17,15 @@ mod status;
 ghost use Rattle.std.specs.Prelude.{◌≡◌, None};
 ghost use Rattle.history.specs.Step.{lose as lose_of, repair as repair_of, delete as delete_of};
 ghost use Rattle.store_c.specs.OnSession.{IsOnSession, IsNamedCall, IsPutCall, IsReadCall, IsStatCall, IsTrimCall};
+ghost use Rattle.store_c.specs.Buffers.{IsReserveCall, IsBufferCall, IsPutFrom};
+ghost use Rattle.store_c.specs.Journal.{IsCloseToCall, IsEntryCall};
 ghost use Rattle.store_c.specs.Lend.{IsLendTo, IsSlicesCall};
 ghost use Rattle.store_c.specs.Plan.{IsPlanTo, IsMendCall};
 ghost use Rattle.store_c.specs.Sessions.{IsOpenCall, IsSplitCall, IsJoinCall, AreOfOneStore, IsCloseCall};
 
+use crate::journal::JournalEntry;
 use crate::status::{DONE, EMPTY, OCCUPIED};
-use session::{Held, LentSlice, Slot};
+use session::{Held, LentBuffer, LentSlice, Slot};
 use std::alloc::Global;
 
 /// Opens a store whose fragments have `width` bytes and whose journal holds at most `limit` entries. Its
@@ -98,6 +103,101 @@ pub extern "C" fn lrc_store_close(
     status
 }
 
+/// Closes the store, and puts its journal into an empty slot: how many of its entries were discarded, how
+/// many it has, and whether they are lawful.
+#[unsafe(no_mangle)]
+pub extern "C" fn lrc_store_close_to(
+    alloc: Global,
+    slot: &mut Slot,
+    other: &mut Slot,
+    discarded: &mut u64,
+    entries: &mut u64,
+    lawful: &mut u32,
+) -> u32
+    ensures { IsCloseToCall slot.old.held other.old.held result (discarded.old, entries.old, lawful.old) (discarded.new, entries.new, lawful.new) slot.new.held other.new.held }
+{
+    if !other.is_vacant(alloc) {
+        return OCCUPIED;
+    }
+    sessions::close_slot(alloc, slot, other, discarded, entries, lawful)
+}
+
+/// Gives the entry of a journal at an index.
+#[unsafe(no_mangle)]
+pub extern "C" fn lrc_slot_entry<'a>(
+    alloc: Global,
+    slot: &'a mut Slot,
+    index: usize,
+    entry: &mut JournalEntry<'a>,
+) -> u32
+    ensures { IsEntryCall slot.old.held index result entry.old entry.new }
+{
+    if slot.is_vacant(alloc) {
+        return EMPTY;
+    }
+    let held: &'a Option<Held> = slot.get_mut();
+    match held {
+        Some(Held::Journal(book)) => journal::entry_at(book, index, entry),
+        _ => EMPTY,
+    }
+}
+
+/// Puts so many zero bytes into an empty slot, to be filled and then put as a blob.
+#[unsafe(no_mangle)]
+pub extern "C" fn lrc_slot_reserve(alloc: Global, len: usize, slot: &mut Slot) -> u32
+    ensures { IsReserveCall slot.old.held len result slot.new.held }
+{
+    if !slot.is_vacant(alloc) {
+        return OCCUPIED;
+    }
+    buffers::reserve(alloc, len, slot)
+}
+
+/// Lends the bytes that were reserved, to be written. They stay where they are until the slot is passed to
+/// another call.
+#[unsafe(no_mangle)]
+pub extern "C" fn lrc_slot_buffer<'a>(
+    alloc: Global,
+    slot: &'a mut Slot,
+    buffer: &mut LentBuffer<'a>,
+) -> u32
+    ensures { IsBufferCall slot.old.held result buffer.old.bytes.now buffer.new.bytes.now }
+{
+    if slot.is_vacant(alloc) {
+        return EMPTY;
+    }
+    let held: &'a mut Option<Held> = slot.get_mut();
+    match held {
+        Some(Held::Buffer(bytes)) => {
+            buffer.bytes = bytes.as_mut_slice();
+            DONE
+        }
+        _ => EMPTY,
+    }
+}
+
+/// Stores the bytes of the other slot under a name, without a copy. That slot is empty afterwards, unless
+/// the put was refused.
+#[unsafe(no_mangle)]
+pub extern "C" fn lrc_store_put_from(
+    alloc: Global,
+    slot: &mut Slot,
+    name: &[u8],
+    other: &mut Slot,
+    data_fragments: u32,
+    version: &mut u64,
+) -> u32
+    ensures { IsOnSession slot.old.held result slot.new.held ((version.new ≡ version.old) × (other.new.held ≡ other.old.held))
+        (λ v w. IsPutFrom v other.old.held name.now data_fragments result (version.old, version.new) w other.new.held) }
+{
+    let Some(mut held) = slot.take(alloc) else {
+        return EMPTY;
+    };
+    let status = on_session::put_from(alloc, &mut held, name, other, data_fragments, version);
+    slot.put(held);
+    status
+}
+
 /// Stores a copy of a blob under a name, in the code with so many data fragments.
 #[unsafe(no_mangle)]
 pub extern "C" fn lrc_store_put(
@@ -137,7 +237,12 @@ pub extern "C" fn lrc_store_read(
     let Some(mut held) = slot.take(alloc) else {
         return EMPTY;
     };
-    let status = on_session::read(alloc, &mut held, name, start, target, version, lent, built);
+    let status = match &mut *held {
+        Some(Held::Session { session, .. }) => calls::read(
+            alloc, session, name, start, target, version, lent, built,
+        ),
+        _ => EMPTY,
+    };
     slot.put(held);
     status
 }

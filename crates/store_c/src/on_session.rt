@@ -1,14 +1,40 @@
 //! The calls on what a slot holds, if that is a session.
 ghost use Rattle.std.specs.Prelude.{◌≡◌};
 ghost use Rattle.store_c.specs.OnSession.{IsOnSession, IsPutCall, IsReadCall, IsStatCall};
+ghost use Rattle.store_c.specs.Buffers.{IsPutFrom};
 ghost use Rattle.store_c.specs.Lend.{IsLendTo};
 ghost use Rattle.store_c.specs.Plan.{IsPlanTo};
 ghost use Rattle.store_c.specs.Sessions.{IsSplitCall};
 
 use crate::status::EMPTY;
-use crate::{calls, lending, repairs, sessions};
+use crate::{buffers, calls, lending, repairs, sessions};
 use session::{Held, Slot};
 use std::alloc::Global;
+
+/// Does this to the session that is held, and answers its status; or `EMPTY`, if none is held.
+macro_rules! on_session {
+    ($held:ident, $session:ident, $number:ident => $status:expr) => {
+        match $held.take() {
+            Some(
+                Held::Session {
+                    session: mut $session,
+                    number: $number,
+                },
+            ) => {
+                let status = $status;
+                *$held = Some(Held::Session {
+                    session: $session,
+                    number: $number,
+                });
+                status
+            }
+            kept => {
+                *$held = kept;
+                EMPTY
+            }
+        }
+    };
+}
 
 pub(crate) fn put(
     alloc: Global,
@@ -20,22 +46,21 @@ pub(crate) fn put(
 ) -> u32
     ensures { IsOnSession held.old result held.new (version.new ≡ version.old) (λ v w. IsPutCall v name.now blob.now data_fragments result version.old version.new w) }
 {
-    match held.take() {
-        Some(
-            Held::Session {
-                mut session,
-                number,
-            },
-        ) => {
-            let status = calls::put(alloc, &mut session, name, blob, data_fragments, version);
-            *held = Some(Held::Session { session, number });
-            status
-        }
-        kept => {
-            *held = kept;
-            EMPTY
-        }
-    }
+    on_session!(held, session, number => calls::put(alloc, &mut session, name, blob, data_fragments, version))
+}
+
+pub(crate) fn put_from(
+    alloc: Global,
+    held: &mut Option<Held>,
+    name: &[u8],
+    other: &mut Slot,
+    data_fragments: u32,
+    version: &mut u64,
+) -> u32
+    ensures { IsOnSession held.old result held.new ((version.new ≡ version.old) × (other.new.held ≡ other.old.held))
+        (λ v w. IsPutFrom v other.old.held name.now data_fragments result (version.old, version.new) w other.new.held) }
+{
+    on_session!(held, session, number => buffers::put_from(alloc, &mut session, name, other, data_fragments, version))
 }
 
 pub(crate) fn read(
@@ -51,31 +76,7 @@ pub(crate) fn read(
     ensures { IsOnSession held.old result held.new ((version.new ≡ version.old) × (target.new ≡ target.old) × (lent.new ≡ lent.old) × (built.new ≡ built.old))
         (λ v w. IsReadCall v name.now start target.old target.new result version.old version.new (lent.old, built.old) (lent.new, built.new) w) }
 {
-    match held.take() {
-        Some(
-            Held::Session {
-                mut session,
-                number,
-            },
-        ) => {
-            let status = calls::read(
-                alloc,
-                &mut session,
-                name,
-                start,
-                target,
-                version,
-                lent,
-                built,
-            );
-            *held = Some(Held::Session { session, number });
-            status
-        }
-        kept => {
-            *held = kept;
-            EMPTY
-        }
-    }
+    on_session!(held, session, number => calls::read(alloc, &mut session, name, start, target, version, lent, built))
 }
 
 pub(crate) fn stat(
@@ -89,22 +90,7 @@ pub(crate) fn stat(
     ensures { IsOnSession held.old result held.new ((version.new ≡ version.old) × (len.new ≡ len.old) × (stripes.new ≡ stripes.old) × (lost.new ≡ lost.old))
         (λ v w. IsStatCall v name.now result version.old version.new (len.old, stripes.old, lost.old) (len.new, stripes.new, lost.new) w) }
 {
-    match held.take() {
-        Some(
-            Held::Session {
-                mut session,
-                number,
-            },
-        ) => {
-            let status = calls::stat(&mut session, name, version, len, stripes, lost);
-            *held = Some(Held::Session { session, number });
-            status
-        }
-        kept => {
-            *held = kept;
-            EMPTY
-        }
-    }
+    on_session!(held, session, number => calls::stat(&mut session, name, version, len, stripes, lost))
 }
 
 pub(crate) fn lend(
@@ -120,72 +106,18 @@ pub(crate) fn lend(
     ensures { IsOnSession held.old result held.new ((version.new ≡ version.old) × (pieces.new ≡ pieces.old) × (other.new.held ≡ other.old.held))
         (λ v w. IsLendTo v other.old.held name.now start len result (version.old, version.new) (pieces.old, pieces.new) w other.new.held) }
 {
-    match held.take() {
-        Some(
-            Held::Session {
-                mut session,
-                number,
-            },
-        ) => {
-            let status = lending::lend_to(
-                alloc,
-                &mut session,
-                name,
-                start,
-                len,
-                other,
-                version,
-                pieces,
-            );
-            *held = Some(Held::Session { session, number });
-            status
-        }
-        kept => {
-            *held = kept;
-            EMPTY
-        }
-    }
+    on_session!(held, session, number => lending::lend_to(alloc, &mut session, name, start, len, other, version, pieces))
 }
 
 pub(crate) fn plan(alloc: Global, held: &mut Option<Held>, other: &mut Slot, items: &mut u64) -> u32
     ensures { IsOnSession held.old result held.new ((items.new ≡ items.old) × (other.new.held ≡ other.old.held))
         (λ v w. IsPlanTo v other.old.held result (items.old, items.new) w other.new.held) }
 {
-    match held.take() {
-        Some(
-            Held::Session {
-                mut session,
-                number,
-            },
-        ) => {
-            let status = repairs::plan_to(alloc, &mut session, other, items);
-            *held = Some(Held::Session { session, number });
-            status
-        }
-        kept => {
-            *held = kept;
-            EMPTY
-        }
-    }
+    on_session!(held, session, number => repairs::plan_to(alloc, &mut session, other, items))
 }
 
 pub(crate) fn split(alloc: Global, held: &mut Option<Held>, who: u32, other: &mut Slot) -> u32
     ensures { IsSplitCall held.old other.old.held who result held.new other.new.held }
 {
-    match held.take() {
-        Some(
-            Held::Session {
-                mut session,
-                number,
-            },
-        ) => {
-            let status = sessions::split_to(alloc, &mut session, number, who, other);
-            *held = Some(Held::Session { session, number });
-            status
-        }
-        kept => {
-            *held = kept;
-            EMPTY
-        }
-    }
+    on_session!(held, session, number => sessions::split_to(alloc, &mut session, number, who, other))
 }

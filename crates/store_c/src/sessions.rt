@@ -1,5 +1,6 @@
 //! Opening, splitting, joining and closing.
 ghost use Rattle.std.specs.Prelude.{◌≡◌, ◌⊎◌, None, Some};
+ghost use Rattle.store_c.specs.Journal.{IsCloseTo, IsCloseToCall};
 ghost use Rattle.store_c.specs.Sessions.{IsOpening, IsSplitTo, IsJoinCall, AreOfOneStore, IsCloseCall, HasHistory};
 
 use crate::answers::number_of;
@@ -107,11 +108,30 @@ pub(crate) fn close(
 ) -> u32
     ensures { IsCloseCall held.old result (entries.old, lawful.old) (entries.new, lawful.new) held.new }
 {
+    let mut journal = None;
+    let mut discarded = 0;
+    close_to(alloc, held, &mut journal, &mut discarded, entries, lawful)
+}
+
+/// The same, and the journal is given.
+pub(crate) fn close_to(
+    alloc: Global,
+    held: &mut Option<Held>,
+    given: &mut Option<Held>,
+    discarded: &mut u64,
+    entries: &mut u64,
+    lawful: &mut u32,
+) -> u32
+    requires { given.old ≡ None }
+    ensures { IsCloseTo held.old result (discarded.old, entries.old, lawful.old) (discarded.new, entries.new, lawful.new) held.new given.new }
+{
     match held.take() {
         Some(Held::Session { session, number }) => match session.close() {
             Ok(book) => {
+                *discarded = book.base().trimmed;
                 *entries = book.entries().len() as u64;
                 *lawful = lawful_number(alloc, &book);
+                *given = Some(Held::Journal(book));
                 DONE
             }
             Err(session) => {
@@ -124,6 +144,34 @@ pub(crate) fn close(
             EMPTY
         }
     }
+}
+
+/// Closes the store of the slot's session, and puts its journal into the other slot.
+pub(crate) fn close_slot(
+    alloc: Global,
+    slot: &mut Slot,
+    other: &mut Slot,
+    discarded: &mut u64,
+    entries: &mut u64,
+    lawful: &mut u32,
+) -> u32
+    requires { other.old.held ≡ None }
+    ensures { IsCloseToCall slot.old.held None result (discarded.old, entries.old, lawful.old) (discarded.new, entries.new, lawful.new) slot.new.held other.new.held }
+{
+    let Ok(mut given) = Box::new(alloc, None::<Held>) else {
+        return NO_MEMORY;
+    };
+    let Some(mut held) = slot.take(alloc) else {
+        return EMPTY;
+    };
+    let status = close_to(alloc, &mut held, &mut given, discarded, entries, lawful);
+    if held.is_some() {
+        slot.put(held);
+    }
+    if given.is_some() {
+        other.put(given);
+    }
+    status
 }
 
 /// Whether the entries of a book are lawful: 1, or 2 if there was no memory to find out.

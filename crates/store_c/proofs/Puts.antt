@@ -1,0 +1,15 @@
+-- A put of the bytes that a slot holds.
+use Rattle.std.proofs.Common.{◌≡◌, ℕ, List, Option, Some, sym, subst}
+use Rattle.std.specs.Prelude.{MatchOption}
+use Rattle.shared.specs.Passes.{Shows}
+use Rattle.session.specs.declared.held.Held.{Held}
+use Rattle.store_c.specs.Status.{empty}
+use Rattle.store_c.specs.OnSession.{IsPutCall}
+use Rattle.store_c.specs.Buffers.{bytes_in, IsSpent, IsPutFrom}
+
+-- where the slot had bytes
+pub put_from : (v : Shows) (other : Option Held) (name : List ℕ) (data_fragments status : ℕ) (versions : ℕ × ℕ) (w : Shows) (given : Option Held) (bytes : List ℕ) → bytes_in other ≡ Some bytes
+    → IsPutCall v name bytes data_fragments status versions.0 versions.1 w → IsSpent bytes status given → IsPutFrom v other name data_fragments status versions w given
+put_from v other name data_fragments status versions w given bytes had put spent =
+    subst (λ (had : Option (List ℕ)). MatchOption had ((status ≡ empty) × (versions.1 ≡ versions.0) × (w ≡ v) × (given ≡ other))
+    (λ bytes. IsPutCall v name bytes data_fragments status versions.0 versions.1 w × IsSpent bytes status given)) (sym had) (put, spent)

@@ -1,0 +1,153 @@
+//! The entries of a journal, for C.
+ghost use Rattle.std.specs.Prelude.{◌≡◌};
+ghost use Rattle.history.specs.Parts.{name_of};
+ghost use Rattle.store_c.specs.Journal.{IsEntry, IsEntryAt, arguments_of, status_of_note, version_of_note, shape_of_note};
+
+use crate::status::{
+    ALREADY_LOST, DONE, NO_FRAGMENT, NO_NAME, NOT_LOST, NOTHING_LEFT, OUT_OF_RANGE, UNRECOVERABLE,
+};
+use session::{Book, Call, Code, Entry, Note};
+
+/// An entry of a journal, as C has it. `first` and `second` are the call's arguments after the name, and
+/// 0 if it has none: the number of data fragments and of bytes; start and length; stripe and fragment.
+/// `version` and the shape are those of the reply, and 0 if it has none.
+#[repr(C)]
+#[derive(Clone, Copy, Drop)]
+pub struct JournalEntry<'a> {
+    pub name: &'a [u8],
+    pub first: u64,
+    pub second: u64,
+    pub version: u64,
+    pub len: u64,
+    pub stripes: u64,
+    pub lost: u64,
+    pub who: u32,
+    pub call: u32,
+    pub status: u32,
+}
+
+/// The number of a call, and its arguments after the name.
+fn arguments_of(call: &Call) -> (u32, u64, u64)
+    ensures { result ≡ arguments_of call.now }
+{
+    match call {
+        Call::Put { name: _, code, len } => {
+            let data_fragments = match code {
+                Code::Wide => 12,
+                Code::Small => 6,
+            };
+            (0, data_fragments, *len)
+        }
+        Call::Read {
+            name: _,
+            start,
+            len,
+        } => (1, *start, *len),
+        Call::Lose {
+            name: _,
+            stripe,
+            fragment,
+        } => (2, *stripe, *fragment),
+        Call::Repair {
+            name: _,
+            stripe,
+            fragment,
+        } => (3, *stripe, *fragment),
+        Call::Delete { name: _ } => (4, 0, 0),
+        Call::Stat { name: _ } => (5, 0, 0),
+    }
+}
+
+/// The bytes of the name of a call.
+fn name_of(call: &Call) -> &[u8]
+    ensures { result.now ≡ name_of call.now }
+{
+    let name = match call {
+        Call::Put { name, .. }
+        | Call::Read { name, .. }
+        | Call::Lose { name, .. }
+        | Call::Repair { name, .. }
+        | Call::Delete { name }
+        | Call::Stat { name } => name,
+    };
+    name.as_str().as_bytes()
+}
+
+/// The status of a reply.
+fn status_of(note: &Note) -> u32
+    ensures { result ≡ status_of_note note.now }
+{
+    match note {
+        Note::NoName => NO_NAME,
+        Note::OutOfRange => OUT_OF_RANGE,
+        Note::Unrecoverable(_) => UNRECOVERABLE,
+        Note::NoFragment => NO_FRAGMENT,
+        Note::AlreadyLost => ALREADY_LOST,
+        Note::NotLost => NOT_LOST,
+        _ => DONE,
+    }
+}
+
+/// The version of a reply, or 0 if it has none.
+fn version_of(note: &Note) -> u64
+    ensures { result ≡ version_of_note note.now }
+{
+    match note {
+        Note::Stored(version)
+        | Note::Granted(version)
+        | Note::Lost(version)
+        | Note::Repaired(version)
+        | Note::Deleted(version)
+        | Note::Unrecoverable(version) => *version,
+        Note::Shape { version, .. } => *version,
+        _ => 0,
+    }
+}
+
+/// The bytes, stripes and lost fragments of a shape, or zeros.
+fn shape_of(note: &Note) -> (u64, u64, u64)
+    ensures { result ≡ shape_of_note note.now }
+{
+    match note {
+        Note::Shape {
+            version: _,
+            len,
+            stripes,
+            lost,
+        } => (*len, *stripes, *lost),
+        _ => (0, 0, 0),
+    }
+}
+
+/// An entry for C.
+fn entry_for(entry: &Entry) -> JournalEntry<'_>
+    ensures { IsEntry entry.now result }
+{
+    let (call, first, second) = arguments_of(&entry.call);
+    let (len, stripes, lost) = shape_of(&entry.note);
+    JournalEntry {
+        name: name_of(&entry.call),
+        first,
+        second,
+        version: version_of(&entry.note),
+        len,
+        stripes,
+        lost,
+        who: entry.who,
+        call,
+        status: status_of(&entry.note),
+    }
+}
+
+/// The entry of a journal at an index.
+pub(crate) fn entry_at<'a>(book: &'a Book, index: usize, target: &mut JournalEntry<'a>) -> u32
+    ensures { IsEntryAt book.now.entries index result target.old target.new }
+{
+    match book.entries().get(index) {
+        Some(entry) => {
+            *target = entry_for(entry);
+            DONE
+        }
+        None => NOTHING_LEFT,
+    }
+}
