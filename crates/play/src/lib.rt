@@ -11,6 +11,3 @@ mod run;
 pub use fail::Fail;
 pub use pace::Always;
 pub use run::play;
-
-#[cfg(test)]
-mod tests;

@@ -1,7 +1,7 @@
 //! Blobs that lose fragments, ranges at the ends, and both codes: scripts with what they print.
 
 use super::{options, run};
-use crate::Always;
+use play::Always;
 use std::test::Fail;
 
 #[derive(Drop)]

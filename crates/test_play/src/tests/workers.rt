@@ -3,8 +3,8 @@ ghost use Rattle.std.specs.Prelude.{◌≡◌, IfOk};
 ghost use Rattle.command_line.specs.Ranges.{InRange};
 
 use super::{options, run};
-use crate::{Always, Fail as PlayFail};
 use command_line::Options;
+use play::{Always, Fail as PlayFail};
 use shared::Pace;
 use std::alloc::{AllocError, Global};
 use std::process::Abort;

@@ -1,8 +1,8 @@
 ghost use Rattle.std.specs.Prelude.{◌≡◌, IfOk};
 ghost use Rattle.command_line.specs.Ranges.{InRange};
 
-use crate::{Always, Fail as PlayFail, play};
 use command_line::Options;
+use play::{Always, Fail as PlayFail, play};
 use script::{BadScript, Word};
 use shared::Pace;
 use std::alloc::{AllocError, Global};

@@ -2,7 +2,7 @@
 ghost use Rattle.std.specs.Prelude.{◌≡◌, IfOk};
 
 use super::{options, run};
-use crate::Fail as PlayFail;
+use play::Fail as PlayFail;
 use shared::Pace;
 use std::alloc::Global;
 use std::sync::atomic::{AtomicU64, Ordering};

@@ -1,7 +1,7 @@
 //! Scripts that are cut, bent or too large.
 
 use super::{options, run, two_workers};
-use crate::{Always, Fail as PlayFail};
+use play::{Always, Fail as PlayFail};
 use script::{BadScript, Word};
 use std::alloc::{AllocError, Global};
 use std::sync::Wait;
