@@ -1,14 +1,14 @@
 #!/usr/bin/env python3
 """Runs lrcstore at its limits with ample memory, and compares what it prints: tests/limits.py
 
-Each case is a script with its options, and one run of the program. What it must print is computed
-here, from the lost fragments that `tools/lrc.py` finds open and from the bytes that were put. The
-entries of one round or of one mend are compared in the order of each worker, or of the plan.
+Each case is a script with its options, which is run by each of its numbers of workers. What it must
+print is computed here, from the lost fragments that `tools/lrc.py` finds open and from the bytes
+that were put. The entries of a round are compared in the order of each worker, those of a mend in
+the order of its plan. `tests/programs.sh` runs it.
 """
 
 import os
 import random
-import re
 import string
 import subprocess
 import sys
@@ -18,6 +18,7 @@ from itertools import groupby
 TOP = os.path.dirname(os.path.dirname(os.path.abspath(__file__)))
 PROGRAM = os.path.join(TOP, "crates", "lrcstore", "out", "lrcstore")
 sys.path.insert(0, os.path.join(TOP, "tools"))
+import history  # noqa: E402
 import lrc  # noqa: E402
 
 CODES = {"put": "Wide", "put6": "Small"}
@@ -32,12 +33,11 @@ TRIMS = [0, 1, 2, 3, 64, 1000, 100_000]
 NAMES = [0, 1, 2, 3, 5000]
 MENDS = [0, 1, 2, 15, 16, 17, 64, 65, 4095, 4096, 4097, 9000]
 ROWS = [1, 2, 63, 64, 65, 300]
-
 LETTERS = (string.ascii_letters + string.digits + ".-").encode() * 4
 
 Row = namedtuple("Row", "round worker op name a b", defaults=("", "", ""))
 Entry = namedtuple("Entry", "round who call note")
-Case = namedtuple("Case", "what words rows")
+Case = namedtuple("Case", "what words rows workers", defaults=([1],))
 
 
 class Blob:
@@ -244,9 +244,7 @@ def mends():
         rows += calls(*(f"lose 1 {f}" for f in (0, 1, 2, 6)), name="b") if many % 2 else []
         rows += [Row(2, 0, "mend"), Row(3, 0, "mend")]
         rows += calls("stat", "read 0 49152", round=4) + calls("stat", name="b", round=4)
-        for workers in WORKERS:
-            words = ["--workers", workers, "--limit", 65536, "--history"]
-            yield Case(f"a mend of {many} by {workers}", words, rows)
+        yield Case(f"a mend of {many}", ["--limit", 65536, "--history"], rows, WORKERS)
 
 
 def full_journals():
@@ -267,8 +265,8 @@ def workers():
                 text = turn[n % 5].format(n // 5 % 12)
                 for k in range(1, many + 1):
                     rows += calls(text, name=f"n{k}", round=2, worker=k)
-            words = ["--workers", many, "--limit", 65536, "--history"]
-            yield Case(f"{each} rows of each of {many} workers", words, rows)
+            words = ["--limit", 65536, "--history"]
+            yield Case(f"{each} rows of each worker", words, rows, [many])
 
 
 def cases():
@@ -290,53 +288,71 @@ def in_order(entries, mends_in):
     return ordered
 
 
-def printed_entries(lines, model):
-    """The entries among the printed lines, in the rounds of the model's; None if one is bent."""
+def printed_entries(lines, journal, trimmed):
+    """The printed entries, each in the round of the computed one; None if one is bent."""
     found = []
-    if len(lines) != len(model.journal):
+    if len(lines) != len(journal):
         return None
-    for number, (line, own) in enumerate(zip(lines, model.journal), model.trimmed + 1):
-        words = own.call.split(" ")
-        bent = re.fullmatch(rf"h {number} (\d+) ((?:\S+ ?){{{len(words)}}}) (.*)", line)
-        if not bent:
+    for number, (line, own) in enumerate(zip(lines, journal), trimmed + 1):
+        parts = history.ENTRY.fullmatch(line)
+        if not parts or int(parts.group(1)) != number:
             return None
-        found.append(Entry(own.round, int(bent.group(1)), bent.group(2), bent.group(3)))
+        call = f"{parts.group(3)} {parts.group(4)}{parts.group(5)}"
+        found.append(Entry(own.round, int(parts.group(2)), call, parts.group(6)))
     return found
 
 
-def fault(case):
-    """What is wrong with a run, or None."""
-    words = [str(word) for word in case.words]
-    value = dict(zip(words, words[1:]))
-    model = Model(int(value.get("--width", 1)), int(value.get("--limit", 4096)))
+class Expectation:
+    """What a case's script must print."""
+
+    def __init__(self, case):
+        value = dict(zip(case.words, case.words[1:]))
+        self.model = Model(int(value.get("--width", 1)), int(value.get("--limit", 4096)))
+        self.replies = [f"{n} {self.model.reply(row)}" for n, row in enumerate(case.rows, 1)]
+        self.mends_in = {row.round for row in case.rows if row.op == "mend"}
+        self.journal = self.model.journal if "--history" in case.words else []
+        calls = self.model.trimmed + len(self.model.journal)
+        self.tail = [f"calls {calls}", "lawful yes", ""]
+
+    def fault(self, printed):
+        """What is wrong with a printed text, or None."""
+        lines = printed.decode().split("\n")
+        middle = lines[len(self.replies) : len(lines) - len(self.tail)]
+        for line, reply in zip(lines, self.replies):
+            if line != reply:
+                return f"{line[:80]} for {reply[:80]}"
+        if lines[len(lines) - len(self.tail) :] != self.tail:
+            return f"it ends with {lines[-3:]}"
+        entries = printed_entries(middle, self.journal, self.model.trimmed)
+        if entries is None:
+            return "the history's lines are bent"
+        if in_order(entries, self.mends_in) != in_order(self.journal, self.mends_in):
+            return "another history"
+        return None
+
+
+def faults(case):
+    """What is wrong with each run of a case, or None."""
+    expectation = Expectation(case)
     script = "".join(map(line_of, case.rows)).encode()
-    ran = subprocess.run([PROGRAM, "/dev/stdin", *words], input=script, env={}, timeout=60,
-                         stdout=subprocess.PIPE, stderr=subprocess.PIPE)
-    if ran.returncode or ran.stderr:
-        return f"status {ran.returncode}, {ran.stderr}"
-    replies = [f"{n} {model.reply(row)}" for n, row in enumerate(case.rows, 1)]
-    tail = [f"calls {model.trimmed + len(model.journal)}", "lawful yes", ""]
-    lines = ran.stdout.decode().split("\n")
-    middle = lines[len(replies) : len(lines) - len(tail)]
-    wrong = [f"{a[:80]} for {b[:80]}" for a, b in zip(lines, replies) if a != b]
-    if wrong or lines[len(lines) - len(tail) :] != tail:
-        return (wrong + lines[-3:])[0]
-    mends_in = {row.round for row in case.rows if row.op == "mend"}
-    entries = printed_entries(middle, model) if "--history" in words else middle and None
-    wanted = model.journal if "--history" in words else []
-    if entries is None or in_order(entries, mends_in) != in_order(wanted, mends_in):
-        return "another history"
-    return None
+    for workers in case.workers:
+        words = [PROGRAM, "/dev/stdin", "--workers", str(workers), *map(str, case.words)]
+        ran = subprocess.run(words, input=script, env={}, timeout=60,
+                             stdout=subprocess.PIPE, stderr=subprocess.PIPE)
+        if ran.returncode or ran.stderr:
+            yield f"status {ran.returncode}, {ran.stderr}"
+        else:
+            yield expectation.fault(ran.stdout)
 
 
 def main():
     made, wrong = 0, 0
     for case in cases():
-        made += 1
-        complaint = fault(case)
-        if complaint:
-            wrong += 1
-            print(f"{case.what}: {complaint}")
+        for workers, complaint in zip(case.workers, faults(case)):
+            made += 1
+            if complaint:
+                wrong += 1
+                print(f"{case.what}, {workers} workers: {complaint}")
     print(made, "runs at the limits,", wrong, "wrong")
     return 1 if wrong else 0
 

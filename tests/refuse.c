@@ -1,14 +1,12 @@
 // For tests, loaded before the C library: the request for memory of number REFUSE is refused, counted
 // from 1 over malloc, calloc and realloc, and the thread of number REFUSE_THREAD is not started. The
-// file REFUSED is made when either happens. At its end the program writes into the file STARTED how
-// many threads it started.
+// file REFUSED is made when either happens. Each thread that is started adds a byte to the file STARTED.
 #define _GNU_SOURCE
 #include <dlfcn.h>
 #include <errno.h>
 #include <fcntl.h>
 #include <pthread.h>
 #include <stdatomic.h>
-#include <stdio.h>
 #include <stdlib.h>
 #include <unistd.h>
 
@@ -20,16 +18,10 @@ struct counted {
 
 static struct counted memory = {"REFUSE", 0, -1}, threads = {"REFUSE_THREAD", 0, -1};
 
-static atomic_long started;
-
-// dprintf takes no memory for so short a line.
-__attribute__((destructor)) static void write_started(void) {
-    const char *path = getenv("STARTED");
-    int file = path ? open(path, O_CREAT | O_WRONLY | O_TRUNC, 0600) : -1;
-    if (file >= 0) {
-        dprintf(file, "%ld", atomic_load(&started));
-        close(file);
-    }
+// The file that a variable names, made if it is not there.
+static int open_named(const char *variable) {
+    const char *path = getenv(variable);
+    return path ? open(path, O_CREAT | O_APPEND | O_WRONLY, 0600) : -1;
 }
 
 static int refused(struct counted *it) {
@@ -40,8 +32,7 @@ static int refused(struct counted *it) {
     if (atomic_fetch_add(&it->count, 1) + 1 != it->wanted) {
         return 0;
     }
-    const char *path = getenv("REFUSED");
-    int file = path ? open(path, O_CREAT | O_WRONLY, 0600) : -1;
+    int file = open_named("REFUSED");
     if (file >= 0) {
         close(file);
     }
@@ -70,8 +61,12 @@ int pthread_create(pthread_t *thread, const pthread_attr_t *attributes, void *(*
         create = dlsym(RTLD_NEXT, "pthread_create");
     }
     int status = create ? create(thread, attributes, start, argument) : EAGAIN;
-    if (status == 0) {
-        atomic_fetch_add(&started, 1);
+    int file = status == 0 ? open_named("STARTED") : -1;
+    if (file >= 0) {
+        if (write(file, "t", 1) != 1) {
+            abort();
+        }
+        close(file);
     }
     return status;
 }

@@ -85,12 +85,11 @@ class Runs:
         variables.update(REFUSED=refused, STARTED=started)
         ran = subprocess.run(command, cwd=self.folder, env=variables, timeout=60,
                              stdout=subprocess.PIPE, stderr=subprocess.PIPE)
-        with open(started, encoding="utf-8") as text:
-            threads = int(text.read())
-        os.remove(started)
+        threads = os.path.getsize(started) if os.path.exists(started) else 0
         is_refused = os.path.exists(refused)
-        if is_refused:
-            os.remove(refused)
+        for path in (refused, started):
+            if os.path.exists(path):
+                os.remove(path)
         return Ran(ran.returncode, ran.stdout, ran.stderr, threads, is_refused)
 
     def refusals(self, command, what="REFUSE"):

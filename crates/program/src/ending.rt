@@ -18,8 +18,8 @@ pub enum Ending {
 }
 
 impl Ending {
-    /// The exit status: 0 for `Success` and `HelpText`, 2 for `UsageError`, 3 for want of memory
-    /// or of a thread, and 1 for any other failure.
+    /// The exit status: 0 for `Success` and `HelpText`, 2 for `UsageError`, 3 if memory ran out or
+    /// a thread can't be started, and 1 for any other failure.
     pub fn status(&self) -> u8
         ensures { HasStatus self.now result }
     {

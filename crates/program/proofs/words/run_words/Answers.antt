@@ -1,4 +1,4 @@
-use Rattle.std.proofs.Common.{inl, inr, rules, subst}
+use Rattle.std.proofs.Common.{inr, rules, subst}
 use Rattle.clap.specs.Words.{kind_of}
 use Rattle.program.specs.Endings.{IsEndingOf}
 use Rattle.program.proofs.words.run_words.Goals as goal
