@@ -203,20 +203,21 @@ static inline int64_t lrc_store_now_ms(void)
     return (int64_t)now.tv_sec * 1000 + now.tv_nsec / 1000000;
 }
 
-/* Waits before attempt number `attempt`, from 1: the more often, the longer, so that threads that all
- * call at once get by one after the other. 0 if the deadline has passed. */
+/* Waits before attempt number `attempt`, from 1: it spins twice, yields once, then sleeps, the longer the
+ * more often. So few threads contend at a time. 0 if the deadline has passed. */
 static inline int lrc_store_wait(unsigned attempt, int64_t deadline)
 {
-    const struct timespec pause = { 0, 50000 };
-    if (deadline >= 0 && attempt % 16 == 0 && lrc_store_now_ms() >= deadline)
-        return 0;
-    if (attempt > 256)
-        nanosleep(&pause, NULL);
-    else if (attempt > 64)
-        sched_yield();
-    else
-        for (unsigned turn = 0; turn < 64u << (attempt < 4 ? attempt : 4); turn++)
+    if (attempt < 3) {
+        for (unsigned turn = 0; turn < 64; turn++)
             __builtin_ia32_pause();
+    } else if (attempt == 3) {
+        sched_yield();
+    } else {
+        const struct timespec pause = { 0, 50000L << (attempt < 8 ? attempt - 3 : 5) };
+        if (deadline >= 0 && lrc_store_now_ms() >= deadline)
+            return 0;
+        nanosleep(&pause, NULL);
+    }
     return 1;
 }
 

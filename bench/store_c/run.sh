@@ -1,7 +1,8 @@
 #!/bin/sh
-# bench/store_c/run.sh [FOLDER]: proves and builds the store for C, and many reads in one call of Rattle, in a clone in
-# FOLDER, and prints what a read costs from C and inside Rattle. It needs gcc and git. From nothing it takes a quarter
-# of an hour; a FOLDER that is kept is used again.
+# bench/store_c/run.sh [FOLDER]: proves and builds the store for C, many reads in one call of Rattle, and
+# clients in Rattle that wait, in a clone in FOLDER. It prints what a read costs from C and inside Rattle,
+# and how many reads four threads make. It needs gcc and git. From nothing it takes half an hour; a FOLDER
+# that is kept is used again.
 set -eu
 bench=$(cd "$(dirname "$0")" && pwd)
 folder=${1:-$(mktemp -d)/store}
@@ -25,6 +26,12 @@ copy_out-requires-clause-stands c =
     (here.blob.bytes, here.blob.lost, here.represents.stands)
 END
 grep -q '^timed_store' "$folder/crates.txt" || echo 'timed_store staticlib: shared session lent lrc_code sealed history book gate requests bytes' >> "$folder/crates.txt"
+mkdir -p "$folder/crates/clients/src"
+for each in "$bench"/../clients/*.rattle; do
+    cp "$each" "$folder/crates/clients/src/$(basename "$each" .rattle).rt"
+done
+grep -q '^clients' "$folder/crates.txt" || echo 'clients may_wait=8: anyhow shared' >> "$folder/crates.txt"
+(cd "$folder/crates/clients" && rt run -- copies 1 1) > "$folder/log" 2>&1 || { cat "$folder/log" >&2; exit 1; }
 for each in store_c timed_store; do
     (cd "$folder/crates/$each" && rt lib) > "$folder/log" 2>&1 || { cat "$folder/log" >&2; exit 1; }
 done
@@ -33,4 +40,8 @@ gcc -std=gnu11 -O2 -I "$folder/include" "$bench/cost.c" "$folder/crates/timed_st
 lscpu | sed -n 's/^Model name: */processor: /p'
 echo "load: $(cut -d ' ' -f 1-3 /proc/loadavg)"
 "$folder/cost"
-"$folder/cost" 4 60
+for _ in 1 2 3 4 5 6 7; do
+    "$folder/cost" 4 300
+    "$folder/crates/clients/out/clients" copies 4 300 \
+        | awk '{ printf "waiting in Rattle: %.2f million reads a second\n", $2 * 1000 / $4 }'
+done

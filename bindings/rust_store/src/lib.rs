@@ -205,9 +205,9 @@ fn wait(mut call: impl FnMut() -> u32) -> u32 {
             return status;
         }
         match attempt {
-            0..=63 => (0..64 << attempt.min(4)).for_each(|_| std::hint::spin_loop()),
-            64..=255 => thread::yield_now(),
-            _ => thread::sleep(Duration::from_micros(50)),
+            0..=1 => (0..64).for_each(|_| std::hint::spin_loop()),
+            2 => thread::yield_now(),
+            _ => thread::sleep(Duration::from_micros(50 << (attempt - 2).min(5))),
         }
     }
     BUSY
