@@ -54,7 +54,7 @@ exports() {
 
 uninstall() { tools/install.py --prefix "$prefix" --uninstall > /dev/null && [ -z "$(ls "$prefix")" ]; }
 
-tools/install.py --prefix "$prefix" > "$work/log" 2>&1 || { cat "$work/log"; exit 1; }
+tools/install.py --prefix "$prefix" --reuse > "$work/log" 2>&1 || { cat "$work/log"; exit 1; }
 test_of "program" pkg-config pkg-config program
 test_of "exports" readelf binutils exports
 test_of "coder, pkg-config" pkg-config pkg-config with_pkg_config lrc_coder rebuild HELL

@@ -1,13 +1,14 @@
 #!/usr/bin/env python3
 """Builds the program and both libraries for C, and installs them under a prefix.
 
-    tools/install.py --prefix P [--destdir D] [--cpu v2|v3]
+    tools/install.py --prefix P [--destdir D] [--cpu v2|v3] [--reuse]
     tools/install.py --prefix P [--destdir D] --uninstall
 
 Under P it leaves bin/lrcstore, the headers, and for `lrc_coder` and `lrc_store` each a static
 library, a shared one with a soname, a pkg-config file, a CMake package and a Python module. The
 coder has the code for x86-64-v2 and x86-64-v3 and chooses when it is loaded; the program and the
-store are for the processor that --cpu names. It needs `rt`, gcc and binutils.
+store are for the processor that --cpu names. With --reuse a program and a store that were built before
+are taken as they are. It needs `rt`, gcc and binutils.
 """
 
 import argparse
@@ -86,13 +87,20 @@ def kit_libc():
     return os.path.join(os.path.dirname(page), "c", "liblibc_c.a")
 
 
-def archive_of_store(cpu, folder):
+def built_program(cpu, reuse):
+    """The program's path, once it is built."""
+    path = os.path.join(TOP, "crates", "lrcstore", "out", "lrcstore")
+    return path if reuse and os.path.exists(path) else build.build_all("lrcstore", cpu)
+
+
+def archive_of_store(cpu, reuse, folder):
     """Builds the store, and leaves liblrc_store.a, with the kit's library in it, in the folder."""
     crate = os.path.join(TOP, "crates", "store_c")
-    run("rt", "lib", f"--cpu=x86-64-{cpu}", cwd=crate)
+    built = os.path.join(crate, "out", "libstore_c.a")
+    if not (reuse and os.path.exists(built)):
+        run("rt", "lib", f"--cpu=x86-64-{cpu}", cwd=crate)
     archive = os.path.join(folder, "liblrc_store.a")
-    script = f"create {archive}\naddlib {crate}/out/libstore_c.a\naddlib {kit_libc()}\nsave\nend\n"
-    run("ar", "-M", input=script)
+    run("ar", "-M", input=f"create {archive}\naddlib {built}\naddlib {kit_libc()}\nsave\nend\n")
 
 
 def shared(name, soname, folder):
@@ -155,12 +163,12 @@ def install_library(installation, name, folder):
     installation.link(f"../../{soname}", f"{modules}/lib{name}.so")
 
 
-def install(root, cpu):
+def install(root, cpu, reuse):
     """Proves, builds and installs all of it."""
-    program = build.build_all("lrcstore", cpu)
+    program = built_program(cpu, reuse)
     with tempfile.TemporaryDirectory() as folder:
         run(os.path.join(TOP, "tools", "build_coder.sh"), folder)
-        archive_of_store(cpu, folder)
+        archive_of_store(cpu, reuse, folder)
         installation = Installation(root)
         installation.copy(program, "bin/lrcstore", 0o755)
         for header in HEADERS:
@@ -194,13 +202,14 @@ def main():
     parser.add_argument("--prefix", required=True, help="where the files are looked for, as /usr/local")
     parser.add_argument("--destdir", default="", help="put before the prefix, for making packages")
     parser.add_argument("--cpu", choices=("v2", "v3"), default="v2", help="the processor's level: v2 (SSE) or v3 (AVX2)")
+    parser.add_argument("--reuse", action="store_true", help="take a program and a store that are built already")
     parser.add_argument("--uninstall", action="store_true", help="remove what was installed")
     given = parser.parse_args()
     root = given.destdir + os.path.abspath(given.prefix)
     if given.uninstall:
         uninstall(root)
     else:
-        install(root, given.cpu)
+        install(root, given.cpu, given.reuse)
 
 
 if __name__ == "__main__":
