@@ -4,9 +4,12 @@ ghost use Rattle.std.specs.Prelude.{IfSome, length, map, slice_index, bit_xor};
 ghost use Rattle.kernels.specs.Lists.{combined, bytes_at, list_at};
 ghost use Rattle.syndromes.specs.Syndromes.{syndrome, column_at, HaveBytes, HasSums, HasRoom};
 ghost use Rattle.syndromes.specs.Formulas.{IsFormula, AreFormulas, addend, shares_for};
+ghost use Rattle.syndromes.specs.Plans.{IsPlan};
 
-use crate::blocks::{BLOCK, combine_four, write_syndromes};
+use crate::blocks::{BLOCK, combine_four, part_or_zeros, write_syndromes};
 use crate::formulas::{Formula, Formulas, formulas_for};
+use crate::lanes::LANES;
+use crate::pass::{Plan, plan_for, write_targets};
 use gf256::xor_into;
 
 /// Adds the places `at..end` of a target that was made before, where it is to be added.
@@ -93,17 +96,13 @@ fn make_target(
     }
 }
 
-/// Makes the places `at..end` of each target by its formula, where it has those before already. The
-/// syndromes are written into four lists of their own.
-fn make_block(
+/// Makes the places `at..end` of each target by its formula, where it has those before already: for
+/// fewer places than a vector has. The syndromes are written into four lists of their own.
+fn make_few(
     lists: &[Option<&[u8]>; 16],
     at: usize,
     end: usize,
     formulas: &Formulas,
-    one: &mut [u8],
-    two: &mut [u8],
-    three: &mut [u8],
-    four: &mut [u8],
     first: &mut [u8],
     second: &mut [u8],
     third: &mut [u8],
@@ -111,12 +110,8 @@ fn make_block(
 )
     requires long { HaveBytes lists.now end }
     requires order { at ≤ end }
-    requires few { end ≤ at + BLOCK }
+    requires few { end ≤ at + LANES }
     requires formulas { AreFormulas formulas.now }
-    requires one_long { length one.old ≡ end - at }
-    requires two_long { length two.old ≡ end - at }
-    requires three_long { length three.old ≡ end - at }
-    requires four_long { length four.old ≡ end - at }
     requires first_room { HasRoom (shares_for formulas.now.first) end first.old }
     requires second_room { HasRoom (shares_for formulas.now.second) end second.old }
     requires third_room { HasRoom (shares_for formulas.now.third) end third.old }
@@ -134,6 +129,15 @@ fn make_block(
     ensures third_kept { formulas.now.third ≡ None → third.new ≡ third.old }
     ensures fourth_kept { formulas.now.fourth ≡ None → fourth.new ≡ fourth.old }
 {
+    let count = end - at;
+    let mut one = [0; LANES];
+    let mut two = [0; LANES];
+    let mut three = [0; LANES];
+    let mut four = [0; LANES];
+    let one = &mut one[..count];
+    let two = &mut two[..count];
+    let three = &mut three[..count];
+    let four = &mut four[..count];
     write_syndromes(lists, at, end, one, two, three, four);
     let made: [&[u8]; 4] = [one, two, three, four];
     make_target(lists, first, at, end, &formulas.first, &made, &[], &[], &[]);
@@ -172,6 +176,87 @@ fn make_block(
     );
 }
 
+/// Makes the places `at..end` of each target in one pass, where it has those before already.
+fn make_many(
+    lists: &[Option<&[u8]>; 16],
+    at: usize,
+    end: usize,
+    plan: &Plan,
+    first: &mut [u8],
+    second: &mut [u8],
+    third: &mut [u8],
+    fourth: &mut [u8],
+)
+    requires long { HaveBytes lists.now end }
+    requires order { at ≤ end }
+    requires few { end ≤ at + BLOCK }
+    requires many { at + LANES ≤ end }
+    requires formulas { AreFormulas plan.now.formulas }
+    requires plan { IsPlan plan.now }
+    requires first_room { HasRoom (shares_for plan.now.formulas.first) end first.old }
+    requires second_room { HasRoom (shares_for plan.now.formulas.second) end second.old }
+    requires third_room { HasRoom (shares_for plan.now.formulas.third) end third.old }
+    requires fourth_room { HasRoom (shares_for plan.now.formulas.fourth) end fourth.old }
+    requires first_made { HasSums lists.now (shares_for plan.now.formulas.first) at first.old }
+    requires second_made { HasSums lists.now (shares_for plan.now.formulas.second) at second.old }
+    requires third_made { HasSums lists.now (shares_for plan.now.formulas.third) at third.old }
+    requires fourth_made { HasSums lists.now (shares_for plan.now.formulas.fourth) at fourth.old }
+    ensures first { HasSums lists.now (shares_for plan.now.formulas.first) end first.new }
+    ensures second { HasSums lists.now (shares_for plan.now.formulas.second) end second.new }
+    ensures third { HasSums lists.now (shares_for plan.now.formulas.third) end third.new }
+    ensures fourth { HasSums lists.now (shares_for plan.now.formulas.fourth) end fourth.new }
+    ensures first_kept { plan.now.formulas.first ≡ None → first.new ≡ first.old }
+    ensures second_kept { plan.now.formulas.second ≡ None → second.new ≡ second.old }
+    ensures third_kept { plan.now.formulas.third ≡ None → third.new ≡ third.old }
+    ensures fourth_kept { plan.now.formulas.fourth ≡ None → fourth.new ≡ fourth.old }
+{
+    let mut sources: [&[u8]; 16] = [&[]; 16];
+    for i in 0..16 {
+        sources[i] = part_or_zeros(lists, i, at, end);
+    }
+    write_targets(&sources, plan, at, end, first, second, third, fourth);
+}
+
+/// Makes the places `at..end` of each target, where it has those before already.
+fn make_block(
+    lists: &[Option<&[u8]>; 16],
+    at: usize,
+    end: usize,
+    plan: &Plan,
+    first: &mut [u8],
+    second: &mut [u8],
+    third: &mut [u8],
+    fourth: &mut [u8],
+)
+    requires long { HaveBytes lists.now end }
+    requires order { at ≤ end }
+    requires few { end ≤ at + BLOCK }
+    requires formulas { AreFormulas plan.now.formulas }
+    requires plan { IsPlan plan.now }
+    requires first_room { HasRoom (shares_for plan.now.formulas.first) end first.old }
+    requires second_room { HasRoom (shares_for plan.now.formulas.second) end second.old }
+    requires third_room { HasRoom (shares_for plan.now.formulas.third) end third.old }
+    requires fourth_room { HasRoom (shares_for plan.now.formulas.fourth) end fourth.old }
+    requires first_made { HasSums lists.now (shares_for plan.now.formulas.first) at first.old }
+    requires second_made { HasSums lists.now (shares_for plan.now.formulas.second) at second.old }
+    requires third_made { HasSums lists.now (shares_for plan.now.formulas.third) at third.old }
+    requires fourth_made { HasSums lists.now (shares_for plan.now.formulas.fourth) at fourth.old }
+    ensures first { HasSums lists.now (shares_for plan.now.formulas.first) end first.new }
+    ensures second { HasSums lists.now (shares_for plan.now.formulas.second) end second.new }
+    ensures third { HasSums lists.now (shares_for plan.now.formulas.third) end third.new }
+    ensures fourth { HasSums lists.now (shares_for plan.now.formulas.fourth) end fourth.new }
+    ensures first_kept { plan.now.formulas.first ≡ None → first.new ≡ first.old }
+    ensures second_kept { plan.now.formulas.second ≡ None → second.new ≡ second.old }
+    ensures third_kept { plan.now.formulas.third ≡ None → third.new ≡ third.old }
+    ensures fourth_kept { plan.now.formulas.fourth ≡ None → fourth.new ≡ fourth.old }
+{
+    if end - at < LANES {
+        make_few(lists, at, end, &plan.formulas, first, second, third, fourth);
+    } else {
+        make_many(lists, at, end, plan, first, second, third, fourth);
+    }
+}
+
 /// Makes each of four targets the sum of the four syndromes of the lists, each times its share, at
 /// each of `width` places. A target for which no shares are given is unchanged.
 ///
@@ -203,11 +288,7 @@ pub fn combine_syndromes(
     ensures third_kept { c ≡ None → third.new ≡ third.old }
     ensures fourth_kept { d ≡ None → fourth.new ≡ fourth.old }
 {
-    let formulas = formulas_for(a, b, c, d);
-    let mut one = [0; BLOCK];
-    let mut two = [0; BLOCK];
-    let mut three = [0; BLOCK];
-    let mut four = [0; BLOCK];
+    let plan = plan_for(formulas_for(a, b, c, d));
     let mut at = 0;
     'each: while at < width {
         let count = if width - at > BLOCK {
@@ -215,20 +296,7 @@ pub fn combine_syndromes(
         } else {
             width - at
         };
-        make_block(
-            lists,
-            at,
-            at + count,
-            &formulas,
-            &mut one[..count],
-            &mut two[..count],
-            &mut three[..count],
-            &mut four[..count],
-            first,
-            second,
-            third,
-            fourth,
-        );
+        make_block(lists, at, at + count, &plan, first, second, third, fourth);
         at += count;
     }
 }

@@ -7,6 +7,11 @@
 
 mod blocks;
 mod combine;
+mod columns;
 mod formulas;
+mod lanes;
+mod pass;
+mod targets;
+mod weights;
 
 pub use combine::combine_syndromes;
