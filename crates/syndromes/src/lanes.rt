@@ -169,6 +169,28 @@ impl Factor {
         }
     }
 
+    /// The factor 0.
+    fn none() -> Factor
+        ensures { result.scale ≡ 0 }
+    {
+        Factor {
+            scale: 0,
+            low: u8x32::splat(0),
+            high: u8x32::splat(0),
+        }
+    }
+
+    /// The same as `new`, faster for 0.
+    pub(crate) fn of(scale: u8) -> Factor
+        ensures { result.scale ≡ scale }
+    {
+        if scale == 0 {
+            Factor::none()
+        } else {
+            Factor::new(scale)
+        }
+    }
+
     /// The products of thirty-two bytes, each added to a byte.
     #[inline(always)]
     pub(crate) fn plus_times(&self, sum: u8x32, bytes: u8x32) -> u8x32

@@ -82,11 +82,9 @@ pub(crate) fn plan_for(formulas: Formulas) -> Plan
 
 /// Writes thirty-two places of each target from `to` on: those of the lists from `at` on.
 #[inline(always)]
-fn write_block(
+fn write_block<const THIRD: bool, const FOURTH: bool>(
     sources: &[&[u8]],
     plan: &Plan,
-    third: bool,
-    fourth: bool,
     at: usize,
     to: usize,
     a: &mut [u8],
@@ -98,8 +96,8 @@ fn write_block(
     requires inside { All (λ s. at + LANES ≤ length s.now) sources.now }
     requires formulas { AreFormulas plan.now.formulas }
     requires plan { IsPlan plan.now }
-    requires third { third ≡ false → plan.now.takes_third ≡ false }
-    requires fourth { fourth ≡ false → plan.now.takes_fourth ≡ false }
+    requires third { THIRD ≡ false → plan.now.takes_third ≡ false }
+    requires fourth { FOURTH ≡ false → plan.now.takes_fourth ≡ false }
     requires a_room { HasRoom (shares_for plan.now.formulas.first) (to + LANES) a.old }
     requires b_room { HasRoom (shares_for plan.now.formulas.second) (to + LANES) b.old }
     requires c_room { HasRoom (shares_for plan.now.formulas.third) (to + LANES) c.old }
@@ -113,7 +111,7 @@ fn write_block(
     ensures d { IsNext (map (λ s. s.now) sources.now) (shares_for plan.now.formulas.fourth)
         at to d.old d.new }
 {
-    let s = columns_at(sources, third, fourth, at);
+    let s = columns_at(sources, THIRD, FOURTH, at);
     let f = &plan.formulas;
     let none = u8x32::splat(0);
     let x = write_target(&f.first, &plan.first, s, none, none, none, a, to);
@@ -140,11 +138,9 @@ fn next_block(done: usize, width: usize) -> usize
 
 /// Writes the places `base..end` of each target, which are all places of the lists.
 #[inline(always)]
-fn write_blocks(
+fn write_blocks<const THIRD: bool, const FOURTH: bool>(
     sources: &[&[u8]],
     plan: &Plan,
-    third: bool,
-    fourth: bool,
     base: usize,
     end: usize,
     a: &mut [u8],
@@ -157,8 +153,8 @@ fn write_blocks(
     requires wide { base + LANES ≤ end }
     requires formulas { AreFormulas plan.now.formulas }
     requires plan { IsPlan plan.now }
-    requires third { third ≡ false → plan.now.takes_third ≡ false }
-    requires fourth { fourth ≡ false → plan.now.takes_fourth ≡ false }
+    requires third { THIRD ≡ false → plan.now.takes_third ≡ false }
+    requires fourth { FOURTH ≡ false → plan.now.takes_fourth ≡ false }
     requires a_room { HasRoom (shares_for plan.now.formulas.first) end a.old }
     requires b_room { HasRoom (shares_for plan.now.formulas.second) end b.old }
     requires c_room { HasRoom (shares_for plan.now.formulas.third) end c.old }
@@ -176,7 +172,7 @@ fn write_blocks(
     let mut done = 0;
     'each: while done < width {
         let at = next_block(done, width);
-        write_block(sources, plan, third, fourth, at, base + at, a, b, c, d);
+        write_block::<THIRD, FOURTH>(sources, plan, at, base + at, a, b, c, d);
         done = at + LANES;
     }
 }
@@ -213,10 +209,10 @@ pub(crate) fn write_targets(
     // a copy, which a store to a target cannot change: so its slices stay in registers
     let lists = *sources;
     if !plan.takes_fourth {
-        write_blocks(&lists, plan, true, false, base, end, a, b, c, d);
+        write_blocks::<true, false>(&lists, plan, base, end, a, b, c, d);
     } else if !plan.takes_third {
-        write_blocks(&lists, plan, false, true, base, end, a, b, c, d);
+        write_blocks::<false, true>(&lists, plan, base, end, a, b, c, d);
     } else {
-        write_blocks(&lists, plan, true, true, base, end, a, b, c, d);
+        write_blocks::<true, true>(&lists, plan, base, end, a, b, c, d);
     }
 }

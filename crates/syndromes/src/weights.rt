@@ -54,10 +54,10 @@ impl Weights {
             is_second,
             is_third,
             is_fourth,
-            first: Factor::new(a),
-            second: Factor::new(b),
-            third: Factor::new(c),
-            fourth: Factor::new(d),
+            first: Factor::of(a),
+            second: Factor::of(b),
+            third: Factor::of(c),
+            fourth: Factor::of(d),
         }
     }
 }

@@ -4,7 +4,7 @@ use Rattle.syndromes.proofs.Written.{room_same, written_more}
 use Rattle.syndromes.proofs.pass.write_blocks.Goals as goal
 
 pub each-preserved : goal.each-preserved
-each-preserved c =
+each-preserved g c =
     let sources = map (λ s. s.now) c.args.sources.now in
     let f = c.args.plan.now.formulas in
     let i = c.each.invariant in

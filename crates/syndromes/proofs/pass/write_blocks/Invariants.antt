@@ -5,7 +5,7 @@ use Rattle.syndromes.specs.Plans.{IsWritten}
 use Rattle.syndromes.proofs.pass.write_blocks.Given as goal
 
 abbrev pub invariant-each : goal.invariant-each
-invariant-each l = record {
+invariant-each g l = record {
   inside : l.done ≤ l.width;
   a_room : HasRoom (shares_for l.plan.formulas.first) l.end l.a;
   b_room : HasRoom (shares_for l.plan.formulas.second) l.end l.b;
@@ -18,4 +18,4 @@ invariant-each l = record {
 }
 
 abbrev pub decreases-each : goal.decreases-each
-decreases-each l = l.width - l.done
+decreases-each g l = l.width - l.done
