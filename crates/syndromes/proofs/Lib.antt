@@ -2,4 +2,4 @@ pub mod Terms
 pub mod Made
 pub mod Parities
 pub mod Units
-pub mod Written
+pub mod Taken

@@ -1,39 +1,34 @@
--- Targets that are written in one pass over the lists.
-use Rattle.std.specs.Prelude.{◌≡◌, ℕ, ◌+◌, ◌<◌, List, Option, IfSome, MatchOption, slice_index}
+-- What is known before the lists are read: the formulas, their weights, and the syndromes they take.
+use Rattle.std.specs.Prelude.{◌≡◌, ℕ, ◌+◌, ◌-◌, ◌<◌, Bool, true, false, List, Option, IfSome}
+use Rattle.std.specs.Prelude.{slice_index}
+use Rattle.std.specs.Borrow.{Bor}
 use Rattle.kernels.specs.Lists.{bytes_at}
 use Rattle.syndromes.specs.declared.formulas.Formula.{Formula}
 use Rattle.syndromes.specs.declared.pass.Plan.{Plan}
 use Rattle.syndromes.specs.declared.weights.Weights.{Weights}
-use Rattle.syndromes.specs.Formulas.{shares_for}
-use Rattle.syndromes.specs.Syndromes.{syndrome, sum_by}
-use Rattle.syndromes.specs.Weights.{AreWeights, AreWithin}
+use Rattle.syndromes.specs.Syndromes.{syndrome, column_at}
+use Rattle.syndromes.specs.Weights.{AreWeights}
 
--- where a formula is given, the weights are its factors
-abbrev pub AreWeightsFor : Option Formula → Weights → Type 0
-AreWeightsFor formula w = IfSome formula (λ f. AreWeights w f.factors)
+-- where a formula is given, the weights are its factors, and the third and the fourth are 0 where
+-- those syndromes are not taken
+abbrev pub AreWeightsFor : Option Formula → Weights → Bool → Bool → Type 0
+AreWeightsFor formula w third fourth = IfSome formula (λ f. AreWeights w f.factors
+    × (third ≡ false → slice_index f.factors 2 ≡ 0)
+    × (fourth ≡ false → slice_index f.factors 3 ≡ 0))
 
--- the weights are those of the formulas, and a syndrome that is not taken has no share in a target
 pub record IsPlan (p : Plan) : Type 0 where
-  pub first : AreWeightsFor p.formulas.first p.first
-  pub second : AreWeightsFor p.formulas.second p.second
-  pub third : AreWeightsFor p.formulas.third p.third
-  pub fourth : AreWeightsFor p.formulas.fourth p.fourth
-  pub first_within : AreWithin p.takes_third p.takes_fourth (shares_for p.formulas.first)
-  pub second_within : AreWithin p.takes_third p.takes_fourth (shares_for p.formulas.second)
-  pub third_within : AreWithin p.takes_third p.takes_fourth (shares_for p.formulas.third)
-  pub fourth_within : AreWithin p.takes_third p.takes_fourth (shares_for p.formulas.fourth)
+  pub first : AreWeightsFor p.formulas.first p.first p.takes_third p.takes_fourth
+  pub second : AreWeightsFor p.formulas.second p.second p.takes_third p.takes_fourth
+  pub third : AreWeightsFor p.formulas.third p.third p.takes_third p.takes_fourth
+  pub fourth : AreWeightsFor p.formulas.fourth p.fourth p.takes_third p.takes_fourth
 
--- where shares are given, the n bytes from `base` on are the sums of the syndromes of the sources,
--- each times its share, and those before are unchanged; where none are given, all are
-abbrev pub IsWritten : List (List ℕ) → Option (List ℕ) → ℕ → ℕ → List ℕ → List ℕ → Type 0
-IsWritten sources shares base n old new = MatchOption shares (new ≡ old)
-    (λ a. ((k : ℕ) → k < n → slice_index new (base + k)
-    ≡ sum_by a (λ e. syndrome e (bytes_at sources k)))
-    × ((k : ℕ) → k < base → slice_index new k ≡ slice_index old k))
-
--- the same for thirty-two places of the sources from `at` on, which stand at `to`
-abbrev pub IsNext : List (List ℕ) → Option (List ℕ) → ℕ → ℕ → List ℕ → List ℕ → Type 0
-IsNext sources shares at to old new = MatchOption shares (new ≡ old)
-    (λ a. ((k : ℕ) → k < 32 → slice_index new (to + k)
-    ≡ sum_by a (λ e. syndrome e (bytes_at sources (at + k))))
-    × ((k : ℕ) → k < to → slice_index new k ≡ slice_index old k))
+-- the four lists have the syndromes of the places at..end, the third and the fourth where they are
+-- taken
+pub record AreSyndromes (lists : List (Option (Bor (List ℕ)))) (at end : ℕ) (third fourth : Bool)
+    (made : List (List ℕ)) : Type 0 where
+  pub first : (k : ℕ) → k < end - at → bytes_at made k 0 ≡ syndrome 0 (column_at lists (at + k))
+  pub second : (k : ℕ) → k < end - at → bytes_at made k 1 ≡ syndrome 1 (column_at lists (at + k))
+  pub third_is : third ≡ true → (k : ℕ) → k < end - at
+      → bytes_at made k 2 ≡ syndrome 2 (column_at lists (at + k))
+  pub fourth_is : fourth ≡ true → (k : ℕ) → k < end - at
+      → bytes_at made k 3 ≡ syndrome 3 (column_at lists (at + k))

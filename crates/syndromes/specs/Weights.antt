@@ -1,11 +1,9 @@
--- What the four syndromes are multiplied by for a target, and blocks of thirty-two sums.
-use Rattle.std.specs.Prelude.{◌≡◌, ℕ, ◌<◌, Bool, false, List, [], ◌∷◌, Option, IfSome}
-use Rattle.std.specs.Prelude.{slice_index}
+-- What the four syndromes are multiplied by for a target.
+use Rattle.std.specs.Prelude.{◌≡◌, ℕ, ◌<◌, List, [], ◌∷◌, slice_index}
 use Rattle.gf256.specs.Field.{product}
 use Rattle.kernels.specs.Lists.{xor_sum, list_at}
 use Rattle.syndromes.specs.declared.columns.Columns.{Columns}
 use Rattle.syndromes.specs.declared.weights.Weights.{Weights}
-use Rattle.syndromes.specs.Syndromes.{sum_by}
 
 -- lane k of syndrome e
 abbrev pub lane : Columns → ℕ → ℕ → ℕ
@@ -22,13 +20,3 @@ AreWeights w factors = (e : ℕ) → e < 4 → weight w e ≡ slice_index factor
 -- the sum of the four lanes, each times its weight
 abbrev pub weighed : Weights → (ℕ → ℕ) → ℕ
 weighed w s = xor_sum 4 (λ e. product (weight w e) (s e))
-
--- where shares are given, the block has the sums of the lanes, each times its share
-abbrev pub HasLanes : Option (List ℕ) → Columns → List ℕ → Type 0
-HasLanes shares s block = IfSome shares (λ a. (k : ℕ) → k < 32
-    → slice_index block k ≡ sum_by a (lane s k))
-
--- where shares are given, those of the third and the fourth syndrome are 0 if that one is not wanted
-abbrev pub AreWithin : Bool → Bool → Option (List ℕ) → Type 0
-AreWithin third fourth shares = IfSome shares (λ a. (third ≡ false → slice_index a 2 ≡ 0)
-    × (fourth ≡ false → slice_index a 3 ≡ 0))

@@ -4,12 +4,14 @@ ghost use Rattle.std.specs.Prelude.{IfSome, length, map, slice_index, bit_xor};
 ghost use Rattle.kernels.specs.Lists.{combined, bytes_at, list_at};
 ghost use Rattle.syndromes.specs.Syndromes.{syndrome, column_at, HaveBytes, HasSums, HasRoom};
 ghost use Rattle.syndromes.specs.Formulas.{IsFormula, AreFormulas, addend, shares_for};
-ghost use Rattle.syndromes.specs.Plans.{IsPlan};
+ghost use Rattle.syndromes.specs.Weights.{AreWeights};
+ghost use Rattle.syndromes.specs.Plans.{IsPlan, AreWeightsFor, AreSyndromes};
 
-use crate::blocks::{BLOCK, combine_four, part_or_zeros, write_syndromes};
-use crate::formulas::{Formula, Formulas, formulas_for};
+use crate::blocks::{BLOCK, part_or_zeros, write_syndromes};
+use crate::formulas::{Formula, formulas_for};
 use crate::lanes::LANES;
-use crate::pass::{Plan, plan_for, write_targets};
+use crate::pass::{Plan, plan_for, weigh, write_taken};
+use crate::weights::Weights;
 use gf256::xor_into;
 
 /// Adds the places `at..end` of a target that was made before, where it is to be added.
@@ -31,6 +33,7 @@ fn make_part(
     at: usize,
     end: usize,
     formula: &Formula,
+    weights: &Weights,
     syndromes: &[&[u8]; 4],
     first: &[u8],
     second: &[u8],
@@ -39,6 +42,7 @@ fn make_part(
     requires order { at ≤ end }
     requires long { length part.old ≡ end - at }
     requires same { All (λ s. length s.now ≡ end - at) syndromes.now }
+    requires weights { AreWeights weights.now formula.now.factors }
     requires first_room { HasRoom formula.now.first end first.now }
     requires second_room { HasRoom formula.now.second end second.now }
     requires third_room { HasRoom formula.now.third end third.now }
@@ -49,7 +53,7 @@ fn make_part(
         (addend formula.now.second second.now (at + k)))
         (addend formula.now.first first.now (at + k))) }
 {
-    combine_four(part, &formula.factors, syndromes);
+    weigh(part, weights, &formula.factors, syndromes);
     add_made(part, formula.third, third, at, end);
     add_made(part, formula.second, second, at, end);
     add_made(part, formula.first, first, at, end);
@@ -63,6 +67,9 @@ fn make_target(
     at: usize,
     end: usize,
     formula: &Option<Formula>,
+    weights: &Weights,
+    has_third: bool,
+    has_fourth: bool,
     syndromes: &[&[u8]; 4],
     first: &[u8],
     second: &[u8],
@@ -76,9 +83,9 @@ fn make_target(
     requires room { HasRoom (shares_for formula.now) end target.old }
     requires before { HasSums lists.now (shares_for formula.now) at target.old }
     requires same { All (λ s. length s.now ≡ end - at) syndromes.now }
-    requires are { (e k : ℕ) → e < 4 → k < end - at
-        → slice_index (list_at (map (λ s. s.now) syndromes.now) e) k
-        ≡ syndrome e (column_at lists.now (at + k)) }
+    requires weights { AreWeightsFor formula.now weights.now has_third has_fourth }
+    requires are { AreSyndromes lists.now at end has_third has_fourth
+        (map (λ s. s.now) syndromes.now) }
     ensures made { HasSums lists.now (shares_for formula.now) end target.new }
     ensures kept { formula.now ≡ None → target.new ≡ target.old }
 {
@@ -88,6 +95,7 @@ fn make_target(
             at,
             end,
             formula,
+            weights,
             syndromes,
             first,
             second,
@@ -96,92 +104,13 @@ fn make_target(
     }
 }
 
-/// Makes the places `at..end` of each target by its formula, where it has those before already: for
-/// fewer places than a vector has. The syndromes are written into four lists of their own.
-fn make_few(
+/// Writes the syndromes of the places `at..end`; the third and the fourth only where they are taken.
+fn write_block(
     lists: &[Option<&[u8]>; 16],
     at: usize,
     end: usize,
-    formulas: &Formulas,
-    first: &mut [u8],
-    second: &mut [u8],
-    third: &mut [u8],
-    fourth: &mut [u8],
-)
-    requires long { HaveBytes lists.now end }
-    requires order { at ≤ end }
-    requires few { end ≤ at + LANES }
-    requires formulas { AreFormulas formulas.now }
-    requires first_room { HasRoom (shares_for formulas.now.first) end first.old }
-    requires second_room { HasRoom (shares_for formulas.now.second) end second.old }
-    requires third_room { HasRoom (shares_for formulas.now.third) end third.old }
-    requires fourth_room { HasRoom (shares_for formulas.now.fourth) end fourth.old }
-    requires first_made { HasSums lists.now (shares_for formulas.now.first) at first.old }
-    requires second_made { HasSums lists.now (shares_for formulas.now.second) at second.old }
-    requires third_made { HasSums lists.now (shares_for formulas.now.third) at third.old }
-    requires fourth_made { HasSums lists.now (shares_for formulas.now.fourth) at fourth.old }
-    ensures first { HasSums lists.now (shares_for formulas.now.first) end first.new }
-    ensures second { HasSums lists.now (shares_for formulas.now.second) end second.new }
-    ensures third { HasSums lists.now (shares_for formulas.now.third) end third.new }
-    ensures fourth { HasSums lists.now (shares_for formulas.now.fourth) end fourth.new }
-    ensures first_kept { formulas.now.first ≡ None → first.new ≡ first.old }
-    ensures second_kept { formulas.now.second ≡ None → second.new ≡ second.old }
-    ensures third_kept { formulas.now.third ≡ None → third.new ≡ third.old }
-    ensures fourth_kept { formulas.now.fourth ≡ None → fourth.new ≡ fourth.old }
-{
-    let count = end - at;
-    let mut one = [0; LANES];
-    let mut two = [0; LANES];
-    let mut three = [0; LANES];
-    let mut four = [0; LANES];
-    let one = &mut one[..count];
-    let two = &mut two[..count];
-    let three = &mut three[..count];
-    let four = &mut four[..count];
-    write_syndromes(lists, at, end, one, two, three, four);
-    let made: [&[u8]; 4] = [one, two, three, four];
-    make_target(lists, first, at, end, &formulas.first, &made, &[], &[], &[]);
-    make_target(
-        lists,
-        second,
-        at,
-        end,
-        &formulas.second,
-        &made,
-        first,
-        &[],
-        &[],
-    );
-    make_target(
-        lists,
-        third,
-        at,
-        end,
-        &formulas.third,
-        &made,
-        first,
-        second,
-        &[],
-    );
-    make_target(
-        lists,
-        fourth,
-        at,
-        end,
-        &formulas.fourth,
-        &made,
-        first,
-        second,
-        third,
-    );
-}
-
-/// Makes the places `at..end` of each target in one pass, where it has those before already.
-fn make_many(
-    lists: &[Option<&[u8]>; 16],
-    at: usize,
-    end: usize,
-    plan: &Plan,
+    has_third: bool,
+    has_fourth: bool,
     first: &mut [u8],
     second: &mut [u8],
     third: &mut [u8],
@@ -190,39 +119,35 @@ fn make_many(
     requires long { HaveBytes lists.now end }
     requires order { at ≤ end }
     requires few { end ≤ at + BLOCK }
-    requires many { at + LANES ≤ end }
-    requires formulas { AreFormulas plan.now.formulas }
-    requires plan { IsPlan plan.now }
-    requires first_room { HasRoom (shares_for plan.now.formulas.first) end first.old }
-    requires second_room { HasRoom (shares_for plan.now.formulas.second) end second.old }
-    requires third_room { HasRoom (shares_for plan.now.formulas.third) end third.old }
-    requires fourth_room { HasRoom (shares_for plan.now.formulas.fourth) end fourth.old }
-    requires first_made { HasSums lists.now (shares_for plan.now.formulas.first) at first.old }
-    requires second_made { HasSums lists.now (shares_for plan.now.formulas.second) at second.old }
-    requires third_made { HasSums lists.now (shares_for plan.now.formulas.third) at third.old }
-    requires fourth_made { HasSums lists.now (shares_for plan.now.formulas.fourth) at fourth.old }
-    ensures first { HasSums lists.now (shares_for plan.now.formulas.first) end first.new }
-    ensures second { HasSums lists.now (shares_for plan.now.formulas.second) end second.new }
-    ensures third { HasSums lists.now (shares_for plan.now.formulas.third) end third.new }
-    ensures fourth { HasSums lists.now (shares_for plan.now.formulas.fourth) end fourth.new }
-    ensures first_kept { plan.now.formulas.first ≡ None → first.new ≡ first.old }
-    ensures second_kept { plan.now.formulas.second ≡ None → second.new ≡ second.old }
-    ensures third_kept { plan.now.formulas.third ≡ None → third.new ≡ third.old }
-    ensures fourth_kept { plan.now.formulas.fourth ≡ None → fourth.new ≡ fourth.old }
+    requires same { length first.old ≡ end - at }
+    requires same_second { length second.old ≡ end - at }
+    requires same_third { length third.old ≡ end - at }
+    requires same_fourth { length fourth.old ≡ end - at }
+    ensures { AreSyndromes lists.now at end has_third has_fourth
+        (first.new ∷ second.new ∷ third.new ∷ fourth.new ∷ []) }
 {
+    if end - at < LANES {
+        write_syndromes(lists, at, end, first, second, third, fourth);
+        return;
+    }
     let mut sources: [&[u8]; 16] = [&[]; 16];
     for i in 0..16 {
         sources[i] = part_or_zeros(lists, i, at, end);
     }
-    write_targets(&sources, plan, at, end, first, second, third, fourth);
+    write_taken(&sources, has_third, has_fourth, first, second, third, fourth);
 }
 
-/// Makes the places `at..end` of each target, where it has those before already.
+/// Makes the places `at..end` of each target by its formula, where it has those before already. The
+/// syndromes are written into four lists of their own.
 fn make_block(
     lists: &[Option<&[u8]>; 16],
     at: usize,
     end: usize,
     plan: &Plan,
+    one: &mut [u8],
+    two: &mut [u8],
+    three: &mut [u8],
+    four: &mut [u8],
     first: &mut [u8],
     second: &mut [u8],
     third: &mut [u8],
@@ -233,6 +158,10 @@ fn make_block(
     requires few { end ≤ at + BLOCK }
     requires formulas { AreFormulas plan.now.formulas }
     requires plan { IsPlan plan.now }
+    requires one_long { length one.old ≡ end - at }
+    requires two_long { length two.old ≡ end - at }
+    requires three_long { length three.old ≡ end - at }
+    requires four_long { length four.old ≡ end - at }
     requires first_room { HasRoom (shares_for plan.now.formulas.first) end first.old }
     requires second_room { HasRoom (shares_for plan.now.formulas.second) end second.old }
     requires third_room { HasRoom (shares_for plan.now.formulas.third) end third.old }
@@ -250,11 +179,15 @@ fn make_block(
     ensures third_kept { plan.now.formulas.third ≡ None → third.new ≡ third.old }
     ensures fourth_kept { plan.now.formulas.fourth ≡ None → fourth.new ≡ fourth.old }
 {
-    if end - at < LANES {
-        make_few(lists, at, end, &plan.formulas, first, second, third, fourth);
-    } else {
-        make_many(lists, at, end, plan, first, second, third, fourth);
-    }
+    let f = &plan.formulas;
+    let t = plan.takes_third;
+    let u = plan.takes_fourth;
+    write_block(lists, at, end, t, u, one, two, three, four);
+    let s: [&[u8]; 4] = [one, two, three, four];
+    make_target(lists, first, at, end, &f.first, &plan.first, t, u, &s, &[], &[], &[]);
+    make_target(lists, second, at, end, &f.second, &plan.second, t, u, &s, first, &[], &[]);
+    make_target(lists, third, at, end, &f.third, &plan.third, t, u, &s, first, second, &[]);
+    make_target(lists, fourth, at, end, &f.fourth, &plan.fourth, t, u, &s, first, second, third);
 }
 
 /// Makes each of four targets the sum of the four syndromes of the lists, each times its share, at
@@ -289,6 +222,10 @@ pub fn combine_syndromes(
     ensures fourth_kept { d ≡ None → fourth.new ≡ fourth.old }
 {
     let plan = plan_for(formulas_for(a, b, c, d));
+    let mut one = [0; BLOCK];
+    let mut two = [0; BLOCK];
+    let mut three = [0; BLOCK];
+    let mut four = [0; BLOCK];
     let mut at = 0;
     'each: while at < width {
         let count = if width - at > BLOCK {
@@ -296,7 +233,20 @@ pub fn combine_syndromes(
         } else {
             width - at
         };
-        make_block(lists, at, at + count, &plan, first, second, third, fourth);
+        make_block(
+            lists,
+            at,
+            at + count,
+            &plan,
+            &mut one[..count],
+            &mut two[..count],
+            &mut three[..count],
+            &mut four[..count],
+            first,
+            second,
+            third,
+            fourth,
+        );
         at += count;
     }
 }

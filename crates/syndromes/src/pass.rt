@@ -1,15 +1,15 @@
-//! Targets of up to four formulas in one pass over the lists, thirty-two places at a time.
-ghost use Rattle.std.specs.Prelude.{◌≡◌, ◌<◌, ◌≤◌, ◌+◌, ◌-◌, ℕ, false, IfSome, map, length};
-ghost use Rattle.std.specs.Prelude.{All, slice_index};
-ghost use Rattle.syndromes.specs.Syndromes.{HasRoom};
-ghost use Rattle.syndromes.specs.Formulas.{AreFormulas, shares_for};
-ghost use Rattle.syndromes.specs.Weights.{AreWeights};
-ghost use Rattle.syndromes.specs.Plans.{IsPlan, IsWritten, IsNext};
+//! The wanted syndromes of a block of the lists, and sums of them, thirty-two places at a time.
+ghost use Rattle.std.specs.Prelude.{◌≡◌, ◌<◌, ◌≤◌, ◌+◌, ℕ, true, false, IfSome, map, length};
+ghost use Rattle.std.specs.Prelude.{All, EachIndex, slice_index};
+ghost use Rattle.kernels.specs.Lists.{combined, bytes_at};
+ghost use Rattle.syndromes.specs.Syndromes.{syndrome};
+ghost use Rattle.syndromes.specs.Weights.{AreWeights, lane};
+ghost use Rattle.syndromes.specs.Plans.{IsPlan};
 
-use crate::columns::columns_at;
+use crate::blocks::combine_four;
+use crate::columns::{Columns, columns_at};
 use crate::formulas::{Formula, Formulas};
-use crate::lanes::LANES;
-use crate::targets::write_target;
+use crate::lanes::{LANES, load, store};
 use crate::weights::Weights;
 use std::simd::prelude::*;
 
@@ -35,28 +35,28 @@ fn weights_of(formula: &Option<Formula>) -> Weights
     }
 }
 
-/// Whether a target takes syndrome `e`.
+/// Whether syndrome `e` is multiplied for a target.
 fn takes(formula: &Option<Formula>, e: usize) -> bool
     requires { e < 4 }
-    ensures { result ≡ false → IfSome (shares_for formula.now) (λ a. slice_index a e ≡ 0) }
+    ensures { result ≡ false → IfSome formula.now (λ f. slice_index f.factors e ≡ 0) }
 {
     match formula {
         None => false,
-        Some(formula) => formula.shares[e] != 0,
+        Some(formula) => formula.factors[e] != 0,
     }
 }
 
-/// Whether one of the targets takes syndrome `e`.
+/// Whether syndrome `e` is multiplied for one of the targets.
 fn is_taken(formulas: &Formulas, e: usize) -> bool
     requires { e < 4 }
-    ensures first { result ≡ false → IfSome (shares_for formulas.now.first)
-        (λ a. slice_index a e ≡ 0) }
-    ensures second { result ≡ false → IfSome (shares_for formulas.now.second)
-        (λ a. slice_index a e ≡ 0) }
-    ensures third { result ≡ false → IfSome (shares_for formulas.now.third)
-        (λ a. slice_index a e ≡ 0) }
-    ensures fourth { result ≡ false → IfSome (shares_for formulas.now.fourth)
-        (λ a. slice_index a e ≡ 0) }
+    ensures first { result ≡ false → IfSome formulas.now.first
+        (λ f. slice_index f.factors e ≡ 0) }
+    ensures second { result ≡ false → IfSome formulas.now.second
+        (λ f. slice_index f.factors e ≡ 0) }
+    ensures third { result ≡ false → IfSome formulas.now.third
+        (λ f. slice_index f.factors e ≡ 0) }
+    ensures fourth { result ≡ false → IfSome formulas.now.fourth
+        (λ f. slice_index f.factors e ≡ 0) }
 {
     takes(&formulas.first, e)
         || takes(&formulas.second, e)
@@ -80,46 +80,6 @@ pub(crate) fn plan_for(formulas: Formulas) -> Plan
     }
 }
 
-/// Writes thirty-two places of each target from `to` on: those of the lists from `at` on.
-#[inline(always)]
-fn write_block<const THIRD: bool, const FOURTH: bool>(
-    sources: &[&[u8]],
-    plan: &Plan,
-    at: usize,
-    to: usize,
-    a: &mut [u8],
-    b: &mut [u8],
-    c: &mut [u8],
-    d: &mut [u8],
-)
-    requires count { length sources.now ≡ 16 }
-    requires inside { All (λ s. at + LANES ≤ length s.now) sources.now }
-    requires formulas { AreFormulas plan.now.formulas }
-    requires plan { IsPlan plan.now }
-    requires third { THIRD ≡ false → plan.now.takes_third ≡ false }
-    requires fourth { FOURTH ≡ false → plan.now.takes_fourth ≡ false }
-    requires a_room { HasRoom (shares_for plan.now.formulas.first) (to + LANES) a.old }
-    requires b_room { HasRoom (shares_for plan.now.formulas.second) (to + LANES) b.old }
-    requires c_room { HasRoom (shares_for plan.now.formulas.third) (to + LANES) c.old }
-    requires d_room { HasRoom (shares_for plan.now.formulas.fourth) (to + LANES) d.old }
-    ensures a { IsNext (map (λ s. s.now) sources.now) (shares_for plan.now.formulas.first)
-        at to a.old a.new }
-    ensures b { IsNext (map (λ s. s.now) sources.now) (shares_for plan.now.formulas.second)
-        at to b.old b.new }
-    ensures c { IsNext (map (λ s. s.now) sources.now) (shares_for plan.now.formulas.third)
-        at to c.old c.new }
-    ensures d { IsNext (map (λ s. s.now) sources.now) (shares_for plan.now.formulas.fourth)
-        at to d.old d.new }
-{
-    let s = columns_at(sources, THIRD, FOURTH, at);
-    let f = &plan.formulas;
-    let none = u8x32::splat(0);
-    let x = write_target(&f.first, &plan.first, s, none, none, none, a, to);
-    let y = write_target(&f.second, &plan.second, s, x, none, none, b, to);
-    let z = write_target(&f.third, &plan.third, s, x, y, none, c, to);
-    let _ = write_target(&f.fourth, &plan.fourth, s, x, y, z, d, to);
-}
-
 /// Where the next block begins. The last one ends with the lists, and may overlap the one before.
 #[inline(always)]
 fn next_block(done: usize, width: usize) -> usize
@@ -136,83 +96,141 @@ fn next_block(done: usize, width: usize) -> usize
     }
 }
 
-/// Writes the places `base..end` of each target, which are all places of the lists.
+/// Writes a block at `at` where it is wanted.
 #[inline(always)]
-fn write_blocks<const THIRD: bool, const FOURTH: bool>(
+fn store_if(wanted: bool, block: u8x32, target: &mut [u8], at: usize)
+    requires { at + LANES ≤ length target.old }
+    ensures lanes { wanted ≡ true → (k : ℕ) → k < LANES
+        → slice_index target.new (at + k) ≡ slice_index block k }
+    ensures before { (k : ℕ) → k < at → slice_index target.new k ≡ slice_index target.old k }
+{
+    if wanted {
+        store(block, target, at);
+    }
+}
+
+/// Writes the syndromes of all places of the lists; the third and the fourth only where they are
+/// wanted. Each `COPY` is compiled by itself.
+#[inline(always)]
+fn write_columns<const COPY: u8>(
     sources: &[&[u8]],
-    plan: &Plan,
-    base: usize,
-    end: usize,
-    a: &mut [u8],
-    b: &mut [u8],
-    c: &mut [u8],
-    d: &mut [u8],
+    third_wanted: bool,
+    fourth_wanted: bool,
+    first: &mut [u8],
+    second: &mut [u8],
+    third: &mut [u8],
+    fourth: &mut [u8],
 )
     requires count { length sources.now ≡ 16 }
-    requires same { All (λ s. length s.now ≡ end - base) sources.now }
-    requires wide { base + LANES ≤ end }
-    requires formulas { AreFormulas plan.now.formulas }
-    requires plan { IsPlan plan.now }
-    requires third { THIRD ≡ false → plan.now.takes_third ≡ false }
-    requires fourth { FOURTH ≡ false → plan.now.takes_fourth ≡ false }
-    requires a_room { HasRoom (shares_for plan.now.formulas.first) end a.old }
-    requires b_room { HasRoom (shares_for plan.now.formulas.second) end b.old }
-    requires c_room { HasRoom (shares_for plan.now.formulas.third) end c.old }
-    requires d_room { HasRoom (shares_for plan.now.formulas.fourth) end d.old }
-    ensures a { IsWritten (map (λ s. s.now) sources.now) (shares_for plan.now.formulas.first)
-        base (end - base) a.old a.new }
-    ensures b { IsWritten (map (λ s. s.now) sources.now) (shares_for plan.now.formulas.second)
-        base (end - base) b.old b.new }
-    ensures c { IsWritten (map (λ s. s.now) sources.now) (shares_for plan.now.formulas.third)
-        base (end - base) c.old c.new }
-    ensures d { IsWritten (map (λ s. s.now) sources.now) (shares_for plan.now.formulas.fourth)
-        base (end - base) d.old d.new }
+    requires same { All (λ s. length s.now ≡ length first.old) sources.now }
+    requires same_second { length second.old ≡ length first.old }
+    requires same_third { length third.old ≡ length first.old }
+    requires same_fourth { length fourth.old ≡ length first.old }
+    requires wide { LANES ≤ length first.old }
+    ensures first { EachIndex first.new (λ k. slice_index first.new k
+        ≡ syndrome 0 (bytes_at (map (λ s. s.now) sources.now) k)) }
+    ensures second { EachIndex second.new (λ k. slice_index second.new k
+        ≡ syndrome 1 (bytes_at (map (λ s. s.now) sources.now) k)) }
+    ensures third { third_wanted ≡ true → EachIndex third.new (λ k. slice_index third.new k
+        ≡ syndrome 2 (bytes_at (map (λ s. s.now) sources.now) k)) }
+    ensures fourth { fourth_wanted ≡ true → EachIndex fourth.new (λ k. slice_index fourth.new k
+        ≡ syndrome 3 (bytes_at (map (λ s. s.now) sources.now) k)) }
 {
-    let width = end - base;
+    let width = first.len();
     let mut done = 0;
     'each: while done < width {
         let at = next_block(done, width);
-        write_block::<THIRD, FOURTH>(sources, plan, at, base + at, a, b, c, d);
+        let s = columns_at(sources, third_wanted, fourth_wanted, at);
+        store(s.first, first, at);
+        store(s.second, second, at);
+        store_if(third_wanted, s.third, third, at);
+        store_if(fourth_wanted, s.fourth, fourth, at);
         done = at + LANES;
     }
 }
 
-/// Writes the places `base..end` of each target, which are all places of the lists. Each of the
-/// three calls is compiled by itself, for the syndromes that are taken.
-pub(crate) fn write_targets(
+/// Writes the syndromes of all places of the lists; the third and the fourth only where they are
+/// taken.
+pub(crate) fn write_taken(
     sources: &[&[u8]; 16],
-    plan: &Plan,
-    base: usize,
-    end: usize,
-    a: &mut [u8],
-    b: &mut [u8],
-    c: &mut [u8],
-    d: &mut [u8],
+    takes_third: bool,
+    takes_fourth: bool,
+    first: &mut [u8],
+    second: &mut [u8],
+    third: &mut [u8],
+    fourth: &mut [u8],
 )
-    requires same { All (λ s. length s.now ≡ end - base) sources.now }
-    requires wide { base + LANES ≤ end }
-    requires formulas { AreFormulas plan.now.formulas }
-    requires plan { IsPlan plan.now }
-    requires a_room { HasRoom (shares_for plan.now.formulas.first) end a.old }
-    requires b_room { HasRoom (shares_for plan.now.formulas.second) end b.old }
-    requires c_room { HasRoom (shares_for plan.now.formulas.third) end c.old }
-    requires d_room { HasRoom (shares_for plan.now.formulas.fourth) end d.old }
-    ensures a { IsWritten (map (λ s. s.now) sources.now) (shares_for plan.now.formulas.first)
-        base (end - base) a.old a.new }
-    ensures b { IsWritten (map (λ s. s.now) sources.now) (shares_for plan.now.formulas.second)
-        base (end - base) b.old b.new }
-    ensures c { IsWritten (map (λ s. s.now) sources.now) (shares_for plan.now.formulas.third)
-        base (end - base) c.old c.new }
-    ensures d { IsWritten (map (λ s. s.now) sources.now) (shares_for plan.now.formulas.fourth)
-        base (end - base) d.old d.new }
+    requires same { All (λ s. length s.now ≡ length first.old) sources.now }
+    requires same_second { length second.old ≡ length first.old }
+    requires same_third { length third.old ≡ length first.old }
+    requires same_fourth { length fourth.old ≡ length first.old }
+    requires wide { LANES ≤ length first.old }
+    ensures first { EachIndex first.new (λ k. slice_index first.new k
+        ≡ syndrome 0 (bytes_at (map (λ s. s.now) sources.now) k)) }
+    ensures second { EachIndex second.new (λ k. slice_index second.new k
+        ≡ syndrome 1 (bytes_at (map (λ s. s.now) sources.now) k)) }
+    ensures third { takes_third ≡ true → EachIndex third.new (λ k. slice_index third.new k
+        ≡ syndrome 2 (bytes_at (map (λ s. s.now) sources.now) k)) }
+    ensures fourth { takes_fourth ≡ true → EachIndex fourth.new (λ k. slice_index fourth.new k
+        ≡ syndrome 3 (bytes_at (map (λ s. s.now) sources.now) k)) }
 {
-    // a copy, which a store to a target cannot change: so its slices stay in registers
+    // a copy, which a store to a syndrome cannot change: so its slices stay in registers
     let lists = *sources;
-    if !plan.takes_fourth {
-        write_blocks::<true, false>(&lists, plan, base, end, a, b, c, d);
-    } else if !plan.takes_third {
-        write_blocks::<false, true>(&lists, plan, base, end, a, b, c, d);
+    if !takes_fourth {
+        write_columns::<0>(&lists, true, false, first, second, third, fourth);
+    } else if !takes_third {
+        write_columns::<1>(&lists, false, true, first, second, third, fourth);
     } else {
-        write_blocks::<true, true>(&lists, plan, base, end, a, b, c, d);
+        write_columns::<2>(&lists, true, true, first, second, third, fourth);
+    }
+}
+
+/// Thirty-two places of four lists.
+#[inline(always)]
+fn columns_of(lists: &[&[u8]], at: usize) -> Columns
+    requires count { length lists.now ≡ 4 }
+    requires inside { All (λ s. at + LANES ≤ length s.now) lists.now }
+    ensures { (k : ℕ) → k < LANES → (e : ℕ) → e < 4
+        → lane result k e ≡ bytes_at (map (λ s. s.now) lists.now) (at + k) e }
+{
+    Columns {
+        first: load(lists[0], at),
+        second: load(lists[1], at),
+        third: load(lists[2], at),
+        fourth: load(lists[3], at),
+    }
+}
+
+/// Makes the target the sum of the four lists, each times its weight.
+fn sum_weighed(target: &mut [u8], weights: &Weights, factors: &[u8; 4], lists: &[&[u8]])
+    requires count { length lists.now ≡ 4 }
+    requires same { All (λ s. length s.now ≡ length target.old) lists.now }
+    requires wide { LANES ≤ length target.old }
+    requires weights { AreWeights weights.now factors.now }
+    ensures { EachIndex target.new (λ k. slice_index target.new k ≡ combined factors.now
+        (bytes_at (map (λ s. s.now) lists.now) k)) }
+{
+    let weights = *weights;
+    let width = target.len();
+    let mut done = 0;
+    'each: while done < width {
+        let at = next_block(done, width);
+        store(weights.sums_at(columns_of(lists, at)), target, at);
+        done = at + LANES;
+    }
+}
+
+/// Makes the target the sum of the four lists, each times its factor, by the tables of the factors
+/// where the lists are as long as a vector.
+pub(crate) fn weigh(target: &mut [u8], weights: &Weights, factors: &[u8; 4], lists: &[&[u8]; 4])
+    requires same { All (λ s. length s.now ≡ length target.old) lists.now }
+    requires weights { AreWeights weights.now factors.now }
+    ensures { EachIndex target.new (λ k. slice_index target.new k ≡ combined factors.now
+        (bytes_at (map (λ s. s.now) lists.now) k)) }
+{
+    if target.len() < LANES {
+        combine_four(target, factors, lists);
+    } else {
+        sum_weighed(target, weights, factors, lists);
     }
 }

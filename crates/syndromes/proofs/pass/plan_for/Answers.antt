@@ -1,5 +1,4 @@
-use Rattle.syndromes.specs.Formulas.{shares_for}
-use Rattle.syndromes.proofs.Written.{within}
+use Rattle.syndromes.proofs.Taken.{weights_for}
 use Rattle.syndromes.proofs.pass.plan_for.Goals as goal
 
 pub returns-clause-plan : goal.returns-clause-plan
@@ -8,12 +7,8 @@ returns-clause-plan c =
     let third = c.is_taken in
     let fourth = c.is_taken-2 in
     record {
-      first = c.weights_of.ensures;
-      second = c.weights_of-2.ensures;
-      third = c.weights_of-3.ensures;
-      fourth = c.weights_of-4.ensures;
-      first_within = within (shares_for f.first) third.result fourth.result third.ensures.first fourth.ensures.first;
-      second_within = within (shares_for f.second) third.result fourth.result third.ensures.second fourth.ensures.second;
-      third_within = within (shares_for f.third) third.result fourth.result third.ensures.third fourth.ensures.third;
-      fourth_within = within (shares_for f.fourth) third.result fourth.result third.ensures.fourth fourth.ensures.fourth;
+      first = weights_for f.first c.weights_of.result third.result fourth.result c.weights_of.ensures third.ensures.first fourth.ensures.first;
+      second = weights_for f.second c.weights_of-2.result third.result fourth.result c.weights_of-2.ensures third.ensures.second fourth.ensures.second;
+      third = weights_for f.third c.weights_of-3.result third.result fourth.result c.weights_of-3.ensures third.ensures.third fourth.ensures.third;
+      fourth = weights_for f.fourth c.weights_of-4.result third.result fourth.result c.weights_of-4.ensures third.ensures.fourth fourth.ensures.fourth;
     }
