@@ -213,25 +213,14 @@ fn is_far(code: Code, lost: LostSet, chosen: Option<u8>) -> u32
     }
 }
 
-/// From which width on the syndromes are faster than two recipes, and where both global parities
-/// are lost.
-const WIDE: usize = 32_768;
-
-const WIDE_FOR_GLOBALS: usize = 512;
+/// From which width on the syndromes are faster than several recipes.
+const WIDE: usize = 1024;
 
 /// Whether the syndromes are the faster way to make several fragments that are not alone lost in
 /// their groups. Where the excess is 1, one of them comes by its recipe, and its group then has the
 /// other.
 fn are_syndromes_faster(code: Code, lost: LostSet, width: usize) -> bool {
-    let last = code.fragments() - 1;
-    let are_globals_lost = !lost.left(last) && !lost.left(last - 1);
-    lost.excess_in(code) > 1
-        && width
-            >= if are_globals_lost {
-                WIDE_FOR_GLOBALS
-            } else {
-                WIDE
-            }
+    lost.excess_in(code) > 1 && width >= WIDE
 }
 
 /// Writes the bytes `from..to` of up to four absent fragments, as every stripe has them that agrees

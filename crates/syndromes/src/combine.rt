@@ -10,9 +10,8 @@ ghost use Rattle.syndromes.specs.Plans.{IsPlan, AreWeightsFor, AreSyndromes};
 use crate::blocks::{BLOCK, part_or_zeros, write_syndromes};
 use crate::formulas::{Formula, formulas_for};
 use crate::lanes::LANES;
-use crate::pass::{Plan, plan_for, weigh, write_taken};
+use crate::pass::{Plan, add_list, plan_for, weigh, write_taken};
 use crate::weights::Weights;
-use gf256::xor_into;
 
 /// Adds the places `at..end` of a target that was made before, where it is to be added.
 fn add_made(part: &mut [u8], shares: Option<[u8; 4]>, made: &[u8], at: usize, end: usize)
@@ -23,7 +22,7 @@ fn add_made(part: &mut [u8], shares: Option<[u8; 4]>, made: &[u8], at: usize, en
         ≡ bit_xor (slice_index part.old k) (addend shares made.now (at + k))) }
 {
     if shares.is_some() {
-        xor_into(part, &made[at..end]);
+        add_list(part, &made[at..end]);
     }
 }
 

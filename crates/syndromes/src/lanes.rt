@@ -45,6 +45,7 @@ pub(crate) fn store(block: u8x32, target: &mut [u8], at: usize)
     requires { at + LANES ≤ length target.old }
     ensures lanes { (k : ℕ) → k < LANES → slice_index target.new (at + k) ≡ slice_index block k }
     ensures before { (k : ℕ) → k < at → slice_index target.new k ≡ slice_index target.old k }
+    ensures after { (k : ℕ) → at + LANES ≤ k → slice_index target.new k ≡ slice_index target.old k }
 {
     block.copy_to_slice(&mut target[at..]);
 }

@@ -11,7 +11,6 @@ mod columns;
 mod formulas;
 mod lanes;
 mod pass;
-mod targets;
 mod weights;
 
 pub use combine::combine_syndromes;

@@ -1,6 +1,6 @@
 //! The wanted syndromes of a block of the lists, and sums of them, thirty-two places at a time.
 ghost use Rattle.std.specs.Prelude.{◌≡◌, ◌<◌, ◌≤◌, ◌+◌, ℕ, true, false, IfSome, map, length};
-ghost use Rattle.std.specs.Prelude.{All, EachIndex, slice_index};
+ghost use Rattle.std.specs.Prelude.{All, EachIndex, slice_index, bit_xor};
 ghost use Rattle.kernels.specs.Lists.{combined, bytes_at};
 ghost use Rattle.syndromes.specs.Syndromes.{syndrome};
 ghost use Rattle.syndromes.specs.Weights.{AreWeights, lane};
@@ -9,7 +9,7 @@ ghost use Rattle.syndromes.specs.Plans.{IsPlan};
 use crate::blocks::combine_four;
 use crate::columns::{Columns, columns_at};
 use crate::formulas::{Formula, Formulas};
-use crate::lanes::{LANES, load, store};
+use crate::lanes::{LANES, load, store, sum_2};
 use crate::weights::Weights;
 use std::simd::prelude::*;
 
@@ -220,17 +220,49 @@ fn sum_weighed(target: &mut [u8], weights: &Weights, factors: &[u8; 4], lists: &
     }
 }
 
-/// Makes the target the sum of the four lists, each times its factor, by the tables of the factors
-/// where the lists are as long as a vector.
+/// Whether no syndrome takes a product.
+fn is_plain(factors: &[u8; 4]) -> bool {
+    factors[0] <= 1 && factors[1] <= 1 && factors[2] <= 1 && factors[3] <= 1
+}
+
+/// Makes the target the sum of the four lists, each times its factor: by the tables of the factors
+/// where there are products, and the lists are as long as a vector.
 pub(crate) fn weigh(target: &mut [u8], weights: &Weights, factors: &[u8; 4], lists: &[&[u8]; 4])
     requires same { All (λ s. length s.now ≡ length target.old) lists.now }
     requires weights { AreWeights weights.now factors.now }
     ensures { EachIndex target.new (λ k. slice_index target.new k ≡ combined factors.now
         (bytes_at (map (λ s. s.now) lists.now) k)) }
 {
-    if target.len() < LANES {
+    if target.len() < LANES || is_plain(factors) {
         combine_four(target, factors, lists);
     } else {
         sum_weighed(target, weights, factors, lists);
+    }
+}
+
+/// Adds the source to the target in whole vectors, and returns how many places were added to.
+fn add_blocks(target: &mut [u8], source: &[u8]) -> usize
+    requires { length source.now ≡ length target.old }
+    ensures inside { result ≤ length target.new }
+    ensures added { (k : ℕ) → k < result → slice_index target.new k
+        ≡ bit_xor (slice_index target.old k) (slice_index source.now k) }
+    ensures rest { (k : ℕ) → result ≤ k → slice_index target.new k ≡ slice_index target.old k }
+{
+    let mut at = 0;
+    'whole: while target.len() - at >= LANES {
+        store(sum_2(load(target, at), load(source, at)), target, at);
+        at += LANES;
+    }
+    at
+}
+
+/// Adds the source to the target, place by place.
+pub(crate) fn add_list(target: &mut [u8], source: &[u8])
+    requires { length source.now ≡ length target.old }
+    ensures { EachIndex target.new (λ k. slice_index target.new k
+        ≡ bit_xor (slice_index target.old k) (slice_index source.now k)) }
+{
+    for i in add_blocks(target, source)..target.len() {
+        target[i] ^= source[i];
     }
 }

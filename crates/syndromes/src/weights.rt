@@ -1,63 +1,40 @@
-//! What the syndromes are multiplied by.
-ghost use Rattle.std.specs.Prelude.{◌≡◌, true, slice_index};
+//! Sums of the syndromes at thirty-two places, each times its weight.
+ghost use Rattle.std.specs.Prelude.{◌≡◌, ◌<◌, ℕ, slice_index};
+ghost use Rattle.syndromes.specs.Weights.{AreWeights, lane, weighed};
 
-use crate::lanes::Factor;
+use crate::columns::Columns;
+use crate::lanes::{Factor, LANES};
+use std::simd::prelude::*;
 
-/// What the syndromes are multiplied by for a target. A target that is one of the syndromes takes
-/// no products.
+/// What the syndromes are multiplied by for a target, with the tables of the products.
 #[derive(Clone, Copy, Drop)]
 pub(crate) struct Weights {
-    pub(crate) is_plain: bool,
-    pub(crate) is_first: bool,
-    pub(crate) is_second: bool,
-    pub(crate) is_third: bool,
-    pub(crate) is_fourth: bool,
     pub(crate) first: Factor,
     pub(crate) second: Factor,
     pub(crate) third: Factor,
     pub(crate) fourth: Factor,
-    pub ghost first_is: { is_first ≡ true → (first.scale ≡ 1) × (second.scale ≡ 0)
-        × (third.scale ≡ 0) × (fourth.scale ≡ 0) },
-    pub ghost second_is: { is_second ≡ true → (second.scale ≡ 1) × (first.scale ≡ 0)
-        × (third.scale ≡ 0) × (fourth.scale ≡ 0) },
-    pub ghost third_is: { is_third ≡ true → (third.scale ≡ 1) × (first.scale ≡ 0)
-        × (second.scale ≡ 0) × (fourth.scale ≡ 0) },
-    pub ghost fourth_is: { is_fourth ≡ true → (fourth.scale ≡ 1) × (first.scale ≡ 0)
-        × (second.scale ≡ 0) × (third.scale ≡ 0) },
-}
-
-/// Whether one weight is 1 and three are 0.
-fn is_alone(one: u8, a: u8, b: u8, c: u8) -> bool
-    ensures { result ≡ true → (one ≡ 1) × (a ≡ 0) × (b ≡ 0) × (c ≡ 0) }
-{
-    one == 1 && a == 0 && b == 0 && c == 0
 }
 
 impl Weights {
     pub(crate) fn new(factors: &[u8; 4]) -> Weights
-        ensures first { result.first.scale ≡ slice_index factors.now 0 }
-        ensures second { result.second.scale ≡ slice_index factors.now 1 }
-        ensures third { result.third.scale ≡ slice_index factors.now 2 }
-        ensures fourth { result.fourth.scale ≡ slice_index factors.now 3 }
+        ensures { AreWeights result factors.now }
     {
-        let a = factors[0];
-        let b = factors[1];
-        let c = factors[2];
-        let d = factors[3];
-        let is_first = is_alone(a, b, c, d);
-        let is_second = is_alone(b, a, c, d);
-        let is_third = is_alone(c, a, b, d);
-        let is_fourth = is_alone(d, a, b, c);
         Weights {
-            is_plain: is_first || is_second || is_third || is_fourth,
-            is_first,
-            is_second,
-            is_third,
-            is_fourth,
-            first: Factor::of(a),
-            second: Factor::of(b),
-            third: Factor::of(c),
-            fourth: Factor::of(d),
+            first: Factor::of(factors[0]),
+            second: Factor::of(factors[1]),
+            third: Factor::of(factors[2]),
+            fourth: Factor::of(factors[3]),
         }
+    }
+
+    /// The sums.
+    #[inline(always)]
+    pub(crate) fn sums_at(&self, s: Columns) -> u8x32
+        ensures { (k : ℕ) → k < LANES → slice_index result k ≡ weighed self.now (lane s k) }
+    {
+        let one = self.first.plus_times_some(u8x32::splat(0), s.first);
+        let two = self.second.plus_times_some(one, s.second);
+        let three = self.third.plus_times_some(two, s.third);
+        self.fourth.plus_times_some(three, s.fourth)
     }
 }
