@@ -223,6 +223,12 @@ fn are_syndromes_faster(code: Code, lost: LostSet, width: usize) -> bool {
     lost.excess_in(code) > 1 && width >= WIDE
 }
 
+/// Whether both global parities are lost: none of them helps to make another fragment.
+fn are_globals_lost(code: Code, lost: LostSet) -> bool {
+    let last = code.fragments() - 1;
+    !lost.left(last) && !lost.left(last - 1)
+}
+
 /// Writes the bytes `from..to` of up to four absent fragments, as every stripe has them that agrees
 /// with what is present. `chosen` has the number of the fragment for each of the four targets. A
 /// target for None is unchanged. Of more than four absent fragments at least one is open.
@@ -230,8 +236,8 @@ fn are_syndromes_faster(code: Code, lost: LostSet, width: usize) -> bool {
 /// Returns false if and only if a chosen fragment is open; then every target is unchanged.
 ///
 /// A fragment that is alone lost in its group is made from that group. Several others are made one
-/// after the other, each with those made before it, or in one pass over the fragments that are
-/// present, whichever is faster. Does not allocate.
+/// after the other, each with those made before it where that helps, or in one pass over the
+/// fragments that are present, whichever is faster. Does not allocate.
 pub fn decode_to(
     left: &Left,
     chosen: [Option<u8>; 4],
@@ -270,10 +276,15 @@ pub fn decode_to(
     if has_open(left, lost, &chosen) {
         return false;
     }
-    let far = is_far(left.code, lost, chosen[0])
+    let several = is_far(left.code, lost, chosen[0])
         + is_far(left.code, lost, chosen[1])
         + is_far(left.code, lost, chosen[2])
         + is_far(left.code, lost, chosen[3]);
+    let far = if to - from < WIDE && are_globals_lost(left.code, lost) {
+        0
+    } else {
+        several
+    };
     if far <= 1 {
         rebuild_chosen(left, chosen[0], from, to, first);
         rebuild_chosen(left, chosen[1], from, to, second);

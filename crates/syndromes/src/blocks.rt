@@ -23,7 +23,12 @@ fn zeros(count: usize) -> &'static [u8]
 }
 
 /// The bytes `at..end` of a list, or zeros where it is missing.
-pub(crate) fn part_or_zeros<'a>(lists: &[Option<&'a [u8]>; 16], i: usize, at: usize, end: usize) -> &'a [u8]
+pub(crate) fn part_or_zeros<'a>(
+    lists: &[Option<&'a [u8]>; 16],
+    i: usize,
+    at: usize,
+    end: usize,
+) -> &'a [u8]
     requires inside { i < 16 }
     requires long { HaveBytes lists.now end }
     requires order { at ≤ end }

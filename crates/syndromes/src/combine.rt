@@ -133,7 +133,9 @@ fn write_block(
     for i in 0..16 {
         sources[i] = part_or_zeros(lists, i, at, end);
     }
-    write_taken(&sources, has_third, has_fourth, first, second, third, fourth);
+    write_taken(
+        &sources, has_third, has_fourth, first, second, third, fourth,
+    );
 }
 
 /// Makes the places `at..end` of each target by its formula, where it has those before already. The
@@ -183,10 +185,62 @@ fn make_block(
     let u = plan.takes_fourth;
     write_block(lists, at, end, t, u, one, two, three, four);
     let s: [&[u8]; 4] = [one, two, three, four];
-    make_target(lists, first, at, end, &f.first, &plan.first, t, u, &s, &[], &[], &[]);
-    make_target(lists, second, at, end, &f.second, &plan.second, t, u, &s, first, &[], &[]);
-    make_target(lists, third, at, end, &f.third, &plan.third, t, u, &s, first, second, &[]);
-    make_target(lists, fourth, at, end, &f.fourth, &plan.fourth, t, u, &s, first, second, third);
+    make_target(
+        lists,
+        first,
+        at,
+        end,
+        &f.first,
+        &plan.first,
+        t,
+        u,
+        &s,
+        &[],
+        &[],
+        &[],
+    );
+    make_target(
+        lists,
+        second,
+        at,
+        end,
+        &f.second,
+        &plan.second,
+        t,
+        u,
+        &s,
+        first,
+        &[],
+        &[],
+    );
+    make_target(
+        lists,
+        third,
+        at,
+        end,
+        &f.third,
+        &plan.third,
+        t,
+        u,
+        &s,
+        first,
+        second,
+        &[],
+    );
+    make_target(
+        lists,
+        fourth,
+        at,
+        end,
+        &f.fourth,
+        &plan.fourth,
+        t,
+        u,
+        &s,
+        first,
+        second,
+        third,
+    );
 }
 
 /// Makes each of four targets the sum of the four syndromes of the lists, each times its share, at

@@ -107,14 +107,7 @@ fn plus_4(a: u8x32, x: u8x32) -> u8x32
 
 /// The third parity, from the sums over the bits of the numbers in each group.
 #[inline(always)]
-pub(crate) fn third_each(
-    s0: u8x32,
-    s1: u8x32,
-    s2: u8x32,
-    t0: u8x32,
-    t1: u8x32,
-    t2: u8x32,
-) -> u8x32
+pub(crate) fn third_each(s0: u8x32, s1: u8x32, s2: u8x32, t0: u8x32, t1: u8x32, t2: u8x32) -> u8x32
     ensures { (k : ℕ) → k < LANES → slice_index result k
         ≡ third_apart (slice_index s0 k) (slice_index s1 k) (slice_index s2 k) (slice_index t0 k)
         (slice_index t1 k) (slice_index t2 k) }
@@ -126,14 +119,7 @@ pub(crate) fn third_each(
 
 /// The fourth parity, from the sums over the bits of the numbers in each group. 0x1D is x^8.
 #[inline(always)]
-pub(crate) fn fourth_each(
-    s0: u8x32,
-    s1: u8x32,
-    s2: u8x32,
-    t0: u8x32,
-    t1: u8x32,
-    t2: u8x32,
-) -> u8x32
+pub(crate) fn fourth_each(s0: u8x32, s1: u8x32, s2: u8x32, t0: u8x32, t1: u8x32, t2: u8x32) -> u8x32
     ensures { (k : ℕ) → k < LANES → slice_index result k
         ≡ fourth_apart (slice_index s0 k) (slice_index s1 k) (slice_index s2 k) (slice_index t0 k)
         (slice_index t1 k) (slice_index t2 k) }

@@ -6,8 +6,8 @@
 #![tactic(auto)]
 
 mod blocks;
-mod combine;
 mod columns;
+mod combine;
 mod formulas;
 mod lanes;
 mod pass;

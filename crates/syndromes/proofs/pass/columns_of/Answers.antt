@@ -8,7 +8,7 @@ use Rattle.syndromes.proofs.pass.columns_of.Goals as goal
 pub returns : goal.returns
 returns c k h =
     let lists = c.args.lists.now in
-    let columns : Columns = record { first = c.load.result; second = c.load-2.result; third = c.load-3.result; fourth = c.load-4.result; } in
+    let columns : Columns = record { first = c.load.result; second = c.load-2.result; third = c.load-3.result; fourth = c.load-4.result } in
     each_of_four (λ e. lane columns k e ≡ bytes_at (map (λ s. s.now) lists) (c.args.at + k) e)
     (c.load.ensures.lanes k h ∙ ap (λ xs. get_or xs (c.args.at + k) 0) (source_is lists 0))
     (c.load-2.ensures.lanes k h ∙ ap (λ xs. get_or xs (c.args.at + k) 0) (source_is lists 1))
