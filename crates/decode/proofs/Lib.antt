@@ -3,3 +3,4 @@ pub mod Law
 pub mod Places
 pub mod Chosen
 pub mod Parts
+pub mod Least

@@ -213,25 +213,20 @@ fn is_far(code: Code, lost: LostSet, chosen: Option<u8>) -> u32
     }
 }
 
-/// From which width on the syndromes are faster than two recipes, and where both global parities
-/// are lost.
-const WIDE: usize = 32_768;
-
-const WIDE_FOR_GLOBALS: usize = 512;
+/// From which width on the syndromes are faster than several recipes.
+const WIDE: usize = 1024;
 
 /// Whether the syndromes are the faster way to make several fragments that are not alone lost in
 /// their groups. Where the excess is 1, one of them comes by its recipe, and its group then has the
 /// other.
 fn are_syndromes_faster(code: Code, lost: LostSet, width: usize) -> bool {
+    lost.excess_in(code) > 1 && width >= WIDE
+}
+
+/// Whether both global parities are lost: none of them helps to make another fragment.
+fn are_globals_lost(code: Code, lost: LostSet) -> bool {
     let last = code.fragments() - 1;
-    let are_globals_lost = !lost.left(last) && !lost.left(last - 1);
-    lost.excess_in(code) > 1
-        && width
-            >= if are_globals_lost {
-                WIDE_FOR_GLOBALS
-            } else {
-                WIDE
-            }
+    !lost.left(last) && !lost.left(last - 1)
 }
 
 /// Writes the bytes `from..to` of up to four absent fragments, as every stripe has them that agrees
@@ -241,8 +236,8 @@ fn are_syndromes_faster(code: Code, lost: LostSet, width: usize) -> bool {
 /// Returns false if and only if a chosen fragment is open; then every target is unchanged.
 ///
 /// A fragment that is alone lost in its group is made from that group. Several others are made one
-/// after the other, each with those made before it, or in one pass over the fragments that are
-/// present, whichever is faster. Does not allocate.
+/// after the other, each with those made before it where that helps, or in one pass over the
+/// fragments that are present, whichever is faster. Does not allocate.
 pub fn decode_to(
     left: &Left,
     chosen: [Option<u8>; 4],
@@ -281,10 +276,15 @@ pub fn decode_to(
     if has_open(left, lost, &chosen) {
         return false;
     }
-    let far = is_far(left.code, lost, chosen[0])
+    let several = is_far(left.code, lost, chosen[0])
         + is_far(left.code, lost, chosen[1])
         + is_far(left.code, lost, chosen[2])
         + is_far(left.code, lost, chosen[3]);
+    let far = if to - from < WIDE && are_globals_lost(left.code, lost) {
+        0
+    } else {
+        several
+    };
     if far <= 1 {
         rebuild_chosen(left, chosen[0], from, to, first);
         rebuild_chosen(left, chosen[1], from, to, second);

@@ -9,7 +9,9 @@
 
 mod decoding;
 mod known;
+mod reads;
 mod shares;
 
 pub use decoding::decode_to;
+pub use reads::least_reads;
 pub use shares::shares_of;

@@ -12,9 +12,9 @@ use decode::decode_to;
 use lrc_code::{Code, Left, LostSet, encode_in};
 use std::alloc::Global;
 
-/// Bytes of a fragment: up to the last the fragments come in turn, and from it on by the syndromes,
-/// where both global parities are lost.
-const WIDTHS: [usize; 3] = [1, 33, 512];
+/// Bytes of a fragment: from the third on several fragments come by the syndromes; the last leaves
+/// one byte after whole blocks.
+const WIDTHS: [usize; 4] = [1, 33, 1024, 2049];
 
 /// The fragments of a stripe.
 fn stripe_of(alloc: Global, code: Code, width: usize) -> Result<Vec<Vec<u8>>> {

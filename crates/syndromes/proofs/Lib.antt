@@ -1,2 +1,5 @@
 pub mod Terms
 pub mod Made
+pub mod Parities
+pub mod Units
+pub mod Taken

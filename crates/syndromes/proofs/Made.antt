@@ -1,5 +1,5 @@
 -- Targets that are made by their formulas.
-use Rattle.std.proofs.Common.{◌≡◌, ℕ, ◌+◌, ◌-◌, ◌<◌, ◌≤◌, List, ◌++◌, Option, Some, None, Bor, length, take, get_or, bit_xor, sym, ap, ap₂, ◌∙◌, subst, arith, inl, inr, length-take-le, get_or-take}
+use Rattle.std.proofs.Common.{◌≡◌, ℕ, ◌+◌, ◌-◌, ◌<◌, ◌≤◌, List, ◌++◌, Option, Some, None, IfSome, Bor, length, take, get_or, bit_xor, sym, ap, ap₂, ◌∙◌, subst, arith, inl, inr, length-take-le, get_or-take}
 use Rattle.std.proofs.lemmas.Bool.{cases_lt}
 use Rattle.std.proofs.lemmas.List.{get_or_append_left, get_or-append-add}
 use lib.Bits.{xor_assoc, xor_self, xor_zero_r}
@@ -12,11 +12,11 @@ use Rattle.syndromes.specs.declared.formulas.Formula.{Formula}
 use Rattle.syndromes.specs.Syndromes.{syndrome, column_at, sum_by, HasSums, HasRoom}
 use Rattle.syndromes.specs.Formulas.{IsFormula, IsNoneOr, share_of, addend}
 
-xor_back : (a b : ℕ) → bit_xor (bit_xor a b) b ≡ a
+pub xor_back : (a b : ℕ) → bit_xor (bit_xor a b) b ≡ a
 xor_back a b = xor_assoc a b b ∙ ap (bit_xor a) (xor_self b) ∙ xor_zero_r a
 
 -- what a list that is added comes to
-abbrev added : Option (List ℕ) → (ℕ → ℕ) → ℕ
+abbrev pub added : Option (List ℕ) → (ℕ → ℕ) → ℕ
 added shares s = xor_sum 4 (λ e. product (share_of shares e) (s e))
 
 added_is : (lists : List (Option (Bor (List ℕ)))) (shares : Option (List ℕ)) (n k : ℕ) (bytes : List ℕ) → k < n → HasSums lists shares n bytes
@@ -39,6 +39,21 @@ factors_give f s is =
     ∙ xor_sum-xor 4 (λ e. bit_xor (bit_xor (product (shares e) (s e)) (product (x e) (s e))) (product (y e) (s e))) (λ e. product (z e) (s e))
     ∙ ap (λ w. bit_xor w (added f.third s)) (xor_sum-xor 4 (λ e. bit_xor (product (shares e) (s e)) (product (x e) (s e))) (λ e. product (y e) (s e))
     ∙ ap (λ w. bit_xor w (added f.second s)) (xor_sum-xor 4 (λ e. product (shares e) (s e)) (λ e. product (x e) (s e))))
+
+-- what is added at one lane
+pub addend_is : (shares : Option (List ℕ)) (made : List ℕ) (s : ℕ → ℕ → ℕ) (k : ℕ) → k < 32 → IfSome shares (λ a. (j : ℕ) → j < 32 → get_or made j 0 ≡ sum_by a (s j)) → addend shares made k ≡ added shares (s k)
+addend_is None made s k l is = sym (xor_sum_zero 4 (λ e. product 0 (s k e)) (λ e m. product-zero_left (s k e)))
+addend_is (Some a) made s k l is = is k l
+
+-- with what is added, a formula gives the sum by its shares, at one place
+pub made_at : (f : Formula) (s : ℕ → ℕ) (x y z : ℕ) → IsFormula f → x ≡ added f.first s → y ≡ added f.second s → z ≡ added f.third s
+    → bit_xor (bit_xor (bit_xor (combined f.factors s) z) y) x ≡ sum_by f.shares s
+made_at f s x y z is first second third =
+    let whole = sum_by f.shares s in
+    let with_first = bit_xor whole (added f.first s) in
+    let with_second = bit_xor with_first (added f.second s) in
+    ap₂ bit_xor (ap₂ bit_xor (ap₂ bit_xor (factors_give f s is) third ∙ xor_back with_second (added f.third s)) second ∙ xor_back with_first (added f.second s)) first
+    ∙ xor_back whole (added f.first s)
 
 -- with what is added, a formula gives the sum by its shares
 pub made_by : (f : Formula) (lists : List (Option (Bor (List ℕ)))) (x y z : List ℕ) (n k : ℕ) → k < n → IsFormula f → HasSums lists f.first n x → HasSums lists f.second n y → HasSums lists f.third n z

@@ -1,3 +1,5 @@
 pub mod Syndromes
 pub mod Formulas
+pub mod Weights
+pub mod Plans
 pub use Rattle.kernels.specs.Lists

@@ -7,7 +7,8 @@ ghost use Rattle.syndromes.specs.Syndromes.{syndrome, column_at, HaveBytes};
 use gf256::xor_into;
 use kernels::{combine_lists, write_parities};
 
-/// How many places a block has at most: few enough that its syndromes stay in the first cache.
+/// How many places a block has at most: few enough that its syndromes stay in the first cache beside
+/// the lists.
 pub(crate) const BLOCK: usize = 2048;
 
 static ZEROS: [u8; BLOCK] = [0; BLOCK];
@@ -22,7 +23,12 @@ fn zeros(count: usize) -> &'static [u8]
 }
 
 /// The bytes `at..end` of a list, or zeros where it is missing.
-fn part_or_zeros<'a>(lists: &[Option<&'a [u8]>; 16], i: usize, at: usize, end: usize) -> &'a [u8]
+pub(crate) fn part_or_zeros<'a>(
+    lists: &[Option<&'a [u8]>; 16],
+    i: usize,
+    at: usize,
+    end: usize,
+) -> &'a [u8]
     requires inside { i < 16 }
     requires long { HaveBytes lists.now end }
     requires order { at ≤ end }

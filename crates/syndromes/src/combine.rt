@@ -4,10 +4,14 @@ ghost use Rattle.std.specs.Prelude.{IfSome, length, map, slice_index, bit_xor};
 ghost use Rattle.kernels.specs.Lists.{combined, bytes_at, list_at};
 ghost use Rattle.syndromes.specs.Syndromes.{syndrome, column_at, HaveBytes, HasSums, HasRoom};
 ghost use Rattle.syndromes.specs.Formulas.{IsFormula, AreFormulas, addend, shares_for};
+ghost use Rattle.syndromes.specs.Weights.{AreWeights};
+ghost use Rattle.syndromes.specs.Plans.{IsPlan, AreWeightsFor, AreSyndromes};
 
-use crate::blocks::{BLOCK, combine_four, write_syndromes};
-use crate::formulas::{Formula, Formulas, formulas_for};
-use gf256::xor_into;
+use crate::blocks::{BLOCK, part_or_zeros, write_syndromes};
+use crate::formulas::{Formula, formulas_for};
+use crate::lanes::LANES;
+use crate::pass::{Plan, add_list, plan_for, weigh, write_taken};
+use crate::weights::Weights;
 
 /// Adds the places `at..end` of a target that was made before, where it is to be added.
 fn add_made(part: &mut [u8], shares: Option<[u8; 4]>, made: &[u8], at: usize, end: usize)
@@ -18,7 +22,7 @@ fn add_made(part: &mut [u8], shares: Option<[u8; 4]>, made: &[u8], at: usize, en
         ≡ bit_xor (slice_index part.old k) (addend shares made.now (at + k))) }
 {
     if shares.is_some() {
-        xor_into(part, &made[at..end]);
+        add_list(part, &made[at..end]);
     }
 }
 
@@ -28,6 +32,7 @@ fn make_part(
     at: usize,
     end: usize,
     formula: &Formula,
+    weights: &Weights,
     syndromes: &[&[u8]; 4],
     first: &[u8],
     second: &[u8],
@@ -36,6 +41,7 @@ fn make_part(
     requires order { at ≤ end }
     requires long { length part.old ≡ end - at }
     requires same { All (λ s. length s.now ≡ end - at) syndromes.now }
+    requires weights { AreWeights weights.now formula.now.factors }
     requires first_room { HasRoom formula.now.first end first.now }
     requires second_room { HasRoom formula.now.second end second.now }
     requires third_room { HasRoom formula.now.third end third.now }
@@ -46,7 +52,7 @@ fn make_part(
         (addend formula.now.second second.now (at + k)))
         (addend formula.now.first first.now (at + k))) }
 {
-    combine_four(part, &formula.factors, syndromes);
+    weigh(part, weights, &formula.factors, syndromes);
     add_made(part, formula.third, third, at, end);
     add_made(part, formula.second, second, at, end);
     add_made(part, formula.first, first, at, end);
@@ -60,6 +66,9 @@ fn make_target(
     at: usize,
     end: usize,
     formula: &Option<Formula>,
+    weights: &Weights,
+    has_third: bool,
+    has_fourth: bool,
     syndromes: &[&[u8]; 4],
     first: &[u8],
     second: &[u8],
@@ -73,9 +82,9 @@ fn make_target(
     requires room { HasRoom (shares_for formula.now) end target.old }
     requires before { HasSums lists.now (shares_for formula.now) at target.old }
     requires same { All (λ s. length s.now ≡ end - at) syndromes.now }
-    requires are { (e k : ℕ) → e < 4 → k < end - at
-        → slice_index (list_at (map (λ s. s.now) syndromes.now) e) k
-        ≡ syndrome e (column_at lists.now (at + k)) }
+    requires weights { AreWeightsFor formula.now weights.now has_third has_fourth }
+    requires are { AreSyndromes lists.now at end has_third has_fourth
+        (map (λ s. s.now) syndromes.now) }
     ensures made { HasSums lists.now (shares_for formula.now) end target.new }
     ensures kept { formula.now ≡ None → target.new ≡ target.old }
 {
@@ -85,6 +94,7 @@ fn make_target(
             at,
             end,
             formula,
+            weights,
             syndromes,
             first,
             second,
@@ -93,13 +103,48 @@ fn make_target(
     }
 }
 
+/// Writes the syndromes of the places `at..end`; the third and the fourth only where they are taken.
+fn write_block(
+    lists: &[Option<&[u8]>; 16],
+    at: usize,
+    end: usize,
+    has_third: bool,
+    has_fourth: bool,
+    first: &mut [u8],
+    second: &mut [u8],
+    third: &mut [u8],
+    fourth: &mut [u8],
+)
+    requires long { HaveBytes lists.now end }
+    requires order { at ≤ end }
+    requires few { end ≤ at + BLOCK }
+    requires same { length first.old ≡ end - at }
+    requires same_second { length second.old ≡ end - at }
+    requires same_third { length third.old ≡ end - at }
+    requires same_fourth { length fourth.old ≡ end - at }
+    ensures { AreSyndromes lists.now at end has_third has_fourth
+        (first.new ∷ second.new ∷ third.new ∷ fourth.new ∷ []) }
+{
+    if end - at < LANES {
+        write_syndromes(lists, at, end, first, second, third, fourth);
+        return;
+    }
+    let mut sources: [&[u8]; 16] = [&[]; 16];
+    for i in 0..16 {
+        sources[i] = part_or_zeros(lists, i, at, end);
+    }
+    write_taken(
+        &sources, has_third, has_fourth, first, second, third, fourth,
+    );
+}
+
 /// Makes the places `at..end` of each target by its formula, where it has those before already. The
 /// syndromes are written into four lists of their own.
 fn make_block(
     lists: &[Option<&[u8]>; 16],
     at: usize,
     end: usize,
-    formulas: &Formulas,
+    plan: &Plan,
     one: &mut [u8],
     two: &mut [u8],
     three: &mut [u8],
@@ -112,38 +157,58 @@ fn make_block(
     requires long { HaveBytes lists.now end }
     requires order { at ≤ end }
     requires few { end ≤ at + BLOCK }
-    requires formulas { AreFormulas formulas.now }
+    requires formulas { AreFormulas plan.now.formulas }
+    requires plan { IsPlan plan.now }
     requires one_long { length one.old ≡ end - at }
     requires two_long { length two.old ≡ end - at }
     requires three_long { length three.old ≡ end - at }
     requires four_long { length four.old ≡ end - at }
-    requires first_room { HasRoom (shares_for formulas.now.first) end first.old }
-    requires second_room { HasRoom (shares_for formulas.now.second) end second.old }
-    requires third_room { HasRoom (shares_for formulas.now.third) end third.old }
-    requires fourth_room { HasRoom (shares_for formulas.now.fourth) end fourth.old }
-    requires first_made { HasSums lists.now (shares_for formulas.now.first) at first.old }
-    requires second_made { HasSums lists.now (shares_for formulas.now.second) at second.old }
-    requires third_made { HasSums lists.now (shares_for formulas.now.third) at third.old }
-    requires fourth_made { HasSums lists.now (shares_for formulas.now.fourth) at fourth.old }
-    ensures first { HasSums lists.now (shares_for formulas.now.first) end first.new }
-    ensures second { HasSums lists.now (shares_for formulas.now.second) end second.new }
-    ensures third { HasSums lists.now (shares_for formulas.now.third) end third.new }
-    ensures fourth { HasSums lists.now (shares_for formulas.now.fourth) end fourth.new }
-    ensures first_kept { formulas.now.first ≡ None → first.new ≡ first.old }
-    ensures second_kept { formulas.now.second ≡ None → second.new ≡ second.old }
-    ensures third_kept { formulas.now.third ≡ None → third.new ≡ third.old }
-    ensures fourth_kept { formulas.now.fourth ≡ None → fourth.new ≡ fourth.old }
+    requires first_room { HasRoom (shares_for plan.now.formulas.first) end first.old }
+    requires second_room { HasRoom (shares_for plan.now.formulas.second) end second.old }
+    requires third_room { HasRoom (shares_for plan.now.formulas.third) end third.old }
+    requires fourth_room { HasRoom (shares_for plan.now.formulas.fourth) end fourth.old }
+    requires first_made { HasSums lists.now (shares_for plan.now.formulas.first) at first.old }
+    requires second_made { HasSums lists.now (shares_for plan.now.formulas.second) at second.old }
+    requires third_made { HasSums lists.now (shares_for plan.now.formulas.third) at third.old }
+    requires fourth_made { HasSums lists.now (shares_for plan.now.formulas.fourth) at fourth.old }
+    ensures first { HasSums lists.now (shares_for plan.now.formulas.first) end first.new }
+    ensures second { HasSums lists.now (shares_for plan.now.formulas.second) end second.new }
+    ensures third { HasSums lists.now (shares_for plan.now.formulas.third) end third.new }
+    ensures fourth { HasSums lists.now (shares_for plan.now.formulas.fourth) end fourth.new }
+    ensures first_kept { plan.now.formulas.first ≡ None → first.new ≡ first.old }
+    ensures second_kept { plan.now.formulas.second ≡ None → second.new ≡ second.old }
+    ensures third_kept { plan.now.formulas.third ≡ None → third.new ≡ third.old }
+    ensures fourth_kept { plan.now.formulas.fourth ≡ None → fourth.new ≡ fourth.old }
 {
-    write_syndromes(lists, at, end, one, two, three, four);
-    let made: [&[u8]; 4] = [one, two, three, four];
-    make_target(lists, first, at, end, &formulas.first, &made, &[], &[], &[]);
+    let f = &plan.formulas;
+    let t = plan.takes_third;
+    let u = plan.takes_fourth;
+    write_block(lists, at, end, t, u, one, two, three, four);
+    let s: [&[u8]; 4] = [one, two, three, four];
+    make_target(
+        lists,
+        first,
+        at,
+        end,
+        &f.first,
+        &plan.first,
+        t,
+        u,
+        &s,
+        &[],
+        &[],
+        &[],
+    );
     make_target(
         lists,
         second,
         at,
         end,
-        &formulas.second,
-        &made,
+        &f.second,
+        &plan.second,
+        t,
+        u,
+        &s,
         first,
         &[],
         &[],
@@ -153,8 +218,11 @@ fn make_block(
         third,
         at,
         end,
-        &formulas.third,
-        &made,
+        &f.third,
+        &plan.third,
+        t,
+        u,
+        &s,
         first,
         second,
         &[],
@@ -164,8 +232,11 @@ fn make_block(
         fourth,
         at,
         end,
-        &formulas.fourth,
-        &made,
+        &f.fourth,
+        &plan.fourth,
+        t,
+        u,
+        &s,
         first,
         second,
         third,
@@ -203,7 +274,7 @@ pub fn combine_syndromes(
     ensures third_kept { c ≡ None → third.new ≡ third.old }
     ensures fourth_kept { d ≡ None → fourth.new ≡ fourth.old }
 {
-    let formulas = formulas_for(a, b, c, d);
+    let plan = plan_for(formulas_for(a, b, c, d));
     let mut one = [0; BLOCK];
     let mut two = [0; BLOCK];
     let mut three = [0; BLOCK];
@@ -219,7 +290,7 @@ pub fn combine_syndromes(
             lists,
             at,
             at + count,
-            &formulas,
+            &plan,
             &mut one[..count],
             &mut two[..count],
             &mut three[..count],

@@ -6,7 +6,11 @@
 #![tactic(auto)]
 
 mod blocks;
+mod columns;
 mod combine;
 mod formulas;
+mod lanes;
+mod pass;
+mod weights;
 
 pub use combine::combine_syndromes;

@@ -5,6 +5,7 @@ use Rattle.kernels.proofs.Sums.{xor_sum_same}
 use Rattle.syndromes.specs.Syndromes.{syndrome, column_at, sum_by, HasSums, HasRoom}
 use Rattle.syndromes.specs.Formulas.{IsFormula, addend}
 use Rattle.syndromes.proofs.Made.{made_by, spliced}
+use Rattle.syndromes.proofs.Taken.{combined_taken}
 use Rattle.syndromes.proofs.combine.make_target.Goals as goal
 
 pub returns-in-Some-clause-made : goal.returns-in-Some-clause-made
@@ -21,8 +22,10 @@ returns-in-Some-clause-made c =
     let before : HasSums lists (Some f.shares) at c.args.target.now = rw c.in-Some.is at c.requires.before in
     let room : HasRoom (Some f.shares) end c.args.target.now = rw c.in-Some.is at c.requires.room in
     let long : length c.make_part.new.part ≡ end - at = omega (arith, c.make_part.auto.part, room, c.requires.order) in
+    let weights = rw c.in-Some.is at c.requires.weights in
+    let are = c.requires.are in
     let four : (j : ℕ) → j < end - at → combined f.factors (bytes_at (map (λ s. s.now) c.args.syndromes.now) j) ≡ combined f.factors (λ e. syndrome e (column_at lists (at + j))) =
-    λ j l. xor_sum_same (length f.factors) _ _ (λ e el. ap (product (get_or f.factors e 0)) (c.requires.are e j (omega (arith, given.0.four)) l)) in
+    λ j l. combined_taken f.factors _ (λ e. syndrome e (column_at lists (at + j))) c.args.has_third c.args.has_fourth given.0.four (are.first j l) (are.second j l) (λ on. are.third_is on j l) (λ on. are.fourth_is on j l) weights.1 weights.2 in
     rw c.in-Some.is
     (spliced c.args.target.now c.make_part.new.part _ at end (λ k. sum_by f.shares (λ e. syndrome e (column_at lists k)))
     (omega (arith, room, c.requires.order)) c.requires.order long before

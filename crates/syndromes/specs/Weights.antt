@@ -1,0 +1,22 @@
+-- What the four syndromes are multiplied by for a target.
+use Rattle.std.specs.Prelude.{◌≡◌, ℕ, ◌<◌, List, [], ◌∷◌, slice_index}
+use Rattle.gf256.specs.Field.{product}
+use Rattle.kernels.specs.Lists.{xor_sum, list_at}
+use Rattle.syndromes.specs.declared.columns.Columns.{Columns}
+use Rattle.syndromes.specs.declared.weights.Weights.{Weights}
+
+-- lane k of syndrome e
+abbrev pub lane : Columns → ℕ → ℕ → ℕ
+lane s k e = slice_index (list_at (s.first ∷ s.second ∷ s.third ∷ s.fourth ∷ []) e) k
+
+-- what syndrome e is multiplied by
+abbrev pub weight : Weights → ℕ → ℕ
+weight w e = slice_index (w.first.scale ∷ w.second.scale ∷ w.third.scale ∷ w.fourth.scale ∷ []) e
+
+-- the weights are the factors
+abbrev pub AreWeights : Weights → List ℕ → Type 0
+AreWeights w factors = (e : ℕ) → e < 4 → weight w e ≡ slice_index factors e
+
+-- the sum of the four lanes, each times its weight
+abbrev pub weighed : Weights → (ℕ → ℕ) → ℕ
+weighed w s = xor_sum 4 (λ e. product (weight w e) (s e))
