@@ -1,5 +1,5 @@
 -- Sums of the lanes of the four syndromes.
-use Rattle.std.proofs.Common.{◌≡◌, ℕ, ◌<◌, bit_xor, refl, sym, ap, ap₂, ◌∙◌}
+use Rattle.std.proofs.Common.{◌≡◌, ℕ, ◌<◌, bit_xor, refl, ap, ap₂, ◌∙◌}
 use Rattle.std.proofs.lemmas.Nat.{xor_comm}
 use lib.Bits.{xor_zero_r}
 use Rattle.gf256.specs.Field.{product}

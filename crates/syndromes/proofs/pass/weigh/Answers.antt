@@ -1,4 +1,4 @@
-use Rattle.std.proofs.Common.{◌≡◌, ◌<◌, ℕ, map, get_or, sym, ap, ◌∙◌, subst}
+use Rattle.std.proofs.Common.{◌<◌, ℕ, map, get_or, sym, ap, ◌∙◌, subst}
 use Rattle.kernels.specs.Lists.{combined, bytes_at}
 use Rattle.kernels.proofs.GroupLemmas.{source_is}
 use Rattle.syndromes.proofs.Units.{unit_combined}
