@@ -216,6 +216,9 @@ fn is_far(code: Code, lost: LostSet, chosen: Option<u8>) -> u32
 /// From which width on the syndromes are faster than several recipes.
 const WIDE: usize = 1024;
 
+/// Up to which width it takes longer to keep what was made than it saves.
+const NARROW: usize = 128;
+
 /// Whether the syndromes are the faster way to make several fragments that are not alone lost in
 /// their groups. Where the excess is 1, one of them comes by its recipe, and its group then has the
 /// other.
@@ -223,10 +226,12 @@ fn are_syndromes_faster(code: Code, lost: LostSet, width: usize) -> bool {
     lost.excess_in(code) > 1 && width >= WIDE
 }
 
-/// Whether both global parities are lost: none of them helps to make another fragment.
-fn are_globals_lost(code: Code, lost: LostSet) -> bool {
+/// Whether each fragment is made by itself: where a fragment that was made does not help to make
+/// another, since both global parities are lost, or saves too little.
+fn is_each_by_itself(code: Code, lost: LostSet, width: usize) -> bool {
     let last = code.fragments() - 1;
-    !lost.left(last) && !lost.left(last - 1)
+    let are_globals_lost = !lost.left(last) && !lost.left(last - 1);
+    width <= NARROW || (width < WIDE && are_globals_lost)
 }
 
 /// Writes the bytes `from..to` of up to four absent fragments, as every stripe has them that agrees
@@ -280,7 +285,7 @@ pub fn decode_to(
         + is_far(left.code, lost, chosen[1])
         + is_far(left.code, lost, chosen[2])
         + is_far(left.code, lost, chosen[3]);
-    let far = if to - from < WIDE && are_globals_lost(left.code, lost) {
+    let far = if is_each_by_itself(left.code, lost, to - from) {
         0
     } else {
         several

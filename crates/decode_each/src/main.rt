@@ -12,9 +12,9 @@ use decode::decode_to;
 use lrc_code::{Code, Left, LostSet, encode_in};
 use std::alloc::Global;
 
-/// Bytes of a fragment: from the third on several fragments come by the syndromes; the last leaves
+/// Bytes of a fragment: each by itself, in turn, and twice by the syndromes, of which the last leaves
 /// one byte after whole blocks.
-const WIDTHS: [usize; 4] = [1, 33, 1024, 2049];
+const WIDTHS: [usize; 4] = [1, 129, 1024, 2049];
 
 /// The fragments of a stripe.
 fn stripe_of(alloc: Global, code: Code, width: usize) -> Result<Vec<Vec<u8>>> {

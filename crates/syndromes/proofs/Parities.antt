@@ -1,10 +1,9 @@
 -- The syndromes of a column, from the sums of its two groups.
-use Rattle.std.proofs.Common.{◌≡◌, ℕ, ◌+◌, ◌<◌, List, [], ◌∷◌, bit_xor, get_or, refl, sym, ap, ap₂, ◌∙◌, arith}
+use Rattle.std.proofs.Common.{◌≡◌, ℕ, ◌<◌, List, [], ◌∷◌, get_or, refl, ap, ◌∙◌}
 use lib.Lanes.{Each1}
 use Rattle.gf256.specs.Field.{product}
 use Rattle.kernels.specs.Lists.{bytes_at}
 use Rattle.kernels.specs.Parities.{parity, parity_coefficients}
-use Rattle.kernels.specs.Doublings.{sum_of_6, with_bit_0, with_bit_1, with_bit_2, third_apart, fourth_apart}
 use Rattle.kernels.proofs.GroupLemmas.{twelve, at_below, parities_of_groups, first_of, second_of, third_by_groups, fourth_by_groups}
 use Rattle.kernels.proofs.Sums.{xor_sum_same}
 

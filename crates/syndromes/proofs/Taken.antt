@@ -10,7 +10,6 @@ use Rattle.kernels.proofs.Sums.{xor_sum_same}
 use Rattle.syndromes.specs.declared.formulas.Formula.{Formula}
 use Rattle.syndromes.specs.declared.weights.Weights.{Weights}
 use Rattle.syndromes.specs.Syndromes.{syndrome, column_at}
-use Rattle.syndromes.specs.Formulas.{IsFormula}
 use Rattle.syndromes.specs.Weights.{AreWeights, weighed}
 use Rattle.syndromes.specs.Plans.{AreWeightsFor}
 

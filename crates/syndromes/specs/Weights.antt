@@ -1,5 +1,5 @@
 -- What the four syndromes are multiplied by for a target.
-use Rattle.std.specs.Prelude.{◌≡◌, ℕ, ◌<◌, List, [], ◌∷◌, slice_index}
+use Rattle.std.specs.Prelude.{◌≡◌, ℕ, ◌<◌, List, [], ◌∷◌, slice_index, slice_index_or}
 use Rattle.gf256.specs.Field.{product}
 use Rattle.kernels.specs.Lists.{xor_sum, list_at}
 use Rattle.syndromes.specs.declared.columns.Columns.{Columns}
@@ -20,3 +20,8 @@ AreWeights w factors = (e : ℕ) → e < 4 → weight w e ≡ slice_index factor
 -- the sum of the four lanes, each times its weight
 abbrev pub weighed : Weights → (ℕ → ℕ) → ℕ
 weighed w s = xor_sum 4 (λ e. product (weight w e) (s e))
+
+-- the factors of syndrome e alone
+abbrev pub unit : ℕ → List ℕ
+unit e = slice_index_or ((1 ∷ 0 ∷ 0 ∷ 0 ∷ []) ∷ (0 ∷ 1 ∷ 0 ∷ 0 ∷ []) ∷ (0 ∷ 0 ∷ 1 ∷ 0 ∷ [])
+    ∷ (0 ∷ 0 ∷ 0 ∷ 1 ∷ []) ∷ []) e []

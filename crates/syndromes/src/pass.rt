@@ -3,7 +3,7 @@ ghost use Rattle.std.specs.Prelude.{◌≡◌, ◌<◌, ◌≤◌, ◌+◌, ℕ,
 ghost use Rattle.std.specs.Prelude.{All, EachIndex, slice_index, bit_xor};
 ghost use Rattle.kernels.specs.Lists.{combined, bytes_at};
 ghost use Rattle.syndromes.specs.Syndromes.{syndrome};
-ghost use Rattle.syndromes.specs.Weights.{AreWeights, lane};
+ghost use Rattle.syndromes.specs.Weights.{AreWeights, lane, unit};
 ghost use Rattle.syndromes.specs.Plans.{IsPlan};
 
 use crate::blocks::combine_four;
@@ -220,23 +220,49 @@ fn sum_weighed(target: &mut [u8], weights: &Weights, factors: &[u8; 4], lists: &
     }
 }
 
-/// Whether no syndrome takes a product.
-fn is_plain(factors: &[u8; 4]) -> bool {
-    factors[0] <= 1 && factors[1] <= 1 && factors[2] <= 1 && factors[3] <= 1
+/// The one syndrome that counts, if it counts once.
+fn plain_of(factors: &[u8; 4]) -> Option<usize>
+    ensures { IfSome result (λ e. (e < 4) × (factors.now ≡ unit e)) }
+{
+    if *factors == [1, 0, 0, 0] {
+        return Some(0);
+    }
+    if *factors == [0, 1, 0, 0] {
+        return Some(1);
+    }
+    if *factors == [0, 0, 1, 0] {
+        return Some(2);
+    }
+    if *factors == [0, 0, 0, 1] {
+        return Some(3);
+    }
+    None
+}
+
+/// Copies a list.
+fn copy_list(target: &mut [u8], source: &[u8])
+    requires { length source.now ≡ length target.old }
+    ensures same { target.new ≡ source.now }
+    ensures bytes { (k : ℕ) → slice_index source.now k < 256 }
+{
+    target.copy_from_slice(source);
 }
 
 /// Makes the target the sum of the four lists, each times its factor: by the tables of the factors
-/// where there are products, and the lists are as long as a vector.
+/// where the lists are as long as a vector. A lone syndrome that counts once is copied.
 pub(crate) fn weigh(target: &mut [u8], weights: &Weights, factors: &[u8; 4], lists: &[&[u8]; 4])
     requires same { All (λ s. length s.now ≡ length target.old) lists.now }
     requires weights { AreWeights weights.now factors.now }
     ensures { EachIndex target.new (λ k. slice_index target.new k ≡ combined factors.now
         (bytes_at (map (λ s. s.now) lists.now) k)) }
 {
-    if target.len() < LANES || is_plain(factors) {
+    if target.len() < LANES {
         combine_four(target, factors, lists);
-    } else {
-        sum_weighed(target, weights, factors, lists);
+        return;
+    }
+    match plain_of(factors) {
+        Some(e) => copy_list(target, lists[e]),
+        None => sum_weighed(target, weights, factors, lists),
     }
 }
 

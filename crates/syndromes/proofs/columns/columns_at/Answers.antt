@@ -1,4 +1,4 @@
-use Rattle.std.proofs.Common.{◌≡◌, ℕ, ◌+◌, ◌<◌, bit_xor, map, ap, ap₂, ◌∙◌, arith}
+use Rattle.std.proofs.Common.{ℕ, ◌+◌, ◌<◌, bit_xor, map, ap, ap₂, ◌∙◌, arith}
 use lib.Lanes.{Each1}
 use Rattle.kernels.specs.Lists.{bytes_at}
 use Rattle.kernels.proofs.GroupLemmas.{twelve, third_same, fourth_same}

@@ -1,7 +1,5 @@
-use Rattle.std.proofs.Common.{◌≡◌, ℕ, ◌+◌, ◌-◌, ◌<◌, List, Some, length, map, bit_xor, get_or, ap, ◌∙◌, arith}
-use Rattle.gf256.specs.Field.{product}
+use Rattle.std.proofs.Common.{◌≡◌, ℕ, ◌+◌, ◌-◌, ◌<◌, List, Some, length, map, bit_xor, ap, ◌∙◌, arith}
 use Rattle.kernels.specs.Lists.{combined, bytes_at}
-use Rattle.kernels.proofs.Sums.{xor_sum_same}
 use Rattle.syndromes.specs.Syndromes.{syndrome, column_at, sum_by, HasSums, HasRoom}
 use Rattle.syndromes.specs.Formulas.{IsFormula, addend}
 use Rattle.syndromes.proofs.Made.{made_by, spliced}

@@ -1,4 +1,4 @@
-use Rattle.std.proofs.Common.{◌≡◌, ◌+◌, ℕ, map, get_or, ◌∙◌, arith}
+use Rattle.std.proofs.Common.{◌≡◌, ℕ, map, ◌∙◌, arith}
 use Rattle.kernels.specs.Lists.{bytes_at}
 use Rattle.syndromes.specs.Syndromes.{syndrome}
 use Rattle.syndromes.proofs.Taken.{written_more}

@@ -1,4 +1,4 @@
-use Rattle.std.proofs.Common.{◌≡◌, bit_xor, get_or, sym, ap, ◌∙◌}
+use Rattle.std.proofs.Common.{bit_xor, get_or, sym, ap, ◌∙◌}
 use lib.Bits.{xor_zero_r}
 use Rattle.gf256.specs.Field.{product}
 use Rattle.gf256.proofs.Laws.{product-zero_left}

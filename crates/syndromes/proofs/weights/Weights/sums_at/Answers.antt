@@ -1,4 +1,4 @@
-use Rattle.std.proofs.Common.{◌≡◌, ℕ, bit_xor, get_or, sym, ap, ◌∙◌}
+use Rattle.std.proofs.Common.{ℕ, bit_xor, sym, ap, ◌∙◌}
 use Rattle.std.proofs.lemmas.Simd.{get_or-replicate}
 use Rattle.gf256.specs.Field.{product}
 use Rattle.syndromes.specs.Weights.{weight, lane}
