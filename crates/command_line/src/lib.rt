@@ -7,6 +7,3 @@ mod reading;
 
 pub use line::{BadLine, Options};
 pub use reading::options;
-
-#[cfg(test)]
-mod tests;

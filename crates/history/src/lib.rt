@@ -20,6 +20,3 @@ pub use metadata::BlobMetadata;
 pub use name::Name;
 pub use note::{Call, Entry, Note};
 pub use sealed::Fault;
-
-#[cfg(test)]
-mod tests;

@@ -10,6 +10,3 @@ mod rows;
 
 pub use reading::{read_script, script};
 pub use rows::{BadScript, NotRead, Row, Task, Word};
-
-#[cfg(test)]
-mod tests;

@@ -163,4 +163,6 @@ fn broken_ends(rt: HostRuntime) -> Result<(), Fail> {
 mod bent;
 mod degraded;
 mod paced;
+mod script_rows;
+mod words;
 mod workers;
