@@ -7,9 +7,9 @@ use Rattle.clap.specs.declared.error.kind.ErrorKind.{ErrorKind}
 use Rattle.clap.specs.declared.error.kind.ErrorKind.TheVariants as kind
 use Rattle.command_line.specs.declared.line.BadLine.{BadLine}
 use Rattle.command_line.specs.declared.line.BadLine.TheVariants.{Clap, NoMemory}
-use Rattle.command_line.specs.declared.line.Options.{Options}
+use Rattle.command_line.specs.declared.line.CommandLine.{CommandLine}
 use Rattle.command_line.specs.Program.{program}
-use Rattle.command_line.specs.Ranges.{InRange}
+use Rattle.play.specs.Ranges.{InRange}
 
 -- the number that an option was given, or has by default
 abbrev pub number_of : Text → List Row → Option ℕ
@@ -26,19 +26,19 @@ pub record HasNumber (id : Text) (most : ℕ) (found : List Row) : Type 0 where
   pub given : one_of id found ≡ Some text
   pub number : IsNumberText most text
 
--- the options are those that were found
-pub record AreFound (found : List Row) (options : Options) : Type 0 where
-  pub script : first_of (codes "SCRIPT") found ≡ Some (string_bytes options.script)
-  pub width : number_of (codes "width") found ≡ Some options.width
-  pub workers : number_of (codes "workers") found ≡ Some options.workers
-  pub limit : number_of (codes "limit") found ≡ Some options.limit
-  pub history : one_of (codes "history") found ≡ Some (codes "true") → options.history ≡ true
-  pub no_history : one_of (codes "history") found ≡ Some (codes "false") → options.history ≡ false
+-- the command line is what was found
+pub record IsFound (found : List Row) (line : CommandLine) : Type 0 where
+  pub script : first_of (codes "SCRIPT") found ≡ Some (string_bytes line.script)
+  pub width : number_of (codes "width") found ≡ Some line.options.width
+  pub workers : number_of (codes "workers") found ≡ Some line.options.workers
+  pub limit : number_of (codes "limit") found ≡ Some line.options.limit
+  pub history : one_of (codes "history") found ≡ Some (codes "true") → line.options.history ≡ true
+  pub no_history : one_of (codes "history") found ≡ Some (codes "false") → line.options.history ≡ false
 
 -- the words are taken, and say this
-pub record Says (words : List Text) (options : Options) : Type 0 where
+pub record Says (words : List Text) (line : CommandLine) : Type 0 where
   pub taken : fault_of program words ≡ []
-  pub found : AreFound (matches_of program words) options
+  pub found : IsFound (matches_of program words) line
 
 -- an error of `clap`, from which want of memory is told apart
 abbrev pub refusal_by : ErrorKind → Error → BadLine

@@ -4,13 +4,14 @@ ghost use Rattle.std.specs.Prelude.{◌≡◌, ◌↔◌, IfErr, IfOk, IfSome, I
 ghost use Rattle.clap.specs.Words.{app_of, found_of, rows_of, rule_of};
 ghost use Rattle.command_line.specs.Line.{HasNumber, Says, Refuses, number_of, refusal_of};
 ghost use Rattle.command_line.specs.Program.{history_rule, number_rule, program, script_rule};
-ghost use Rattle.command_line.specs.Ranges.{InRange};
+ghost use Rattle.play.specs.Ranges.{InRange};
 
 use crate::help::{ABOUT, MORE};
-use crate::line::{BadLine, Options};
+use crate::line::{BadLine, CommandLine};
 use clap::builder::ValueParser;
 use clap::error::ErrorKind;
 use clap::{Arg, ArgAction, ArgMatches, Command, Error};
+use play::Options;
 use std::alloc::{AllocError, Global};
 
 /// The most bytes that a fragment can have.
@@ -133,8 +134,9 @@ fn number(matches: &ArgMatches, id: &str, most: u32) -> Option<u32>
 ///
 /// `BadLine::Clap` has the text that `clap` prints, and comes only for a line that it refuses, or for `--help` or `--version`. Any line can be answered by
 /// `NoMemory`, where memory is refused.
-pub fn options<'a>(alloc: Global, words: &'a [&'a str]) -> Result<Options, BadLine>
-    ensures ranges { IfOk result (λ options. InRange options.width 65536 × InRange options.workers 16 × InRange options.limit 1048576) }
+pub fn parse_line<'a>(alloc: Global, words: &'a [&'a str]) -> Result<CommandLine, BadLine>
+    ensures ranges { IfOk result (λ line. InRange line.options.width 65536
+        × InRange line.options.workers 16 × InRange line.options.limit 1048576) }
     ensures said { IfOk result (Says (map (λ w. w.now) words.entry.now)) }
     ensures refused { IfErr result (Refuses (map (λ w. w.now) words.entry.now)) }
 {
@@ -151,11 +153,14 @@ pub fn options<'a>(alloc: Global, words: &'a [&'a str]) -> Result<Options, BadLi
         // A line that the parser takes has all four.
         return Err(BadLine::NoMemory);
     };
-    Ok(Options {
-        script: String::from_str(alloc, script)?,
+    let options = Options {
         width,
         workers,
         limit,
         history: matches.get_flag("history"),
+    };
+    Ok(CommandLine {
+        script: String::from_str(alloc, script)?,
+        options,
     })
 }

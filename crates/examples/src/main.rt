@@ -3,10 +3,10 @@
 #![tactic(auto)]
 
 ghost use Rattle.std.specs.Prelude.{IfOk};
-ghost use Rattle.command_line.specs.Ranges.{InRange};
+ghost use Rattle.play.specs.Ranges.{InRange};
 
 use anyhow::{Result, bail, ensure};
-use command_line::{BadLine, Options, options};
+use command_line::{BadLine, CommandLine, parse_line};
 use play::{Always, play};
 use std::fs;
 use std::fs::File;
@@ -81,14 +81,14 @@ fn is_one_of(rt: &HostRuntime, printed: &[u8], texts: &[&str]) -> Result<bool> {
     Ok(false)
 }
 
-/// The options that words give.
-fn options_of(rt: &HostRuntime, words: &[&str]) -> Result<Options>
-    ensures width { IfOk result (λ options. InRange options.width 65536) }
-    ensures workers { IfOk result (λ options. InRange options.workers 16) }
-    ensures limit { IfOk result (λ options. InRange options.limit 1048576) }
+/// What words say.
+fn line_of(rt: &HostRuntime, words: &[&str]) -> Result<CommandLine>
+    ensures width { IfOk result (λ line. InRange line.options.width 65536) }
+    ensures workers { IfOk result (λ line. InRange line.options.workers 16) }
+    ensures limit { IfOk result (λ line. InRange line.options.limit 1048576) }
 {
-    match options(rt.alloc(), words) {
-        Ok(options) => Ok(options),
+    match parse_line(rt.alloc(), words) {
+        Ok(line) => Ok(line),
         Err(BadLine::Clap(_)) => bail!("the words are refused"),
         Err(BadLine::NoMemory) => bail!("out of memory"),
     }
@@ -99,10 +99,10 @@ fn main(rt: HostRuntime) -> Result<()> {
         for word in run.words {
             print!(rt; "{word} ")?;
         }
-        let options = options_of(&rt, run.words)?;
-        let script = File::open(&rt, options.script.as_str())?;
+        let line = line_of(&rt, run.words)?;
+        let script = File::open(&rt, line.script.as_str())?;
         let mut printed: Vec<u8> = Vec::new(rt.alloc());
-        play(&rt, rt.alloc(), &options, script, &mut printed, &Always)?;
+        play(&rt, rt.alloc(), &line.options, script, &mut printed, &Always)?;
         ensure!(
             is_one_of(&rt, printed.as_slice(), run.texts)?,
             "another text is printed"
@@ -110,10 +110,10 @@ fn main(rt: HostRuntime) -> Result<()> {
         println!(rt; "prints its text")?;
     }
     for path in REFUSED {
-        let options = options_of(&rt, &[path])?;
+        let line = line_of(&rt, &[path])?;
         let script = File::open(&rt, path)?;
         let mut printed: Vec<u8> = Vec::new(rt.alloc());
-        match play(&rt, rt.alloc(), &options, script, &mut printed, &Always) {
+        match play(&rt, rt.alloc(), &line.options, script, &mut printed, &Always) {
             Ok(()) => bail!("{path} is not refused"),
             Err(fail) => println!(rt; "{path}: {fail}")?,
         }

@@ -1,7 +1,6 @@
 -- What the program writes of a run.
 use Rattle.std.specs.Prelude.{◌≡◌, ℕ, List, Option, IfSome, map}
 use Rattle.std.specs.Io.KnownBytes.{Appends}
-use Rattle.command_line.specs.declared.line.Options.{Options}
 use Rattle.script.specs.Fields.{row_of}
 use Rattle.script.specs.Script.{script_records}
 use Rattle.script.specs.declared.rows.Row.{Row}
@@ -9,6 +8,7 @@ use Rattle.play.specs.Fails.{IsAccepted}
 use Rattle.play.specs.Printed.{printed}
 use Rattle.play.specs.Runs.{IsRun}
 use Rattle.play.specs.Steps.{Step}
+use Rattle.play.specs.declared.options.Options.{Options}
 
 -- a run of the rows in the script's bytes, with the options' width, limit and workers, is printed,
 -- with the history if the options say so; and no row is refused

@@ -183,7 +183,7 @@ fn scripts(rt: HostRuntime) -> Result<(), Fail> {
         let name = case.name;
         let (width, limit) = (case.width, case.limit);
         assert!(rt; width >= 1 && width <= 65536 && limit >= 1 && limit <= 1048576);
-        let options = options(alloc, width, limit, case.history)?;
+        let options = options(width, limit, case.history);
         let (ended, out) = run(&rt, alloc, &options, case.script, &Always);
         assert_eq!(rt; ended, Ok(()), "{name}");
         assert!(rt; out.as_slice() == case.output, "{name}");
@@ -195,7 +195,7 @@ fn scripts(rt: HostRuntime) -> Result<(), Fail> {
 #[test]
 fn long_blobs(rt: HostRuntime) -> Result<(), Fail> {
     let alloc = rt.alloc();
-    let options = options(alloc, 1, 4096, false)?;
+    let options = options(1, 4096, false);
     for (op, most) in [("put", 49152usize), ("put6", 24576)] {
         let bytes = "x".repeat(alloc, most)?;
         let text = format!(in alloc;

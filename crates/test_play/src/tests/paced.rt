@@ -42,7 +42,7 @@ const FIVE_ROWS: &[u8] =
 #[test]
 fn each_row_is_told_of_once(rt: HostRuntime) -> Result<(), Fail> {
     let alloc = rt.alloc();
-    let mut options = options(alloc, 1, 4096, false)?;
+    let mut options = options(1, 4096, false);
     options.workers = 1;
     let told: [(u32, u64); 6] = [
         (1, 1),

@@ -1,36 +1,36 @@
-use command_line::{BadLine, Options, options};
+use command_line::{BadLine, CommandLine, parse_line};
 use std::test::Fail;
 
 /// What a line says, and nothing for one that is refused.
-fn said(rt: &HostRuntime, words: &[&str]) -> Option<Options> {
-    match options(rt.alloc(), words) {
-        Ok(options) => Some(options),
+fn said(rt: &HostRuntime, words: &[&str]) -> Option<CommandLine> {
+    match parse_line(rt.alloc(), words) {
+        Ok(line) => Some(line),
         Err(BadLine::Clap(_)) | Err(BadLine::NoMemory) => None,
     }
 }
 
 /// Whether `clap` refuses the line.
 fn is_refused(rt: &HostRuntime, words: &[&str]) -> bool {
-    matches!(options(rt.alloc(), words), Err(BadLine::Clap(_)))
+    matches!(parse_line(rt.alloc(), words), Err(BadLine::Clap(_)))
 }
 
 #[test]
 fn lines(rt: HostRuntime) -> Result<(), Fail> {
     let plain = said(&rt, &["script.csv"]).expect(&rt, "a plain line");
     assert!(rt; plain.script.as_str() == "script.csv");
-    assert_eq!(rt; plain.workers, 1);
+    assert_eq!(rt; plain.options.workers, 1);
     let two = said(&rt, &["script.csv", "--workers", "2"]).expect(&rt, "two workers");
-    assert_eq!(rt; two.workers, 2);
+    assert_eq!(rt; two.options.workers, 2);
     let all = said(
         &rt,
         &["--width", "4", "--history", "script.csv", "--limit=3"],
     )
     .expect(&rt, "all options");
-    assert_eq!(rt; all.width, 4);
-    assert_eq!(rt; all.limit, 3);
-    assert!(rt; all.history);
-    assert!(rt; !plain.history);
-    assert_eq!(rt; (plain.width, plain.limit), (1, 4096));
+    assert_eq!(rt; all.options.width, 4);
+    assert_eq!(rt; all.options.limit, 3);
+    assert!(rt; all.options.history);
+    assert!(rt; !plain.options.history);
+    assert_eq!(rt; (plain.options.width, plain.options.limit), (1, 4096));
     let greatest = said(
         &rt,
         &[
@@ -41,9 +41,9 @@ fn lines(rt: HostRuntime) -> Result<(), Fail> {
         ],
     )
     .expect(&rt, "the greatest numbers");
-    assert_eq!(rt; greatest.width, 65_536);
-    assert_eq!(rt; greatest.workers, 16);
-    assert_eq!(rt; greatest.limit, 1_048_576);
+    assert_eq!(rt; greatest.options.width, 65_536);
+    assert_eq!(rt; greatest.options.workers, 16);
+    assert_eq!(rt; greatest.options.limit, 1_048_576);
     assert!(rt; is_refused(&rt, &[]));
     assert!(rt; is_refused(&rt, &["script.csv", "--workers", "0"]));
     assert!(rt; is_refused(&rt, &["script.csv", "--workers", "17"]));

@@ -1,4 +1,4 @@
--- Numbers of the command line.
+-- Ranges of the options' numbers.
 use Rattle.std.specs.Prelude.{ℕ, ◌≤◌}
 
 -- a number from 1 to the most

@@ -4,7 +4,7 @@ use Rattle.clap.proofs.WalkLemmas.{first_value-rows, one_text-rows}
 use Rattle.command_line.specs.Line.{Refuses, number_of}
 use Rattle.command_line.specs.Program.{program}
 use Rattle.command_line.proofs.Answered.{program_is_free, program_is_simple, refuses}
-use Rattle.command_line.proofs.reading.options.Goals as goal
+use Rattle.command_line.proofs.reading.parse_line.Goals as goal
 
 pub returns-in-Err-clause-refused : goal.returns-in-Err-clause-refused
 returns-in-Err-clause-refused c =
