@@ -77,6 +77,7 @@ fn run_script<
         ((fail ≡ Fail.Read) × IsUnopened (FnOnceReturnsAt F.FnOnce opener) line.now)
         ⊎ HasScript (FnOnceReturnsAt F.FnOnce opener) line.now (λ file.
         IfSome (R.remaining file) (λ text. Tells line.now.options.workers text fail))) }
+    ensures never_paused { IfErr result (λ fail. fail ≢ Fail.Paused) }
 {
     match opener(line.script.as_str()) {
         Ok(file) => play(rt, alloc, &line.options, file, output, &Always),
@@ -110,6 +111,7 @@ pub fn run_words<
         ⊎ HasScript (FnOnceReturnsAt F.FnOnce opener) line (λ file.
         IfSome (R.remaining file) (λ text. Tells line.options.workers text fail)))))
         result.ending }
+    ensures never_paused { IfFailure (λ fail. fail ≢ Fail.Paused) result.ending }
     ensures no_output { IsQuiet result.ending
         → Keeps (W.contents output.old) (W.contents output.new) }
     ensures no_errors { IsSuccess result.ending
