@@ -8,7 +8,7 @@ use Rattle.command_line.specs.Line.{Says}
 use Rattle.command_line.specs.Program.{program}
 use Rattle.command_line.specs.declared.line.Options.{Options}
 
--- the words say options of which this holds
+-- the words have options of which this holds
 abbrev pub HasOptions : List Text → (Options → Type 0) → Type 0
 HasOptions words P = (options : Options) × Says words options × P options
 
@@ -16,12 +16,12 @@ HasOptions words P = (options : Options) × Says words options × P options
 abbrev pub Opens : Type 0 → Type 1
 Opens File = List ℕ → Result File IoError → Type 0
 
--- for the options' script the opener gave a file of which this holds
+-- the opener returned a file for the options' script, of which this holds
 abbrev pub HasScript : {File : Type 0} → Opens File → Options → (File → Type 0) → Type 0
 HasScript {File} opens options P =
     (file : File) × opens (string_bytes options.script) (Ok file) × P file
 
--- for the options' script the opener gave no file
+-- the opener returned no file for the options' script
 abbrev pub IsUnopened : {File : Type 0} → Opens File → Options → Type 0
 IsUnopened opens options = (error : IoError) × opens (string_bytes options.script) (Err error)
 
