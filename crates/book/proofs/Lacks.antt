@@ -122,7 +122,7 @@ same_entries es names rises rising agree =
     ∙ ap (option_map (λ s. Some s)) (sym (lookup-filter-values (eq_by_cmp_equiv nat_list_cmp_total) lacks_some q es (IsDistinct-from_sorted name_cmp (keys_of es) rises)))
     ∙ sym (lookup-map_values (λ (s : Sealed). Some s) (is_at (name_cmp q)) (lacking_of es)))
 
--- of the others nothing is listed
+-- nothing is listed of the others
 none_of : (c : ℕ) → nat_lt 0 c ≡ false → c ≡ 0
 none_of c none = grind (arith)
 

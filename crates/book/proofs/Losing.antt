@@ -63,7 +63,7 @@ with_represents w change s t blob is new =
     record { version = new.version ∙ is.version; width = new.width ∙ is.width; code = new.code ∙ is.code; stands = new.stands blob.bytes blob.lost is.stands }
 
 module _ (w : ℕ) (state : State) (n : List ℕ) (blob : Blob) (here : finite.get state.names n ≡ Some blob) where
-  -- the names of a later state are those of the state, but for n, which has a blob that the value represents
+  -- a later state has the same names, except that n has a blob that the value represents
   abbrev pub HasBlob : Sealed → State → Type 0
   HasBlob t later = (new : Blob) × Represents w t new × ((q : List ℕ) → finite.get later.names q ≡ cond (is_at (name_cmp n) q) (Some new) (finite.get state.names q))
 

@@ -1,4 +1,4 @@
-//! What the command line says.
+//! The options of the program.
 ghost use Rattle.std.specs.Prelude.{◌≡◌};
 ghost use Rattle.command_line.specs.declared.line.BadLine.TheVariants.{NoMemory};
 
@@ -6,7 +6,7 @@ use clap::Error;
 use play::Options;
 use std::alloc::AllocError;
 
-/// What the command line says: the script, and what is asked for beside it.
+/// What the words of a command line ask for.
 #[derive(Drop)]
 pub struct CommandLine {
     /// The path of the script.
@@ -17,9 +17,9 @@ pub struct CommandLine {
 /// Why a command line is refused.
 #[derive(Drop)]
 pub enum BadLine {
-    /// `clap` has a text to be printed: a refusal, or the help that was asked for.
+    /// `clap` has a text to print: a refusal, or the help or version.
     Clap(Error),
-    /// A request for memory was refused.
+    /// Out of memory.
     NoMemory,
 }
 

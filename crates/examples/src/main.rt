@@ -1,5 +1,6 @@
-//! Runs the scripts of `examples/` as the program would, and compares what they print with the texts beside them; and those of `examples/refused/`.
-//! It prints the words of each run, and ends with status 1 at the first that prints something else. Of a script that is refused it prints what is said of it.
+//! Runs the scripts of `examples/` and `examples/refused/` as the program would, and compares the
+//! output with the texts beside them. For a refused script it compares the message. It prints the
+//! words of each run, and ends with status 1 at the first difference.
 #![tactic(auto)]
 
 ghost use Rattle.std.specs.Prelude.{IfOk};
@@ -11,7 +12,8 @@ use play::{Always, play};
 use std::fs;
 use std::fs::File;
 
-/// A run: its words, without the program's name, and the texts of which it prints one. It has several where the order in which workers enter the store shows.
+/// A run: its words, without the program's name, and the texts that it may print. It has several if
+/// the output depends on the order of the workers' calls.
 struct Run {
     words: &'static [&'static str],
     texts: &'static [&'static str],
@@ -71,7 +73,7 @@ const REFUSED: [&str; 11] = [
     "refused/mend_beside_a_row.csv",
 ];
 
-/// Whether one of the files has just this text.
+/// Whether one of the files has exactly this text.
 fn is_one_of(rt: &HostRuntime, printed: &[u8], texts: &[&str]) -> Result<bool> {
     for path in texts {
         if fs::read_to_string(rt, *path)?.as_bytes() == printed {
@@ -102,7 +104,14 @@ fn main(rt: HostRuntime) -> Result<()> {
         let line = line_of(&rt, run.words)?;
         let script = File::open(&rt, line.script.as_str())?;
         let mut printed: Vec<u8> = Vec::new(rt.alloc());
-        play(&rt, rt.alloc(), &line.options, script, &mut printed, &Always)?;
+        play(
+            &rt,
+            rt.alloc(),
+            &line.options,
+            script,
+            &mut printed,
+            &Always,
+        )?;
         ensure!(
             is_one_of(&rt, printed.as_slice(), run.texts)?,
             "another text is printed"
@@ -113,7 +122,14 @@ fn main(rt: HostRuntime) -> Result<()> {
         let line = line_of(&rt, &[path])?;
         let script = File::open(&rt, path)?;
         let mut printed: Vec<u8> = Vec::new(rt.alloc());
-        match play(&rt, rt.alloc(), &line.options, script, &mut printed, &Always) {
+        match play(
+            &rt,
+            rt.alloc(),
+            &line.options,
+            script,
+            &mut printed,
+            &Always,
+        ) {
             Ok(()) => bail!("{path} is not refused"),
             Err(fail) => println!(rt; "{path}: {fail}")?,
         }

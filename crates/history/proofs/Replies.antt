@@ -102,7 +102,7 @@ module _ (w : ℕ) where
   stat_is None m = (λ e. e, λ e. e)
   stat_is (Some blob) m = (λ e. e, λ e. e)
 
-  -- the law: a note is the reply exactly where it is the computed one
+  -- the law: a note is the reply if and only if it is the computed one
   pub reply_is : (s : State) (o : Operation) (m : Note) → IsReply w s o m ↔ (CanPut w o × (m ≡ reply w (view s) o))
   reply_is s (put n code b) m = (λ e. e, λ e. e)
   reply_is s (read n start len) m = let r = read_is (finite.get s.names n) start len m in (λ e. (tt, r.0 e), λ e. r.1 e.1)

@@ -1,4 +1,5 @@
--- Replies depend on no bytes, so entries are lawful exactly where each note is the reply, one after the other.
+-- Replies depend on no bytes. So entries are lawful if and only if each note is the reply, one
+-- after the other.
 use Rattle.std.proofs.Common.{◌≡◌, ℕ, ◌+◌, ◌≤◌, ◌<◌, false, List, [], ◌∷◌, map, Some, cond, length, replicate, get_or, refl, sym, ap, ◌∙◌, subst, arith, drop, suc, add-one, drop-cons}
 use Rattle.std.specs.Prelude.{◌↔◌, All}
 use Rattle.std.specs.Ordering.{eq_by_cmp}

@@ -1,4 +1,4 @@
--- Pieces that a walk gave so far.
+-- The pieces that a walk has returned so far.
 use Rattle.std.proofs.Common.{◌≡◌, ℕ, ◌<◌, ◌||◌, Bool, true, false, List, [], ◌∷◌, ◌++◌, Option, None, Some, Result, Ok, Err, length, refl, sym, ap, ◌∙◌, subst, arith, append_assoc, append-nil, length-append}
 use Rattle.std.specs.Prelude.{OnErr}
 use Rattle.sealed.specs.declared.value.Sealed.{Sealed}

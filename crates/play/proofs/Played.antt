@@ -40,7 +40,7 @@ all_earlier : (n : ℕ) (xs : List Placed) → Each (λ (p : Placed). p.step.row
 all_earlier n [] early = refl
 all_earlier n (p ∷ xs) early = let yes : nat_lt p.step.row n ≡ true = grind (arith, nat_tests, early.0) in ap (λ b. cond b (p ∷ earlier n xs) (earlier n xs)) yes ∙ ap (λ l. p ∷ l) (all_earlier n xs early.1)
 
--- later steps change nothing of what a row found
+-- later steps do not change what a row found
 earlier_old : (n : ℕ) (xs ys : List Placed) → Each (λ (p : Placed). n ≤ p.step.row) ys → earlier n (xs ++ ys) ≡ earlier n xs
 earlier_old n xs ys late = filter-append (λ (p : Placed). nat_lt p.step.row n) xs ys ∙ ap (λ l. earlier n xs ++ l) (none_earlier n ys late) ∙ append-nil (earlier n xs)
 
@@ -108,7 +108,7 @@ played_more w l workers rows round base top numbers before acts old_did new_did 
           (each-weaker (IsNext base top before acts old_did ys) (IsDone w l top acts (xs ++ ys)) (done_now w l base top before acts old_did xs ys p.places p.stand p.few) r.accounts r.are_next));
     }
 
--- each row up to this one is told of once
+-- each row up to this one has one outcome
 abbrev pub AreTold : ℕ → List ℕ → List ℕ → Type 0
 AreTold top told waiting = (k : ℕ) → times k told + times k waiting ≡ once_later (top + 1) k
 

@@ -1,4 +1,4 @@
--- A mend's steps are repairs of its plan, and its reply tells them.
+-- A mend's steps are repairs of its plan, and its outcome is their text.
 use Rattle.std.proofs.Common.{◌≡◌, ◌∙◌, ℕ, zero, suc, ◌<◌, ◌≤◌, ◌==◌, ◌||◌, Bool, true, false, cond, List, [], ◌∷◌, ◌++◌, length, map, take, drop, Some, IsPermutation, refl, ap, sym, subst, arith, true≢false}
 use Rattle.std.specs.Prelude.{slice_get, count_by, codes, decimal, if◌then◌else◌}
 use Rattle.std.specs.List.{filter, list_any}

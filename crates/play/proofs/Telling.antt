@@ -182,7 +182,7 @@ ordered acts accounts = in_order_below (length acts) (steps_in accounts)
 abbrev pub run_of : List Act → List Account → List Step
 run_of acts accounts = steps_at (ordered acts accounts)
 
--- the line of what is told of a row
+-- the line of a row's outcome
 pub record IsLineOf (w : ℕ) (rows : List Row) (steps : List Step) (d : NumberedOutcome) : Type 0 where
   pub before : ℕ
   pub row : Row
@@ -313,7 +313,7 @@ each_all P (x ∷ xs) all = (All-head P x xs all, each_all P xs (All-tail P x xs
 pub lines_moved : (w : ℕ) (rows : List Row) (steps : List Step) (ds sorted : List NumberedOutcome) → IsPermutation ds sorted → Each (IsLineOf w rows steps) ds → Each (IsLineOf w rows steps) sorted
 lines_moved w rows steps ds sorted moved known = each_all (IsLineOf w rows steps) sorted (All-permutation (IsLineOf w rows steps) ds sorted moved (all_each (IsLineOf w rows steps) ds known))
 
--- numbers that are told once and do not fall
+-- numbers without repeats that do not fall
 pub in_order_once : (n : ℕ) (ds sorted : List NumberedOutcome) → IsPermutation ds sorted → ((k : ℕ) → times k (numbers_in ds) ≡ once_later (n + 1) k) → Pairs (λ x y. x ≤ y) (numbers_in sorted) → numbers_in sorted ≡ range_with_len 1 n
 in_order_once n ds sorted moved once rise =
     let same : (k : ℕ) → times k (numbers_in sorted) ≡ once_later (n + 1) k = λ k. sum_by-IsPermutation (λ q. cond {A = ℕ} (q == k) 1 0) (numbers_in ds) (numbers_in sorted) (IsPermutation-map (λ (d : NumberedOutcome). d.number) ds sorted moved) ∙ once k in

@@ -1,4 +1,4 @@
--- What is printed of a reply is the text of the deed that it tells.
+-- The printed text of a reply is the text of the deed that it represents.
 use Rattle.std.proofs.Common.{◌≡◌, ◌∙◌, ℕ, Bool, true, false, List, [], ◌∷◌, ◌++◌, Option, None, Some, MatchBool, MatchOption, length, refl, ap, sym, subst, ⊎_elim}
 use Rattle.std.specs.Option.{option_map}
 use Rattle.std.specs.FinMap as finite

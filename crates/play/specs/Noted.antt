@@ -1,4 +1,4 @@
--- What is noted of the rows of a round.
+-- The outcomes of the rows of a round.
 use Rattle.std.specs.Prelude.{◌≡◌, ℕ, List, [], ◌∷◌, ◌++◌, Ok, Err}
 use Rattle.requests.specs.declared.jobs.Reply.{Reply}
 use Rattle.rounds.specs.declared.work.Outcome.{Outcome}
@@ -18,7 +18,7 @@ noted [] replies = []
 noted (n ∷ numbers) [] = []
 noted (n ∷ numbers) (r ∷ replies) = record { number = n; outcome = Replied r } ∷ noted numbers replies
 
--- the replies of all workers, one worker after the other, are put behind what was noted before
+-- the replies of all workers, one worker after the other, are appended to the earlier ones
 abbrev pub AreNoted : List (List ℕ) → List Outcome → List NumberedOutcome → List NumberedOutcome → Type 0
 AreNoted [] outcomes old new = new ≡ old
 AreNoted (ns ∷ numbers) [] old new = new ≡ old

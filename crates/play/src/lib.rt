@@ -1,4 +1,4 @@
-//! Runs of scripts: from the bytes of a script to the bytes that are printed.
+//! Runs of scripts, from the bytes of a script to the printed bytes.
 #![tactic(auto)]
 
 mod calls;

@@ -16,12 +16,12 @@ HasCommandLine words P = (line : CommandLine) × Says words line × P line
 abbrev pub Opens : Type 0 → Type 1
 Opens File = List ℕ → Result File IoError → Type 0
 
--- for the line's script the opener gave a file of which this holds
+-- the opener returned a file for the line's script, of which this holds
 abbrev pub HasScript : {File : Type 0} → Opens File → CommandLine → (File → Type 0) → Type 0
 HasScript {File} opens line P =
     (file : File) × opens (string_bytes line.script) (Ok file) × P file
 
--- for the line's script the opener gave no file
+-- the opener returned no file for the line's script
 abbrev pub IsUnopened : {File : Type 0} → Opens File → CommandLine → Type 0
 IsUnopened opens line = (error : IoError) × opens (string_bytes line.script) (Err error)
 

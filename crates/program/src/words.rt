@@ -1,6 +1,7 @@
-//! A run of the program's words.
+//! The run of the program's words.
 
-ghost use Rattle.std.specs.Prelude.{◌≡◌, ◌≢◌, ◌⊎◌, Err, IfErr, IfSome, Ok, OnOk, map, string_bytes, true};
+ghost use Rattle.std.specs.Prelude.{◌≡◌, ◌≢◌, ◌⊎◌, Err, IfErr, IfSome, Ok, OnOk, map, string_bytes};
+ghost use Rattle.std.specs.Prelude.{true};
 ghost use Rattle.std.specs.Fn.{FnOnceReturnsAt};
 ghost use Rattle.std.specs.Io.KnownBytes.{Appends, Keeps};
 ghost use Rattle.command_line.specs.Line.{Says};
@@ -8,7 +9,8 @@ ghost use Rattle.play.specs.Ranges.{InRange};
 ghost use Rattle.play.specs.Fails.{Tells};
 ghost use Rattle.program.specs.Endings.{IfFailure, IsEndingOf, IsQuiet, IsSuccess, message_of};
 ghost use Rattle.program.specs.Output.{HasOutput};
-ghost use Rattle.program.specs.Words.{HasCommandLine, HasHelpRequest, HasScript, HasUsageError, IsUnopened};
+ghost use Rattle.program.specs.Words.{HasCommandLine, HasHelpRequest, HasScript, HasUsageError};
+ghost use Rattle.program.specs.Words.{IsUnopened};
 
 use crate::ending::{Ending, Exit};
 use command_line::{BadLine, CommandLine, parse_line};
@@ -32,7 +34,8 @@ pub fn report<E: Write>(fail: Fail, errors: &mut E) -> Exit
     }
 }
 
-/// Writes the parser's text: the help or the version to the output, a refusal to standard error.
+/// Writes the parser's text: the help or the version to the output, and a refusal to standard
+/// error.
 fn print_parser_text<W: Write, E: Write>(error: clap::Error, output: &mut W, errors: &mut E) -> Exit
     ensures ending { IsEndingOf error result.ending }
     ensures no_output { IsQuiet result.ending
@@ -85,8 +88,8 @@ fn run_script<
     }
 }
 
-/// Runs the program's words, those after its name: reads what they say, opens their script, runs
-/// it, and writes its output. The message of a failure goes to standard error.
+/// Runs the program for the words after its name. It parses them, opens their script, runs it, and
+/// writes its output. It writes the message of a failure to standard error.
 pub fn run_words<
     Rt: Threads + Wait + Sync,
     R: Read + Drop,
@@ -103,7 +106,7 @@ pub fn run_words<
     ensures help { result.ending ≡ Ending.HelpText → HasHelpRequest (map (λ w. w.now) words.now) }
     ensures usage { result.ending ≡ Ending.UsageError
         → HasUsageError (map (λ w. w.now) words.now) }
-    // a request for memory may be refused at any time
+    // any request for memory may be refused
     ensures cause { IfFailure (λ fail. (fail ≡ Fail.Memory)
         ⊎ (((fail ≡ Fail.Write) × HasHelpRequest (map (λ w. w.now) words.now))
         ⊎ HasCommandLine (map (λ w. w.now) words.now) (λ line.

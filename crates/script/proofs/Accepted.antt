@@ -26,7 +26,7 @@ all-passed [] h = tt
 all-passed ((true, w) ∷ ts) h = cc h
 all-passed ((false, w) ∷ ts) h = (refl, all-passed ts h)
 
--- what the tests say of a record that none refuses
+-- what the tests determine of a record that none refuses
 pub record Passed (workers : ℕ) (earlier : List Row) (r : Record) : Type 0 where
   pub room : (length earlier == 65536) ≡ false
   pub rises : last_round earlier ≤ value (round_field r)
