@@ -4,7 +4,7 @@ ghost use Rattle.history.specs.Step.{put as put_of};
 ghost use Rattle.book.specs.Known.{IsFragmentIn};
 ghost use Rattle.book.specs.Tells.{Tells};
 
-use book::{Answer, Book, Fault, Limit, Name, Note, is_lawful};
+use book::{Answer, Book, Fault, Limit, Name, Note, Plan, is_lawful, is_lawful_from};
 use bytes::Bytes;
 use lrc_code::Code;
 use sealed::{Width, seal};
