@@ -64,7 +64,7 @@ module _ (within : List ℕ → Bool) where
   next_over v p (Delete n) m h = refl
   next_over v p (Stat n) m h = refl
 
-  -- entries within change only what is within
+  -- entries on names within change only those names
   pub all_next_over : (v p : Views) (es : List Entry) → AreWithin es → all_next (over v p) es ≡ over v (all_next p es)
   all_next_over v p [] h = refl
   all_next_over v p (e ∷ es) h = ap (λ x. all_next x es) (next_over v p e.call e.note h.0) ∙ all_next_over v (next p e) es h.1
