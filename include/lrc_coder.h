@@ -73,9 +73,9 @@ uint32_t lrc_is_open(size_t data_fragments, uint16_t lost, uint8_t fragment);
 /* Writes the bytes from..from+len of the lost `fragment` into `target`: those of every stripe that
  * agrees with the remaining fragments. The slices of lost fragments, and those past the code's, are
  * ignored: give them any address except NULL, and the length 0. LRC_OPEN if and only if the
- * fragment is unrecoverable and all arguments are valid. LRC_BAD_ARGUMENT if and only if there is
- * no such code or fragment, it is not in `lost`, a remaining fragment has fewer than from+len
- * bytes, or that sum is more than SIZE_MAX. */
+ * fragment is unrecoverable and all arguments are valid. LRC_BAD_ARGUMENT if and only if one of
+ * these holds: there is no such code or fragment; the fragment is not in `lost`; a remaining
+ * fragment has fewer than from+len bytes; that sum is more than SIZE_MAX. */
 uint32_t lrc_rebuild(size_t data_fragments, const lrc_slice fragments[16], uint16_t lost,
                      uint8_t fragment, size_t from, uint8_t *target, size_t len);
 
@@ -84,9 +84,9 @@ uint32_t lrc_rebuild(size_t data_fragments, const lrc_slice fragments[16], uint1
  * targets, or LRC_NONE. A target for LRC_NONE is ignored: give it any address except NULL, and the
  * length 0. The sixteen slices are those of lrc_rebuild. LRC_OPEN if and only if all arguments are
  * valid and a numbered fragment is unrecoverable. Of more than four lost fragments, at least one
- * is unrecoverable. LRC_BAD_ARGUMENT if and only if there is no such code, a numbered fragment is
- * not the code's or not in `lost`, its target does not have `len` bytes, a remaining fragment has
- * fewer than from+len bytes, or that sum is more than SIZE_MAX. */
+ * is unrecoverable. LRC_BAD_ARGUMENT if and only if one of these holds: there is no such code; a
+ * numbered fragment is not the code's or not in `lost`; its target does not have `len` bytes; a
+ * remaining fragment has fewer than from+len bytes; that sum is more than SIZE_MAX. */
 uint32_t lrc_decode(size_t data_fragments, const lrc_slice fragments[16], uint16_t lost,
                     const uint8_t numbers[4], size_t from, size_t len,
                     uint8_t *first, size_t first_len, uint8_t *second, size_t second_len,
