@@ -1,4 +1,5 @@
--- Entries leave all names but their own as they were, so the replay of the part that has those names is the replay of all, there.
+-- Entries change no names but their own. So on the names of a part, the replay of the part is the
+-- replay of all names.
 use Rattle.std.proofs.Common.{◌≡◌, ℕ, ◌+◌, ◌<◌, Bool, true, false, ◌&&◌, List, [], ◌∷◌, replicate, length, get_or, drop, Option, None, Some, cond, refl, sym, ap, ◌∙◌, subst}
 use Rattle.std.specs.Ordering.{eq_by_cmp}
 use Rattle.std.specs.Cmp.Lexicographic.{nat_list_cmp_total}
