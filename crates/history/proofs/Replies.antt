@@ -58,7 +58,7 @@ any_made p a (suc n) i l u h =
 div_below : (x d w : ℕ) → 1 ≤ w → x < d * w → x / w < d
 div_below x d w some l = div_under x w d some l
 
--- also where no fragment has a byte: then each stands at the place 0
+-- also if no fragment has a byte: then each lies at index 0
 fragment_below : (code : Code) (w i : ℕ) → fragment_of code w i < fragment_count code
 fragment_below Wide zero i = subst (λ x. x < 16) (sym (div-zero (i % 0))) (omega arith)
 fragment_below Small zero i = subst (λ x. x < 10) (sym (div-zero (i % 0))) (omega arith)

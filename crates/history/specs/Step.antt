@@ -20,7 +20,7 @@ pub data Operation : Type 0 where
   delete : (name : List ℕ) → Operation
   stat : (name : List ℕ) → Operation
 
--- the first where P holds, and else the second
+-- the first if P holds, and otherwise the second
 abbrev pub IfHolds : Type 0 → Type 0 → Type 0 → Type 0
 IfHolds P first second = (P × first) ⊎ ((P → ⊥) × second)
 

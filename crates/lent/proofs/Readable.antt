@@ -25,7 +25,7 @@ abbrev pub OpenAt : Code → (ℕ → ℕ → Bool) → ℕ → Type 0
 OpenAt code lost k = Open code (lost (k / data_count code)) (k % data_count code)
 
 module _ (code : Code) (w : ℕ) (some : 1 ≤ w) (start len : ℕ) where
-  -- what is met begins below the range's end
+  -- a fragment that the range meets begins below the range's end
   pub begins_below : (k : ℕ) → Meets w start len k → k * w < start + len
   begins_below k met =
       let m = some_met w start len k met in

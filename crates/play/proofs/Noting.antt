@@ -1,4 +1,4 @@
--- The numbers of rows, and what is noted of them.
+-- The numbers of rows, and the outcomes noted for them.
 use Rattle.std.proofs.Common.{◌≡◌, ℕ, ◌+◌, List, [], ◌∷◌, ◌++◌, length, refl, ap, arith}
 use Rattle.std.proofs.lemmas.List.{length-map}
 use Rattle.shared.specs.Passes.{Shows}

@@ -253,7 +253,7 @@ are_done w l acts xs goes stand =
     (all_each (λ (f : Found). Does w l f.0 f.1.deed) (map found_of xs)
     (each-map found_of (λ (f : Found). Does w l f.0 f.1.deed) xs (each-weaker (Stands w l acts) (λ p. Does w l (standing_of p.before) p.step.deed) (λ p is. is.does) xs stand)))
 
--- one stands before another only where it may
+-- one comes before another only if it may
 pub order_is : (round_of : ℕ → ℕ) (n : ℕ) (xs : List Placed) → Pairs (IsGood round_of) xs → AllPairs (MayPrecede round_of) (steps_at (in_order_below n xs))
 order_is round_of n xs good =
     let R : Placed → Placed → Type 0 = λ x y. MayPrecede round_of x.step y.step in

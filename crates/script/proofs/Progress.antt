@@ -135,7 +135,7 @@ pub of_each : {A : Type 0} (P Q : A → Type 0) (o : Option A) → ((x : A) → 
 of_each P Q None h p = tt
 of_each P Q (Some x) h p = h x p
 
--- what is said of a good result holds of one that is good
+-- a property of a good result holds of a result that is good
 pub given : {T E P : Type 0} (r : Result T E) → is_ok r ≡ true → OnOk r P → P
 given (Ok x) ok p = p
 given (Err e) ok p = cc ok

@@ -81,7 +81,7 @@ hex_bytes [] = []
 hex_bytes (high ∷ []) = []
 hex_bytes (high ∷ low ∷ rest) = (hex_digit high * 16 + hex_digit low) ∷ hex_bytes rest
 
--- the bytes of a put: a field as it stands, or in hexadecimal
+-- the bytes of a put: a field as text, or in hexadecimal
 abbrev pub are_bytes : List ℕ → List ℕ → Bool
 are_bytes a b = bytes_eq a (codes "text") || (bytes_eq a (codes "hex") && are_hex_bytes b)
 

@@ -90,7 +90,7 @@ pub either_way : {T E P Q R : Type 0} (r : Result T E) → (P → R) → (Q → 
 either_way (Ok x) p q ok err = p ok
 either_way (Err x) p q ok err = q err
 
--- of what a call gives, two clauses say what follows from both
+-- from two clauses about a call's result follows what follows from both
 pub both_ok : {T E : Type 0} (r : Result T E) (P Q R : T → Type 0) → ((x : T) → P x → Q x → R x) → IfOk r P → IfOk r Q → IfOk r R
 both_ok (Ok x) P Q R follows p q = follows x p q
 both_ok (Err e) P Q R follows p q = tt
