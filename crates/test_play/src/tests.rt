@@ -4,7 +4,7 @@ ghost use Rattle.play.specs.Ranges.{InRange};
 use play::{Always, Fail as PlayFail, Options, play};
 use script::{BadScript, Word};
 use shared::Pace;
-use std::alloc::{Global};
+use std::alloc::Global;
 use std::io;
 use std::io::{Read, Write};
 use std::sync::Wait;
@@ -132,7 +132,8 @@ fn a_row_is_cut(rt: HostRuntime) -> Result<(), Fail> {
     Ok(())
 }
 
-/// A read that fails after any number of bytes is told, and nothing runs; a write that fails after any number of bytes is told.
+/// A read that fails after any number of bytes is reported, and nothing runs. A write that fails
+/// after any number of bytes is reported.
 #[test]
 fn broken_ends(rt: HostRuntime) -> Result<(), Fail> {
     let alloc = rt.alloc();

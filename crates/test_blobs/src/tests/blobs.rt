@@ -101,7 +101,7 @@ fn small(rt: HostRuntime) -> Result<(), Fail> {
     Ok(())
 }
 
-/// Takes out a fragment, which only want of memory can refuse.
+/// Takes out a fragment. Only out of memory can refuse it.
 fn take_out(rt: &impl Abort, alloc: Global, sealed: &mut Sealed, stripe: u64, f: u8) {
     assert!(rt; stripe < count_stripes(sealed.code, sealed.width, sealed.len));
     assert!(rt; f < sealed.code.fragments());

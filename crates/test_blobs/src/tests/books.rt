@@ -26,7 +26,12 @@ fn beginning(rt: &impl Abort, alloc: Global, entries: u32) -> (Book, Name)
 /// Stores bytes under a name.
 fn store(rt: &impl Abort, alloc: Global, book: &mut Book, name: &Name, bytes: &'static [u8]) -> Note
     ensures width { book.new.width ≡ book.old.width }
-    ensures told { (h : History) → Tells book.old h → Tells book.new (h ++ record { who = 1; operation = put_of name.now Code.Wide bytes.now; note = result } ∷ []) }
+    ensures told { (h : History) → Tells book.old h
+        → Tells book.new (h ++ record {
+          who = 1;
+          operation = put_of name.now Code.Wide bytes.now;
+          note = result;
+        } ∷ []) }
 {
     let sealed = seal(alloc, Bytes::from_static(bytes), book.width()).expect(rt, "a blob");
     book.put(alloc, 1, name.duplicate(), sealed)
@@ -75,7 +80,8 @@ enum Step {
 
 /// A book that stored the letters from A on as version 1 of `a`.
 fn stored_a(rt: &impl Abort, alloc: Global) -> (Book, Name)
-    ensures { (h : History) × Tells result.0 h × IsFragmentIn h result.0.width result.1 1 0 0 (65 ∷ []) }
+    ensures { (h : History) × Tells result.0 h × IsFragmentIn h result.0.width result.1 1 0 0
+        (65 ∷ []) }
 {
     let (mut book, name) = beginning(rt, alloc, 9);
     match store(rt, alloc, &mut book, &name, b"ABCDEFGHIJKL") {
@@ -86,8 +92,10 @@ fn stored_a(rt: &impl Abort, alloc: Global) -> (Book, Name)
 
 /// Makes the call. What is known of version 1 stays known.
 fn make(rt: &impl Abort, alloc: Global, book: &mut Book, name: &Name, step: Step) -> Note
-    requires { (h : History) × Tells book.old h × IsFragmentIn h book.old.width name.now 1 0 0 (65 ∷ []) }
-    ensures { (h : History) × Tells book.new h × IsFragmentIn h book.new.width name.now 1 0 0 (65 ∷ []) }
+    requires { (h : History) × Tells book.old h × IsFragmentIn h book.old.width name.now 1 0 0
+        (65 ∷ []) }
+    ensures { (h : History) × Tells book.new h × IsFragmentIn h book.new.width name.now 1 0 0
+        (65 ∷ []) }
 {
     let copy = name.duplicate();
     match step {
@@ -114,7 +122,8 @@ fn first_byte(book: &Book, name: &Name) -> Option<u8> {
     stripes.fragment(0, 0)?.first().copied()
 }
 
-/// Makes the calls on the book in which version 1 was stored. Each has this note, and leaves this first byte.
+/// Makes the calls on the book in which version 1 was stored. Each has this note, and leaves this
+/// first byte.
 fn play(rt: &impl Abort, alloc: Global, rows: &[(Step, Note, Option<u8>)]) {
     let (mut book, name) = stored_a(rt, alloc);
     for (step, note, first) in rows {

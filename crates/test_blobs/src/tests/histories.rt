@@ -1,6 +1,4 @@
-use history::{
-    Base, Call, Entry, Fault, Journal, Limit, Name, Note, is_lawful, is_lawful_from,
-};
+use history::{Base, Call, Entry, Fault, Journal, Limit, Name, Note, is_lawful, is_lawful_from};
 use lrc_code::Code;
 use sealed::Width;
 use std::alloc::{AllocError, Global};
@@ -32,7 +30,8 @@ fn note(entries: &mut Vec<Entry>, call: Call, note: Note) -> Result<(), Fault> {
     }
 }
 
-/// Five fragments of twelve letters are lost. The sixth data fragment is alone lost in its group, and the first is not.
+/// Five fragments of twelve letters are lost. The sixth data fragment is alone lost in its group,
+/// and the first is not.
 fn losses(alloc: Global, name: &Name) -> Result<Vec<Entry>, Fault> {
     let mut entries = Vec::new(alloc);
     let name = || name.duplicate();
@@ -125,11 +124,7 @@ fn first_loss(alloc: Global, name: &Name, noted: Note) -> Result<Vec<Entry>, Fau
 }
 
 /// A journal of these entries.
-fn journal_of(
-    rt: &impl Abort,
-    alloc: Global,
-    entries: Vec<Entry>,
-) -> Result<Journal, AllocError> {
+fn journal_of(rt: &impl Abort, alloc: Global, entries: Vec<Entry>) -> Result<Journal, AllocError> {
     let limit = Limit::new(9).expect(rt, "a limit");
     let mut journal = Journal::new(alloc, limit)?;
     for entry in entries {
@@ -196,10 +191,22 @@ fn a_base_forgets_a_deleted_name(rt: HostRuntime) -> Result<(), Fail> {
         len: 12,
     };
     note(&mut stored, put, Note::Stored(1))?;
-    advance(&rt, alloc, &mut base, &journal_of(&rt, alloc, stored)?, width)?;
+    advance(
+        &rt,
+        alloc,
+        &mut base,
+        &journal_of(&rt, alloc, stored)?,
+        width,
+    )?;
     assert_eq!(rt; (base.trimmed, base.puts, base.names.len()), (1, 1, 1));
     note(&mut deleted, Call::Delete { name }, Note::Deleted(1))?;
-    advance(&rt, alloc, &mut base, &journal_of(&rt, alloc, deleted)?, width)?;
+    advance(
+        &rt,
+        alloc,
+        &mut base,
+        &journal_of(&rt, alloc, deleted)?,
+        width,
+    )?;
     assert_eq!(rt; (base.trimmed, base.puts, base.names.len()), (2, 1, 0));
     Ok(())
 }

@@ -311,7 +311,8 @@ fn excess(rt: &impl Abort, sealed: &Arc<Sealed>, stripe: u64) -> u8 {
     sealed.lost(stripe).excess_in(sealed.code)
 }
 
-/// Four stripes of LRC(6,2,2), the last of them filled up, without two data fragments of each group. The last two share their recipes.
+/// Four stripes of LRC(6,2,2), the last of them filled up, without two data fragments of each
+/// group. The last two share their recipes.
 #[test]
 fn two_absent_of_each_small_group(rt: HostRuntime) -> Result<(), Fail> {
     let letters = b"ABCDEFGHIJKLMNOPQRSTUVWXYZabcdefghijklmnopqrstu";

@@ -255,7 +255,8 @@ fn kept_recipes(rt: HostRuntime) -> Result<(), Fail> {
     Ok(())
 }
 
-/// With the coefficients 1 to 6 and 7 to 12 the byte 1 at 0, 5, 6 and 13 would be a column, so that these four could not be told from the others.
+/// With the coefficients 1 to 6 and 7 to 12 the byte 1 at 0, 5, 6 and 13 would be a column, so
+/// these four would be unrecoverable.
 #[test]
 fn coefficients_in_order(rt: HostRuntime) -> Result<(), Fail> {
     // what the four weigh in each equation

@@ -25,7 +25,8 @@ fn combined_lists(rt: HostRuntime) -> Result<(), Fail> {
     Ok(())
 }
 
-/// Whether the parities of twelve lists, of which one has 1 at each of `w` places and the others 0, are these.
+/// Whether the parities of twelve slices are these. One slice has 1 at each of its `w` indices, and
+/// the others 0.
 fn has_parities(
     alloc: Global,
     w: usize,

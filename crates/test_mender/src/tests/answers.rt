@@ -2,8 +2,8 @@
 ghost use Rattle.std.specs.Prelude.{◌≡◌};
 
 use super::{Call, make, opened};
-use mender::{Gather, Report, gather, scrub, work};
 use book::{Fault, Name};
+use mender::{Gather, Report, gather, scrub, work};
 use shared::{Pass, Store};
 use std::alloc::Global;
 use std::sync::Wait;
@@ -22,7 +22,8 @@ fn four_lost<R: Wait>(rt: &R, alloc: Global, store: &Store, pass: &mut Pass) -> 
     Ok(())
 }
 
-/// Behind the plan the lost fragment of `b` is repaired, `c` is deleted, and that of `d` can't be told any more.
+/// After the plan, the lost fragment of `b` is repaired, `c` is deleted, and that of `d` becomes
+/// unrecoverable.
 fn change<R: Wait>(rt: &R, alloc: Global, store: &Store, pass: &mut Pass) -> Result<(), Fault>
     requires { pass.old.store ≡ store.now }
     ensures { pass.new.store ≡ store.now }

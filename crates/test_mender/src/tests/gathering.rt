@@ -1,6 +1,6 @@
 //! Results against their plan.
-use mender::{Done, Gather, Report, gather};
 use book::{Answer, Fault, Item, Name, Plan};
+use mender::{Done, Gather, Report, gather};
 use std::alloc::Global;
 use std::test::Fail;
 
@@ -14,7 +14,8 @@ fn item(f: u8) -> Result<Item, Fault> {
     })
 }
 
-/// What comes of results with these tickets and fragments, all repaired, against a plan of these fragments.
+/// The outcome of results with these tickets and fragments, all repaired, against a plan of these
+/// fragments.
 fn gathered(
     alloc: Global,
     planned: &[u8],

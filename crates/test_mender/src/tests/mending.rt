@@ -3,9 +3,9 @@ ghost use Rattle.std.specs.Prelude.{◌≡◌, ◌<◌, IfOk};
 ghost use Rattle.std.specs.List.{All};
 
 use super::{Call, closed, fragment, make, opened};
-use mender::{Done, Drawer, Gather, Report, Tickets, WorkFault, gather, scrub, work};
 use book::{Answer, Book, Fault, Name, Note, Plan, is_lawful};
 use bytes::Bytes;
+use mender::{Done, Drawer, Gather, Report, Tickets, WorkFault, gather, scrub, work};
 use sealed::{Sealed, seal};
 use shared::{Pass, Store};
 use std::alloc::Global;
@@ -14,7 +14,8 @@ use std::sync::Wait;
 use std::test::Fail;
 use std::thread::{Threads, map_vec};
 
-/// A worker with a pass and a drawer. One who puts does not draw, but puts each name anew meanwhile.
+/// A worker with a pass and a drawer. A worker that puts does not draw: it puts each name anew
+/// meanwhile.
 #[derive(Drop)]
 struct Worker {
     pass: Pass,
@@ -39,7 +40,8 @@ impl Worker {
         tickets: &Tickets,
     ) -> Worked
         requires { (self.pass.store ≡ store.now) × (self.drawer.tickets ≡ tickets.now) }
-        ensures { (result.worker.pass.store ≡ store.now) × (result.worker.drawer.tickets ≡ tickets.now) }
+        ensures { (result.worker.pass.store ≡ store.now)
+            × (result.worker.drawer.tickets ≡ tickets.now) }
     {
         let Worker {
             mut pass,
@@ -69,7 +71,8 @@ fn split_worker(
 ) -> Result<Worker, Fail>
     requires { (pass.old.store ≡ store.now) × (drawer.old.tickets ≡ tickets.now) }
     ensures first { (pass.new.store ≡ store.now) × (drawer.new.tickets ≡ tickets.now) }
-    ensures worker { IfOk result (λ w. (w.pass.store ≡ store.now) × (w.drawer.tickets ≡ tickets.now)) }
+    ensures worker { IfOk result (λ w. (w.pass.store ≡ store.now)
+        × (w.drawer.tickets ≡ tickets.now)) }
 {
     let (pass, drawer) = (pass.split(store, who)?, drawer.split(tickets)?);
     Ok(Worker { pass, drawer, puts })
@@ -88,7 +91,8 @@ fn crew(
     requires first { (pass.old.store ≡ store.now) × (drawer.old.tickets ≡ tickets.now) }
     requires few { count < 64 }
     ensures first { (pass.new.store ≡ store.now) × (drawer.new.tickets ≡ tickets.now) }
-    ensures crew { IfOk result (λ crew. All (λ w. (w.pass.store ≡ store.now) × (w.drawer.tickets ≡ tickets.now)) crew.items) }
+    ensures crew { IfOk result (λ crew. All (λ w. (w.pass.store ≡ store.now)
+        × (w.drawer.tickets ≡ tickets.now)) crew.items) }
 {
     let mut crew = Vec::new(alloc);
     for who in 0..count + u32::from(beside_puts) {
@@ -107,7 +111,8 @@ fn disband(
     drawer: &mut Drawer,
 ) -> Result<Vec<Done>, Fail>
     requires first { (pass.old.store ≡ store.now) × (drawer.old.tickets ≡ tickets.now) }
-    requires crew { All (λ w. (w.worker.pass.store ≡ store.now) × (w.worker.drawer.tickets ≡ tickets.now)) crew.items }
+    requires crew { All (λ w. (w.worker.pass.store ≡ store.now)
+        × (w.worker.drawer.tickets ≡ tickets.now)) crew.items }
     ensures { pass.new.store ≡ store.now }
 {
     let mut all = Vec::new(alloc);
@@ -150,7 +155,8 @@ fn mend<R: Threads + Wait + Sync>(
         crew,
         &|worker: Worker| -> Worked
             requires { (worker.pass.store ≡ store.now) × (worker.drawer.tickets ≡ tickets) }
-            ensures { (result.worker.pass.store ≡ store.entry.now) × (result.worker.drawer.tickets ≡ tickets) }
+            ensures { (result.worker.pass.store ≡ store.entry.now)
+                × (result.worker.drawer.tickets ≡ tickets) }
         { worker.work(rt, alloc, store, &plan, &tickets) },
     )?;
     let done = disband(alloc, crew, store, pass, &tickets, &mut drawer)?;
@@ -246,7 +252,8 @@ fn bytes_of(version: u64) -> &'static [u8] {
     }
 }
 
-/// Puts each name anew, and loses two fragments of it. The first of these puts has the version given.
+/// Puts each name anew, and loses two fragments of it. The first of these puts has the given
+/// version.
 fn put_all<R: Wait>(
     rt: &R,
     alloc: Global,

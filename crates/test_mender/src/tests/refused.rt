@@ -26,7 +26,7 @@ fn one_lost<R: Wait + Abort>(
     Ok((store, pass, a))
 }
 
-/// That the book has `a` with each of its fragments as it was put, but for the first where that is lost.
+/// Asserts that the book has `a` with each of its fragments as it was put. The first may be lost.
 fn has_each<R: Wait + Abort>(
     rt: &R,
     alloc: Global,
@@ -57,7 +57,7 @@ const ALL: [Call; 6] = [
     Call::Stat,
 ];
 
-/// They are refused, and a trim to one entry gives one up, and leaves the blob without its fragment.
+/// They are refused. A trim to one entry discards one, and leaves the blob without its fragment.
 #[test]
 fn a_full_journal_leaves_all_as_it_was(rt: HostRuntime) -> Result<(), Fail> {
     let alloc = rt.alloc();
@@ -108,7 +108,8 @@ fn come_back<R: Wait>(
     lost && all_give(rt, alloc, store, pass, name, repairs, Ok(Note::Repaired(1)))
 }
 
-/// Each of the sixteen fragments is lost and repaired, the four parities at once: each is again as it was put.
+/// Each of the sixteen fragments is lost and repaired, the four parities at once. Afterwards each
+/// is as it was put.
 #[test]
 fn each_fragment_comes_back(rt: HostRuntime) -> Result<(), Fail> {
     let alloc = rt.alloc();

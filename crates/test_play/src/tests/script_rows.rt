@@ -1,11 +1,12 @@
-use script::{BadScript, NotRead, Row, Task, Word, read_script, script};
 use requests::Ask;
+use script::{BadScript, NotRead, Row, Task, Word, read_script, script};
 use std::alloc::Global;
 use std::io;
 use std::io::Read;
 use std::test::Fail;
 
-/// A reader that gives at most so many bytes at a time, each time after a read that was interrupted, and at the end fails with an error of this kind, if there is one.
+/// A reader that gives at most so many bytes at a time, each time after a read that was
+/// interrupted. At the end it fails with an error of this kind, if there is one.
 #[derive(Drop)]
 struct Halting<'a> {
     left: &'a [u8],
@@ -173,7 +174,8 @@ fn a_few_bytes_at_a_time(rt: HostRuntime) -> Result<(), Fail> {
     Ok(())
 }
 
-/// A reader that fails, behind any number of bytes: before a refused row it is told, and behind it too.
+/// A reader that fails after any number of bytes: the failure is reported, before a refused row and
+/// after it.
 #[test]
 fn a_reader_fails(rt: HostRuntime) -> Result<(), Fail> {
     let alloc = rt.alloc();

@@ -78,7 +78,8 @@ impl Pace for Gathering {
     fn after(&self, _row: u32) {}
 }
 
-/// 200 rows of one round: a put by each of two workers, under names of their own, and then reads of them.
+/// 200 rows of one round: a put by each of two workers, under names of their own, and then reads of
+/// them.
 fn two_names(alloc: Global) -> Result<String, AllocError> {
     let mut text = String::new(alloc);
     text.push_str("1,1,put,a,text,ABCDEFGHIJKL\n1,2,put,b,text,ABCDEFGHIJKL\n")?;
@@ -103,7 +104,8 @@ fn two_versions(alloc: Global, first: u32, second: u32) -> Result<String, AllocE
     Ok(text)
 }
 
-/// Two workers run at the same time: the first row of each waits for that of the other. On one thread the run is serial, and stops.
+/// Two workers run at the same time: the first row of each waits for that of the other. On one
+/// thread the run is serial, and stops.
 #[test]
 fn two_workers_meet(rt: HostRuntime) -> Result<(), Fail> {
     let alloc = rt.alloc();

@@ -1,4 +1,5 @@
-ghost use Rattle.std.specs.Prelude.{◌≡◌, ◌≤◌, ◌++◌, ◌∷◌, [], ℕ, List, false, length, MatchBool, IsTrue, IfSome, IfOk, All};
+ghost use Rattle.std.specs.Prelude.{◌≡◌, ◌≤◌, ◌++◌, ◌∷◌, [], ℕ, List, false, length, MatchBool};
+ghost use Rattle.std.specs.Prelude.{IsTrue, IfSome, IfOk, All};
 ghost use Rattle.gate.specs.Places.{last_of};
 
 use gate::{Follows, Gate, NoMemory, Seat};
@@ -86,7 +87,8 @@ fn sixteen_seats(
 ) -> Result<Vec<Seat<Tally>>, NoMemory>
     requires { (first.old.gate ≡ gate.now) × (first.old.inside ≡ false) × (first.old.room ≡ 64) }
     ensures first { (first.new.gate ≡ gate.now) × (first.new.inside ≡ false) }
-    ensures seats { IfOk result (λ seats. All (λ seat. (seat.gate ≡ gate.now) × (seat.inside ≡ false)) seats.items) }
+    ensures seats { IfOk result (λ seats. All (λ seat. (seat.gate ≡ gate.now)
+        × (seat.inside ≡ false)) seats.items) }
 {
     let mut seats = Vec::with_capacity(alloc, 16)?;
     for _ in 0..16u64 {
@@ -201,8 +203,10 @@ impl Log {
 // Adds a note to what the last one left, and says whether it did.
 fn note<R: Wait>(rt: &R, gate: &Gate<Log>, seat: &mut Seat<Log>, x: u32) -> bool
     requires { (seat.old.gate ≡ gate.now) × (seat.old.inside ≡ false) }
-    ensures same { (seat.new.gate ≡ gate.now) × (seat.new.inside ≡ false) × (seat.new.room ≡ seat.old.room) }
-    ensures noted { IsTrue result → IfSome (last_of seat.new.list) (λ notes. (before : List ℕ) × (notes ≡ before ++ x ∷ [])) }
+    ensures same { (seat.new.gate ≡ gate.now) × (seat.new.inside ≡ false)
+        × (seat.new.room ≡ seat.old.room) }
+    ensures noted { IsTrue result → IfSome (last_of seat.new.list)
+        (λ notes. (before : List ℕ) × (notes ≡ before ++ x ∷ [])) }
 {
     let mut inside = gate.enter(rt, seat);
     let done = inside.value.note(x);

@@ -7,10 +7,10 @@ mod passes;
 mod runs;
 mod threads;
 
-use shared::{Pass, Store};
 use book::{Answer, Fault, Limit, Name, Note};
 use bytes::Bytes;
 use lent::{Grant, Piece};
+use shared::{Pass, Store};
 use std::alloc::Global;
 use std::process::Abort;
 use std::sync::Wait;

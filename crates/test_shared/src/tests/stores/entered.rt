@@ -1,18 +1,19 @@
-//! What is done while somebody else is inside.
+//! Work beside a thread in the critical section.
 ghost use Rattle.std.specs.Prelude.{◌≡◌, false};
 
 use super::{gives, granted, letters};
-use requests::Kept;
 use book::{Book, Limit, Name};
 use gate::{Gate, Seat};
 use lent::Grant;
+use requests::Kept;
 use sealed::{Width, seal};
 use std::alloc::Global;
 use std::process::Abort;
 use std::test::Fail;
 use std::thread::join;
 
-/// What a second seat does while the first is inside: it finds the gate entered, and walks a grant to its end.
+/// What a second seat does while the first is inside: it finds the gate entered, and walks a grant
+/// to its end.
 fn walk_beside(
     rt: &impl Abort,
     alloc: Global,

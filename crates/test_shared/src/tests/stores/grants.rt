@@ -2,9 +2,9 @@
 ghost use Rattle.std.specs.Prelude.{◌≡◌};
 
 use super::{answers, beginning, gives, letters, lose, other_letters, put, read, shape};
-use shared::{Pass, Store};
 use book::{Answer, Name, Note, is_lawful_from};
 use lrc_code::Code;
+use shared::{Pass, Store};
 use std::alloc::Global;
 use std::sync::Wait;
 use std::test::Fail;
@@ -40,7 +40,8 @@ fn a_grant_keeps_its_version(rt: HostRuntime) {
     gives(&rt, alloc, &new, b"MNOPQRSTUVWX", 0);
 }
 
-/// Loses all fragments of the only stripe, deletes the name and puts other bytes under it. The answer is how many of these calls answered as they should.
+/// Loses all fragments of the only stripe, deletes the name and puts other bytes under it. Returns
+/// how many of these calls answered as they should.
 fn overwrite<R: Wait>(rt: &R, alloc: Global, store: &Store, pass: Pass, name: &Name) -> (Pass, u64)
     requires { pass.store ≡ store.now }
     ensures { result.0.store ≡ store.now }

@@ -2,20 +2,15 @@
 ghost use Rattle.std.specs.Prelude.{◌≡◌, All, IfOk};
 
 use super::{answers, beginning, gives, granted, letters, shape};
-use shared::{Pass, Store};
 use book::{Fault, Limit, Name, Note};
 use lrc_code::Code;
+use shared::{Pass, Store};
 use std::alloc::Global;
 use std::process::Abort;
 use std::test::Fail;
 
 /// So many passes that are split off the first; the callers' labels count from 1.
-fn split_some(
-    alloc: Global,
-    store: &Store,
-    first: &mut Pass,
-    count: u32,
-) -> Result<Vec<Pass>, Fail>
+fn split_some(alloc: Global, store: &Store, first: &mut Pass, count: u32) -> Result<Vec<Pass>, Fail>
     requires { first.old.store ≡ store.now }
     ensures first { first.new.store ≡ store.now }
     ensures passes { IfOk result (λ passes. All (λ pass. pass.store ≡ store.now) passes.items) }

@@ -1,9 +1,9 @@
 //! Runs of jobs.
 use super::{answers, beginning, letters, lose, put, shape};
-use shared::{Ask, Cause, Job, Pace, Reply};
 use book::{Fault, Name, Note, is_lawful_from};
 use bytes::Bytes;
 use lrc_code::Code;
+use shared::{Ask, Cause, Job, Pace, Reply};
 use std::alloc::Global;
 use std::process::Abort;
 use std::sync::atomic::{AtomicU64, Ordering};
@@ -68,7 +68,8 @@ fn in_rows(alloc: Global, asks: Vec<Ask>) -> Result<Vec<Job>, Fail> {
     Ok(jobs)
 }
 
-/// A put, a read, a question for the shape, a put of a byte more than 4,096 stripes hold, a trim, and the question again.
+/// A put, a read, a `stat`, a put of a byte more than 4,096 stripes hold, a trim, and a `stat`
+/// again.
 fn with_a_trim(rt: &impl Abort, alloc: Global, a: &Name) -> Result<Vec<Job>, Fail> {
     let long = Bytes::from_vec(vec![in alloc; 0; 24577]?).expect(rt, "memory");
     let asks = vec![in alloc;

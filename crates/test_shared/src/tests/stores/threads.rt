@@ -2,14 +2,15 @@
 ghost use Rattle.std.specs.Prelude.{◌≡◌};
 
 use super::{beginning, letters};
-use shared::{Pass, Store};
 use book::{Answer, Name, is_lawful_from};
+use shared::{Pass, Store};
 use std::alloc::Global;
 use std::sync::Wait;
 use std::test::Fail;
 use std::thread::join;
 
-/// One put, and then the loss of a fragment and its repair, in turn. The answer is how many of these calls answered as they should.
+/// One put, and then the loss of a fragment and its repair, in turn. Returns how many of these
+/// calls answered as they should.
 fn lose_and_repair<R: Wait>(
     rt: &R,
     alloc: Global,
