@@ -73,11 +73,9 @@ impl Store {
     /// Grants `len` bytes of the blob of a name, from the byte `start` on. A grant holds the blob
     /// as it was, whatever later calls do.
     ///
-    /// The answer is the first that applies:
-    /// - `NoName` if the name has no blob.
-    /// - `OutOfRange` if the range does not lie inside the blob.
-    /// - `Unrecoverable`, with the version, if a byte of the range is in an unrecoverable fragment.
-    /// - `Granted`.
+    /// The answer is `NoName` if the name has no blob. Else it is `OutOfRange` if the range does
+    /// not lie inside the blob. Else it is `Unrecoverable`, with the version, if a byte of the
+    /// range is in an unrecoverable fragment. Else it is `Granted`.
     ///
     /// `JournalFull` if the journal holds as many entries as its limit; `NoMemory` only in place of
     /// `Granted`, if one more owner of the blob was refused.
@@ -103,11 +101,9 @@ impl Store {
     /// Loses a fragment of a name's blob: only earlier grants lend its bytes. Their memory is freed
     /// with the last of the blob.
     ///
-    /// The answer is the first that applies:
-    /// - `NoName` if the name has no blob.
-    /// - `NoFragment` if the blob has no such stripe, or its code no such fragment.
-    /// - `AlreadyLost` if it was lost before.
-    /// - `Lost`, with the version.
+    /// The answer is `NoName` if the name has no blob. Else it is `NoFragment` if the blob has no
+    /// such stripe, or its code no such fragment. Else it is `AlreadyLost` if it was lost before.
+    /// Else it is `Lost`, with the version.
     ///
     /// `JournalFull` if the journal holds as many entries as its limit; else `NoMemory` if out of
     /// memory.

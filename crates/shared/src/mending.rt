@@ -16,12 +16,10 @@ impl Store {
     /// Rebuilds a lost fragment of a name's blob. If the fragment can be rebuilt, it enters the
     /// critical section twice and rebuilds in between. The answer is then that of the second time.
     ///
-    /// The answer is the first that applies:
-    /// - `NoName` if the name has no blob.
-    /// - `NoFragment` if the blob has no such stripe, or its code no such fragment.
-    /// - `NotLost` if the fragment is there.
-    /// - `Unrecoverable`, with the version, if the remaining fragments do not determine it.
-    /// - `Repaired`, with the version.
+    /// The answer is `NoName` if the name has no blob. Else it is `NoFragment` if the blob has no
+    /// such stripe, or its code no such fragment. Else it is `NotLost` if the fragment is there.
+    /// Else it is `Unrecoverable`, with the version, if the remaining fragments do not determine
+    /// it. Else it is `Repaired`, with the version.
     ///
     /// `JournalFull` if the journal holds as many entries as its limit; `NoMemory` if out of
     /// memory.
