@@ -23,7 +23,7 @@ def blanked(code):
     """The code with comments, strings, characters and the semicolons of array types as blanks, so that its brackets match."""
     def blank(found):
         return re.sub(r"[^\n]", " ", found.group())
-    code = re.sub(r"//[^\n]*|b?\"(?:\\.|[^\"\\])*\"|b?'(?:\\.[^']*|[^'\\\n])'", blank, code)
+    code = re.sub(r"//[^\n]*|b?\"(?:\\[\s\S]|[^\"\\])*\"|b?'(?:\\.[^']*|[^'\\\n])'", blank, code)
     return re.sub(r";(?=[^][{};]*\])", " ", code)
 
 

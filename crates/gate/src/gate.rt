@@ -1,5 +1,6 @@
-//! The gate, its seats, and what is taken out and left.
-ghost use Rattle.std.specs.Prelude.{◌≡◌, ◌⊎◌, ◌+◌, ◌-◌, ◌<◌, ◌≤◌, ◌++◌, ◌∷◌, [], length, true, false, Some, IfSome, IfNone, IfOk, IsSome, OnOk, OnErr};
+//! The gate, its seats, and the value that is taken out and left.
+ghost use Rattle.std.specs.Prelude.{◌≡◌, ◌⊎◌, ◌+◌, ◌-◌, ◌<◌, ◌≤◌, ◌++◌, ◌∷◌, [], length, true};
+ghost use Rattle.std.specs.Prelude.{false, Some, IfSome, IfNone, IfOk, IsSome, OnOk, OnErr};
 ghost use mathlib.Core.List.{IsPrefix};
 ghost use Rattle.gate.specs.Places.{last_of, IsChain, HasAll, AreApart};
 
@@ -13,22 +14,26 @@ use std::sync::Wait;
 use std::time::Duration;
 use std::{hint, thread};
 
-/// A request for memory was refused.
+/// Out of memory.
 pub type NoMemory = AllocError;
 
-/// How often who waits looks at the word before it lets others run.
+/// How often a waiting thread reads the word before it yields.
 const LOOKS: u32 = 5;
-/// How often it lets others run before it sleeps.
+/// How often it yields before it sleeps.
 const YIELDS: u32 = 8;
 
-/// The word at 0 is 1 while somebody is inside, and the slot at 0 holds the value while nobody is.
+/// The word at 0 is 1 while a thread is in the critical section. The slot at 0 holds the value
+/// while none is.
 type GateTable<T> = Table<Option<T>, View<T>, Snapshot<T>, GateRule, Global>;
 
 type TableSeat<T> = atomic_table::Seat<Option<T>, View<T>>;
 
-/// A lock over one value. Who enters takes the value out and finds what the last one left; who leaves puts a value back, which may follow the one
-/// that was found. It is one word and one slot, and four kinds of step: enter by `compare_exchange`, the value out by `exchange`, in by `exchange`,
-/// leave by `store`. A clause sees which gate it is.
+/// A lock over one value. A thread that enters takes the value out and finds the one that was left
+/// last. A thread that leaves puts a value back, which may follow the one that was found. A clause
+/// sees which gate it is.
+///
+/// It is one word and one slot, with four kinds of step: enter by `compare_exchange`, the value out
+/// by `exchange`, in by `exchange`, leave by `store`.
 #[derive(Drop)]
 pub struct Gate<T: Follows> {
     table: GateTable<T>,
@@ -42,12 +47,16 @@ impl<T: Follows> Model for Gate<T> {
 
     ghost view = { λ g. g.table.shared.table_id };
 
-    ghost invariant = { λ g. (g.table.shared.table_id.words ≡ 1) × (g.table.shared.table_id.slots ≡ 1) };
+    ghost invariant = { λ g. (g.table.shared.table_id.words ≡ 1)
+        × (g.table.shared.table_id.slots ≡ 1) };
 }
 
-/// A caller's seat at a gate. A clause sees what it shows: the list of the values that were left, as far as it saw them, and the places in it that it
-/// left itself, with those of the seats that it joined; how many seats can be made of it; and whether it is inside. Who drops a seat drops its room,
-/// and then no other seat comes to a room of 64 again.
+/// A caller's seat at a gate. Dropping a seat drops its room, and then no other seat comes to a
+/// room of 64 again.
+///
+/// A clause sees what it shows: the list of the values that were left, as far as it saw them, and
+/// the indices of those that it left itself, with those of the seats that it joined. It sees how
+/// many seats can be made of it, and whether it is in the critical section.
 #[derive(Drop)]
 pub struct Seat<T: Follows> {
     table_seat: TableSeat<T>,
@@ -66,30 +75,36 @@ impl<T: Follows> Model for Seat<T> {
     ghost invariant = { λ s. IsSeat T.follows s.table_seat.me s.room };
 }
 
-/// What is owed to the gate by who is inside.
+/// What the thread in the critical section owes to the gate.
 struct Key;
 
-/// What lies in the gate, while it is out with who is inside. It can be made by entering alone, and it can't be dropped: it goes back by `leave`.
+/// The value of the gate, while a thread in the critical section has it. Only entering makes one.
+/// It can't be dropped: it goes back by `leave`.
 pub struct Inside<T> {
-    /// The value that the last one left.
+    /// The value that was left last.
     pub value: T,
     key: Key,
 }
 
 impl<T: Follows> Gate<T> {
-    /// Enters, if nobody is inside. `None` exactly where the word said entered, and then the seat is as before; with a room of 64 it never does.
+    /// Enters, if no other thread is in the critical section. `None` if and only if the word said
+    /// entered, which it never does with a room of 64. Then the seat is unchanged.
     ///
-    /// The seat comes to show the whole list of the values that were left, of which the value found is the last.
+    /// The seat then shows the whole list of the values that were left. The value found is its
+    /// last.
     pub fn try_enter(&self, seat: &mut Seat<T>) -> Option<Inside<T>>
         requires gate { seat.old.gate ≡ self.now }
         requires outside { seat.old.inside ≡ false }
-        ensures kept { (seat.new.gate ≡ seat.old.gate) × (seat.new.room ≡ seat.old.room) × (seat.new.own ≡ seat.old.own) }
+        ensures kept { (seat.new.gate ≡ seat.old.gate) × (seat.new.room ≡ seat.old.room)
+            × (seat.new.own ≡ seat.old.own) }
         ensures seen { IsPrefix seat.old.list seat.new.list × IsChain T.follows seat.new.list }
-        ensures found { IfSome result (λ r. (seat.new.inside ≡ true) × (last_of seat.new.list ≡ Some r.value)) }
+        ensures found { IfSome result
+            (λ r. (seat.new.inside ≡ true) × (last_of seat.new.list ≡ Some r.value)) }
         ensures none { IfNone result (seat.new ≡ seat.old) }
         ensures lone { seat.old.room ≡ 64 → IsSome result × HasAll seat.new.list seat.new.own }
     {
-        // Enter: the word goes from 0 to 1. Who did it knows that nobody else is inside, and sees the whole list (`seen`, `found`, `lone`).
+        // Enter: the word goes from 0 to 1. The thread that did it knows that no other is inside,
+        // and sees the whole list (`seen`, `found`, `lone`).
         let found = self
             .table
             .shared
@@ -97,19 +112,21 @@ impl<T: Follows> Gate<T> {
         if found != 0 {
             return None;
         }
-        // The value out: the slot held the last value of that list, since the word said free (`found`).
+        // The value out: the slot held the last value of that list, since the word said free
+        // (`found`).
         let Some(value) = self.table.shared.exchange(&mut seat.table_seat, 0, None) else {
             unreachable!()
         };
         Some(Inside { value, key: Key })
     }
 
-    /// Leaves the value, which becomes the last of those that were left, and an own place of this seat.
+    /// Leaves the value, which becomes the last of those that were left, at an index of this seat.
     pub fn leave(&self, seat: &mut Seat<T>, inside: Inside<T>)
         requires gate { seat.old.gate ≡ self.now }
         requires inside { seat.old.inside ≡ true }
         requires follows { IfSome (last_of seat.old.list) (λ found. T.follows found inside.value) }
-        ensures kept { (seat.new.gate ≡ seat.old.gate) × (seat.new.room ≡ seat.old.room) × (seat.new.inside ≡ false) }
+        ensures kept { (seat.new.gate ≡ seat.old.gate) × (seat.new.room ≡ seat.old.room)
+            × (seat.new.inside ≡ false) }
         ensures list { seat.new.list ≡ seat.old.list ++ inside.value ∷ [] }
         ensures own { seat.new.own ≡ seat.old.own ++ length seat.old.list ∷ [] }
     {
@@ -120,17 +137,19 @@ impl<T: Follows> Gate<T> {
             .shared
             .exchange(&mut seat.table_seat, 0, Some(value));
         let None = before else { unreachable!() };
-        // Leave: the word goes to 0, and with it the list of all seats grows by this value, as a place of this seat (`list`, `own`).
+        // Leave: the word goes to 0, and with it the list of all seats grows by this value, at an
+        // index of this seat (`list`, `own`).
         self.table
             .shared
             .store::<LeaveStep>(&mut seat.table_seat, 0, 0);
     }
 
-    /// Enters: it tries again until it is in. It may wait for ever.
+    /// Enters: it tries again until it is in. It may wait forever.
     pub fn enter<R: Wait>(&self, rt: &R, seat: &mut Seat<T>) -> Inside<T>
         requires gate { seat.old.gate ≡ self.now }
         requires outside { seat.old.inside ≡ false }
-        ensures kept { (seat.new.gate ≡ seat.old.gate) × (seat.new.room ≡ seat.old.room) × (seat.new.own ≡ seat.old.own) × (seat.new.inside ≡ true) }
+        ensures kept { (seat.new.gate ≡ seat.old.gate) × (seat.new.room ≡ seat.old.room)
+            × (seat.new.own ≡ seat.old.own) × (seat.new.inside ≡ true) }
         ensures seen { IsPrefix seat.old.list seat.new.list × IsChain T.follows seat.new.list }
         ensures found { last_of seat.new.list ≡ Some result.value }
         ensures lone { seat.old.room ≡ 64 → HasAll seat.new.list seat.new.own }
@@ -146,8 +165,8 @@ impl<T: Follows> Gate<T> {
         unreachable!()
     }
 
-    /// Waits a while, for less time as long as few tries were made: it looks at the word, then yields the processor, and from `YIELDS` turns on sleeps. It is no step on the
-    /// table, and tells nothing.
+    /// Waits: it spins on the word, then yields, and from `YIELDS` tries on sleeps, longer after
+    /// more tries. It is no step on the table, and shows nothing.
     fn wait<R: Wait>(&self, rt: &R, turns: u32) {
         for _ in 0..LOOKS {
             if self.table.shared.peek(0) == 0 {
@@ -164,7 +183,8 @@ impl<T: Follows> Gate<T> {
         }
     }
 
-    /// Gives the value that was left last, once all seats are joined: then every place of the list but the opening one is the seat's own.
+    /// Gives the value that was left last, once all seats are joined. Then every index of the list
+    /// except the opening one is the seat's own.
     pub fn close(self, seat: Seat<T>) -> T
         requires gate { seat.gate ≡ self }
         requires outside { seat.inside ≡ false }
@@ -187,10 +207,11 @@ impl<T: Follows> Gate<T> {
 }
 
 impl<T: Follows + Drop> Gate<T> {
-    /// A gate with this value, and the one seat at it, which has seen this value, has left nothing, and has a room of 64. `AllocError` where a request
-    /// for memory was refused.
+    /// A gate with this value, and the one seat at it, which has seen this value, has left nothing,
+    /// and has a room of 64. `AllocError` if out of memory.
     pub fn new(alloc: Global, first: T) -> Result<(Gate<T>, Seat<T>), NoMemory>
-        ensures { IfOk result (λ r. r.1 ≡ record { gate = r.0; list = first ∷ []; own = []; room = 64; inside = false }) }
+        ensures { IfOk result (λ r.
+            r.1 ≡ record { gate = r.0; list = first ∷ []; own = []; room = 64; inside = false }) }
     {
         let opening = Snapshot::of(&first);
         let Ok(mut slots) = Vec::with_capacity(alloc, 1) else {
@@ -220,14 +241,21 @@ impl<T: Follows> Seat<T> {
         *room
     }
 
-    /// A new seat, which has seen as much, has left nothing, and has a room of 1; the old one keeps one less and shows what it showed. `AllocError` where a
-    /// request for memory was refused, and then the old seat is as before.
+    /// A new seat, which has seen as much, has left nothing, and has a room of 1. The old one keeps
+    /// one less and shows what it showed. `AllocError` if out of memory, and then the old seat is
+    /// unchanged.
     pub fn split(&mut self, gate: &Gate<T>) -> Result<Seat<T>, NoMemory>
         requires gate { self.old.gate ≡ gate.now }
         requires outside { self.old.inside ≡ false }
         requires room { 1 < self.old.room }
         ensures ok { OnOk result (self.new ≡ record self.old { room = self.old.room - 1 }) }
-        ensures given { IfOk result (λ s. s ≡ record { gate = self.old.gate; list = self.old.list; own = []; room = 1; inside = false }) }
+        ensures given { IfOk result (λ s. s ≡ record {
+          gate = self.old.gate;
+          list = self.old.list;
+          own = [];
+          room = 1;
+          inside = false;
+        }) }
         ensures err { OnErr result (self.new ≡ self.old) }
     {
         let table_seat = gate
@@ -241,12 +269,13 @@ impl<T: Follows> Seat<T> {
         })
     }
 
-    /// Takes in another seat, with its room and the places that it left, which had none in common with those of this one. Of the two lists the one that
-    /// begins with both is shown.
+    /// Takes in another seat, with its room and the indices of the values that it left. The two had
+    /// no index in common. Of the two lists it shows the one that begins with both.
     pub fn join(&mut self, gate: &Gate<T>, other: Seat<T>)
         requires gate { (self.old.gate ≡ gate.now) × (other.gate ≡ gate.now) }
         requires outside { (self.old.inside ≡ false) × (other.inside ≡ false) }
-        ensures kept { (self.new.gate ≡ self.old.gate) × (self.new.inside ≡ false) × (self.new.room ≡ self.old.room + other.room) }
+        ensures kept { (self.new.gate ≡ self.old.gate) × (self.new.inside ≡ false)
+            × (self.new.room ≡ self.old.room + other.room) }
         ensures one { (self.new.list ≡ self.old.list) ⊎ (self.new.list ≡ other.list) }
         ensures seen { IsPrefix self.old.list self.new.list × IsPrefix other.list self.new.list }
         ensures own { self.new.own ≡ self.old.own ++ other.own }

@@ -1,8 +1,8 @@
-//! What each step on the table tells, and how views are cut and joined.
+//! What each step on the table shows, and how views are split and joined.
 use crate::view::{Follows, View};
 use atomic_table::{Join, Play, Split};
 
-/// A seat enters, where nobody was inside.
+/// A seat enters, if no other was inside.
 pub(crate) struct EnterStep;
 
 impl<T: Follows> Play<Option<T>, View<T>> for EnterStep {

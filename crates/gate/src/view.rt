@@ -3,18 +3,21 @@ use atomic_table::TableRule;
 use std::collections::LinkedList;
 use std::snapshot::Snapshot;
 
-/// Which value may be left after which: `follows` is a relation of two values, of which the second may follow the first. It has no call.
+/// Which value may be left after which: `follows` is a relation of two values, of which the second
+/// may follow the first. It has no call.
 pub trait Follows {
     ghost follows: { Self → Self → Type 0 };
 }
 
-/// The values that were left, as far as they were seen, and places in this list. No value of it is made.
+/// The values that were left, as far as they were seen, and indices of this list. It exists in
+/// proofs alone.
 pub struct Shown<T> {
     pub list: LinkedList<T>,
     pub own: LinkedList<usize>,
 }
 
-/// What a seat knows. What a joined seat showed is `heard`, until a load has put it together with `shown`. No value of it is made.
+/// What a seat knows. What a joined seat showed is `heard`, until a load has put it together with
+/// `shown`. It exists in proofs alone.
 pub struct View<T> {
     pub shown: Shown<T>,
     pub heard: Shown<T>,

@@ -35,6 +35,10 @@ module _ {A : Type 0} (P : A → Type 0) where
   all_at [] x ys h = h 0 x (omega arith)
   all_at (y ∷ xs) x ys h = all_at xs x ys (λ k d lt. h (suc k) d (omega arith))
 
+  pub all_right : (xs ys : List A) → All P (xs ++ ys) → All P ys
+  all_right [] ys h = h
+  all_right (x ∷ xs) ys h = all_right xs ys (λ k d lt. h (suc k) d (omega arith))
+
   all_left : (xs ys : List A) → All P (xs ++ ys) → All P xs
   all_left [] ys h k d lt = absurd (omega arith)
   all_left (x ∷ xs) ys h zero d lt = h 0 d (omega arith)

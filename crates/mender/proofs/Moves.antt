@@ -9,10 +9,16 @@ use Rattle.mender.specs.declared.view.DrawerView.{DrawerView}
 use Rattle.gate.proofs.Lists.{at_inside, sum_at, sum-snoc, one_le, two_le, sum_alone, times-append, times-one}
 use Rattle.mender.specs.Drawn.{once_below}
 use Rattle.mender.specs.Rule.{Nothing, spent, draws_of, share_of, times_in, Kept, Known, drawn_more, Drew, Looked, kept_half, given_half, both}
-use Rattle.mender.proofs.Counts.{sum_le, none_drawn, once_below-suc, once_below-le, once_below-out}
+use Rattle.mender.proofs.Counts.{sum_le, none_drawn, all_below, once_below-suc, once_below-le, once_below-out}
 
 St : Type 0
 St = State Nothing DrawerView
+
+-- a drawer whose share is the whole has drawn all that was drawn
+counts_all : (s : State Nothing DrawerView) (k : Kept s) (id : ℕ) (v : DrawerView) → get_elem? s.views id ≡ some v → share_of v ≡ 2 ^ 40 → get_or s.words 0 0 ≡ length v.drawn
+counts_all s k id v at full =
+    let shares = k.shares in
+    k.count ∙ sum_alone draws_of s.views id v at (λ j u other there. let le = two_le share_of s.views id j v u (λ e. other (sym e)) at there in omega arith)
 
 -- what the rule says of one drawer
 pub known : (s : State Nothing DrawerView) (k : Kept s) (id : ℕ) (v : DrawerView) → get_elem? s.views id ≡ some v → Known v
@@ -28,9 +34,7 @@ known s k id v at = record {
       let idle : (j : ℕ) (u : DrawerView) → j ≢ id → get_elem? s.views j ≡ some u → length u.drawn ≡ 0 =
       λ j u other there. let le = two_le share_of s.views id j v u (λ e. other (sym e)) at there in omega arith in
       let sum = sum_alone (times_in n) s.views id v at (λ j u other there. none_drawn n u.drawn (idle j u other there)) in
-      let draws = sum_alone draws_of s.views id v at idle in
-      let word : get_or s.words 0 0 ≡ length v.drawn = k.count ∙ draws in
-      sym sum ∙ (k.once n ∙ ap (once_below n) word);
+      sym sum ∙ (k.once n ∙ ap (once_below n) (counts_all s k id v at full));
 }
 
 pub draws : (slots id : ℕ) (me : Me Nothing DrawerView) → 0 < me.0.allowance → Allows Kept slots id me 0 (λ n. (n + 1) % 2 ^ 64) (Drew (step slots 0 1 0 none) me)
@@ -66,6 +70,8 @@ draws slots id me some_left s k long at small =
         refl,
         (let mine = one_le (times_in n) s.views id v at in let all = k.once n in let none_yet = once_below-out n n (omega arith) in omega arith),
         known (stepped s 0 ((n + 1) % 2 ^ 64) id me.1 w keeps) after id w (set_here s.views id w (at_inside s.views id v at)),
+        all_below n v.drawn (λ m le. let mine = one_le (times_in m) s.views id v at in let all = k.once m in let none_yet = once_below-out m n le in omega arith),
+        (λ full. counts_all s k id v at full),
       ),
     )
 

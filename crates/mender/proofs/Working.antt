@@ -1,5 +1,5 @@
 -- What a worker did, step by step.
-use Rattle.std.proofs.Common.{◌≡◌, ℕ, ◌-◌, ◌<◌, List, [], ◌∷◌, ◌++◌, length, get_or, slice_get, Some, Ok, Err, refl, ap, sym, subst, ◌∙◌, arith, append_assoc, append-nil, length-append}
+use Rattle.std.proofs.Common.{◌≡◌, ℕ, zero, suc, ◌-◌, ◌<◌, List, [], ◌∷◌, ◌++◌, length, map, take, All, get_or, slice_get, Some, Ok, Err, refl, ap, sym, subst, ◌∙◌, arith, append_assoc, append-nil, length-append}
 use Rattle.std.proofs.lemmas.List.{map-append, length-map}
 use Rattle.std.proofs.lemmas.List.Elements.{All-append, All-nil}
 use Rattle.book.specs.declared.plan.Item.{Item}
@@ -9,9 +9,10 @@ use Rattle.gate.specs.Places.{times}
 use Rattle.gate.proofs.Lists.{times-append}
 use Rattle.mender.specs.declared.done.Done.{Done}
 use Rattle.std.proofs.lemmas.Option.{slice_get-get_or, slice_get_within}
-use Rattle.mender.specs.Drawn.{DrawerState}
+use Rattle.std.specs.List.Sorted.{IsStrictlyIncreasing}
+use Rattle.mender.specs.Drawn.{DrawerState, IsIntact, IsSole}
 use Rattle.mender.specs.Gathered.{tickets_of, IsOfPlan}
-use Rattle.mender.specs.Worked.{repair_of, replies_of, ask_of, asks_of, AreMended, Draws, Worked, Stopped, StoppedFull}
+use Rattle.mender.specs.Worked.{repair_of, replies_of, ask_of, asks_of, AreMended, AreInOrder, Draws, Worked, Stopped, StoppedFull}
 use Rattle.history.specs.Step.{Operation}
 use Rattle.sealed.specs.declared.fault.Fault.{Fault}
 use Rattle.sealed.specs.declared.fault.Fault.TheVariants.{JournalFull}
@@ -20,19 +21,21 @@ use Rattle.shared.specs.Calls.{Called}
 use Rattle.shared.specs.Serving.{Serves}
 use Rattle.shared.proofs.Serving.{serves_append, serves_longer, serves_one, serves_refused}
 use Rattle.requests.specs.declared.jobs.Reply.TheVariants.{Made, Refused}
-use Rattle.mender.proofs.Judged.{all_one, one_more}
+use Rattle.mender.proofs.Counts.{rises_none, rises-push}
+use Rattle.mender.proofs.Judged.{all_one, all_right, one_more}
 
 pub begun : (plan : List Item) (hand : DrawerState) → Worked plan hand hand [] []
 begun plan hand = record {
   draws = record { tickets = refl; allowance = omega arith; drawn = sym (append-nil hand.drawn) };
   of_plan = All-nil (IsOfPlan plan);
   once = λ n. omega arith;
+  rises = rises_none;
 }
 
 -- a number more was drawn
 pub drew : (plan : List Item) (old new new' : DrawerState) (done : List Done) (n : ℕ) → Worked plan old new done [] → 0 < new.allowance
-    → new' ≡ record new { allowance = new.allowance - 1; drawn = new.drawn ++ n ∷ [] } → Worked plan old new' done (n ∷ [])
-drew plan old new new' done n w some_left is = subst (λ h. Worked plan old h done (n ∷ [])) (sym is) record {
+    → new' ≡ record new { allowance = new.allowance - 1; drawn = new.drawn ++ n ∷ [] } → All (λ m. m < n) new.drawn → Worked plan old new' done (n ∷ [])
+drew plan old new new' done n w some_left is above = subst (λ h. Worked plan old h done (n ∷ [])) (sym is) record {
   draws = record {
     tickets = w.draws.tickets;
     allowance =
@@ -44,6 +47,9 @@ drew plan old new new' done n w some_left is = subst (λ h. Worked plan old h do
   };
   of_plan = w.of_plan;
   once = w.once;
+  rises =
+      let drawn : All (λ m. m < n) (tickets_of done ++ []) = all_right (λ m. m < n) old.drawn (tickets_of done ++ []) (subst (All (λ m. m < n)) w.draws.drawn above) in
+      rises-push (tickets_of done) n (subst IsStrictlyIncreasing (append-nil (tickets_of done)) w.rises) (subst (All (λ m. m < n)) (append-nil (tickets_of done)) drawn);
 }
 
 -- a number that the drawer had not drawn has no result
@@ -62,6 +68,7 @@ did plan old new done d w of_plan none =
       draws = subst (λ l. Draws old l new) (sym tickets) w.draws;
       of_plan = All-append (IsOfPlan plan) done (d ∷ []) w.of_plan (all_one (IsOfPlan plan) d of_plan);
       once = λ n. one_more done d n (w.once n) none;
+      rises = subst IsStrictlyIncreasing (sym tickets) w.rises;
     }
 
 pub found_at : (xs ys : List Item) (n : ℕ) (it : Item) → ys ≡ xs → n < length ys → it ≡ get_or ys n it → slice_get xs n ≡ Some it
@@ -74,11 +81,11 @@ pub record InHand (plan : List Item) (old new : DrawerState) (done : List Done) 
   pub after : Worked plan old new done (n ∷ [])
 
 pub in_hand : (plan ys : List Item) (old new new' : DrawerState) (done : List Done) (n : ℕ) (it : Item) → Worked plan old new done [] → 0 < new.allowance
-    → new' ≡ record new { allowance = new.allowance - 1; drawn = new.drawn ++ n ∷ [] } → times n new.drawn ≡ 0 → ys ≡ plan → n < length ys → it ≡ get_or ys n it → InHand plan old new' done n it
-in_hand plan ys old new new' done n it w some_left is fresh same lt here = record {
+    → new' ≡ record new { allowance = new.allowance - 1; drawn = new.drawn ++ n ∷ [] } → times n new.drawn ≡ 0 → All (λ m. m < n) new.drawn → ys ≡ plan → n < length ys → it ≡ get_or ys n it → InHand plan old new' done n it
+in_hand plan ys old new new' done n it w some_left is fresh above same lt here = record {
   there = found_at plan ys n it same lt here;
   none = none_yet plan old new done n w fresh;
-  after = drew plan old new new' done n w some_left is;
+  after = drew plan old new new' done n w some_left is above;
 }
 
 pub stopped : (plan : List Item) (old new : DrawerState) (done items : List Done) (n : ℕ) (it : Item) → InHand plan old new done n it → items ≡ done → Stopped plan old new items
@@ -129,3 +136,26 @@ did_more plan old new done items items' n d it h ticket same kept pushed =
     let of_plan : IsOfPlan plan d = ap (slice_get plan) ticket ∙ (h.there ∙ ap Some (sym same)) in
     subst (λ l. Worked plan old new l []) (sym list)
     (did plan old new done d (subst (λ m. Worked plan old new done (m ∷ [])) (sym ticket) h.after) of_plan (ap (λ m. times m (tickets_of done)) ticket ∙ h.none))
+
+-- ---- the order of the plan
+take_next : (xs : List Item) (n : ℕ) (x : Item) → slice_get xs n ≡ Some x → take (suc n) xs ≡ take n xs ++ x ∷ []
+take_next [] n x there = let lt = slice_get_within [] n x there in absurd (omega arith)
+take_next (y ∷ ys) zero x there = let same : y ≡ x = cc (there) in ap (λ (z : Item). z ∷ []) same
+take_next (y ∷ ys) (suc n) x there = ap (λ (l : List Item). y ∷ l) (take_next ys n x there)
+
+-- a drawer that had all tickets to draw has the next item of the plan in hand
+pub order_more : (plan : List Item) (old new : DrawerState) (done items items' : List Done) (n : ℕ) (d : Done) (it : Item) → Worked plan old new done [] → IsIntact old → (IsSole new → n ≡ length new.drawn)
+    → slice_get plan n ≡ Some it → d.item ≡ it → items ≡ done → items' ≡ items ++ d ∷ [] → AreInOrder plan done → AreInOrder plan items'
+order_more plan old new done items items' n d it w intact next there same kept pushed order =
+    let count : length (tickets_of done ++ []) ≡ length done = ap length (append-nil (tickets_of done)) ∙ length-map done (λ e. e.ticket) in
+    let drawn : length new.drawn ≡ length (old.drawn ++ (tickets_of done ++ [])) = ap length w.draws.drawn in
+    let sum = length-append old.drawn (tickets_of done ++ []) in
+    let none : length old.drawn ≡ 0 = ap length intact.1 in
+    let all = w.draws.allowance in
+    let given = intact.0 in
+    let number : n ≡ length new.drawn = next (omega arith) in
+    let place : length done ≡ n = omega arith in
+    let item : slice_get plan (length done) ≡ Some d.item = ap (slice_get plan) place ∙ (there ∙ ap Some (sym same)) in
+    let items_are : map (λ (e : Done). e.item) (done ++ d ∷ []) ≡ take (length done) plan ++ d.item ∷ [] = map-append (λ (e : Done). e.item) done (d ∷ []) ∙ ap (λ (l : List Item). l ++ d.item ∷ []) order in
+    let long : suc (length done) ≡ length (done ++ d ∷ []) = omega (arith, length-append done (d ∷ [])) in
+    subst (AreInOrder plan) (sym (pushed ∙ ap (λ l. l ++ d ∷ []) kept)) (items_are ∙ sym (take_next plan (length done) d.item item) ∙ ap (λ k. take k plan) long)

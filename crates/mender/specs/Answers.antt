@@ -19,7 +19,7 @@ is_gone NoName = true
 is_gone NoFragment = true
 is_gone answer = false
 
--- the fragment can't be told from those left
+-- the fragment is unrecoverable
 abbrev pub is_unrecoverable : Answer → Bool
 is_unrecoverable (Unrecoverable v) = true
 is_unrecoverable answer = false

@@ -1,8 +1,9 @@
 -- What the drawers of one `Tickets` have drawn.
-use Rattle.std.specs.Prelude.{◌≡◌, ℕ, ◌+◌, ◌^◌, nat_lt, cond, List, length}
+use Rattle.std.specs.Prelude.{◌≡◌, ℕ, ◌+◌, ◌^◌, nat_lt, cond, List, [], length}
 use Rattle.gate.specs.Places.{TableId, times}
 
--- what a clause sees of a drawer: its tickets, how many of them it may still draw, and the numbers that it has drawn, with those of the drawers that it joined
+-- what a clause sees of a drawer: its tickets, how many of them it may still draw, and the numbers
+-- that it has drawn, with those of the drawers that it joined
 pub record DrawerState : Type 0 where
   pub tickets : TableId
   pub allowance : ℕ
@@ -16,6 +17,14 @@ once_below n count = cond (nat_lt n count) 1 0
 abbrev pub AreFirst : List ℕ → ℕ → Type 0
 AreFirst numbers count = (n : ℕ) → times n numbers ≡ once_below n count
 
--- where no other drawer may draw or has drawn, this one has drawn the numbers below the count of its draws, each once
+-- the first drawer, from which nothing was drawn or split off
+abbrev pub IsIntact : DrawerState → Type 0
+IsIntact hand = (hand.allowance ≡ 2 ^ 40) × (hand.drawn ≡ [])
+
+-- no other drawer may draw or has drawn
+abbrev pub IsSole : DrawerState → Type 0
+IsSole hand = hand.allowance + length hand.drawn ≡ 2 ^ 40
+
+-- then this one has drawn the numbers below the count of its draws, each once
 abbrev pub IsWhole : DrawerState → Type 0
-IsWhole hand = hand.allowance + length hand.drawn ≡ 2 ^ 40 → AreFirst hand.drawn (length hand.drawn)
+IsWhole hand = IsSole hand → AreFirst hand.drawn (length hand.drawn)

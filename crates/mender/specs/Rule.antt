@@ -1,5 +1,5 @@
 -- The rule of the tickets, and what its steps tell. The word is the count of all draws.
-use Rattle.std.specs.Prelude.{◌≡◌, ℕ, ◌+◌, ◌-◌, ◌/◌, ◌^◌, ◌≤◌, List, [], ◌∷◌, ◌++◌, length, slice_index, sum_by}
+use Rattle.std.specs.Prelude.{◌≡◌, ℕ, ◌+◌, ◌-◌, ◌/◌, ◌^◌, ◌<◌, ◌≤◌, List, [], ◌∷◌, ◌++◌, length, slice_index, sum_by, All}
 use Rattle.atomic_table.specs.Table.{State, Me, Step}
 use Rattle.atomic_table.specs.declared.shared.Seat.{Seat}
 use Rattle.mender.specs.declared.view.DrawerView.{DrawerView}
@@ -34,14 +34,16 @@ share_of v = v.allowance + length v.drawn
 abbrev pub times_in : ℕ → DrawerView → ℕ
 times_in n v = times n v.drawn
 
--- the word counts all draws, each number below it was drawn by one drawer, once, and all shares add up
+-- the word counts all draws, each number below it was drawn by one drawer, once, and all shares add
+-- up
 pub record Kept (s : State Nothing DrawerView) : Type 0 where
   pub one_word : length s.words ≡ 1
   pub count : slice_index s.words 0 ≡ sum_by draws_of s.views
   pub once : (n : ℕ) → sum_by (times_in n) s.views ≡ once_below n (slice_index s.words 0)
   pub shares : sum_by share_of s.views ≡ 2 ^ 40
 
--- what the rule says of one drawer: it has drawn no number twice, and where its share is the whole, those below the count of its draws
+-- what the rule says of one drawer: it has drawn no number twice, and where its share is the whole,
+-- those below the count of its draws
 pub record Known (v : DrawerView) : Type 0 where
   pub once : (n : ℕ) → times n v.drawn ≤ 1
   pub few : share_of v ≤ 2 ^ 40
@@ -51,9 +53,12 @@ pub record Known (v : DrawerView) : Type 0 where
 abbrev pub drawn_more : DrawerView → ℕ → DrawerView
 drawn_more v n = view (v.allowance - 1) (v.drawn ++ n ∷ [])
 
--- the number that was found is the drawer's, and it had not drawn it
+-- The number that was found is the drawer's, and above all that it had drawn. A drawer whose share
+-- is the whole finds the count of its draws
 abbrev pub Drew : Step Nothing → Me Nothing DrawerView → ℕ → Me Nothing DrawerView → Type 0
-Drew st m found m' = (m' ≡ (drawn_more m.0 found, m.1)) × (times found m.0.drawn ≡ 0) × Known (drawn_more m.0 found)
+Drew st m found m' =
+    (m' ≡ (drawn_more m.0 found, m.1)) × (times found m.0.drawn ≡ 0) × Known (drawn_more m.0 found)
+    × All (λ n. n < found) m.0.drawn × (share_of m.0 ≡ 2 ^ 40 → found ≡ length m.0.drawn)
 
 -- nothing changes
 abbrev pub Looked : Step Nothing → Me Nothing DrawerView → ℕ → Me Nothing DrawerView → Type 0

@@ -1,5 +1,6 @@
 -- What a worker did.
-use Rattle.std.specs.Prelude.{◌≡◌, ◌⊎◌, ℕ, ◌+◌, ◌<◌, ◌≤◌, List, [], ◌∷◌, ◌++◌, length, map, All, Some, slice_get}
+use Rattle.std.specs.Prelude.{◌≡◌, ◌⊎◌, ℕ, ◌+◌, ◌<◌, ◌≤◌, List, [], ◌∷◌, ◌++◌, length, map, take, All, Some, slice_get}
+use Rattle.std.specs.List.Sorted.{IsStrictlyIncreasing}
 use Rattle.book.specs.declared.plan.Item.{Item}
 use Rattle.gate.specs.Places.{times}
 use Rattle.history.specs.Step.{Operation, repair}
@@ -30,7 +31,8 @@ ask_of item = Repair item.name item.stripe item.f
 abbrev pub asks_of : List Done → List Ask
 asks_of done = map (λ d. ask_of d.item) done
 
--- the pass made just the repairs of the results' items, in order, with the results' answers, each as the store of one thread does at its place
+-- the pass made just the repairs of the results' items, in order, with the results' answers, each
+-- as the store of one thread does at its place
 abbrev pub AreMended : Shows → List Done → Shows → Type 0
 AreMended v done w = Serves v (asks_of done) (replies_of done) w
 
@@ -40,13 +42,20 @@ pub record Draws (old : DrawerState) (numbers : List ℕ) (new : DrawerState) : 
   pub allowance : new.allowance + length numbers ≡ old.allowance
   pub drawn : new.drawn ≡ old.drawn ++ numbers
 
--- the drawer drew the results' tickets, each once, and then the others; each result is of the plan
+-- the drawer drew the results' tickets and then the others, in rising order; each result is of the
+-- plan
 pub record Worked (plan : List Item) (old new : DrawerState) (done : List Done) (others : List ℕ) : Type 0 where
   pub draws : Draws old (tickets_of done ++ others) new
   pub of_plan : All (IsOfPlan plan) done
   pub once : (n : ℕ) → times n (tickets_of done) ≤ 1
+  pub rises : IsStrictlyIncreasing (tickets_of done ++ others)
 
--- each ticket that was drawn has its result, but a last one past the plan's end; without such a one the allowance is 0
+-- the results are those of the plan's first items, in the plan's order
+abbrev pub AreInOrder : List Item → List Done → Type 0
+AreInOrder plan done = map (λ d. d.item) done ≡ take (length done) plan
+
+-- each ticket that was drawn has its result, but a last one past the plan's end; without such a one
+-- the allowance is 0
 abbrev pub Finished : List Item → DrawerState → DrawerState → List Done → Type 0
 Finished plan old new done = (Worked plan old new done [] × (new.allowance ≡ 0)) ⊎ ((n : ℕ) × (length plan ≤ n) × Worked plan old new done (n ∷ []))
 

@@ -1,9 +1,9 @@
-//! What a worker did.
+//! The results of a worker.
 ghost use Rattle.mender.specs.Answers.{IsOfRepair};
 
 use book::{Answer, Fault, Item};
 
-/// A ticket with its item, and what the item's repair answered: one of the five answers of a repair.
+/// A ticket with its item, and the answer of the item's repair, which is one of a repair's five.
 #[derive(Debug, Drop)]
 pub struct Done {
     /// The number that was drawn.
@@ -15,11 +15,12 @@ pub struct Done {
     ghost of_repair: { IsOfRepair answer },
 }
 
-/// Why a worker stopped, and what it had done. The ticket that it had drawn last has no result, and its repair was not made.
+/// Why a worker stopped, and its results so far. The ticket that it drew last has no result, and
+/// its repair was not made.
 #[derive(Debug, Drop)]
 pub struct WorkFault {
     /// `NoMemory` or `JournalFull`.
     pub fault: Fault,
-    /// The results before.
+    /// The results of the tickets before.
     pub done: Vec<Done>,
 }

@@ -3,7 +3,7 @@ ghost use Rattle.std.specs.Prelude.{◌≡◌, ◌↔◌, IsTrue};
 
 use book::Item;
 
-/// A copy. It asks for no memory.
+/// A copy. It does not allocate.
 pub(crate) fn duplicate(item: &Item) -> Item
     ensures { result ≡ item.now }
 {

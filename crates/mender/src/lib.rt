@@ -1,5 +1,6 @@
-//! Mending what is lost. A plan names the lost fragments, and each has a ticket, its number in the plan. Any number of workers draw tickets, each of which is
-//! drawn once, and repair what they drew. What they did is gathered again: one result for each item of the plan.
+//! Mending lost fragments. A plan names them, and each has a ticket, its index in the plan. Any
+//! number of workers draw tickets, in rising order and each once, and repair the items of their
+//! tickets. The results are gathered again: one for each item of the plan.
 #![tactic(auto)]
 
 mod done;

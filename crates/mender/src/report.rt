@@ -1,25 +1,25 @@
-//! What comes of a plan.
+//! The outcome of a mend.
 use std::fmt;
 
 /// How many answers of each kind there are.
 #[derive(Clone, Copy, Debug, Default, PartialEq, Eq)]
 pub struct Report {
-    /// Fragments that are there again.
+    /// Fragments that were rebuilt.
     pub repaired: u64,
-    /// Fragments that were there already.
+    /// Fragments that were not lost any more.
     pub not_lost: u64,
     /// Fragments of blobs that are gone: `NoName` or `NoFragment`.
     pub gone: u64,
-    /// Fragments that can't be told from those left.
+    /// Fragments that are unrecoverable.
     pub unrecoverable: u64,
 }
 
 /// Why results can't be gathered.
 #[derive(Clone, Copy, Debug, Drop, PartialEq, Eq)]
 pub enum Gather {
-    /// The ticket of a result is not below the plan's length, or its item is another than the plan's.
+    /// The ticket of a result is past the plan's end, or its item is not the plan's.
     Stranger = 1,
-    /// The ticket of a result has a result before it.
+    /// The ticket of a result has an earlier result.
     Twice = 2,
     /// An item of the plan has no result.
     Missing = 3,

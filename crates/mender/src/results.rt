@@ -1,30 +1,36 @@
-//! All results of a plan, put together.
+//! The results of all workers of a plan.
 ghost use Rattle.std.specs.Prelude.{◌≡◌, ◌^◌, IfOk, IfErr};
-ghost use Rattle.mender.specs.Gathered.{IsComplete, IsFault, FirstStranger, FirstTwice, LacksOne, IsRefused, AreBelow, report_of, with_answer};
+ghost use Rattle.mender.specs.Gathered.{IsComplete, IsFault, FirstStranger, FirstTwice, LacksOne};
+ghost use Rattle.mender.specs.Gathered.{IsRefused, AreBelow, report_of, with_answer};
 
 use crate::item::are_same;
 use crate::{Done, Gather, Report};
 use book::{Answer, Plan};
 use std::alloc::Global;
 
-/// Counts the answers, where each item of the plan has just one result, whatever the order of the results.
+/// Counts the answers, if each item of the plan has just one result, in any order of the results.
 ///
-/// Else the first fault in the list's order is answered: `Stranger` at a result that is not of the plan, `Twice` at one whose ticket has a result before it,
-/// and past the list's end `Missing`, where an item has no result. `NoMemory` where memory to mark the tickets is refused.
+/// Else the answer is the first fault in the order of the results: `Stranger` at a result that is
+/// not of the plan, `Twice` at one whose ticket has an earlier result, and at the end `Missing`, if
+/// an item has no result. `NoMemory` if there is no memory to mark the tickets.
 pub fn gather(alloc: Global, plan: &Plan, done: Vec<Done>) -> Result<Report, Gather>
-    ensures ok { IfOk result (λ report. IsComplete plan.now.items.items done.items × (report ≡ report_of done.items)) }
+    ensures ok { IfOk result
+        (λ report. IsComplete plan.now.items.items done.items × (report ≡ report_of done.items)) }
     ensures err { IfErr result (λ fault. IsFault plan.now.items.items done.items fault) }
-    ensures complete { IsComplete plan.now.items.items done.items → IfErr result (λ fault. fault ≡ Gather.NoMemory) }
-    ensures stranger { FirstStranger plan.now.items.items done.items → IsRefused Gather.Stranger result }
+    ensures complete { IsComplete plan.now.items.items done.items
+        → IfErr result (λ fault. fault ≡ Gather.NoMemory) }
+    ensures stranger { FirstStranger plan.now.items.items done.items
+        → IsRefused Gather.Stranger result }
     ensures twice { FirstTwice plan.now.items.items done.items → IsRefused Gather.Twice result }
     ensures missing { LacksOne plan.now.items.items done.items → IsRefused Gather.Missing result }
 {
     judge(alloc, plan, &done)
 }
 
-/// The same, by what each answer says of the results.
+/// As `gather`, with what each answer says of the results.
 fn judge(alloc: Global, plan: &Plan, done: &[Done]) -> Result<Report, Gather>
-    ensures ok { IfOk result (λ report. IsComplete plan.now.items.items done.now × (report ≡ report_of done.now)) }
+    ensures ok { IfOk result
+        (λ report. IsComplete plan.now.items.items done.now × (report ≡ report_of done.now)) }
     ensures err { IfErr result (λ fault. IsFault plan.now.items.items done.now fault) }
 {
     let Ok(mut seen) = vec![in alloc; false; plan.items.len()] else {

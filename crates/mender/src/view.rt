@@ -1,14 +1,16 @@
-//! What the drawers of one `Tickets` know, the rule that they keep, and what each step tells.
+//! What the drawers of one `Tickets` know, the rule that they keep, and what each step shows them.
 use atomic_table::{Join, Play, Split, TableRule};
 use std::collections::LinkedList;
 
-/// What a drawer knows: how many numbers it may still draw, and which it has drawn. No value of it is made.
+/// What a drawer knows: how many numbers it may still draw, and which it has drawn. It exists in
+/// proofs alone.
 pub struct DrawerView {
     pub allowance: u64,
     pub drawn: LinkedList<u64>,
 }
 
-/// The rule that the table keeps at every moment: the word is the count of all draws, and no two drawers hold one number.
+/// The rule that the table keeps at every moment: the word is the count of all draws, and no two
+/// drawers hold the same number.
 pub struct TicketRule;
 
 impl TableRule<(), DrawerView, ()> for TicketRule {

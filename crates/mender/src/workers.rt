@@ -1,10 +1,14 @@
 //! Workers who draw the tickets of a plan and mend its items.
-ghost use Rattle.std.specs.Prelude.{◌≡◌, ◌≤◌, ◌^◌, [], length, None, IfOk, IfErr};
+ghost use Rattle.std.specs.Prelude.{◌≡◌, ◌⊎◌, ◌≤◌, ◌^◌, [], length, None, IfOk, IfErr};
+ghost use Rattle.std.specs.Vec.{vec_capacity};
 ghost use Rattle.history.specs.History.{state_of};
 ghost use Rattle.book.specs.Plan.{plan_of};
 ghost use Rattle.book.specs.Tells.{IsCallFault};
 ghost use Rattle.shared.specs.Deeds.{Takes};
-ghost use Rattle.mender.specs.Worked.{Finished, Stopped, StoppedFull, IfFull, AreMended};
+ghost use Rattle.shared.specs.Calls.{HasRoom};
+ghost use Rattle.mender.specs.Drawn.{IsIntact};
+ghost use Rattle.mender.specs.Worked.{Finished, Stopped, StoppedFull, IfFull, AreInOrder};
+ghost use Rattle.mender.specs.Worked.{AreMended};
 
 use crate::item::duplicate;
 use crate::{Done, Drawer, Tickets, WorkFault};
@@ -13,9 +17,10 @@ use shared::{Pass, Store};
 use std::alloc::Global;
 use std::sync::Wait;
 
-/// The plan of what is lost, tickets for it of which none is drawn, and the one drawer for them. It is no call of the history, of which the pass may have seen more.
+/// The plan of the lost fragments, tickets for it of which none is drawn, and the one drawer for
+/// them. It is no call of the history. The pass may have seen more of the history.
 ///
-/// `NoMemory` where memory is refused.
+/// `NoMemory` if out of memory.
 pub fn scrub<R: Wait>(
     rt: &R,
     alloc: Global,
@@ -25,7 +30,8 @@ pub fn scrub<R: Wait>(
     requires { pass.old.store ≡ store.now }
     ensures takes { Takes pass.old None pass.new }
     ensures plan { IfOk result (λ r. r.0.items.items ≡ plan_of (state_of pass.new.seen)) }
-    ensures drawer { IfOk result (λ r. r.2 ≡ record { tickets = r.1; allowance = 2 ^ 40; drawn = [] }) }
+    ensures drawer { IfOk result
+        (λ r. r.2 ≡ record { tickets = r.1; allowance = 2 ^ 40; drawn = [] }) }
     ensures faults { IfErr result (λ e. e ≡ Fault.NoMemory) }
 {
     let plan = store.plan(rt, alloc, pass)?;
@@ -33,11 +39,15 @@ pub fn scrub<R: Wait>(
     Ok((plan, tickets, drawer))
 }
 
-/// Draws tickets and repairs the item of each, until a ticket is not below the plan's length or the allowance is 0. Each ticket below the plan's length that was drawn
-/// in this call has one result, with the answer of the one repair that was made for it.
+/// Draws tickets and repairs the item of each, until a ticket is past the plan's end or the
+/// allowance is 0. Each ticket of the plan that was drawn in this call has one result, with the
+/// answer of the one repair that was made for it. The tickets rise, so the items are repaired in
+/// the plan's order. A worker whose drawer has the whole allowance repairs the plan's items from
+/// the first on.
 ///
-/// `JournalFull` where a repair found the journal as long as its limit; `NoMemory` where memory is refused. Then the fault has the results so far; the ticket drawn last has
-/// none, and its repair was not made.
+/// `JournalFull` if a repair found as many entries in the journal as its limit. `NoMemory` if there
+/// is no memory for one more result, or for a repair of which the journal had room. The fault has
+/// the results so far. The ticket drawn last has none, and its repair was not made.
 pub fn work<R: Wait>(
     rt: &R,
     alloc: Global,
@@ -49,13 +59,23 @@ pub fn work<R: Wait>(
 ) -> Result<Vec<Done>, WorkFault>
     requires store { pass.old.store ≡ store.now }
     requires tickets { drawer.old.tickets ≡ tickets.now }
-    ensures ok { IfOk result (λ done. Finished plan.now.items.items drawer.old drawer.new done.items) }
+    ensures ok { IfOk result
+        (λ done. Finished plan.now.items.items drawer.old drawer.new done.items) }
     ensures mended { IfOk result (λ done. AreMended pass.old done.items pass.new) }
-    ensures err { IfErr result (λ stop. Stopped plan.now.items.items drawer.old drawer.new stop.done.items) }
+    ensures err { IfErr result
+        (λ stop. Stopped plan.now.items.items drawer.old drawer.new stop.done.items) }
     ensures mended_by_then { IfErr result (λ stop. AreMended pass.old stop.done.items pass.new) }
     ensures faults { IfErr result (λ stop. IsCallFault stop.fault) }
-    ensures full { IfErr result (λ stop. stop.fault ≡ Fault.JournalFull → pass.new.store.limit ≤ length pass.new.seen) }
-    ensures stopped_full { IfErr result (λ stop. IfFull stop.fault (StoppedFull plan.now.items.items drawer.old drawer.new pass.old stop.done.items pass.new)) }
+    ensures full { IfErr result
+        (λ stop. stop.fault ≡ Fault.JournalFull → pass.new.store.limit ≤ length pass.new.seen) }
+    ensures in_order { IfOk result
+        (λ done. IsIntact drawer.old → AreInOrder plan.now.items.items done.items) }
+    ensures in_order_by_then { IfErr result
+        (λ stop. IsIntact drawer.old → AreInOrder plan.now.items.items stop.done.items) }
+    ensures no_memory { IfErr result (λ stop. stop.fault ≡ Fault.NoMemory
+        → HasRoom pass.new ⊎ (vec_capacity stop.done ≡ length stop.done.items)) }
+    ensures stopped_full { IfErr result (λ stop. IfFull stop.fault (StoppedFull plan.now.items.items
+        drawer.old drawer.new pass.old stop.done.items pass.new)) }
 {
     let mut done = Vec::new(alloc);
     while let Some(ticket) = tickets.draw(drawer) {

@@ -1,4 +1,4 @@
-//! The inspection of a book before a repair. What can be rebuilt is left to be rebuilt outside the gate.
+//! The inspection of a book before a repair. Fragments are rebuilt outside the critical section.
 ghost use Rattle.std.specs.Prelude.{◌≡◌};
 ghost use Rattle.book.specs.Tells.{KeepsBase};
 ghost use Rattle.requests.specs.Inspections.{FoundIn};
@@ -12,7 +12,7 @@ use std::sync::Arc;
 /// What the inspection before a repair finds.
 #[derive(Debug, Drop)]
 pub enum Inspection {
-    /// The repair was made, and answered so.
+    /// The repair was made, with this answer.
     Done(Answer),
     /// It was refused.
     Refused(Fault),
@@ -20,9 +20,11 @@ pub enum Inspection {
     Rebuildable(Arc<Sealed>),
 }
 
-/// Looks at the book in the gate, and makes the repair there if it answers anything but `Repaired`. Else nothing is done, and the value is given to rebuild from.
+/// Inspects the book in the gate, and makes the repair there if its answer is not `Repaired`. Else
+/// it changes nothing, and gives the value to rebuild from.
 ///
-/// Refused by `JournalFull` where the journal holds as many entries as its limit; else by `NoMemory` where memory is refused.
+/// `JournalFull` if the journal holds as many entries as its limit; else `NoMemory` if out of
+/// memory.
 pub fn inspect(
     kept: &mut Kept,
     alloc: Global,
@@ -38,7 +40,7 @@ pub fn inspect(
     inspect_book(book, alloc, who, name, stripe, fragment)
 }
 
-/// Looks at a book, and makes the repair there if it answers anything but `Repaired`.
+/// Inspects a book, and makes the repair there if its answer is not `Repaired`.
 fn inspect_book(
     book: &mut Book,
     alloc: Global,

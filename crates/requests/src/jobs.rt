@@ -1,4 +1,4 @@
-//! Runs of calls: what is asked for, and what comes of it.
+//! Runs of calls: the jobs, and the replies to them.
 ghost use Rattle.std.specs.Prelude.{ℕ, Bool, ⊤};
 
 use book::{Answer, Fault, Name};
@@ -27,7 +27,7 @@ pub enum Ask {
         stripe: u64,
         fragment: u64,
     },
-    /// Mends a lost fragment of a stripe.
+    /// Repairs a lost fragment of a stripe.
     Repair {
         name: Name,
         stripe: u64,
@@ -41,13 +41,13 @@ pub enum Ask {
     Stat {
         name: Name,
     },
-    /// Gives up all entries of the journal but the last `keep`.
+    /// Discards all entries of the journal except the last `keep`.
     Trim {
         keep: u64,
     },
 }
 
-/// What is asked for, and the row that asks.
+/// A call or a trim, and the row that asks for it.
 #[derive(Debug, Drop, PartialEq, Eq)]
 pub struct Job {
     /// The row.
@@ -56,21 +56,21 @@ pub struct Job {
     pub ask: Ask,
 }
 
-/// What came of a job.
+/// The reply to a job.
 #[derive(Debug, Drop)]
 pub enum Reply {
-    /// The call was made, and answered so.
+    /// The call was made, with this answer.
     Made(Answer),
-    /// It was refused, as the journal was full or the blob too long, and was not made.
+    /// The call was refused, for a full journal or a blob that is too long, and was not made.
     Refused(Fault),
-    /// So many entries were given up.
+    /// So many entries were discarded.
     Trimmed(u64),
 }
 
 /// Why a run stopped.
 #[derive(Clone, Copy, Debug, Drop, PartialEq, Eq, Error)]
 pub enum Cause {
-    /// Memory was refused.
+    /// Out of memory.
     #[error("out of memory")]
     NoMemory,
     /// A `before` answered false.

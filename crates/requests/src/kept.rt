@@ -1,4 +1,4 @@
-//! A book as it lies in the gate.
+//! A book in the gate.
 ghost use Rattle.std.specs.Prelude.{◌≡◌, ◌+◌, length, IfOk, IfErr, OnErr};
 ghost use Rattle.history.specs.History.{History, state_of};
 ghost use Rattle.book.specs.Tells.{Tells};
@@ -9,7 +9,8 @@ use book::{Book, Fault, Plan};
 use gate::Follows;
 use std::alloc::{AllocError, Global};
 
-/// A book, behind one pointer, so that little goes through the gate. Another may follow it where whatever acts this one tells are told by the other, as they are or with one more, the same for all of them.
+/// A book, behind one pointer, so that the gate moves few bytes. Another book may follow it if it
+/// records what this one records: the same acts, or those with one more.
 #[derive(Drop)]
 pub struct Kept(pub Box<Book, Global>);
 
@@ -33,18 +34,22 @@ impl Kept {
 
     /// The lost fragments of all blobs, as `Book::plan` gives them.
     pub fn plan(&self, alloc: Global) -> Result<Plan, AllocError>
-        ensures { IfOk result (λ p. (h : History) → Tells self.now.0.value h → p.items.items ≡ plan_of (state_of h)) }
+        ensures { IfOk result (λ p. (h : History) → Tells self.now.0.value h
+            → p.items.items ≡ plan_of (state_of h)) }
     {
         let book: &Book = &self.0;
         book.plan(alloc)
     }
 
-    /// Gives up all entries but the last `keep`, as `Book::trim` does.
+    /// Discards all entries except the last `keep`, as `Book::trim` does.
     pub fn trim(&mut self, alloc: Global, keep: u64) -> Result<u64, Fault>
         ensures told { (h : History) → Tells self.old.0.value h → Tells self.new.0.value h }
-        ensures answer { IfOk result (λ n. n ≡ given_up self.old.0.value.base.trimmed (length self.old.0.value.entries) keep) }
-        ensures trimmed { IfOk result (λ n. self.new.0.value.base.trimmed ≡ self.old.0.value.base.trimmed + n) }
-        ensures kept { (self.new.0.value.width ≡ self.old.0.value.width) × (self.new.0.value.limit ≡ self.old.0.value.limit) }
+        ensures answer { IfOk result (λ n.
+            n ≡ given_up self.old.0.value.base.trimmed (length self.old.0.value.entries) keep) }
+        ensures trimmed { IfOk result
+            (λ n. self.new.0.value.base.trimmed ≡ self.old.0.value.base.trimmed + n) }
+        ensures kept { (self.new.0.value.width ≡ self.old.0.value.width)
+            × (self.new.0.value.limit ≡ self.old.0.value.limit) }
         ensures faults { IfErr result (λ e. e ≡ Fault.NoMemory) }
         ensures err { OnErr result (self.new.0.value ≡ self.old.0.value) }
     {

@@ -1,4 +1,5 @@
-//! What is asked of a store, as values: calls with all that they need, made on a book as it lies in the gate, and the jobs of a run.
+//! Requests to a store, as values: calls with all that they need, made on a book in the gate, and
+//! the jobs of a run.
 #![tactic(auto)]
 
 mod inspection;

@@ -1,4 +1,4 @@
-//! Calls as they are made on the book in the gate.
+//! Calls on the book in the gate.
 ghost use Rattle.std.specs.Prelude.{◌≡◌, ◌↔◌, length, IfOk, IfErr, OnErr};
 ghost use Rattle.book.specs.Tells.{CarriesOn, KeepsBase};
 ghost use Rattle.requests.specs.Requests.{operation_of, CanMake, IsAnswerTo, MayWant, IsFaultOf};
@@ -9,10 +9,11 @@ use bytes::Bytes;
 use sealed::Sealed;
 use std::alloc::Global;
 
-/// A call with all that it needs, made before the gate is entered: the blob of a put is sealed, and the fragment that a repair installs is rebuilt.
+/// A call with all that it needs, made before the critical section: the blob of a put is sealed,
+/// and the fragment that a repair installs is rebuilt.
 #[derive(Drop)]
 pub enum Request {
-    /// Stores the sealed blob, of which nothing is lost and which has the book's width, under the name.
+    /// Stores the sealed blob, which has no lost fragment and the book's width, under the name.
     Put {
         alloc: Global,
         name: Name,
@@ -31,7 +32,7 @@ pub enum Request {
         stripe: u64,
         fragment: u64,
     },
-    /// Mends it by these bytes, rebuilt from the blob of this version.
+    /// Installs these bytes, which were rebuilt from the blob of this version.
     Install {
         alloc: Global,
         name: Name,
@@ -40,7 +41,7 @@ pub enum Request {
         fragment: u64,
         bytes: Bytes,
     },
-    /// Takes the name out.
+    /// Deletes the name.
     Delete {
         name: Name,
     },
@@ -53,14 +54,17 @@ pub enum Request {
 impl Request {
     /// Makes the call on the book in the gate, under this label.
     ///
-    /// `JournalFull` where the journal holds as many entries as its limit; else `NoMemory` where memory is refused, which a deletion and a question for the shape don't ask for. After
-    /// either the book is as it was.
+    /// `JournalFull` if the journal holds as many entries as its limit; else `NoMemory` if out of
+    /// memory. A deletion and a question for the shape do not allocate. After either the book is
+    /// unchanged.
     pub fn make_on(self, kept: &mut Kept, who: u32) -> Result<Answer, Fault>
         requires { CanMake kept.old.0.value self }
-        ensures ok { IfOk result (CarriesOn kept.old.0.value kept.new.0.value who (operation_of self)) }
+        ensures ok { IfOk result
+            (CarriesOn kept.old.0.value kept.new.0.value who (operation_of self)) }
         ensures answer { IfOk result (IsAnswerTo kept.old.0.value self) }
         ensures no_memory { result ≡ Err Fault.NoMemory → MayWant kept.old.0.value self }
-        ensures full { (result ≡ Err Fault.JournalFull) ↔ (length kept.old.0.value.entries ≡ kept.old.0.value.limit) }
+        ensures full { (result ≡ Err Fault.JournalFull)
+            ↔ (length kept.old.0.value.entries ≡ kept.old.0.value.limit) }
         ensures kept { KeepsBase kept.old.0.value kept.new.0.value }
         ensures faults { IfErr result (IsFaultOf self) }
         ensures err { OnErr result (kept.new.0.value ≡ kept.old.0.value) }
@@ -75,7 +79,8 @@ impl Request {
         ensures ok { IfOk result (CarriesOn book.old book.new who (operation_of self)) }
         ensures answer { IfOk result (IsAnswerTo book.old self) }
         ensures no_memory { result ≡ Err Fault.NoMemory → MayWant book.old self }
-        ensures full { (result ≡ Err Fault.JournalFull) ↔ (length book.old.entries ≡ book.old.limit) }
+        ensures full { (result ≡ Err Fault.JournalFull)
+            ↔ (length book.old.entries ≡ book.old.limit) }
         ensures kept { KeepsBase book.old book.new }
         ensures faults { IfErr result (IsFaultOf self) }
         ensures err { OnErr result (book.new ≡ book.old) }

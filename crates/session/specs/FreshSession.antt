@@ -9,11 +9,11 @@ use Rattle.shared.specs.Passes.{Shows, Agrees}
 pub record IsFresh (width limit : ℕ) (v : Shows) : Type 0 where
   pub width_is : v.store.width ≡ width
   pub limit_is : v.store.limit ≡ limit
-  pub is : v ≡ record { store = v.store; who = 0; room = 64; seen = []; trimmed = 0; made = []; acts = []; did = [] }
+  pub is : v ≡ record { store = v.store; who = 0; room = 64; seen = []; trimmed = 0; made = []; acts = []; did = []; visits = 0 }
 
 -- a session with this label that has seen the same as v, and has made no call
 pub record IsSplitOff (v : Shows) (who : ℕ) (w : Shows) : Type 0 where
-  pub is : w ≡ record { store = v.store; who = who; room = 1; seen = v.seen; trimmed = v.trimmed; made = []; acts = v.acts; did = [] }
+  pub is : w ≡ record { store = v.store; who = who; room = 1; seen = v.seen; trimmed = v.trimmed; made = []; acts = v.acts; did = []; visits = 0 }
 
 -- the book represents all that the session has seen, and each of its calls and trims was the
 -- session's own

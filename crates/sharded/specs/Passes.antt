@@ -36,6 +36,7 @@ fresh_pass s = record {
   made = [];
   acts = [];
   did = [];
+  visits = 0;
 }
 
 -- ---- split
@@ -54,6 +55,7 @@ given_in_split who v = record {
   made = [];
   acts = v.acts;
   did = [];
+  visits = 0;
 }
 
 abbrev pub HaveRoom : List Shows → Type 0

@@ -80,6 +80,7 @@ inspection_found p q x y who n j f (Rebuildable s) step left is = record {
   room = room_seen p q x who step left is.3;
   known = known p q x n s.value step is.1;
   rebuildable = is.2;
+  visits = step.visits;
 }
 
 -- a rebuilt fragment is that of the put

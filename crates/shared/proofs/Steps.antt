@@ -86,6 +86,7 @@ pub record Stepped (p q : SeatState Kept) (x : Kept) (g : History) (n : ℕ) : T
   pub did : did_of q.list q.own ≡ did_of p.list p.own ++ number_if (length (acts_of p.list ++ others)) (acts_for g n)
   pub seen : seen_of q.list ≡ (seen_of p.list ++ events_in others) ++ g
   pub made : made_of q.list q.own ≡ made_of p.list p.own ++ number_if (length (seen_of p.list ++ events_in others)) g
+  pub visits : length q.own ≡ length p.own + 1
   pub legal : IsLegal (width_of q.list) (seen_of q.list)
   pub pass : IsPass q
   pub lone : p.room ≡ 64 → (others ≡ []) × (x.0.value.base.trimmed ≡ trimmed_of p.list)
@@ -136,6 +137,7 @@ stepped p m q x y g n pass enters leaves on =
       did = acts.1 ∙ ap (λ (l : List Act). did_of p.list p.own ++ number_if (length l) (acts_for g n)) (sym before);
       seen = seen ∙ ap (λ l. l ++ g) before_events;
       made = calls.1 ∙ ap (λ (l : History). made_of p.list p.own ++ number_if (length l) g) (sym (seen_is m.list) ∙ before_events);
+      visits = ap length places ∙ length-append p.own (length m.list ∷ []);
       legal = subst P now.width now_told.tells.legal;
       pass = record {
         outside = leaves.same.2;

@@ -15,24 +15,32 @@ use Rattle.book.specs.Tells.{Represents}
 use Rattle.shared.specs.Deeds.{deed_of, Takes}
 use Rattle.shared.specs.Passes.{Shows}
 
--- the journal had room: fewer entries than its limit. These are the calls that were seen and not given up
+-- the journal had room: fewer entries than its limit. These are the calls that were seen and not
+-- discarded
 abbrev pub HasRoom : Shows → Type 0
 HasRoom w = length w.seen < w.trimmed + w.store.limit
 
--- a put may be refused outside, before the gate is entered, and then the pass is as it was. No other call is
+-- a put may be refused outside, before the gate is entered, and then the pass is as it was. No
+-- other call is
 abbrev pub IsOutside : Shows → Operation → Shows → Type 0
 IsOutside v (put n code b) w = w ≡ v
 IsOutside v operation w = ⊥
 
--- What the pass shows afterwards: with an answer the call was made, and with a fault it was not. Memory was refused where the journal had fewer entries than its limit, or
--- outside. A blob that is too long is refused outside
+-- a put was refused before it entered: sealing was out of memory, or the blob is too long
+abbrev pub IsRefusedOutside : Shows → Result Answer Fault → Shows → Type 0
+IsRefusedOutside v r w = (w ≡ v) × ((r ≡ Err NoMemory) ⊎ (r ≡ Err TooLong))
+
+-- What the pass shows afterwards: with an answer the call was made, and with a fault it was not.
+-- Memory was refused where the journal had fewer entries than its limit, or outside. A blob that is
+-- too long is refused outside
 pub record Called (v : Shows) (operation : Operation) (r : Result Answer Fault) (w : Shows) : Type 0 where
   pub takes : Takes v (deed_of operation r) w
   pub no_memory : r ≡ Err NoMemory → HasRoom w ⊎ IsOutside v operation w
   pub outside : r ≡ Err TooLong → w ≡ v
 
--- The grant has the range that was asked for. After the history the name has a blob, which the grant's value represents. The blob was put in the history under its
--- version, and no other put has this version.
+-- The grant has the range that was asked for. After the history the name has a blob, which the
+-- grant's value represents. The blob was put in the history under its version, and no other put has
+-- this version.
 pub record GrantedIn (h : History) (w : ℕ) (n : List ℕ) (start len : ℕ) (g : Grant) : Type 0 where
   pub start_is : g.start ≡ start
   pub len_is : g.len ≡ len

@@ -1,4 +1,4 @@
--- What a pass does, as the store of one thread does it after all that was done before.
+-- What a pass does, as the sequential specification does it after all that was done before.
 use Rattle.std.specs.Prelude.{◌≡◌, ℕ, List, [], ◌++◌, length, Option, None, Some, Result, Ok, Err, IfSome}
 use Rattle.gate.specs.Events.{number_if}
 use Rattle.sealed.specs.declared.fault.Fault.{Fault}
@@ -25,8 +25,9 @@ abbrev pub act_if : ℕ → Option Deed → List Act
 act_if who None = []
 act_if who (Some deed) = act_of who deed
 
--- After the acts that the pass had seen, and those of others, one thread does this deed, if there is one. It is the last act that the pass shows, at a new own place, where it
--- is one at all. While no other pass is out, there are no acts of others
+-- After the acts that the pass had seen, and those of others, one thread does this deed, if there
+-- is one. It is the last act that the pass shows, at a new own place, where it is one at all. While
+-- no other pass is out, there are no acts of others
 pub record Takes (v : Shows) (deed : Option Deed) (w : Shows) : Type 0 where
   pub stays : Stays v w
   pub others : List Act

@@ -1,5 +1,5 @@
 -- What the inspection before a repair finds.
-use Rattle.std.specs.Prelude.{◌≡◌, ◌⊎◌, ℕ, List, None, Ok, Err}
+use Rattle.std.specs.Prelude.{◌≡◌, ◌⊎◌, ℕ, ◌+◌, List, None, Ok, Err}
 use Rattle.sealed.specs.declared.value.Sealed.{Sealed}
 use Rattle.sealed.specs.Rebuilding.{IsRebuildable}
 use Rattle.history.specs.State.{Blob}
@@ -18,14 +18,17 @@ pub record IsKnown (h : History) (w : ℕ) (n : List ℕ) (s : Sealed) : Type 0 
   pub represents : Represents w s blob
   pub put_is : HasPut h blob.version n blob.code blob.bytes
 
--- a pass found that there is room, and that the fragment can be rebuilt from this value
+-- a pass entered once, and found that there is room, and that the fragment can be rebuilt from this
+-- value
 pub record CanMend (v : Shows) (n : List ℕ) (j f : ℕ) (s : Sealed) (w : Shows) : Type 0 where
   pub takes : Takes v None w
   pub room : HasRoom w
   pub known : IsKnown w.seen w.store.width n s
   pub rebuildable : IsRebuildable s j f
+  pub visits : w.visits ≡ v.visits + 1
 
--- a pass that does not wait found somebody inside: it is as it was, or has looked before that and found a value to rebuild from
+-- a pass that does not wait found somebody inside: it is as it was, or has looked before that and
+-- found a value to rebuild from
 abbrev pub FoundBusy : Shows → List ℕ → ℕ → ℕ → Shows → Type 0
 FoundBusy v n j f w = (w ≡ v) ⊎ ((s : Sealed) × CanMend v n j f s w)
 

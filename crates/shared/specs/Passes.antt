@@ -14,8 +14,10 @@ pub record Which : Type 0 where
   pub width : ℕ
   pub limit : ℕ
 
--- What a clause sees of a pass. Of the calls that it has seen, so many were given up when it was inside last. `made` are the places in `seen` of the calls that it made,
--- and `did` those in `acts` of the calls and the trims
+-- What a clause sees of a pass. Of the calls that it has seen, so many were discarded when it was
+-- last in the critical section. `made` are the places in `seen` of the calls that it made, and
+-- `did` those in `acts` of the calls and the trims. It has left the critical section `visits`
+-- times, with those of the passes that it joined
 pub record Shows : Type 0 where
   pub store : Which
   pub who : ℕ
@@ -25,6 +27,7 @@ pub record Shows : Type 0 where
   pub made : List ℕ
   pub acts : List Act
   pub did : List ℕ
+  pub visits : ℕ
 
 abbrev pub between_kept : Kept → Kept → History
 between_kept a b = between a.0.value b.0.value
@@ -69,6 +72,7 @@ shows p who = record {
   made = made_of p.list p.own;
   acts = acts_of p.list;
   did = did_of p.list p.own;
+  visits = length p.own;
 }
 
 -- the book has this width and limit, and tells these acts
@@ -90,7 +94,8 @@ pub record IsPass (p : SeatState Kept) : Type 0 where
 abbrev pub calls_at : List Act → List ℕ → List ℕ
 calls_at acts places = flat_map (λ k. number_if (length (events_in (take k acts))) (events_in (take 1 (drop k acts)))) places
 
--- the history, what was given up of it and the own calls are those of the acts, and no more calls were seen and not given up than the limit
+-- the history, the count of its discarded calls and the own calls are those of the acts, and no
+-- more calls were seen and not discarded than the limit
 pub record Agrees (v : Shows) : Type 0 where
   pub seen_is : v.seen ≡ events_in v.acts
   pub trimmed_is : v.trimmed ≡ given_in v.acts

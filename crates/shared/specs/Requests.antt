@@ -10,7 +10,7 @@ use Rattle.requests.specs.declared.request.Request.TheVariants.{Put, Read, Insta
 use Rattle.shared.specs.Calls.{IfGranted, GrantedIn, CanGrant}
 use Rattle.shared.specs.Passes.{Shows}
 
--- it can be asked of a store by who has this pass
+-- a caller with this pass can ask it of a store
 abbrev pub CanAsk : Shows → Request → Type 0
 CanAsk v (Put alloc n s) = (s.width ≡ v.store.width) × ((b : List ℕ) × StandsFor s b nothing)
 CanAsk v (Install alloc n version j f bytes) = IsFragmentIn v.seen v.store.width n version j f bytes

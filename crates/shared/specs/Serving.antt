@@ -1,4 +1,4 @@
--- Runs of jobs, as the store of one thread does them, each at its place.
+-- Runs of jobs, as the sequential specification does them, each at its place.
 use Rattle.std.specs.Prelude.{◌≡◌, ℕ, ◌+◌, ◌≤◌, List, [], ◌∷◌, ◌++◌, map, length, Option, Some, None}
 use Rattle.std.specs.List.{flat_map}
 use Rattle.std.specs.Option.{option_map}
@@ -52,8 +52,8 @@ pub record Turn : Type 0 where
 abbrev pub act_in : ℕ → Turn → List Act
 act_in who t = act_if who (deed_told t.ask t.reply)
 
--- What the reply tells is what one thread does after the first acts, as many as the place says. It is the next act, where it is one. A granted read is so after just these acts
--- and itself
+-- What the reply tells is what one thread does after the first acts, as many as the place says. It
+-- is the next act, where it is one. A granted read is so after just these acts and itself
 pub record IsServed (w limit : ℕ) (acts : List Act) (who : ℕ) (t : Turn) : Type 0 where
   pub deed : Deed
   pub told : deed_told t.ask t.reply ≡ Some deed
@@ -77,8 +77,9 @@ places_of who turns = flat_map (λ t. number_if t.place (act_in who t)) turns
 abbrev pub acts_in : ℕ → List Turn → List Act
 acts_in who turns = flat_map (act_in who) turns
 
--- The first jobs have these replies, in order, each in its turn, under the pass's label and after all that the pass had seen; and the pass did nothing else. While no other
--- pass is out, nothing else was done
+-- The first jobs have these replies, in order, each in its turn, under the pass's label and after
+-- all that the pass had seen; and the pass did nothing else. While no other pass is out, nothing
+-- else was done
 pub record Serves (v : Shows) (asks : List Ask) (replies : List Reply) (w : Shows) : Type 0 where
   pub stays : Stays v w
   pub acts : IsPrefix v.acts w.acts

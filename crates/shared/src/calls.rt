@@ -1,7 +1,9 @@
-//! The calls that wait until nobody is inside. After a fault the call is in no history, and the pass may have seen more.
+//! The calls that wait until no thread is in the critical section. After a fault the call is in no
+//! history, and the pass may have seen more.
 ghost use Rattle.std.specs.Prelude.{◌≡◌, ◌⊎◌, ◌↔◌, ◌<◌, length, IfOk, IfErr};
 ghost use Rattle.sealed.specs.Layout.{stripe_count};
-ghost use Rattle.history.specs.Step.{put as put_of, read as read_of, lose as lose_of, delete as delete_of, stat as stat_of};
+ghost use Rattle.history.specs.Step.{put as put_of, read as read_of, lose as lose_of};
+ghost use Rattle.history.specs.Step.{delete as delete_of, stat as stat_of};
 ghost use Rattle.book.specs.Tells.{IsCallFault};
 ghost use Rattle.shared.specs.Calls.{Called, CanGrant, GrantedIn, IfGranted};
 
@@ -26,17 +28,19 @@ impl Store {
     ) -> Result<Answer, Fault>
         requires { pass.old.store ≡ self.now }
         ensures called { Called pass.old (put_of name Code.Wide bytes) result pass.new }
-        ensures too_long { (result ≡ Err Fault.TooLong) ↔ (4096 < stripe_count Code.Wide self.now.width (length bytes)) }
+        ensures too_long { (result ≡ Err Fault.TooLong)
+            ↔ (4096 < stripe_count Code.Wide self.now.width (length bytes)) }
         ensures faults { IfErr result (λ e. IsCallFault e ⊎ (e ≡ Fault.TooLong)) }
     {
         self.put_as(rt, alloc, pass, name, bytes, Code::Wide)
     }
 
-    /// Stores a blob under a name in this code, in place of the one that the name had. The answer is `Stored`, with the number of this put. The blob is sealed before the
-    /// gate is entered.
+    /// Stores a blob under a name in this code, in place of the one that the name had. The answer
+    /// is `Stored`, with the number of this put. The blob is sealed before the critical section.
     ///
-    /// `TooLong` where it would have more than 4,096 stripes, and then nothing was asked of memory; `JournalFull` where the journal holds as many entries as its limit;
-    /// `NoMemory` where memory is refused.
+    /// `TooLong` if the blob needs more than 4,096 stripes, before anything is allocated;
+    /// `JournalFull` if the journal holds as many entries as its limit; `NoMemory` if out of
+    /// memory.
     pub fn put_as<R: Wait>(
         &self,
         rt: &R,
@@ -48,7 +52,8 @@ impl Store {
     ) -> Result<Answer, Fault>
         requires { pass.old.store ≡ self.now }
         ensures called { Called pass.old (put_of name code bytes) result pass.new }
-        ensures too_long { (result ≡ Err Fault.TooLong) ↔ (4096 < stripe_count code self.now.width (length bytes)) }
+        ensures too_long { (result ≡ Err Fault.TooLong)
+            ↔ (4096 < stripe_count code self.now.width (length bytes)) }
         ensures faults { IfErr result (λ e. IsCallFault e ⊎ (e ≡ Fault.TooLong)) }
     {
         match seal_as(alloc, bytes, self.width, code) {
@@ -65,12 +70,15 @@ impl Store {
         }
     }
 
-    /// Grants `len` bytes of the blob of a name, from the byte `start` on. A grant holds the blob as it was, whatever later calls do.
+    /// Grants `len` bytes of the blob of a name, from the byte `start` on. A grant holds the blob
+    /// as it was, whatever later calls do.
     ///
-    /// The answer is `NoName` where the name has no blob; else `OutOfRange` where the range does not lie inside the blob; else `Unrecoverable`, with the version, where some
-    /// byte of it stands in a fragment that can't be told from those left; else `Granted`.
+    /// The answer is `NoName` if the name has no blob. Else it is `OutOfRange` if the range does
+    /// not lie inside the blob. Else it is `Unrecoverable`, with the version, if a byte of the
+    /// range is in an unrecoverable fragment. Else it is `Granted`.
     ///
-    /// `JournalFull` where the journal holds as many entries as its limit; `NoMemory` only in place of `Granted`, where one more owner of the blob was refused.
+    /// `JournalFull` if the journal holds as many entries as its limit; `NoMemory` only in place of
+    /// `Granted`, if one more owner of the blob was refused.
     pub fn read<R: Wait>(
         &self,
         rt: &R,
@@ -81,19 +89,24 @@ impl Store {
     ) -> Result<Answer, Fault>
         requires { pass.old.store ≡ self.now }
         ensures called { Called pass.old (read_of name start len) result pass.new }
-        ensures grant { IfOk result (λ a. IfGranted a (GrantedIn pass.new.seen self.now.width name start len)) }
-        ensures no_memory { result ≡ Err Fault.NoMemory → CanGrant pass.new.seen self.now.width name start len }
+        ensures grant { IfOk result
+            (λ a. IfGranted a (GrantedIn pass.new.seen self.now.width name start len)) }
+        ensures no_memory { result ≡ Err Fault.NoMemory
+            → CanGrant pass.new.seen self.now.width name start len }
         ensures faults { IfErr result IsCallFault }
     {
         self.make(rt, pass, Request::Read { name, start, len })
     }
 
-    /// Loses a fragment of a name's blob: only grants from before lend its bytes. Their memory is given back with the last of the blob.
+    /// Loses a fragment of a name's blob: only earlier grants lend its bytes. Their memory is freed
+    /// with the last of the blob.
     ///
-    /// The answer is `NoName` where the name has no blob; else `NoFragment` where the blob has no such stripe, or its code no such fragment; else `AlreadyLost` where it was
-    /// lost before; else `Lost`, with the version.
+    /// The answer is `NoName` if the name has no blob. Else it is `NoFragment` if the blob has no
+    /// such stripe, or its code no such fragment. Else it is `AlreadyLost` if it was lost before.
+    /// Else it is `Lost`, with the version.
     ///
-    /// `JournalFull` where the journal holds as many entries as its limit; else `NoMemory` where memory is refused.
+    /// `JournalFull` if the journal holds as many entries as its limit; else `NoMemory` if out of
+    /// memory.
     pub fn lose<R: Wait>(
         &self,
         rt: &R,
@@ -119,9 +132,10 @@ impl Store {
         )
     }
 
-    /// Takes a name out. The answer is `NoName` where the name has no blob, else `Deleted`, with the version of the blob that it had. It asks for no memory.
+    /// Deletes a name. The answer is `NoName` if the name has no blob, else `Deleted`, with the
+    /// version of the blob that it had. It does not allocate.
     ///
-    /// `JournalFull` where the journal holds as many entries as its limit.
+    /// `JournalFull` if the journal holds as many entries as its limit.
     pub fn delete<R: Wait>(&self, rt: &R, pass: &mut Pass, name: Name) -> Result<Answer, Fault>
         requires { pass.old.store ≡ self.now }
         ensures called { Called pass.old (delete_of name) result pass.new }
@@ -130,10 +144,10 @@ impl Store {
         self.make(rt, pass, Request::Delete { name })
     }
 
-    /// Tells the shape of a name's blob. The answer is `NoName` where the name has no blob, else `Shape`, with how many bytes, stripes and lost fragments the blob has. It asks
-    /// for no memory.
+    /// Answers the shape of a name's blob: `NoName` if the name has no blob, else `Shape`, with how
+    /// many bytes, stripes and lost fragments the blob has. It does not allocate.
     ///
-    /// `JournalFull` where the journal holds as many entries as its limit.
+    /// `JournalFull` if the journal holds as many entries as its limit.
     pub fn stat<R: Wait>(&self, rt: &R, pass: &mut Pass, name: Name) -> Result<Answer, Fault>
         requires { pass.old.store ≡ self.now }
         ensures called { Called pass.old (stat_of name) result pass.new }

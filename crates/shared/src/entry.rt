@@ -1,5 +1,5 @@
-//! One call inside the gate.
-ghost use Rattle.std.specs.Prelude.{◌≡◌, ◌≢◌, ◌⊎◌, IfOk, IfErr};
+//! One call in the critical section.
+ghost use Rattle.std.specs.Prelude.{◌≡◌, ◌≢◌, ◌⊎◌, ◌+◌, IfOk, IfErr};
 ghost use Rattle.shared.specs.Calls.{Called};
 ghost use Rattle.requests.specs.Requests.{operation_of, IsFaultOf};
 ghost use Rattle.shared.specs.Requests.{CanAsk, IsGrantedTo, WantedFor};
@@ -10,7 +10,7 @@ use requests::Request;
 use std::sync::Wait;
 
 impl Store {
-    /// Enters, makes a call and leaves.
+    /// Enters the critical section, makes a call and leaves.
     pub(crate) fn make<R: Wait>(
         &self,
         rt: &R,
@@ -21,7 +21,8 @@ impl Store {
         requires can { CanAsk pass.old request }
         ensures called { Called pass.old (operation_of request) result pass.new }
         ensures granted { IfOk result (IsGrantedTo pass.new.seen self.now.width request) }
-        ensures no_memory { result ≡ Err Fault.NoMemory → WantedFor pass.new.seen self.now.width request }
+        ensures no_memory { result ≡ Err Fault.NoMemory
+            → WantedFor pass.new.seen self.now.width request }
         ensures faults { IfErr result (IsFaultOf request) }
     {
         let mut inside = self.gate.enter(rt, &mut pass.seat);
@@ -30,15 +31,17 @@ impl Store {
         result
     }
 
-    /// The same, if nobody is inside. Else `Busy`, and the pass is as it was.
+    /// As `make`, if no thread is in the critical section. Else `Busy`, and the pass is unchanged.
     pub(crate) fn try_make(&self, pass: &mut Pass, request: Request) -> Result<Answer, Fault>
         requires store { pass.old.store ≡ self.now }
         requires can { CanAsk pass.old request }
         ensures called { Called pass.old (operation_of request) result pass.new }
         ensures granted { IfOk result (IsGrantedTo pass.new.seen self.now.width request) }
-        ensures no_memory { result ≡ Err Fault.NoMemory → WantedFor pass.new.seen self.now.width request }
+        ensures no_memory { result ≡ Err Fault.NoMemory
+            → WantedFor pass.new.seen self.now.width request }
         ensures faults { IfErr result (λ e. (e ≡ Fault.Busy) ⊎ IsFaultOf request e) }
         ensures busy { result ≡ Err Fault.Busy → pass.new ≡ pass.old }
+        ensures entered { result ≢ Err Fault.Busy → pass.new.visits ≡ pass.old.visits + 1 }
         ensures lone { pass.old.room ≡ 64 → result ≢ Err Fault.Busy }
     {
         let Some(mut inside) = self.gate.try_enter(&mut pass.seat) else {

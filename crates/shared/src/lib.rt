@@ -1,5 +1,5 @@
-//! The store that threads share: a book behind a gate. Each caller has a pass, and knows one legal history that begins with all that it had seen and
-//! ends with its call.
+//! The store that threads share: a book behind a lock, the gate. Each caller has a pass. After a
+//! call it knows one legal history, which begins with all that it had seen and ends with its call.
 #![tactic(auto)]
 
 mod calls;

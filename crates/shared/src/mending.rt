@@ -1,5 +1,5 @@
-//! Repairs. What can be rebuilt is rebuilt outside the gate, while others may be inside.
-ghost use Rattle.std.specs.Prelude.{◌≡◌, ◌≢◌, ◌⊎◌, IfErr};
+//! Repairs. Fragments are rebuilt outside the critical section, while other threads may enter it.
+ghost use Rattle.std.specs.Prelude.{◌≡◌, ◌≢◌, ◌⊎◌, ◌+◌, IfErr};
 ghost use Rattle.history.specs.Step.{repair as repair_of};
 ghost use Rattle.book.specs.Tells.{IsCallFault};
 ghost use Rattle.shared.specs.Calls.{Called};
@@ -13,12 +13,16 @@ use std::alloc::Global;
 use std::sync::Wait;
 
 impl Store {
-    /// Rebuilds a lost fragment of a name's blob. It enters twice where the fragment can be rebuilt, and rebuilds in between; the answer is then that of the second time.
+    /// Rebuilds a lost fragment of a name's blob. If the fragment can be rebuilt, it enters the
+    /// critical section twice and rebuilds in between. The answer is then that of the second time.
     ///
-    /// The answer is `NoName` where the name has no blob; else `NoFragment` where the blob has no such stripe, or its code no such fragment; else `NotLost` where it is
-    /// there; else `Unrecoverable`, with the version, where it can't be told from those left; else `Repaired`, with the version.
+    /// The answer is `NoName` if the name has no blob. Else it is `NoFragment` if the blob has no
+    /// such stripe, or its code no such fragment. Else it is `NotLost` if the fragment is there.
+    /// Else it is `Unrecoverable`, with the version, if the remaining fragments do not determine
+    /// it. Else it is `Repaired`, with the version.
     ///
-    /// `JournalFull` where the journal holds as many entries as its limit; `NoMemory` where memory is refused.
+    /// `JournalFull` if the journal holds as many entries as its limit; `NoMemory` if out of
+    /// memory.
     pub fn repair<R: Wait>(
         &self,
         rt: &R,
@@ -57,8 +61,9 @@ impl Store {
         )
     }
 
-    /// As `repair`, if nobody is inside at either time. Else `Busy`, which never comes with a room of 64. At the second time the pass may have seen more, at the first it is as
-    /// it was.
+    /// As `repair`, if no thread is in the critical section at either time. Else `Busy`, which
+    /// never comes with a room of 64. If the second time is `Busy`, the pass may have seen more; at
+    /// the first the pass is unchanged. Every other answer is given after one or two visits.
     pub fn try_repair(
         &self,
         alloc: Global,
@@ -71,6 +76,8 @@ impl Store {
         ensures called { Called pass.old (repair_of name stripe fragment) result pass.new }
         ensures faults { IfErr result (λ e. (e ≡ Fault.Busy) ⊎ IsCallFault e) }
         ensures busy { result ≡ Err Fault.Busy → FoundBusy pass.old name stripe fragment pass.new }
+        ensures entered { result ≢ Err Fault.Busy
+            → (pass.new.visits ≡ pass.old.visits + 1) ⊎ (pass.new.visits ≡ pass.old.visits + 2) }
         ensures lone { pass.old.room ≡ 64 → result ≢ Err Fault.Busy }
     {
         let sealed = match self.try_inspect(alloc, pass, &name, stripe, fragment) {
@@ -97,7 +104,7 @@ impl Store {
         )
     }
 
-    /// Enters, inspects and leaves.
+    /// Enters the critical section, inspects and leaves.
     fn inspect<R: Wait>(
         &self,
         rt: &R,
@@ -117,7 +124,8 @@ impl Store {
         inspection
     }
 
-    /// The same, if nobody is inside. Else `Busy`, and the pass is as it was.
+    /// As `inspect`, if no thread is in the critical section. Else `Busy`, and the pass is
+    /// unchanged.
     fn try_inspect(
         &self,
         alloc: Global,
@@ -130,6 +138,8 @@ impl Store {
         ensures found { Found pass.old name.now stripe fragment result pass.new }
         ensures faults { IfRefused result (λ e. (e ≡ Fault.Busy) ⊎ IsCallFault e) }
         ensures busy { result ≡ Inspection.Refused Fault.Busy → pass.new ≡ pass.old }
+        ensures entered { result ≢ Inspection.Refused Fault.Busy
+            → pass.new.visits ≡ pass.old.visits + 1 }
         ensures lone { pass.old.room ≡ 64 → result ≢ Inspection.Refused Fault.Busy }
     {
         let Some(mut inside) = self.gate.try_enter(&mut pass.seat) else {

@@ -1,5 +1,6 @@
 //! The passes of a store's callers.
-ghost use Rattle.std.specs.Prelude.{◌≡◌, ◌⊎◌, ◌↔◌, ◌+◌, ◌-◌, ◌≤◌, ◌++◌, [], IfOk, IfErr, OnOk, OnErr};
+ghost use Rattle.std.specs.Prelude.{◌≡◌, ◌⊎◌, ◌↔◌, ◌+◌, ◌-◌, ◌≤◌, ◌++◌, [], IfOk, IfErr, OnOk};
+ghost use Rattle.std.specs.Prelude.{OnErr};
 ghost use mathlib.Core.List.{IsPrefix};
 ghost use Rattle.gate.specs.Places.{AreApart};
 ghost use Rattle.history.specs.History.{IsLegal};
@@ -10,9 +11,13 @@ use book::{Answer, Fault};
 use gate::Seat;
 use std::marker::Model;
 
-/// A caller's pass to a store. A clause sees which store it is, the label of its calls, how many passes can be made of it, the legal history that it has
-/// seen, and the places in it of the calls that it made, with those of the passes that it joined; and the same with the trims among the calls. Who drops a pass drops its room, and then no other pass
-/// comes to a room of 64 again.
+/// A caller's pass to a store. Dropping a pass drops its room, and then no other pass comes to a
+/// room of 64 again.
+///
+/// A clause sees which store it is, the label of its calls, how many passes can be made of it, and
+/// the legal history that it has seen. It sees the indices in that history of the calls that the
+/// pass made, with those of the passes that it joined; and the same with the trims among the calls.
+/// It sees how often the pass visited the critical section.
 #[derive(Drop)]
 pub struct Pass {
     pub(crate) seat: Seat<Kept>,
@@ -38,7 +43,8 @@ impl Pass {
         self.seat.room()
     }
 
-    /// The label of its calls. Whatever the pass has seen is a legal history: that of the acts that it shows.
+    /// The label of its calls. Whatever the pass has seen is a legal history: that of the acts that
+    /// it shows.
     pub fn who(&self) -> u32
         ensures value { result ≡ self.now.who }
         ensures legal { IsLegal self.now.store.width self.now.seen }
@@ -47,13 +53,26 @@ impl Pass {
         self.who
     }
 
-    /// A new pass with this label, which has seen as much, has made no call and has a room of 1. The old one keeps one less and shows what it showed.
+    /// A new pass with this label, which has seen as much, has made no call and has a room of 1.
+    /// The old one keeps one less and shows what it showed.
     ///
-    /// `NoPass` where the room is 1; else `NoMemory` where memory is refused. After either the old pass is as it was.
+    /// `NoPass` if the room is 1; else `NoMemory` if out of memory. After either the old pass is
+    /// unchanged.
     pub fn split(&mut self, store: &Store, who: u32) -> Result<Pass, Fault>
         requires store { self.old.store ≡ store.now }
         ensures kept { OnOk result (self.new ≡ record self.old { room = self.old.room - 1 }) }
-        ensures given { IfOk result (λ p. p ≡ record { store = self.old.store; who = who; room = 1; seen = self.old.seen; trimmed = self.old.trimmed; made = []; acts = self.old.acts; did = [] }) }
+        ensures given { IfOk result
+            (λ p. p ≡ record {
+              store = self.old.store;
+              who = who;
+              room = 1;
+              seen = self.old.seen;
+              trimmed = self.old.trimmed;
+              made = [];
+              acts = self.old.acts;
+              did = [];
+              visits = 0;
+            }) }
         ensures no_pass { (result ≡ Err Fault.NoPass) ↔ (self.old.room ≡ 1) }
         ensures faults { IfErr result (λ e. (e ≡ Fault.NoMemory) ⊎ (e ≡ Fault.NoPass)) }
         ensures err { OnErr result (self.new ≡ self.old) }
@@ -67,16 +86,20 @@ impl Pass {
         Ok(Pass { seat, who })
     }
 
-    /// Takes in another pass with its room and the calls that it made, which had none in common with those of this one. Of the two histories the one that begins
-    /// with both is shown. With a room of 64 every call is its own. It asks for no memory.
+    /// Takes in another pass with its room and the calls that it made. The two passes had no call
+    /// in common. Of the two histories it shows the one that begins with both. With a room of 64
+    /// every call is its own. It does not allocate.
     pub fn join(&mut self, store: &Store, other: Pass)
         requires store { (self.old.store ≡ store.now) × (other.store ≡ store.now) }
-        ensures kept { (self.new.store ≡ self.old.store) × (self.new.who ≡ self.old.who) × (self.new.room ≡ self.old.room + other.room) }
-        ensures one { ((self.new.seen ≡ self.old.seen) × (self.new.trimmed ≡ self.old.trimmed)) ⊎ ((self.new.seen ≡ other.seen) × (self.new.trimmed ≡ other.trimmed)) }
+        ensures kept { (self.new.store ≡ self.old.store) × (self.new.who ≡ self.old.who)
+            × (self.new.room ≡ self.old.room + other.room) }
+        ensures one { ((self.new.seen ≡ self.old.seen) × (self.new.trimmed ≡ self.old.trimmed))
+            ⊎ ((self.new.seen ≡ other.seen) × (self.new.trimmed ≡ other.trimmed)) }
         ensures seen { IsPrefix self.old.seen self.new.seen × IsPrefix other.seen self.new.seen }
         ensures made { self.new.made ≡ self.old.made ++ other.made }
         ensures acts { IsPrefix self.old.acts self.new.acts × IsPrefix other.acts self.new.acts }
         ensures did { self.new.did ≡ self.old.did ++ other.did }
+        ensures visits { self.new.visits ≡ self.old.visits + other.visits }
         ensures whole { self.new.room ≡ 64 → IsWhole self.new }
         ensures apart { AreApart self.old.made other.made }
     {
@@ -84,7 +107,7 @@ impl Pass {
         self.seat.join(&store.gate, seat);
     }
 
-    /// The answer to a call that was refused before the gate was entered.
+    /// The answer to a call that was refused before it entered the critical section.
     pub(crate) fn refuse(&self, fault: Fault) -> Result<Answer, Fault>
         ensures refused { result ≡ Err fault }
         ensures agrees { Agrees self.now }

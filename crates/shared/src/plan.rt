@@ -1,5 +1,5 @@
-//! What is lost.
-ghost use Rattle.std.specs.Prelude.{◌≡◌, ◌≢◌, ◌⊎◌, None, IfOk, IfErr};
+//! The lost fragments.
+ghost use Rattle.std.specs.Prelude.{◌≡◌, ◌≢◌, ◌⊎◌, ◌+◌, None, IfOk, IfErr};
 ghost use Rattle.history.specs.History.{state_of};
 ghost use Rattle.book.specs.Plan.{plan_of};
 ghost use Rattle.shared.specs.Deeds.{Takes};
@@ -10,9 +10,10 @@ use std::alloc::Global;
 use std::sync::Wait;
 
 impl Store {
-    /// The lost fragments of all blobs, with their versions, by name, then by stripe, then by fragment. It is no call of the history, of which the pass may have seen more.
+    /// The lost fragments of all blobs, with their versions, by name, then by stripe, then by
+    /// fragment. It is no call of the history. The pass may have seen more of the history.
     ///
-    /// `NoMemory` where memory for the list is refused.
+    /// `NoMemory` if there is no memory for the list.
     pub fn plan<R: Wait>(&self, rt: &R, alloc: Global, pass: &mut Pass) -> Result<Plan, Fault>
         requires { pass.old.store ≡ self.now }
         ensures takes { Takes pass.old None pass.new }
@@ -26,13 +27,15 @@ impl Store {
     }
 
     /// As `plan`, if no thread is in the critical section. Else `Busy`, which never comes with a
-    /// room of 64, and the pass is as it was.
+    /// room of 64, and the pass is unchanged. Every other answer is given from the critical
+    /// section.
     pub fn try_plan(&self, alloc: Global, pass: &mut Pass) -> Result<Plan, Fault>
         requires { pass.old.store ≡ self.now }
         ensures takes { Takes pass.old None pass.new }
         ensures ok { IfOk result (λ p. p.items.items ≡ plan_of (state_of pass.new.seen)) }
         ensures faults { IfErr result (λ e. (e ≡ Fault.Busy) ⊎ (e ≡ Fault.NoMemory)) }
         ensures busy { result ≡ Err Fault.Busy → pass.new ≡ pass.old }
+        ensures entered { result ≢ Err Fault.Busy → pass.new.visits ≡ pass.old.visits + 1 }
         ensures lone { pass.old.room ≡ 64 → result ≢ Err Fault.Busy }
     {
         let Some(inside) = self.gate.try_enter(&mut pass.seat) else {

@@ -11,10 +11,12 @@ use std::alloc::Global;
 use std::sync::Wait;
 
 impl Store {
-    /// Does what is asked for, row by row, each between its `before` and its `after`, and gives the replies. A call that is refused for a full journal, or as a blob that is too
-    /// long, is passed over. Room for all replies is made first.
+    /// Runs the jobs row by row, each between its `before` and its `after`, and gives the replies.
+    /// If a call finds the journal full, or its blob is too long, the run goes on. Room for all
+    /// replies is allocated first.
     ///
-    /// `Stopped`, with the replies so far, where that room or a call was refused memory, or where a `before` answered false.
+    /// `Stopped`, with the replies so far, if that room or a call was refused memory, or if a
+    /// `before` answered false.
     pub fn run<R: Wait, P: Pace>(
         &self,
         rt: &R,
@@ -25,11 +27,15 @@ impl Store {
     ) -> Result<Vec<Reply>, Stopped>
         requires { pass.old.store ≡ self.now }
         ensures all { IfOk result (λ replies. length replies.items ≡ length jobs.items) }
-        ensures unfinished { IfErr result (λ stopped. (stopped.done.items ≡ []) ⊎ (length stopped.done.items < length jobs.items)) }
-        ensures serves { IfOk result (λ replies. Serves pass.old (asks_of jobs.items) replies.items pass.new) }
-        ensures serves_by_then { IfErr result (λ stopped. Serves pass.old (asks_of jobs.items) stopped.done.items pass.new) }
+        ensures unfinished { IfErr result (λ stopped. (stopped.done.items ≡ [])
+            ⊎ (length stopped.done.items < length jobs.items)) }
+        ensures serves { IfOk result
+            (λ replies. Serves pass.old (asks_of jobs.items) replies.items pass.new) }
+        ensures serves_by_then { IfErr result
+            (λ stopped. Serves pass.old (asks_of jobs.items) stopped.done.items pass.new) }
         ensures paced { IfOk result (λ _. AreLetThrough (P.may_answer pace.now) jobs.items) }
-        ensures cause { IfErr result (λ stopped. HasNotBegun pass.old stopped pass.new ⊎ StoppedAt (P.may_answer pace.now) jobs.items stopped) }
+        ensures cause { IfErr result (λ stopped. HasNotBegun pass.old stopped pass.new
+            ⊎ StoppedAt (P.may_answer pace.now) jobs.items stopped) }
     {
         let Ok(mut done) = Vec::with_capacity(alloc, jobs.len()) else {
             return Err(Stopped {
@@ -58,7 +64,7 @@ impl Store {
         Ok(done)
     }
 
-    /// Does what is asked for, and gives the reply. After a fault nothing was done, and the run stops.
+    /// Serves one job and gives the reply. After a fault nothing was done, and the run stops.
     fn serve<R: Wait>(
         &self,
         rt: &R,

@@ -1,4 +1,4 @@
-//! The book behind a gate.
+//! The book behind the gate.
 ghost use Rattle.std.specs.Prelude.{◌≡◌, ◌⊎◌, ◌↔◌, ◌+◌, ◌≤◌, ◌<◌, ℕ, [], length, IfOk, IfErr};
 ghost use Rattle.gate.specs.Places.{times};
 ghost use Rattle.book.specs.Tells.{Tells};
@@ -11,7 +11,8 @@ use sealed::Width;
 use std::alloc::Global;
 use std::marker::Model;
 
-/// A store. A clause sees which store it is, the width of its blobs, and the limit of its journal. Who drops it drops its blobs.
+/// A store. A clause sees which store it is, the width of its blobs, and the limit of its journal.
+/// Dropping it drops its blobs.
 #[derive(Drop)]
 pub struct Store {
     pub(crate) gate: Gate<Kept>,
@@ -28,13 +29,23 @@ impl Model for Store {
 }
 
 impl Store {
-    /// A store with no blob, whose fragments have this many bytes and whose journal holds at most so many entries. The one pass to it has the label 0 and a room of 64,
-    /// and has seen and made no call.
+    /// An empty store. Its fragments have `width` bytes, and its journal holds at most `limit`
+    /// entries. The one pass to it has the label 0 and a room of 64, and has seen and made no call.
     ///
-    /// `BadWidth` where the width is not in 1..=65,536; else `NoMemory` where memory is refused.
+    /// `BadWidth` if the width is not in 1..=65,536; else `NoMemory` if out of memory.
     pub fn open(alloc: Global, width: u32, limit: Limit) -> Result<(Store, Pass), Fault>
         ensures store { IfOk result (λ r. (r.0.width ≡ width) × (r.0.limit ≡ limit)) }
-        ensures pass { IfOk result (λ r. r.1 ≡ record { store = r.0; who = 0; room = 64; seen = []; trimmed = 0; made = []; acts = []; did = [] }) }
+        ensures pass { IfOk result (λ r. r.1 ≡ record {
+          store = r.0;
+          who = 0;
+          room = 64;
+          seen = [];
+          trimmed = 0;
+          made = [];
+          acts = [];
+          did = [];
+          visits = 0;
+        }) }
         ensures bad_width { (result ≡ Err Fault.BadWidth) ↔ ((1 ≤ width) × (width ≤ 65536) → ⊥) }
         ensures faults { IfErr result (λ e. (e ≡ Fault.NoMemory) ⊎ (e ≡ Fault.BadWidth)) }
     {
@@ -54,8 +65,9 @@ impl Store {
         Ok((store, Pass { seat, who: 0 }))
     }
 
-    /// Gives the book, once all passes are joined. It tells the history that the pass has seen, and each call of it, and each trim among them, was made by this pass or by one that it joined.
-    /// It asks for no memory.
+    /// Gives the book, once all passes are joined. The book records the history that the pass has
+    /// seen. This pass, or one that it joined, made each call of it and each trim among them. It
+    /// does not allocate.
     pub fn close(self, pass: Pass) -> Book
         requires store { pass.store ≡ self }
         requires lone { pass.room ≡ 64 }

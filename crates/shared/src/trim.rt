@@ -1,5 +1,5 @@
-//! Giving up the beginning of the journal.
-ghost use Rattle.std.specs.Prelude.{◌≡◌, ◌≢◌, ◌⊎◌, IfErr};
+//! Discarding the beginning of the journal.
+ghost use Rattle.std.specs.Prelude.{◌≡◌, ◌≢◌, ◌⊎◌, ◌+◌, IfErr};
 ghost use Rattle.shared.specs.Deeds.{Takes, trim_deed};
 
 use crate::{Pass, Store};
@@ -8,10 +8,13 @@ use std::alloc::Global;
 use std::sync::Wait;
 
 impl Store {
-    /// Gives up all entries of the journal but the last `keep`, and answers how many these were. Nothing is given up, and the answer is 0, where there are no more entries than
-    /// `keep`, or where more than 2^63 calls would have been given up. It is no call of the history, of which the pass may have seen more.
+    /// Discards all entries of the journal except the last `keep`, and answers how many.
     ///
-    /// `NoMemory` where memory for what is kept of the state is refused, and then nothing was given up.
+    /// It discards nothing, and answers 0, if there are at most `keep` entries, or if more than
+    /// 2^63 calls would have been discarded in all. A trim is no call of the history. The pass may
+    /// have seen more of the history.
+    ///
+    /// `NoMemory` if there is no memory for what is kept of the state. Then nothing was discarded.
     pub fn trim<R: Wait>(
         &self,
         rt: &R,
@@ -29,12 +32,15 @@ impl Store {
         result
     }
 
-    /// As `trim`, if nobody is inside. Else `Busy`, which never comes with a room of 64, and the pass is as it was.
+    /// As `trim`, if no thread is in the critical section. Else `Busy`, which never comes with a
+    /// room of 64, and the pass is unchanged. Every other answer is given from the critical
+    /// section.
     pub fn try_trim(&self, alloc: Global, pass: &mut Pass, keep: u64) -> Result<u64, Fault>
         requires { pass.old.store ≡ self.now }
         ensures takes { Takes pass.old (trim_deed keep result) pass.new }
         ensures faults { IfErr result (λ e. (e ≡ Fault.Busy) ⊎ (e ≡ Fault.NoMemory)) }
         ensures busy { result ≡ Err Fault.Busy → pass.new ≡ pass.old }
+        ensures entered { result ≢ Err Fault.Busy → pass.new.visits ≡ pass.old.visits + 1 }
         ensures lone { pass.old.room ≡ 64 → result ≢ Err Fault.Busy }
     {
         let Some(mut inside) = self.gate.try_enter(&mut pass.seat) else {

@@ -1,10 +1,13 @@
-//! The calls that do not wait. They are refused by `Busy` where somebody is inside, which never comes with a room of 64, and then the pass is as it was. After another fault
-//! the call is in no history, and the pass may have seen more.
-ghost use Rattle.std.specs.Prelude.{◌≡◌, ◌≢◌, ◌⊎◌, ◌↔◌, ◌<◌, length, IfOk, IfErr};
+//! The calls that do not wait. They answer `Busy` if another thread is in the critical section.
+//! `Busy` never comes with a room of 64, and it leaves the pass unchanged. Every other answer is
+//! given from the critical section, except if a put could not be sealed. After another fault the
+//! call is in no history, and the pass may have seen more.
+ghost use Rattle.std.specs.Prelude.{◌≡◌, ◌≢◌, ◌⊎◌, ◌↔◌, ◌+◌, ◌<◌, length, IfOk, IfErr};
 ghost use Rattle.sealed.specs.Layout.{stripe_count};
-ghost use Rattle.history.specs.Step.{put as put_of, read as read_of, lose as lose_of, delete as delete_of, stat as stat_of};
+ghost use Rattle.history.specs.Step.{put as put_of, read as read_of, lose as lose_of};
+ghost use Rattle.history.specs.Step.{delete as delete_of, stat as stat_of};
 ghost use Rattle.book.specs.Tells.{IsCallFault};
-ghost use Rattle.shared.specs.Calls.{Called, CanGrant, GrantedIn, IfGranted};
+ghost use Rattle.shared.specs.Calls.{Called, CanGrant, GrantedIn, IfGranted, IsRefusedOutside};
 
 use crate::{Pass, Store};
 use book::{Answer, Fault, Name};
@@ -15,7 +18,7 @@ use sealed::seal_as;
 use std::alloc::Global;
 
 impl Store {
-    /// As `put`, if nobody is inside. The blob is sealed first.
+    /// As `put`, if no thread is in the critical section. The blob is sealed first.
     pub fn try_put(
         &self,
         alloc: Global,
@@ -25,15 +28,19 @@ impl Store {
     ) -> Result<Answer, Fault>
         requires { pass.old.store ≡ self.now }
         ensures called { Called pass.old (put_of name Code.Wide bytes) result pass.new }
-        ensures too_long { (result ≡ Err Fault.TooLong) ↔ (4096 < stripe_count Code.Wide self.now.width (length bytes)) }
-        ensures faults { IfErr result (λ e. (e ≡ Fault.Busy) ⊎ IsCallFault e ⊎ (e ≡ Fault.TooLong)) }
+        ensures too_long { (result ≡ Err Fault.TooLong)
+            ↔ (4096 < stripe_count Code.Wide self.now.width (length bytes)) }
+        ensures faults { IfErr result
+            (λ e. (e ≡ Fault.Busy) ⊎ IsCallFault e ⊎ (e ≡ Fault.TooLong)) }
         ensures busy { result ≡ Err Fault.Busy → pass.new ≡ pass.old }
+        ensures entered { result ≢ Err Fault.Busy
+            → (pass.new.visits ≡ pass.old.visits + 1) ⊎ IsRefusedOutside pass.old result pass.new }
         ensures lone { pass.old.room ≡ 64 → result ≢ Err Fault.Busy }
     {
         self.try_put_as(alloc, pass, name, bytes, Code::Wide)
     }
 
-    /// As `put_as`, if nobody is inside. The blob is sealed first.
+    /// As `put_as`, if no thread is in the critical section. The blob is sealed first.
     pub fn try_put_as(
         &self,
         alloc: Global,
@@ -44,9 +51,13 @@ impl Store {
     ) -> Result<Answer, Fault>
         requires { pass.old.store ≡ self.now }
         ensures called { Called pass.old (put_of name code bytes) result pass.new }
-        ensures too_long { (result ≡ Err Fault.TooLong) ↔ (4096 < stripe_count code self.now.width (length bytes)) }
-        ensures faults { IfErr result (λ e. (e ≡ Fault.Busy) ⊎ IsCallFault e ⊎ (e ≡ Fault.TooLong)) }
+        ensures too_long { (result ≡ Err Fault.TooLong)
+            ↔ (4096 < stripe_count code self.now.width (length bytes)) }
+        ensures faults { IfErr result
+            (λ e. (e ≡ Fault.Busy) ⊎ IsCallFault e ⊎ (e ≡ Fault.TooLong)) }
         ensures busy { result ≡ Err Fault.Busy → pass.new ≡ pass.old }
+        ensures entered { result ≢ Err Fault.Busy
+            → (pass.new.visits ≡ pass.old.visits + 1) ⊎ IsRefusedOutside pass.old result pass.new }
         ensures lone { pass.old.room ≡ 64 → result ≢ Err Fault.Busy }
     {
         match seal_as(alloc, bytes, self.width, code) {
@@ -62,7 +73,7 @@ impl Store {
         }
     }
 
-    /// As `read`, if nobody is inside.
+    /// As `read`, if no thread is in the critical section.
     pub fn try_read(
         &self,
         pass: &mut Pass,
@@ -72,16 +83,19 @@ impl Store {
     ) -> Result<Answer, Fault>
         requires { pass.old.store ≡ self.now }
         ensures called { Called pass.old (read_of name start len) result pass.new }
-        ensures grant { IfOk result (λ a. IfGranted a (GrantedIn pass.new.seen self.now.width name start len)) }
-        ensures no_memory { result ≡ Err Fault.NoMemory → CanGrant pass.new.seen self.now.width name start len }
+        ensures grant { IfOk result
+            (λ a. IfGranted a (GrantedIn pass.new.seen self.now.width name start len)) }
+        ensures no_memory { result ≡ Err Fault.NoMemory
+            → CanGrant pass.new.seen self.now.width name start len }
         ensures faults { IfErr result (λ e. (e ≡ Fault.Busy) ⊎ IsCallFault e) }
         ensures busy { result ≡ Err Fault.Busy → pass.new ≡ pass.old }
+        ensures entered { result ≢ Err Fault.Busy → pass.new.visits ≡ pass.old.visits + 1 }
         ensures lone { pass.old.room ≡ 64 → result ≢ Err Fault.Busy }
     {
         self.try_make(pass, Request::Read { name, start, len })
     }
 
-    /// As `lose`, if nobody is inside.
+    /// As `lose`, if no thread is in the critical section.
     pub fn try_lose(
         &self,
         alloc: Global,
@@ -94,6 +108,7 @@ impl Store {
         ensures called { Called pass.old (lose_of name stripe fragment) result pass.new }
         ensures faults { IfErr result (λ e. (e ≡ Fault.Busy) ⊎ IsCallFault e) }
         ensures busy { result ≡ Err Fault.Busy → pass.new ≡ pass.old }
+        ensures entered { result ≢ Err Fault.Busy → pass.new.visits ≡ pass.old.visits + 1 }
         ensures lone { pass.old.room ≡ 64 → result ≢ Err Fault.Busy }
     {
         self.try_make(
@@ -107,23 +122,25 @@ impl Store {
         )
     }
 
-    /// As `delete`, if nobody is inside.
+    /// As `delete`, if no thread is in the critical section.
     pub fn try_delete(&self, pass: &mut Pass, name: Name) -> Result<Answer, Fault>
         requires { pass.old.store ≡ self.now }
         ensures called { Called pass.old (delete_of name) result pass.new }
         ensures faults { IfErr result (λ e. (e ≡ Fault.Busy) ⊎ (e ≡ Fault.JournalFull)) }
         ensures busy { result ≡ Err Fault.Busy → pass.new ≡ pass.old }
+        ensures entered { result ≢ Err Fault.Busy → pass.new.visits ≡ pass.old.visits + 1 }
         ensures lone { pass.old.room ≡ 64 → result ≢ Err Fault.Busy }
     {
         self.try_make(pass, Request::Delete { name })
     }
 
-    /// As `stat`, if nobody is inside.
+    /// As `stat`, if no thread is in the critical section.
     pub fn try_stat(&self, pass: &mut Pass, name: Name) -> Result<Answer, Fault>
         requires { pass.old.store ≡ self.now }
         ensures called { Called pass.old (stat_of name) result pass.new }
         ensures faults { IfErr result (λ e. (e ≡ Fault.Busy) ⊎ (e ≡ Fault.JournalFull)) }
         ensures busy { result ≡ Err Fault.Busy → pass.new ≡ pass.old }
+        ensures entered { result ≢ Err Fault.Busy → pass.new.visits ≡ pass.old.visits + 1 }
         ensures lone { pass.old.room ≡ 64 → result ≢ Err Fault.Busy }
     {
         self.try_make(pass, Request::Stat { name })

@@ -1,13 +1,13 @@
-use Rattle.std.proofs.Common.{◌∙◌, refl}
+use Rattle.std.proofs.Common.{rules, ◌≤◌, length, inr, ◌∙◌, refl}
 use Rattle.mender.proofs.Answering.{answer_of_repair}
-use Rattle.mender.proofs.Working.{in_hand, stopped, mended_more, mended_no_more, did_more, stopped_full}
+use Rattle.mender.proofs.Working.{drew, in_hand, stopped, mended_more, mended_no_more, did_more, order_more, stopped_full}
 use Rattle.mender.proofs.workers.work.Goals as goal
 
 pub returns-then-is_err-clause-err : goal.returns-then-is_err-clause-err
 returns-then-is_err-clause-err g c =
     let drew = c.in-Some.ensures in
     let found = c.in-Some-get.ensures.lookup.3 in
-    let h = in_hand _ _ _ _ c.draw.new.drawer _ c.in-Some.ticket c.in-Some-get.item.now c.loop-ticket.invariant.worked drew.some.0 drew.some.1 drew.fresh c.deref.ensures.value found.0 (found.1 _) in
+    let h = in_hand _ _ _ _ c.draw.new.drawer _ c.in-Some.ticket c.in-Some-get.item.now c.loop-ticket.invariant.worked drew.some.0 drew.some.1 drew.fresh drew.rises c.deref.ensures.value found.0 (found.1 _) in
     stopped _ _ _ _ _ _ _ h c.reserve.ensures.items
 
 pub invariant_of-push_reserved : goal.invariant_of-push_reserved
@@ -18,18 +18,19 @@ loop-ticket-preserved g c =
     let inv = c.loop-ticket.invariant in
     let drew = c.in-Some.ensures in
     let found = c.in-Some-get.ensures.lookup.3 in
-    let h = in_hand _ _ _ _ c.draw.new.drawer _ c.in-Some.ticket c.in-Some-get.item.now inv.worked drew.some.0 drew.some.1 drew.fresh c.deref.ensures.value found.0 (found.1 _) in record {
+    let h = in_hand _ _ _ _ c.draw.new.drawer _ c.in-Some.ticket c.in-Some-get.item.now inv.worked drew.some.0 drew.some.1 drew.fresh drew.rises c.deref.ensures.value found.0 (found.1 _) in record {
       store = c.in-Ok.ensures.called.takes.stays.0 ∙ inv.store;
       tickets = cc;
       mended = mended_more _ _ _ _ _ _ _ _ inv.mended c.in-Ok.ensures.called (cc) c.reserve.ensures.items c.push_reserved.ensures.items;
       worked = did_more _ _ _ _ _ _ _ _ _ h refl c.duplicate.ensures c.reserve.ensures.items c.push_reserved.ensures.items;
+      in_order = λ intact. order_more _ _ _ _ _ _ _ _ _ inv.worked intact drew.next h.there c.duplicate.ensures c.reserve.ensures.items c.push_reserved.ensures.items (inv.in_order intact);
     }
 
 pub returns-in-Err-clause-err : goal.returns-in-Err-clause-err
 returns-in-Err-clause-err g c =
     let drew = c.in-Some.ensures in
     let found = c.in-Some-get.ensures.lookup.3 in
-    let h = in_hand _ _ _ _ c.draw.new.drawer _ c.in-Some.ticket c.in-Some-get.item.now c.loop-ticket.invariant.worked drew.some.0 drew.some.1 drew.fresh c.deref.ensures.value found.0 (found.1 _) in
+    let h = in_hand _ _ _ _ c.draw.new.drawer _ c.in-Some.ticket c.in-Some-get.item.now c.loop-ticket.invariant.worked drew.some.0 drew.some.1 drew.fresh drew.rises c.deref.ensures.value found.0 (found.1 _) in
     stopped _ _ _ _ _ _ _ h c.reserve.ensures.items
 
 pub returns-in-Err-clause-mended_by_then : goal.returns-in-Err-clause-mended_by_then
@@ -40,5 +41,11 @@ returns-in-Err-clause-stopped_full g c =
     let inv = c.loop-ticket.invariant in
     let drew = c.in-Some.ensures in
     let found = c.in-Some-get.ensures.lookup.3 in
-    let h = in_hand _ _ _ _ c.draw.new.drawer _ c.in-Some.ticket c.in-Some-get.item.now inv.worked drew.some.0 drew.some.1 drew.fresh c.deref.ensures.value found.0 (found.1 _) in
+    let h = in_hand _ _ _ _ c.draw.new.drawer _ c.in-Some.ticket c.in-Some-get.item.now inv.worked drew.some.0 drew.some.1 drew.fresh drew.rises c.deref.ensures.value found.0 (found.1 _) in
     λ full. stopped_full _ _ _ _ _ _ _ _ _ _ _ _ inv.mended c.in-Err.ensures.called (cc) h c.reserve.ensures.items full
+
+pub returns-in_default-get-clause-ok : goal.returns-in_default-get-clause-ok
+returns-in_default-get-clause-ok g c =
+    let draw = c.in-Some.ensures in
+    let past : length c.args.plan.now.items.items ≤ c.in-Some.ticket = search rules in
+    inr (c.in-Some.ticket, past, drew _ _ _ c.draw.new.drawer _ c.in-Some.ticket c.loop-ticket.invariant.worked draw.some.0 draw.some.1 draw.rises)

@@ -1,5 +1,6 @@
 use Rattle.std.proofs.Common.{◌≡◌, []}
-use Rattle.mender.specs.Worked.{Worked, AreMended}
+use Rattle.mender.specs.Drawn.{IsIntact}
+use Rattle.mender.specs.Worked.{Worked, AreInOrder, AreMended}
 use Rattle.mender.proofs.workers.work.Given as goal
 
 abbrev pub invariant-loop-ticket : goal.invariant-loop-ticket
@@ -8,6 +9,7 @@ invariant-loop-ticket g l = record {
   tickets : l.drawer.tickets ≡ l.tickets;
   mended : AreMended l.initial.pass l.done.items l.pass;
   worked : Worked l.plan.items.items l.initial.drawer l.drawer l.done.items [];
+  in_order : IsIntact l.initial.drawer → AreInOrder l.plan.items.items l.done.items;
 }
 
 abbrev pub decreases-loop-ticket : goal.decreases-loop-ticket

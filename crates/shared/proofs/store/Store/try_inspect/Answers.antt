@@ -1,7 +1,7 @@
-use Rattle.std.proofs.Common.{IfSome, sym, subst}
+use Rattle.std.proofs.Common.{◌+◌, IfSome, ap, sym, subst, ◌∙◌}
 use Rattle.history.specs.Step.{repair}
 use Rattle.requests.specs.Between.{MayFollow}
-use Rattle.shared.specs.Passes.{shows}
+use Rattle.shared.specs.Passes.{Shows, shows}
 use Rattle.shared.specs.Mends.{Found}
 use Rattle.requests.proofs.Between.{goes_follows}
 use Rattle.shared.proofs.Requests.{was_busy}
@@ -38,3 +38,6 @@ returns-clause-found c =
 pub returns-in_default-clause-found : goal.returns-in_default-clause-found
 returns-in_default-clause-found c =
     was_busy c.pass.inside.seat c.try_enter.new.seat c.pass.inside.who c.args.pass.now (repair c.args.name.now c.args.stripe c.args.fragment) c.pass.invariant c.in_default.ensures.none c.pass.view_is
+
+pub returns-clause-entered : goal.returns-clause-entered
+returns-clause-entered c = λ _. (steps c).visits ∙ ap (λ (v : Shows). v.visits + 1) c.pass.view_is

@@ -1,4 +1,4 @@
-use Rattle.std.proofs.Common.{IfSome, ap, sym, subst, ◌∙◌}
+use Rattle.std.proofs.Common.{◌+◌, IfSome, ap, sym, subst, ◌∙◌}
 use Rattle.requests.specs.Between.{MayFollow}
 use Rattle.shared.specs.Passes.{Which, Shows, shows}
 use Rattle.shared.specs.Calls.{Called}
@@ -66,3 +66,6 @@ returns-clause-no_memory c =
 pub returns-in_default-clause-called : goal.returns-in_default-clause-called
 returns-in_default-clause-called c =
     was_busy c.pass.inside.seat c.try_enter.new.seat c.pass.inside.who c.args.pass.now (operation_of c.args.request) c.pass.invariant c.in_default.ensures.none c.pass.view_is
+
+pub returns-clause-entered : goal.returns-clause-entered
+returns-clause-entered c = λ _. (steps c).visits ∙ ap (λ (v : Shows). v.visits + 1) c.pass.view_is

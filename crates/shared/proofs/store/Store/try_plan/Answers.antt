@@ -1,5 +1,5 @@
-use Rattle.std.proofs.Common.{[], None, refl, subst}
-use Rattle.shared.specs.Passes.{shows}
+use Rattle.std.proofs.Common.{◌+◌, [], None, refl, ap, subst, ◌∙◌}
+use Rattle.shared.specs.Passes.{Shows, shows}
 use Rattle.shared.specs.Deeds.{Takes}
 use Rattle.shared.proofs.Requests.{did_nothing}
 use Rattle.shared.proofs.Steps.{Stepped, stepped, same_goes_on, takes, unchanged}
@@ -33,3 +33,6 @@ returns-clause-takes c =
 pub returns-in_default-clause-takes : goal.returns-in_default-clause-takes
 returns-in_default-clause-takes c =
     did_nothing c.pass.inside.seat c.try_enter.new.seat c.pass.inside.who c.args.pass.now c.pass.invariant c.in_default.ensures.none c.pass.view_is
+
+pub returns-clause-entered : goal.returns-clause-entered
+returns-clause-entered c = λ _. (steps c).visits ∙ ap (λ (v : Shows). v.visits + 1) c.pass.view_is

@@ -1,6 +1,6 @@
-use Rattle.std.proofs.Common.{[], IfSome, sym, subst}
+use Rattle.std.proofs.Common.{◌+◌, [], IfSome, ap, sym, subst, ◌∙◌}
 use Rattle.requests.specs.Between.{MayFollow}
-use Rattle.shared.specs.Passes.{shows}
+use Rattle.shared.specs.Passes.{Shows, shows}
 use Rattle.shared.specs.Deeds.{trim_deed, Takes}
 use Rattle.requests.proofs.Between.{goes_follows}
 use Rattle.shared.proofs.Requests.{did_nothing}
@@ -35,3 +35,6 @@ returns-clause-takes c =
 pub returns-in_default-clause-takes : goal.returns-in_default-clause-takes
 returns-in_default-clause-takes c =
     did_nothing c.pass.inside.seat c.try_enter.new.seat c.pass.inside.who c.args.pass.now c.pass.invariant c.in_default.ensures.none c.pass.view_is
+
+pub returns-clause-entered : goal.returns-clause-entered
+returns-clause-entered c = λ _. (steps c).visits ∙ ap (λ (v : Shows). v.visits + 1) c.pass.view_is
