@@ -187,13 +187,13 @@ impl Factor {
         sum ^ look_up(self.low, self.high, bytes)
     }
 
-    /// The same, where a factor of 0 costs no look-up.
+    /// The same; a factor of 0 costs no look-up where it is skipped.
     #[inline(always)]
-    pub(crate) fn plus_times_some(&self, sum: u8x32, bytes: u8x32) -> u8x32
+    pub(crate) fn plus_times_some(&self, sum: u8x32, bytes: u8x32, skips: bool) -> u8x32
         ensures { (k : ℕ) → k < 32 → slice_index result k
             ≡ bit_xor (slice_index sum k) (product self.now.scale (slice_index bytes k)) }
     {
-        if self.scale == 0 {
+        if skips && self.scale == 0 {
             sum
         } else {
             self.plus_times(sum, bytes)

@@ -201,8 +201,16 @@ fn columns_of(lists: &[&[u8]], at: usize) -> Columns
     }
 }
 
-/// Makes the target the sum of the four lists, each times its weight.
-fn sum_weighed(target: &mut [u8], weights: &Weights, factors: &[u8; 4], lists: &[&[u8]])
+/// Makes the target the sum of the four lists, each times its weight. Each `COPY` is compiled by
+/// itself.
+#[inline(always)]
+fn sum_weighed<const COPY: u8>(
+    target: &mut [u8],
+    weights: &Weights,
+    factors: &[u8; 4],
+    lists: &[&[u8]],
+    skips: bool,
+)
     requires count { length lists.now ≡ 4 }
     requires same { All (λ s. length s.now ≡ length target.old) lists.now }
     requires wide { LANES ≤ length target.old }
@@ -215,7 +223,7 @@ fn sum_weighed(target: &mut [u8], weights: &Weights, factors: &[u8; 4], lists: &
     let mut done = 0;
     'each: while done < width {
         let at = next_block(done, width);
-        store(weights.sums_at(columns_of(lists, at)), target, at);
+        store(weights.sums_at(columns_of(lists, at), skips), target, at);
         done = at + LANES;
     }
 }
@@ -237,6 +245,11 @@ fn plain_of(factors: &[u8; 4]) -> Option<usize>
         return Some(3);
     }
     None
+}
+
+/// Whether two or more of the factors are 0.
+fn has_zeros(factors: &[u8; 4]) -> bool {
+    factors.iter().filter(|factor| **factor == 0).count() > 1
 }
 
 /// Copies a list.
@@ -262,7 +275,8 @@ pub(crate) fn weigh(target: &mut [u8], weights: &Weights, factors: &[u8; 4], lis
     }
     match plain_of(factors) {
         Some(e) => copy_list(target, lists[e]),
-        None => sum_weighed(target, weights, factors, lists),
+        None if has_zeros(factors) => sum_weighed::<0>(target, weights, factors, lists, true),
+        None => sum_weighed::<1>(target, weights, factors, lists, false),
     }
 }
 

@@ -27,14 +27,14 @@ impl Weights {
         }
     }
 
-    /// The sums.
+    /// The sums. A factor of 0 costs no look-up where those are skipped, and the others a test.
     #[inline(always)]
-    pub(crate) fn sums_at(&self, s: Columns) -> u8x32
+    pub(crate) fn sums_at(&self, s: Columns, skips: bool) -> u8x32
         ensures { (k : ℕ) → k < LANES → slice_index result k ≡ weighed self.now (lane s k) }
     {
-        let one = self.first.plus_times_some(u8x32::splat(0), s.first);
-        let two = self.second.plus_times_some(one, s.second);
-        let three = self.third.plus_times_some(two, s.third);
-        self.fourth.plus_times_some(three, s.fourth)
+        let one = self.first.plus_times_some(u8x32::splat(0), s.first, skips);
+        let two = self.second.plus_times_some(one, s.second, skips);
+        let three = self.third.plus_times_some(two, s.third, skips);
+        self.fourth.plus_times_some(three, s.fourth, skips)
     }
 }

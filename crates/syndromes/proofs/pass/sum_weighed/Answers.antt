@@ -5,7 +5,7 @@ use Rattle.syndromes.proofs.Taken.{weighed_is, written_more}
 use Rattle.syndromes.proofs.pass.sum_weighed.Goals as goal
 
 pub each-preserved : goal.each-preserved
-each-preserved c =
+each-preserved g c =
     let lists = map (λ s. s.now) c.args.lists.now in
     let at : ℕ = c.next_block-at.result in
     record {
