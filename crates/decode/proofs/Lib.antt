@@ -1,5 +1,6 @@
 pub mod Terms
 pub mod Law
+mod Equations
 pub mod Places
 pub mod Chosen
 pub mod Parts

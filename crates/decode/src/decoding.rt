@@ -214,16 +214,16 @@ fn is_far(code: Code, lost: LostSet, chosen: Option<u8>) -> u32
 }
 
 /// From which width on the syndromes are faster than several recipes.
-const WIDE: usize = 1024;
+const WIDE: usize = 1;
 
 /// Up to which width it takes longer to keep what was made than it saves.
-const NARROW: usize = 128;
+const NARROW: usize = 0;
 
 /// Whether the syndromes are the faster way to make several fragments that are not alone lost in
 /// their groups. Where the excess is 1, one of them comes by its recipe, and its group then has the
 /// other.
 fn are_syndromes_faster(code: Code, lost: LostSet, width: usize) -> bool {
-    lost.excess_in(code) > 1 && width >= WIDE
+    lost.excess_in(code) > 0 && width >= WIDE
 }
 
 /// Whether each fragment is made by itself: where a fragment that was made does not help to make

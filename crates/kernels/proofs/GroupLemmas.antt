@@ -93,6 +93,17 @@ third_of_groups = plus (plus sum_s0 (twice (plus sum_s1 (twice sum_s2)))) (times
 abbrev pub fourth_of_groups : Term
 fourth_of_groups = plus (plus sum_s0 (four (plus sum_s1 (four sum_s2)))) (times (num 0x1D) (plus sum_t0 (four (plus sum_t1 (four sum_t2)))))
 
+-- the fourth of groups whose sums are the variables, by products
+abbrev by_products : Term
+by_products = plus (plus (plus (plus (plus (var 0) (times (num 0x04) (var 1))) (times (num 0x10) (var 2))) (times (num 0x1D) (var 3))) (times (num 0x74) (var 4))) (times (num 0xCD) (var 5))
+
+abbrev by_doublings : Term
+by_doublings = plus (plus (var 0) (four (plus (var 1) (four (var 2))))) (times (num 0x1D) (plus (var 3) (four (plus (var 4) (four (var 5))))))
+
+pub fourth_by_products : (s0 s1 s2 t0 t1 t2 : ℕ) → Each1 (λ x. x < 256) (s0 ∷ s1 ∷ s2 ∷ t0 ∷ t1 ∷ t2 ∷ [])
+    → bit_xor (bit_xor (bit_xor (bit_xor (bit_xor s0 (product 0x04 s1)) (product 0x10 s2)) (product 0x1D t0)) (product 0x74 t1)) (product 0xCD t2) ≡ fourth_apart s0 s1 s2 t0 t1 t2
+fourth_by_products s0 s1 s2 t0 t1 t2 fits = same_by_ring (s0 ∷ s1 ∷ s2 ∷ t0 ∷ t1 ∷ t2 ∷ []) fits by_products by_doublings refl
+
 -- what equation e gives for the first n of the twelve bytes
 abbrev equation : ℕ → ℕ → Term
 equation e zero = num 0

@@ -1,16 +1,17 @@
 //! Thirty-two bytes at once.
 ghost use Rattle.std.specs.Prelude.{◌≡◌, ◌<◌, ◌≤◌, ◌+◌, ℕ, length, slice_index, bit_xor};
 ghost use Rattle.gf256.specs.Field.{product};
-ghost use Rattle.kernels.specs.Doublings.{third_apart, fourth_apart, times_4};
+ghost use Rattle.kernels.specs.Doublings.{third_apart, fourth_apart};
 
 use crate::factor::Factor;
 use std::simd::prelude::*;
 
-pub(crate) const LANES: usize = 32;
+/// How many bytes are worked on at once.
+pub const LANES: usize = 32;
 
 /// The thirty-two bytes from `at` on.
 #[inline(always)]
-pub(crate) fn load(source: &[u8], at: usize) -> u8x32
+pub fn load(source: &[u8], at: usize) -> u8x32
     requires { at + LANES ≤ length source.now }
     ensures lanes { (k : ℕ) → k < LANES → slice_index result k ≡ slice_index source.now (at + k) }
     ensures bytes { (k : ℕ) → k < LANES → slice_index result k < 256 }
@@ -18,14 +19,24 @@ pub(crate) fn load(source: &[u8], at: usize) -> u8x32
     u8x32::from_slice(&source[at..])
 }
 
-/// Writes a block at `at`.
+/// Writes a block at `at`. The other bytes are unchanged.
 #[inline(always)]
-pub(crate) fn store(block: u8x32, target: &mut [u8], at: usize)
+pub fn store(block: u8x32, target: &mut [u8], at: usize)
     requires { at + LANES ≤ length target.old }
     ensures lanes { (k : ℕ) → k < LANES → slice_index target.new (at + k) ≡ slice_index block k }
     ensures before { (k : ℕ) → k < at → slice_index target.new k ≡ slice_index target.old k }
+    ensures after { (k : ℕ) → at + LANES ≤ k → slice_index target.new k ≡ slice_index target.old k }
 {
     block.copy_to_slice(&mut target[at..]);
+}
+
+/// The sum of two blocks.
+#[inline(always)]
+pub fn sum_2(a: u8x32, b: u8x32) -> u8x32
+    ensures { (k : ℕ) → k < LANES → slice_index result k
+        ≡ bit_xor (slice_index a k) (slice_index b k) }
+{
+    a ^ b
 }
 
 /// The sum of three blocks.
@@ -41,14 +52,15 @@ pub(crate) fn sum_3(a: u8x32, b: u8x32, c: u8x32) -> u8x32
 #[inline(always)]
 pub(crate) fn sum_4(a: u8x32, b: u8x32, c: u8x32, d: u8x32) -> u8x32
     ensures { (k : ℕ) → k < LANES → slice_index result k
-        ≡ bit_xor (bit_xor (bit_xor (slice_index a k) (slice_index b k)) (slice_index c k)) (slice_index d k) }
+        ≡ bit_xor (bit_xor (bit_xor (slice_index a k) (slice_index b k)) (slice_index c k))
+        (slice_index d k) }
 {
     a ^ b ^ c ^ d
 }
 
 /// Each byte times x.
 #[inline(always)]
-pub(crate) fn twice_each(x: u8x32) -> u8x32
+fn twice_each(x: u8x32) -> u8x32
     ensures len { length result ≡ LANES }
     ensures lanes { (k : ℕ) → k < LANES → slice_index result k ≡ product 2 (slice_index x k) }
 {
@@ -58,37 +70,35 @@ pub(crate) fn twice_each(x: u8x32) -> u8x32
 /// The sum of a block, and of another one times x.
 #[inline(always)]
 fn plus_2(a: u8x32, x: u8x32) -> u8x32
-    ensures { (k : ℕ) → k < LANES → slice_index result k ≡ bit_xor (slice_index a k) (product 2 (slice_index x k)) }
+    ensures { (k : ℕ) → k < LANES → slice_index result k
+        ≡ bit_xor (slice_index a k) (product 2 (slice_index x k)) }
 {
     a ^ twice_each(x)
 }
 
-/// The sum of a block, and of another one times x^2.
+/// The third parity, from the sums over the bits of the numbers in each group.
 #[inline(always)]
-fn plus_4(a: u8x32, x: u8x32) -> u8x32
-    ensures { (k : ℕ) → k < LANES → slice_index result k ≡ bit_xor (slice_index a k) (times_4 (slice_index x k)) }
-{
-    plus_2(a, twice_each(x))
-}
-
-/// The third parity, of the sums over the bits of the numbers: each group by itself, so that neither waits for the other.
-#[inline(always)]
-pub(crate) fn third_each(s0: u8x32, s1: u8x32, s2: u8x32, t0: u8x32, t1: u8x32, t2: u8x32) -> u8x32
+pub fn third_each(s0: u8x32, s1: u8x32, s2: u8x32, t0: u8x32, t1: u8x32, t2: u8x32) -> u8x32
     ensures { (k : ℕ) → k < LANES → slice_index result k
-        ≡ third_apart (slice_index s0 k) (slice_index s1 k) (slice_index s2 k) (slice_index t0 k) (slice_index t1 k) (slice_index t2 k) }
+        ≡ third_apart (slice_index s0 k) (slice_index s1 k) (slice_index s2 k) (slice_index t0 k)
+        (slice_index t1 k) (slice_index t2 k) }
 {
     let s = plus_2(s0, plus_2(s1, s2));
     let t = plus_2(t0, plus_2(t1, t2));
     Factor::new(0x10).plus_times(s, t)
 }
 
-/// The fourth parity, of the sums over the bits of the numbers. 0x1D is x^8.
+/// The fourth parity, from the sums over the bits of the numbers in each group: by products, since
+/// two doublings take longer than one. 0x1D is x^8.
 #[inline(always)]
-pub(crate) fn fourth_each(s0: u8x32, s1: u8x32, s2: u8x32, t0: u8x32, t1: u8x32, t2: u8x32) -> u8x32
+pub fn fourth_each(s0: u8x32, s1: u8x32, s2: u8x32, t0: u8x32, t1: u8x32, t2: u8x32) -> u8x32
     ensures { (k : ℕ) → k < LANES → slice_index result k
-        ≡ fourth_apart (slice_index s0 k) (slice_index s1 k) (slice_index s2 k) (slice_index t0 k) (slice_index t1 k) (slice_index t2 k) }
+        ≡ fourth_apart (slice_index s0 k) (slice_index s1 k) (slice_index s2 k) (slice_index t0 k)
+        (slice_index t1 k) (slice_index t2 k) }
 {
-    let s = plus_4(s0, plus_4(s1, s2));
-    let t = plus_4(t0, plus_4(t1, t2));
-    Factor::new(0x1D).plus_times(s, t)
+    let one = Factor::new(0x04).plus_times(s0, s1);
+    let two = Factor::new(0x10).plus_times(one, s2);
+    let three = Factor::new(0x1D).plus_times(two, t0);
+    let four = Factor::new(0x74).plus_times(three, t1);
+    Factor::new(0xCD).plus_times(four, t2)
 }

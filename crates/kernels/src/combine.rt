@@ -4,8 +4,8 @@ ghost use Rattle.std.specs.Prelude.{◌≡◌, ℕ, ◌<◌, ◌≤◌, ◌+◌,
 ghost use Rattle.kernels.specs.Lists.{combined, bytes_at};
 ghost use Rattle.kernels.specs.Tables.{AreLow, AreHigh};
 
-use crate::blocks::{LANES, load, store};
-use crate::factor::{Factor, look_up, plus};
+use crate::blocks::{LANES, load, store, sum_2};
+use crate::factor::{Factor, look_up};
 use gf256::add_scaled;
 use std::simd::prelude::*;
 
@@ -28,7 +28,7 @@ fn sum_block(
 {
     let mut sum = u8x32::splat(0);
     for i in 0..coefficients.len() {
-        sum = plus(sum, look_up(lows[i], highs[i], load(sources[i], at)));
+        sum = sum_2(sum, look_up(lows[i], highs[i], load(sources[i], at)));
     }
     sum
 }
@@ -66,8 +66,8 @@ fn sum_two(
         let low = lows[i];
         let high = highs[i];
         let source = sources[i];
-        first = plus(first, look_up(low, high, load(source, at)));
-        second = plus(second, look_up(low, high, load(source, next)));
+        first = sum_2(first, look_up(low, high, load(source, at)));
+        second = sum_2(second, look_up(low, high, load(source, next)));
     }
     Two { first, second }
 }
@@ -125,7 +125,7 @@ fn plain_block(coefficients: &[u8], sources: &[&[u8]], at: usize) -> u8x32
 {
     let mut sum = u8x32::splat(0);
     for i in 0..coefficients.len() {
-        sum = plus(sum, load(sources[i], at));
+        sum = sum_2(sum, load(sources[i], at));
     }
     sum
 }

@@ -10,7 +10,7 @@ use std::simd::prelude::*;
 
 /// The thirty-two bytes of list `f` from `at` on.
 #[inline(always)]
-fn load_from(sources: &[&[u8]], f: usize, at: usize) -> u8x32
+pub fn load_from(sources: &[&[u8]], f: usize, at: usize) -> u8x32
     requires f_below { f < length sources.now }
     requires inside { All (λ s. at + LANES ≤ length s.now) sources.now }
     ensures lanes { (k : ℕ) → k < LANES → slice_index result k ≡ slice_index (list_at (map (λ s. s.now) sources.now) f) (at + k) }
@@ -21,17 +21,21 @@ fn load_from(sources: &[&[u8]], f: usize, at: usize) -> u8x32
 
 /// The sums of thirty-two places of a group: of all six fragments, and of those whose number in the group, counted from 1,
 /// has bit 0, bit 1 or bit 2.
-#[derive(Drop)]
-struct Sums {
-    whole: u8x32,
-    bit_0: u8x32,
-    bit_1: u8x32,
-    bit_2: u8x32,
+#[derive(Clone, Copy, Drop)]
+pub struct GroupSums {
+    /// The sum of all six lists.
+    pub whole: u8x32,
+    /// The sum of those whose number has bit 0.
+    pub bit_0: u8x32,
+    /// The sum of those whose number has bit 1.
+    pub bit_1: u8x32,
+    /// The sum of those whose number has bit 2.
+    pub bit_2: u8x32,
 }
 
 /// The sums of the six fragments from `first` on.
 #[inline(always)]
-fn sums_of(sources: &[&[u8]], first: usize, at: usize) -> Sums
+pub fn sums_of(sources: &[&[u8]], first: usize, at: usize) -> GroupSums
     requires first_below { first + 6 ≤ length sources.now }
     requires inside { All (λ s. at + LANES ≤ length s.now) sources.now }
     ensures bytes { (i k : ℕ) → i < 6 → k < LANES → bytes_at (map (λ s. s.now) sources.now) (at + k) (first + i) < 256 }
@@ -47,7 +51,7 @@ fn sums_of(sources: &[&[u8]], first: usize, at: usize) -> Sums
     let x4 = load_from(sources, first + 4, at);
     let x5 = load_from(sources, first + 5, at);
     let bit_0 = sum_3(x0, x2, x4);
-    Sums {
+    GroupSums {
         whole: sum_4(bit_0, x1, x3, x5),
         bit_0,
         bit_1: sum_3(x1, x2, x5),

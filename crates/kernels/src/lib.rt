@@ -8,7 +8,10 @@ mod blocks;
 mod combine;
 mod factor;
 mod groups;
+mod halves;
 mod place;
 
+pub use blocks::{LANES, fourth_each, load, store, sum_2, third_each};
 pub use combine::combine_lists;
-pub use groups::write_parities;
+pub use factor::Factor;
+pub use groups::{GroupSums, load_from, sums_of, write_parities};

@@ -9,7 +9,7 @@ use kernels::{combine_lists, write_parities};
 
 /// How many places a block has at most: few enough that its syndromes stay in the first cache beside
 /// the lists.
-pub(crate) const BLOCK: usize = 2048;
+pub(crate) const BLOCK: usize = 1024;
 
 static ZEROS: [u8; BLOCK] = [0; BLOCK];
 

@@ -10,7 +10,7 @@ ghost use Rattle.syndromes.specs.Plans.{IsPlan, AreWeightsFor, AreSyndromes};
 use crate::blocks::{BLOCK, part_or_zeros, write_syndromes};
 use crate::formulas::{Formula, formulas_for};
 use crate::lanes::LANES;
-use crate::pass::{Plan, add_list, plan_for, weigh, write_taken};
+use crate::pass::{Plan, add_list, plain_of, plan_for, weigh, write_sum, write_taken};
 use crate::weights::Weights;
 
 /// Adds the places `at..end` of a target that was made before, where it is to be added.
@@ -23,6 +23,67 @@ fn add_made(part: &mut [u8], shares: Option<[u8; 4]>, made: &[u8], at: usize, en
 {
     if shares.is_some() {
         add_list(part, &made[at..end]);
+    }
+}
+
+/// Writes the sum of a list and the places `at..end` of a target that was made before, where it is
+/// to be added.
+fn write_with(
+    part: &mut [u8],
+    list: &[u8],
+    shares: Option<[u8; 4]>,
+    made: &[u8],
+    at: usize,
+    end: usize,
+)
+    requires order { at ≤ end }
+    requires long { length part.old ≡ end - at }
+    requires same { length list.now ≡ end - at }
+    requires room { HasRoom shares end made.now }
+    ensures { EachIndex part.new (λ k. slice_index part.new k
+        ≡ bit_xor (slice_index list.now k) (addend shares made.now (at + k))) }
+{
+    if shares.is_some() {
+        write_sum(part, list, &made[at..end]);
+    } else {
+        part.copy_from_slice(list);
+    }
+}
+
+/// Makes the places `at..end` of a target by a formula without products: a syndrome, and the
+/// targets that are added.
+fn make_plainly(
+    part: &mut [u8],
+    at: usize,
+    end: usize,
+    formula: &Formula,
+    syndrome: &[u8],
+    first: &[u8],
+    second: &[u8],
+    third: &[u8],
+)
+    requires order { at ≤ end }
+    requires long { length part.old ≡ end - at }
+    requires same { length syndrome.now ≡ end - at }
+    requires first_room { HasRoom formula.now.first end first.now }
+    requires second_room { HasRoom formula.now.second end second.now }
+    requires third_room { HasRoom formula.now.third end third.now }
+    ensures bytes { (k : ℕ) → slice_index syndrome.now k < 256 }
+    ensures made { EachIndex part.new (λ k. slice_index part.new k
+        ≡ bit_xor (bit_xor (bit_xor (slice_index syndrome.now k)
+        (addend formula.now.third third.now (at + k)))
+        (addend formula.now.second second.now (at + k)))
+        (addend formula.now.first first.now (at + k))) }
+{
+    if formula.third.is_some() {
+        write_with(part, syndrome, formula.third, third, at, end);
+        add_made(part, formula.second, second, at, end);
+        add_made(part, formula.first, first, at, end);
+    } else if formula.second.is_some() {
+        write_with(part, syndrome, formula.second, second, at, end);
+        add_made(part, formula.first, first, at, end);
+    } else {
+        write_with(part, syndrome, formula.first, first, at, end);
     }
 }
 
@@ -52,6 +113,10 @@ fn make_part(
         (addend formula.now.second second.now (at + k)))
         (addend formula.now.first first.now (at + k))) }
 {
+    if let Some(e) = plain_of(&formula.factors) {
+        make_plainly(part, at, end, formula, syndromes[e], first, second, third);
+        return;
+    }
     weigh(part, weights, &formula.factors, syndromes);
     add_made(part, formula.third, third, at, end);
     add_made(part, formula.second, second, at, end);

@@ -1,6 +1,6 @@
 //! Thirty-two bytes at once, and their products with one byte, by a table for each half of a byte.
 ghost use Rattle.std.specs.Prelude.{◌≡◌, ◌<◌, ◌≤◌, ◌+◌, ◌*◌, ◌/◌, ◌%◌, ℕ, length, slice_index};
-ghost use Rattle.std.specs.Prelude.{bit_xor};
+ghost use Rattle.std.specs.Prelude.{bit_xor, false};
 ghost use Rattle.gf256.specs.Field.{product};
 ghost use Rattle.kernels.specs.Doublings.{third_apart, fourth_apart, times_4};
 
@@ -187,16 +187,17 @@ impl Factor {
         sum ^ look_up(self.low, self.high, bytes)
     }
 
-    /// The same, where a factor of 0 costs no look-up.
+    /// The same for a factor that may be left out because it is 0.
     #[inline(always)]
-    pub(crate) fn plus_times_some(&self, sum: u8x32, bytes: u8x32) -> u8x32
+    pub(crate) fn plus_times_if(&self, taken: bool, sum: u8x32, bytes: u8x32) -> u8x32
+        requires { taken ≡ false → self.now.scale ≡ 0 }
         ensures { (k : ℕ) → k < 32 → slice_index result k
             ≡ bit_xor (slice_index sum k) (product self.now.scale (slice_index bytes k)) }
     {
-        if self.scale == 0 {
-            sum
-        } else {
+        if taken {
             self.plus_times(sum, bytes)
+        } else {
+            sum
         }
     }
 }

@@ -201,8 +201,19 @@ fn columns_of(lists: &[&[u8]], at: usize) -> Columns
     }
 }
 
-/// Makes the target the sum of the four lists, each times its weight.
-fn sum_weighed(target: &mut [u8], weights: &Weights, factors: &[u8; 4], lists: &[&[u8]])
+/// Makes the target the sum of the four lists, each times its weight. Each `COPY` is compiled by
+/// itself.
+#[inline(always)]
+fn sum_weighed<const COPY: u8>(
+    target: &mut [u8],
+    weights: &Weights,
+    factors: &[u8; 4],
+    lists: &[&[u8]],
+    takes_second: bool,
+    takes_fourth: bool,
+)
+    requires second { takes_second ≡ false → slice_index factors.now 1 ≡ 0 }
+    requires fourth { takes_fourth ≡ false → slice_index factors.now 3 ≡ 0 }
     requires count { length lists.now ≡ 4 }
     requires same { All (λ s. length s.now ≡ length target.old) lists.now }
     requires wide { LANES ≤ length target.old }
@@ -215,13 +226,14 @@ fn sum_weighed(target: &mut [u8], weights: &Weights, factors: &[u8; 4], lists: &
     let mut done = 0;
     'each: while done < width {
         let at = next_block(done, width);
-        store(weights.sums_at(columns_of(lists, at)), target, at);
+        let sums = weights.sums_at(columns_of(lists, at), takes_second, takes_fourth);
+        store(sums, target, at);
         done = at + LANES;
     }
 }
 
 /// The one syndrome that counts, if it counts once.
-fn plain_of(factors: &[u8; 4]) -> Option<usize>
+pub(crate) fn plain_of(factors: &[u8; 4]) -> Option<usize>
     ensures { IfSome result (λ e. (e < 4) × (factors.now ≡ unit e)) }
 {
     if *factors == [1, 0, 0, 0] {
@@ -239,17 +251,8 @@ fn plain_of(factors: &[u8; 4]) -> Option<usize>
     None
 }
 
-/// Copies a list.
-fn copy_list(target: &mut [u8], source: &[u8])
-    requires { length source.now ≡ length target.old }
-    ensures same { target.new ≡ source.now }
-    ensures bytes { (k : ℕ) → slice_index source.now k < 256 }
-{
-    target.copy_from_slice(source);
-}
-
 /// Makes the target the sum of the four lists, each times its factor: by the tables of the factors
-/// where the lists are as long as a vector. A lone syndrome that counts once is copied.
+/// if the lists are as long as a vector.
 pub(crate) fn weigh(target: &mut [u8], weights: &Weights, factors: &[u8; 4], lists: &[&[u8]; 4])
     requires same { All (λ s. length s.now ≡ length target.old) lists.now }
     requires weights { AreWeights weights.now factors.now }
@@ -258,11 +261,14 @@ pub(crate) fn weigh(target: &mut [u8], weights: &Weights, factors: &[u8; 4], lis
 {
     if target.len() < LANES {
         combine_four(target, factors, lists);
-        return;
-    }
-    match plain_of(factors) {
-        Some(e) => copy_list(target, lists[e]),
-        None => sum_weighed(target, weights, factors, lists),
+    } else if factors[1] == 0 && factors[3] == 0 {
+        sum_weighed::<0>(target, weights, factors, lists, false, false);
+    } else if factors[1] == 0 {
+        sum_weighed::<1>(target, weights, factors, lists, false, true);
+    } else if factors[3] == 0 {
+        sum_weighed::<2>(target, weights, factors, lists, true, false);
+    } else {
+        sum_weighed::<3>(target, weights, factors, lists, true, true);
     }
 }
 
@@ -290,5 +296,23 @@ pub(crate) fn add_list(target: &mut [u8], source: &[u8])
 {
     for i in add_blocks(target, source)..target.len() {
         target[i] ^= source[i];
+    }
+}
+
+/// Writes the sum of two lists, place by place.
+pub(crate) fn write_sum(target: &mut [u8], one: &[u8], other: &[u8])
+    requires same { length one.now ≡ length target.old }
+    requires same_other { length other.now ≡ length target.old }
+    ensures { EachIndex target.new (λ k. slice_index target.new k
+        ≡ bit_xor (slice_index one.now k) (slice_index other.now k)) }
+{
+    let width = target.len();
+    let mut at = 0;
+    'whole: while width - at >= LANES {
+        store(sum_2(load(one, at), load(other, at)), target, at);
+        at += LANES;
+    }
+    for i in at..width {
+        target[i] = one[i] ^ other[i];
     }
 }

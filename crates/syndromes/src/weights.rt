@@ -1,5 +1,5 @@
 //! Sums of the syndromes at thirty-two places, each times its weight.
-ghost use Rattle.std.specs.Prelude.{◌≡◌, ◌<◌, ℕ, slice_index};
+ghost use Rattle.std.specs.Prelude.{◌≡◌, ◌<◌, ℕ, false, slice_index};
 ghost use Rattle.syndromes.specs.Weights.{AreWeights, lane, weighed};
 
 use crate::columns::Columns;
@@ -27,14 +27,16 @@ impl Weights {
         }
     }
 
-    /// The sums.
+    /// The sums. The second and the fourth factor are left out where they are 0 and not taken.
     #[inline(always)]
-    pub(crate) fn sums_at(&self, s: Columns) -> u8x32
+    pub(crate) fn sums_at(&self, s: Columns, takes_second: bool, takes_fourth: bool) -> u8x32
+        requires second { takes_second ≡ false → self.now.second.scale ≡ 0 }
+        requires fourth { takes_fourth ≡ false → self.now.fourth.scale ≡ 0 }
         ensures { (k : ℕ) → k < LANES → slice_index result k ≡ weighed self.now (lane s k) }
     {
-        let one = self.first.plus_times_some(u8x32::splat(0), s.first);
-        let two = self.second.plus_times_some(one, s.second);
-        let three = self.third.plus_times_some(two, s.third);
-        self.fourth.plus_times_some(three, s.fourth)
+        let one = self.first.plus_times(u8x32::splat(0), s.first);
+        let two = self.second.plus_times_if(takes_second, one, s.second);
+        let three = self.third.plus_times(two, s.third);
+        self.fourth.plus_times_if(takes_fourth, three, s.fourth)
     }
 }

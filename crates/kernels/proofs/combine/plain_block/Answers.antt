@@ -14,7 +14,7 @@ pub loop-i-preserved : goal.loop-i-preserved
 loop-i-preserved c k h =
     let i : ℕ = c.loop-i.i in
     let inside : i < length c.args.coefficients.now = omega arith in
-    c.plus-sum.ensures k h
+    c.sum_2-sum.ensures k h
     ∙ ap₂ bit_xor (c.loop-i.invariant k h)
     (sym (ap (λ scale. product scale (get_or c.load.result k 0)) (c.requires.ones i 0 inside) ∙ product-one_left (get_or c.load.result k 0) (c.load.ensures.bytes k h))
     ∙ ap (product (get_or c.args.coefficients.now i 0)) (c.load.ensures.lanes k h ∙ ap (λ xs. get_or xs (c.args.at + k) 0) (source_is c.args.sources.now i)))

@@ -15,7 +15,7 @@ loop-i-preserved c k h =
     let i : ℕ = c.loop-i.i in
     let scale : ℕ = get_or c.args.coefficients.now i 0 in
     let inside : i < length c.args.coefficients.now = omega arith in
-    c.plus-sum.ensures k h
+    c.sum_2-sum.ensures k h
     ∙ ap₂ bit_xor (c.loop-i.invariant k h)
     (c.look_up.ensures.lanes k h
     ∙ product_from_tables scale (get_or c.args.lows.now i []) (get_or c.args.highs.now i []) (λ k h. c.requires.low i k inside h) (λ k h. c.requires.high i k inside h) (get_or c.load.result k 0) k (c.load.ensures.bytes k h) h

@@ -22,14 +22,14 @@ loop-i-preserved c =
     let high : List ℕ = get_or c.args.highs.now i [] in
     record {
       first = λ k h.
-          c.plus-first.ensures k h
+          c.sum_2-first.ensures k h
           ∙ ap₂ bit_xor (c.loop-i.invariant.first k h)
           (c.look_up.ensures.lanes k h
           ∙ product_from_tables scale low high (λ k h. c.requires.low i k inside h) (λ k h. c.requires.high i k inside h) (get_or c.load.result k 0) k (c.load.ensures.bytes k h) h
           ∙ ap (product scale) (c.load.ensures.lanes k h ∙ ap (λ xs. get_or xs (c.args.at + k) 0) (source_is c.args.sources.now i)))
           ∙ sym (xor_sum_more i (products c.args.coefficients.now c.args.sources.now (c.args.at + k)));
       second = λ k h.
-          c.plus-second.ensures k h
+          c.sum_2-second.ensures k h
           ∙ ap₂ bit_xor (c.loop-i.invariant.second k h)
           (c.look_up-in-loop-i.ensures.lanes k h
           ∙ product_from_tables scale low high (λ k h. c.requires.low i k inside h) (λ k h. c.requires.high i k inside h) (get_or c.load-in-loop-i.result k 0) k (c.load-in-loop-i.ensures.bytes k h) h
