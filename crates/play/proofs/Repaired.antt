@@ -112,7 +112,9 @@ mends_first workers plan os steps c took once are_by all =
     let found_many = length-map steps found_of in
     let many = ap length operations ∙ length-map (items_in took.taken) repair_of ∙ length-map took.taken (λ t. t.1) in
     record {
+      count = c;
       left_out = map repair_of (drop c plan);
+      last = refl;
       each = subst (IsPermutation (map repair_of plan)) (map-append repair_of (items_in took.taken) (drop c plan) ∙ ap (λ l. l ++ map repair_of (drop c plan)) (sym operations))
           (IsPermutation-map repair_of plan (items_in took.taken ++ drop c plan) whole);
       only_calls = omega (arith, many, took.many, steps_many, found_many);

@@ -155,7 +155,9 @@ mends_moved workers plan xs ys moved m =
     let operations = subst (λ l. IsPermutation l (operations_in ys)) (sym (each_operation xs m.only_calls))
     (subst (IsPermutation (map f xs)) (sym (each_operation ys more)) (IsPermutation-map f xs ys moved)) in
     record {
+      count = m.count;
       left_out = m.left_out;
+      last = m.last;
       each = IsPermutation-trans (map repair_of plan) (operations_in xs ++ m.left_out) (operations_in ys ++ m.left_out) m.each (IsPermutation-append_left m.left_out (operations_in xs) (operations_in ys) operations);
       only_calls = more;
       workers_are = All-permutation (IsByWorker workers) xs ys moved m.workers_are;

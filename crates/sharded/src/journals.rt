@@ -4,7 +4,8 @@ ghost use Rattle.shared.specs.Deeds.{Takes, trim_deed};
 ghost use Rattle.sharded.specs.Passes.{stores_of, AreLone};
 ghost use Rattle.sharded.specs.Steps.{IsStepAt, IsPlanAt};
 ghost use Rattle.sharded.specs.StepsTo.{AreSteps, AreFirstSteps, HasLooked, lost_in_all};
-ghost use Rattle.sharded.specs.StepsTo.{IsTrimmed, AreTrimmedInPart};
+ghost use Rattle.sharded.specs.StepsTo.{IsTrimmed, AreTrimmedInPart, AreTrimmedToBusy};
+ghost use Rattle.shared.specs.Passes.{FindsBusy};
 
 use crate::{ShardedPass, ShardedStore};
 use book::{Fault, Plan};
@@ -47,7 +48,7 @@ impl ShardedStore {
         ensures err { OnErr result (AreTrimmedInPart keep pass.old pass.new) }
         ensures same { stores_of pass.new ≡ self.now }
         ensures faults { IfErr result (λ e. (e ≡ Fault.Busy) ⊎ (e ≡ Fault.NoMemory)) }
-        ensures busy { result ≡ Err Fault.Busy → AreFirstSteps (IsTrimmed keep) pass.old pass.new }
+        ensures busy { result ≡ Err Fault.Busy → AreTrimmedToBusy keep pass.old pass.new }
         ensures lone { AreLone pass.old → result ≢ Err Fault.Busy }
     {
         for shard in 0..self.count_shards() {
@@ -98,7 +99,7 @@ impl ShardedStore {
             (λ v w. Takes v (trim_deed keep result) w) pass.old pass.new }
         ensures same { stores_of pass.new ≡ self.now }
         ensures faults { IfErr result (λ e. (e ≡ Fault.Busy) ⊎ (e ≡ Fault.NoMemory)) }
-        ensures busy { result ≡ Err Fault.Busy → pass.new ≡ pass.old }
+        ensures busy { result ≡ Err Fault.Busy → IsStepAt shard FindsBusy pass.old pass.new }
         ensures lone { AreLone pass.old → result ≢ Err Fault.Busy }
     {
         let store = &self.shards[shard];

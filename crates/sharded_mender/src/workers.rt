@@ -1,7 +1,8 @@
 //! The scrub, and the workers.
 ghost use Rattle.std.specs.Prelude.{◌≡◌, ◌^◌, [], IfOk, IfErr, OnOk, OnErr};
 ghost use Rattle.book.specs.Tells.{IsCallFault};
-ghost use Rattle.mender.specs.Worked.{Finished};
+ghost use Rattle.mender.specs.Drawn.{IsIntact};
+ghost use Rattle.mender.specs.Worked.{Finished, AreInOrder};
 ghost use Rattle.sharded.specs.Passes.{stores_of};
 ghost use Rattle.sharded.specs.StepsTo.{AreSteps, AreFirstSteps, HasLooked, lost_in_all};
 ghost use Rattle.sharded_mender.specs.Repairs.{AreRepaired, IsStopped};
@@ -40,7 +41,8 @@ pub fn scrub<R: Wait>(
 /// the plan's length or the allowance is 0.
 ///
 /// Each ticket below the plan's length that was drawn in this call has one result, with the answer
-/// of the one repair that was made for it.
+/// of the one repair that was made for it. The tickets rise, so the items are repaired in the plan's
+/// order. A worker whose drawer has the whole allowance repairs the plan's items from the first on.
 ///
 /// `JournalFull` if the journal of an item's shard held as many entries as its limit; `NoMemory` if
 /// out of memory. The fault has the results so far. The ticket drawn last has none, and its repair
@@ -61,6 +63,10 @@ pub fn work<R: Wait>(
     ensures repaired { IfOk result (λ done. AreRepaired pass.old done.items pass.new) }
     ensures err { IfErr result (λ stop. IsStopped plan.now.items.items drawer.old drawer.new
         pass.old stop.done.items stop.fault pass.new) }
+    ensures in_order { IfOk result
+        (λ done. IsIntact drawer.old → AreInOrder plan.now.items.items done.items) }
+    ensures in_order_by_then { IfErr result
+        (λ stop. IsIntact drawer.old → AreInOrder plan.now.items.items stop.done.items) }
     ensures faults { IfErr result (λ stop. IsCallFault stop.fault) }
     ensures same { stores_of pass.new ≡ store.now }
 {

@@ -1,5 +1,6 @@
 use Rattle.std.proofs.Common.{◌≡◌, []}
-use Rattle.mender.specs.Worked.{Worked}
+use Rattle.mender.specs.Drawn.{IsIntact}
+use Rattle.mender.specs.Worked.{Worked, AreInOrder}
 use Rattle.sharded.specs.Passes.{stores_of}
 use Rattle.sharded_mender.specs.Repairs.{AreRepaired}
 use Rattle.sharded_mender.proofs.workers.work.Given as goal
@@ -10,6 +11,7 @@ invariant-loop-ticket g l = record {
   tickets : l.drawer.tickets ≡ l.tickets;
   repaired : AreRepaired l.initial.pass l.done.items l.pass;
   worked : Worked l.plan.items.items l.initial.drawer l.drawer l.done.items [];
+  in_order : IsIntact l.initial.drawer → AreInOrder l.plan.items.items l.done.items;
 }
 
 abbrev pub decreases-loop-ticket : goal.decreases-loop-ticket

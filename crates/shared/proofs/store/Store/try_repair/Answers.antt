@@ -24,4 +24,4 @@ returns-clause-called c =
 
 pub returns-clause-busy : goal.returns-clause-busy
 returns-clause-busy c = λ busy.
-    inr (c.in-Rebuildable.sealed.value, subst (λ (w : Shows). CanMend c.args.pass.now c.args.name c.args.stripe c.args.fragment c.in-Rebuildable.sealed.value w) (sym (c.try_make.ensures.busy busy)) c.in-Rebuildable.ensures.found)
+    inr (c.in-Rebuildable.sealed.value, c.try_inspect.new.pass, c.in-Rebuildable.ensures.found, c.try_make.ensures.busy busy)
