@@ -1,4 +1,5 @@
--- What C passes and gets: the code by its number of data fragments, the lost fragments as the bits of a number, the bytes of a stripe, a recipe in two lists.
+-- What C passes and gets: the code by its number of data fragments, the lost fragments as the bits
+-- of a number, the bytes of a stripe, a recipe in two lists.
 use Rattle.std.specs.Prelude.{◌≡◌, ℕ, ◌<◌, ◌≤◌, ◌++◌, ◌==◌, true, false, List, [], ◌∷◌, Option, Some, None, IfSome, MatchOption, if◌then◌else◌, find, map, length, slice_index, slice_index_or, slice_range, bit_xor, EachIndex}
 use Rattle.std.specs.List.{range_with_len}
 use Rattle.gf256.specs.Field.{product}
@@ -31,15 +32,15 @@ AddsData code e fragment source old new =
 abbrev pub IsLostIn : Code → ℕ → ℕ → Type 0
 IsLostIn code lost fragment = (fragment < fragment_count code) × (is_lost lost fragment ≡ true)
 
--- each fragment left has at least `to` bytes
+-- each remaining fragment has at least `to` bytes
 abbrev pub LeftReach : Code → List (List ℕ) → ℕ → ℕ → Type 0
 LeftReach code fragments lost to = (i : ℕ) → i < fragment_count code → is_lost lost i ≡ false → to ≤ length (list_at fragments i)
 
--- the stripe has these bytes at each fragment left
+-- the stripe has these bytes at each remaining fragment
 abbrev pub AgreesWithLeft : Code → List (List ℕ) → ℕ → (ℕ → List ℕ) → Type 0
 AgreesWithLeft code fragments lost s = (i : ℕ) → i < fragment_count code → is_lost lost i ≡ false → s i ≡ list_at fragments i
 
--- each stripe that agrees with what is left has these bytes at the fragment, from..to
+-- each stripe that agrees with the remaining fragments has these bytes at the fragment, from..to
 abbrev pub RebuildsLost : Code → List (List ℕ) → ℕ → ℕ → ℕ → ℕ → List ℕ → Type 0
 RebuildsLost code fragments lost fragment from to bytes =
     (w : ℕ) (s : ℕ → List ℕ) → to ≤ w → IsStripe code w s → AgreesWithLeft code fragments lost s → bytes ≡ slice_range (s fragment) from to
@@ -66,7 +67,8 @@ HaveRoomFor chosen w first second third fourth =
     HasRoomFor (slice_index_or chosen 0 None) w first × HasRoomFor (slice_index_or chosen 1 None) w second
     × HasRoomFor (slice_index_or chosen 2 None) w third × HasRoomFor (slice_index_or chosen 3 None) w fourth
 
--- each stripe that agrees with what is left has the target's bytes at the fragment that is chosen, from..to. A target for none is unchanged
+-- each stripe that agrees with the remaining fragments has the target's bytes at the chosen
+-- fragment, from..to. A target for none is unchanged
 abbrev pub DecodesLost : Code → List (List ℕ) → ℕ → Option ℕ → ℕ → ℕ → List ℕ → List ℕ → Type 0
 DecodesLost code fragments lost chosen from to old new = MatchOption chosen (new ≡ old) (λ f. RebuildsLost code fragments lost f from to new)
 

@@ -12,7 +12,7 @@ use decode::decode_to;
 use lrc_code::{Code, Left, LostSet, encode_in};
 use std::alloc::Global;
 
-/// Bytes of a fragment: each by itself, in turn, and twice by the syndromes, of which the last leaves
+/// Bytes of a fragment: each on its own, in turn, and twice by the syndromes, of which the last leaves
 /// one byte after whole blocks.
 const WIDTHS: [usize; 4] = [1, 129, 1024, 2049];
 

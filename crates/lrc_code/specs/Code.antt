@@ -1,4 +1,4 @@
--- The codes LRC(12,2,2) and LRC(6,2,2): which bytes are a column, and which lost fragments can't be told from those left.
+-- The codes LRC(12,2,2) and LRC(6,2,2): which bytes are a column, and which lost fragments are unrecoverable.
 -- The form of the four equations is that of Huang et al., "Erasure Coding in Windows Azure Storage", USENIX ATC 2012; the
 -- coefficients, the field's polynomial and the numbering of the fragments are this project's own.
 use Rattle.std.specs.Prelude.{◌≡◌, ◌≢◌, ℕ, ◌<◌, Bool, true, false, cond, ◌==◌, List, [], ◌∷◌, slice_index, slice_index_or, ◌+◌, ◌-◌, ◌&&◌, ◌||◌, count_by}

@@ -1,4 +1,4 @@
--- Stripes: sixteen lists of one length, a column at each place; and what is left of one.
+-- Stripes: sixteen lists of one length, a column at each index; and the remaining fragments of one.
 pub use Rattle.kernels.specs.Lists.{list_at, bytes_at}
 use Rattle.lrc_code.specs.declared.Code.{Code}
 use Rattle.std.specs.Prelude.{◌≡◌, ℕ, ◌*◌, ◌<◌, ◌≤◌, Bool, false, List, [], ◌∷◌, Option, Some, None, IfSome, length, slice_index, slice_index_or, slice_range}

@@ -32,7 +32,7 @@ abbrev pub asks_of : List Done → List Ask
 asks_of done = map (λ d. ask_of d.item) done
 
 -- the pass made just the repairs of the results' items, in order, with the results' answers, each
--- as the store of one thread does at its place
+-- as one thread does at its place
 abbrev pub AreMended : Shows → List Done → Shows → Type 0
 AreMended v done w = Serves v (asks_of done) (replies_of done) w
 

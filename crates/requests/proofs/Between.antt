@@ -54,7 +54,7 @@ events_back book h [] told few = refl
 events_back book h (e ∷ []) told few = ap (λ o. record { who = e.who; operation = o; note = e.note } ∷ []) (operation_back book h e told)
 events_back book h (d ∷ e ∷ g) told few = absurd (omega arith)
 
--- a book tells as many calls as were given up and stand in its journal
+-- the history of a book has as many calls as were discarded and are in its journal
 pub told_length : (book : Contents) (h : History) → Tells book h → book.base.trimmed + length book.entries ≡ length h
 told_length book h told =
     let t = book.base.trimmed in
@@ -62,7 +62,8 @@ told_length book h told =
     let entries : length book.entries ≡ length h - t = ap length told.entries ∙ length-map (drop t h) entry_of ∙ length-drop t h in
     omega (arith, long, entries)
 
--- The second book goes on from the first with these events, at most one, or gives up n calls more. It has not given up a call that the first doesn't have
+-- The second book continues the first by these events, at most one, or discards n more calls. It has
+-- discarded no call that the first does not have
 pub record GoesOn (a b : Contents) (g : History) (n : ℕ) : Type 0 where
   pub width : b.width ≡ a.width
   pub limit : b.limit ≡ a.limit

@@ -33,22 +33,24 @@ first_in book (e ∷ es) = record { who = e.who; operation = operation_in book e
 abbrev pub between : Contents → Contents → History
 between a b = first_in b (drop (a.base.trimmed + length a.entries - b.base.trimmed) b.entries)
 
--- a call, or else a trim that gave up n entries, as acts
+-- a call, or else a trim that discarded n entries, as acts
 abbrev pub acts_for : History → ℕ → List Act
 acts_for [] n = trim_acts n
 acts_for (e ∷ es) n = call e ∷ []
 
--- what was done between two books: the call, or else the trim that gave up what the second one keeps no more
+-- the acts between two books: the call, or else the trim that discarded the entries which the second
+-- one no longer has
 abbrev pub acts_between : Contents → Contents → List Act
 acts_between a b = acts_for (between a b) (b.base.trimmed - a.base.trimmed)
 
--- the book tells the calls of these acts, has given up as many as they give up, and holds no more entries than its limit
+-- the book represents the calls of these acts, has discarded as many as they discard, and has no more
+-- entries than its limit
 pub record TellsActs (book : Contents) (acts : List Act) : Type 0 where
   pub tells : Tells book (events_in acts)
   pub given : book.base.trimmed ≡ given_in acts
   pub room : length book.entries ≤ book.limit
 
--- all that the first book tells is told by the second, with what was done between them
+-- whatever acts the first book represents, the second represents them with the acts between the two
 pub record MayFollow (a b : Contents) : Type 0 where
   pub width : b.width ≡ a.width
   pub limit : b.limit ≡ a.limit

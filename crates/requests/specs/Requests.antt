@@ -35,12 +35,12 @@ abbrev pub IsAnswerTo : Contents → Request → Answer → Type 0
 IsAnswerTo book (Read n start len) answer = IsReadAnswer (sealed_at book n) start len answer
 IsAnswerTo book request answer = Unit {0}
 
--- a read wants memory only where the book can grant it
+-- a read allocates only if the book can grant it
 abbrev pub MayWant : Contents → Request → Type 0
 MayWant book (Read n start len) = IsGrantable (sealed_at book n) start len
 MayWant book request = Unit {0}
 
--- deletions and questions ask for no memory
+-- `delete` and `stat` do not allocate
 abbrev pub IsFaultOf : Request → Fault → Type 0
 IsFaultOf (Delete n) fault = fault ≡ JournalFull
 IsFaultOf (Stat n) fault = fault ≡ JournalFull

@@ -204,7 +204,8 @@ module _ (count : ℕ) where
   fits_empty : Fits empty_map (λ k. empty_state)
   fits_empty = record { names = λ n. refl; puts = λ k. refl }
 
-  -- the law: an order of the shards' calls is legal for one object over one map exactly where each shard's calls are legal for a store
+  -- the law: an order of the shards' calls is legal for one object over one map if and only if each
+  -- shard's calls are legal for a store
   pub legal_both_ways : (w : ℕ) → 0 < count → (h : History) → AreLegalParts count w h ↔ IsLegalOneMap count w h
   legal_both_ways w some h = (
     λ legal. legal_one w some h empty_map (λ k. empty_state) fits_empty legal,

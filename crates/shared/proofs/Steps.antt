@@ -169,7 +169,7 @@ takes p q x g n who deed s is does = record {
   lone = λ all. (s.lone all).0;
 }
 
--- a book that tells what the other told, and has given up n calls more
+-- a book that represents the same history as the other, and has discarded n more calls
 pub still_goes_on : (old new : Contents) (n : ℕ) → new.width ≡ old.width → new.limit ≡ old.limit → new.base.trimmed ≡ old.base.trimmed + n → ((h : History) → Tells old h → Tells new h) → GoesOn old new [] n
 still_goes_on old new n width limit given told = record {
   width = width;
@@ -229,11 +229,11 @@ call_goes_on (Ok a) old new who o kept carries err = record {
 }
 call_goes_on (Err e) old new who o kept carries err = same_goes_on old new err
 
--- a call leaves what was given up before
+-- a call does not change which calls are discarded
 pub left_base : (m q : SeatState Kept) (x y : Kept) → Leaves m q y → y.0.value.base ≡ x.0.value.base → trimmed_of q.list ≡ x.0.value.base.trimmed
 left_base m q x y leaves same = trimmed_is q.list y (ap last_of leaves.list ∙ last_of-snoc m.list y) ∙ ap (λ (base : Checkpoint). base.trimmed) same
 
--- in a journal with room fewer calls were seen and not given up than the limit
+-- in a journal with room fewer calls were seen and not discarded than the limit
 pub room_seen : (p q : SeatState Kept) (x : Kept) (who : ℕ) → Stepped p q x [] 0 → trimmed_of q.list ≡ x.0.value.base.trimmed → length x.0.value.entries ≢ x.0.value.limit → HasRoom (shows q who)
 room_seen p q x who s left apart =
     let h : History = seen_of p.list ++ events_in s.others in

@@ -1,12 +1,15 @@
-//! For who plans what may be lost: of all sets of lost fragments of a code, by how many are lost, the number of those that
-//! can be rebuilt whole, and how many fragments are read to make one. Beside it stands a Reed-Solomon code of the same
-//! size, which rebuilds any four fragments, and reads as many as a stripe has data to make one.
+//! For planners of storage: of all sets of lost fragments of a code, by their size, how many are
+//! recoverable, and how many fragments a rebuild of one reads. Beside it stands a Reed-Solomon code
+//! of the same size, which recovers any four fragments and reads as many as a stripe has data
+//! fragments.
 #![tactic(auto)]
 
-ghost use Rattle.std.specs.Prelude.{◌≡◌, ℕ, ◌+◌, ◌*◌, ◌/◌, ◌<◌, ◌≤◌, ◌↔◌, ◌^◌, IsTrue, SomeIff, true, length, List, count_by};
+ghost use Rattle.std.specs.Prelude.{◌≡◌, ℕ, ◌+◌, ◌*◌, ◌/◌, ◌<◌, ◌≤◌, ◌↔◌, ◌^◌, IsTrue, SomeIff};
+ghost use Rattle.std.specs.Prelude.{true, length, List, count_by};
 ghost use Rattle.lrc_code.specs.Code.{fragment_count, is_lost, Open};
 ghost use Rattle.lrc_code.specs.declared.recipes.Term.{Term};
-ghost use Rattle.survey.specs.Survey.{lost_sets, has_size, is_whole, is_counted, IsRead, ReadsFor, ReadsForAll, is_counted_by_any_four};
+ghost use Rattle.survey.specs.Survey.{lost_sets, has_size, is_whole, is_counted, IsRead, ReadsFor};
+ghost use Rattle.survey.specs.Survey.{ReadsForAll, is_counted_by_any_four};
 
 use anyhow::Result;
 use lrc_code::{Code, LostSet, recipe_in};
@@ -26,7 +29,8 @@ fn set_count(code: Code) -> u32
 /// Whether each lost fragment can be rebuilt.
 fn is_whole(code: Code, set: u16) -> bool
     ensures value { result ≡ is_whole code set }
-    ensures unique { IsTrue result ↔ ((f : ℕ) → f < fragment_count code → Open code (is_lost set) f → ⊥) }
+    ensures unique { IsTrue result ↔ ((f : ℕ) → f < fragment_count code → Open code (is_lost set) f
+        → ⊥) }
 {
     LostSet::of_bits(set).excess_in(code) <= 2
 }
@@ -42,7 +46,8 @@ fn has_size(size: u32, set: u32) -> bool
 fn is_counted(code: Code, size: u32, set: u32) -> bool
     requires { set < 65536 }
     ensures value { result ≡ is_counted code size set }
-    ensures told { IsTrue result → (f : ℕ) → f < fragment_count code → Open code (is_lost set) f → ⊥ }
+    ensures told { IsTrue result → (f : ℕ) → f < fragment_count code → Open code (is_lost set) f
+        → ⊥ }
 {
     has_size(size, set) && is_whole(code, set as u16)
 }
@@ -87,26 +92,28 @@ fn whole_sets_by_any_four(code: Code, size: u32) -> u32
     count
 }
 
-/// What is read to make lost fragments, each by itself: so many fragments in all, and so many at most for one.
+/// The reads that rebuild lost fragments, each on its own: how many in all, and at most how many
+/// for one.
 #[derive(Clone, Copy, Drop)]
 struct ReadCount {
     total: u32,
     most: u32,
 }
 
-/// How many fragments are read to make a lost one.
+/// How many fragments are read to rebuild a lost one.
 fn read_for(code: Code, set: u16, f: u8) -> u32
     requires inside { f < fragment_count code }
     requires is_lost { is_lost set f ≡ true }
     requires told { Open code (is_lost set) f → ⊥ }
-    ensures read { (terms : List Term) × IsRead code (is_lost set) f terms × (result ≡ length terms) }
+    ensures read { (terms : List Term) × IsRead code (is_lost set) f terms
+        × (result ≡ length terms) }
     ensures few { result ≤ 15 }
 {
     let recipe = recipe_in(code, LostSet::of_bits(set), f).unwrap();
     recipe.len() as u32
 }
 
-/// What is read to make each fragment of a set.
+/// The reads that rebuild each fragment of a set.
 fn reads_for(code: Code, set: u16) -> ReadCount
     requires { (f : ℕ) → f < fragment_count code → Open code (is_lost set) f → ⊥ }
     ensures reads { ReadsFor code set (result.total, result.most) }
@@ -125,7 +132,7 @@ fn reads_for(code: Code, set: u16) -> ReadCount
     ReadCount { total, most }
 }
 
-/// What is read to make each fragment of each set of a size that can be rebuilt whole.
+/// The reads that rebuild each fragment of each recoverable set of a size.
 fn reads(code: Code, size: u32) -> ReadCount
     ensures { ReadsForAll code size result.total result.most }
 {
@@ -141,7 +148,7 @@ fn reads(code: Code, size: u32) -> ReadCount
     ReadCount { total, most }
 }
 
-/// A thousand times a ratio, or None where the whole is 0.
+/// A thousand times a ratio, or None if the whole is 0.
 fn thousandths(part: u64, of: u64) -> Option<u64>
     requires { 1000 * part < 2 ^ 64 }
     ensures { SomeIff result (0 < of) (1000 * part / of) }
@@ -169,10 +176,13 @@ fn row_for(code: Code, size: u32) -> Row
     ensures size { result.size ≡ size }
     ensures sets { result.sets ≡ count_by (has_size size) (lost_sets code) }
     ensures whole { result.whole ≡ count_by (is_counted code size) (lost_sets code) }
-    ensures by_any_four { result.whole_by_any_four ≡ count_by (is_counted_by_any_four size) (lost_sets code) }
+    ensures by_any_four { result.whole_by_any_four
+        ≡ count_by (is_counted_by_any_four size) (lost_sets code) }
     ensures reads { ReadsForAll code size result.reads.total result.reads.most }
-    ensures share { SomeIff result.share (0 < result.sets) (1000 * (100 * result.whole) / result.sets) }
-    ensures mean { SomeIff result.mean (0 < size * result.whole) (1000 * result.reads.total / (size * result.whole)) }
+    ensures share { SomeIff result.share (0 < result.sets)
+        (1000 * (100 * result.whole) / result.sets) }
+    ensures mean { SomeIff result.mean (0 < size * result.whole)
+        (1000 * result.reads.total / (size * result.whole)) }
 {
     let sets = sets(code, size);
     let whole = whole_sets(code, size);
@@ -188,7 +198,7 @@ fn row_for(code: Code, size: u32) -> Row
     }
 }
 
-/// A number of thousandths as a decimal, where there is one.
+/// A number of thousandths as a decimal, if there is one.
 #[derive(Drop)]
 struct Decimal(Option<u64>);
 

@@ -1,4 +1,5 @@
--- Parities into four lists, what is left of a stripe whose fragments stand in a list, and what comes of rebuilding one of them.
+-- Parities into four lists, the remaining fragments of a stripe in a list, and the outcome of
+-- rebuilding one of them.
 use Rattle.std.specs.Prelude.{◌≡◌, ℕ, ◌<◌, ◌↔◌, ◌++◌, ◌∷◌, [], Bool, true, false, List, All, Option, None, length, map, slice_get, cond}
 use Rattle.std.specs.Borrow.{Bor}
 use Rattle.lrc_code.specs.declared.Code.{Code}
@@ -18,11 +19,11 @@ pub record HaveRoom (sources : List (Bor (List ℕ))) (p q g h : List ℕ) : Typ
 abbrev pub AreStripe : List (Bor (List ℕ)) → List ℕ → List ℕ → List ℕ → List ℕ → Type 0
 AreStripe sources p q g h = IsStripe Code.Wide (length p) (list_at (map (λ s. s.now) sources ++ p ∷ q ∷ g ∷ h ∷ []))
 
--- fragment i of the list, or none where it is lost or there is no such
+-- fragment i of the list, or none if it is lost or there is none
 abbrev pub fragment_left : List (Bor (List ℕ)) → ℕ → ℕ → Option (Bor (List ℕ))
 fragment_left fragments lost i = cond (is_lost lost i) None (slice_get fragments i)
 
--- of a stripe of the wide code, these are left
+-- these fragments of a stripe of the wide code remain
 pub record IsLeft (fragments : List (Bor (List ℕ))) (lost : ℕ) (left : Left) : Type 0 where
   pub wide : left.code ≡ Code.Wide
   pub each : (i : ℕ) → i < 16 → slot left.fragments i ≡ fragment_left fragments lost i
@@ -33,7 +34,8 @@ pub record IsAsked (left : Left) (f w : ℕ) : Type 0 where
   pub absent : is_absent left.fragments f ≡ true
   pub long : (i : ℕ) → i < fragment_count left.code → is_absent left.fragments i ≡ false → Reaches left.fragments w i
 
--- its first w bytes are built, exactly where it is asked for and not open; else nothing is changed
+-- its first w bytes are built if and only if it is asked for and recoverable; otherwise nothing
+-- changes
 pub record ComesOf (left : Left) (f w : ℕ) (done : Bool) (old new : List ℕ) : Type 0 where
   pub told : (done ≡ true) ↔ (IsAsked left f w × (Open left.code (is_absent left.fragments) f → ⊥))
   pub built : done ≡ true → Rebuilds left.code left.fragments f 0 w new

@@ -20,7 +20,7 @@ unfolding is_alone is_only_lost_of
 each Wide = refl
 each Small = refl
 
--- a fragment that is lost by itself is alone in its group, where it has one
+-- the only lost fragment is alone lost in its group, if it has one
 by_itself : (code : Code) (lost : ℕ → Bool) (f : ℕ) → f < 16 → ((i : ℕ) → lost i ≡ (i == f)) → nat_lt f (data_count code + 2) ≡ is_alone code lost f
 by_itself code lost f below alone =
     are_equal (nat_lt f (data_count code + 2)) (is_alone code (λ i. i == f) f) (every_below (is_told code) 16 (each code) f below) ∙ sym (λ j. is_alone code (λ x. alone x j) f)
