@@ -1,10 +1,11 @@
 -- What the workers of a round do.
 use Rattle.std.specs.Prelude.{◌≡◌, ◌⊎◌, ◌≤◌, ℕ, Bool, true, false, List, [], ◌∷◌, ◌++◌, length, Ok, Err}
+use mathlib.Core.List.{IsPrefix}
 use Rattle.sealed.specs.declared.fault.Fault.{Fault}
 use Rattle.book.specs.Tells.{IsCallFault}
 use Rattle.shared.specs.Paced.{AreLetThrough, HasNotBegun, StoppedAt}
 use Rattle.shared.specs.Passes.{Shows, Which}
-use Rattle.shared.specs.Serving.{asks_of, Serves}
+use Rattle.shared.specs.Serving.{asks_of, replies_in, rows_asked, rows_replied, Serves}
 use Rattle.mender.specs.Worked.{Finished, AreMended, StoppedFull, IfFull}
 use Rattle.mender.specs.Worked as worked
 use Rattle.rounds.specs.declared.work.Errand.{Errand}
@@ -34,10 +35,16 @@ AreOf store [] = Unit {0}
 AreOf store (w ∷ ws) = IsOf store w × AreOf store ws
 
 -- ---- what came of an errand, with the pass before and after it
--- each reply tells what one thread does at its place, and nothing else was done; where the run did not stop, there is a reply to each job
+-- each reply is to the next job's row, and tells what one thread does at its place, and nothing else
+-- was done; where the run did not stop, there is a reply to each job
 abbrev pub DidCalls : Shows → Errand → Outcome → Shows → Type 0
-DidCalls v (Calls jobs) (Called (Ok replies)) w = (length replies.items ≡ length jobs.items) × Serves v (asks_of jobs.items) replies.items w
-DidCalls v (Calls jobs) (Called (Err stopped)) w = Serves v (asks_of jobs.items) stopped.done.items w
+DidCalls v (Calls jobs) (Called (Ok replies)) w =
+    (length replies.items ≡ length jobs.items)
+    × Serves v (asks_of jobs.items) (replies_in replies.items) w
+    × (rows_replied replies.items ≡ rows_asked jobs.items)
+DidCalls v (Calls jobs) (Called (Err stopped)) w =
+    Serves v (asks_of jobs.items) (replies_in stopped.done.items) w
+    × IsPrefix (rows_replied stopped.done.items) (rows_asked jobs.items)
 DidCalls v errand outcome w = ⊥
 
 -- a worker stops for want of memory, or at a full journal: then as many calls were seen as the limit
