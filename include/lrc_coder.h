@@ -61,7 +61,8 @@ uint32_t lrc_encode(const lrc_slice *data, size_t data_fragments,
  * data fragment, add the exclusive or of its old and its new bytes. LRC_BAD_ARGUMENT if and only
  * if `data_fragments` is neither 12 nor 6, `fragment` is not below it, or the five lengths are not
  * all equal. */
-uint32_t lrc_encode_add(size_t data_fragments, uint8_t fragment, const uint8_t *source, size_t source_len,
+uint32_t lrc_encode_add(size_t data_fragments, uint8_t fragment,
+                        const uint8_t *source, size_t source_len,
                         uint8_t *first, size_t first_len, uint8_t *second, size_t second_len,
                         uint8_t *third, size_t third_len, uint8_t *fourth, size_t fourth_len);
 
@@ -72,22 +73,22 @@ uint32_t lrc_is_open(size_t data_fragments, uint16_t lost, uint8_t fragment);
 /* Writes the bytes from..from+len of the lost `fragment` into `target`: those of every stripe that
  * agrees with the remaining fragments. The slices of lost fragments, and those past the code's, are
  * ignored: give them any address except NULL, and the length 0. LRC_OPEN if and only if the
- * fragment is unrecoverable and all arguments are valid. LRC_BAD_ARGUMENT if and only if there is
- * no such code or fragment, it is not in `lost`, a remaining fragment has fewer than from+len bytes,
- * or that sum is more than SIZE_MAX. */
-uint32_t lrc_rebuild(size_t data_fragments, const lrc_slice fragments[16], uint16_t lost, uint8_t fragment,
-                     size_t from, uint8_t *target, size_t len);
+ * fragment is unrecoverable and all arguments are valid. LRC_BAD_ARGUMENT if and only if one of
+ * these holds: there is no such code or fragment; the fragment is not in `lost`; a remaining
+ * fragment has fewer than from+len bytes; that sum is more than SIZE_MAX. */
+uint32_t lrc_rebuild(size_t data_fragments, const lrc_slice fragments[16], uint16_t lost,
+                     uint8_t fragment, size_t from, uint8_t *target, size_t len);
 
 /* Writes the bytes from..from+len of up to four lost fragments at once, which takes less time than
  * one call of lrc_rebuild for each. `numbers` has the number of the fragment for each of the four
  * targets, or LRC_NONE. A target for LRC_NONE is ignored: give it any address except NULL, and the
  * length 0. The sixteen slices are those of lrc_rebuild. LRC_OPEN if and only if all arguments are
- * valid and a numbered fragment is unrecoverable. Of more than four lost fragments, at least one is
- * unrecoverable. LRC_BAD_ARGUMENT if and only if there is no such code, a numbered fragment is not the code's or
- * not in `lost`, its target does not have `len` bytes, a remaining fragment has fewer than from+len
- * bytes, or that sum is more than SIZE_MAX. */
-uint32_t lrc_decode(size_t data_fragments, const lrc_slice fragments[16], uint16_t lost, const uint8_t numbers[4],
-                    size_t from, size_t len,
+ * valid and a numbered fragment is unrecoverable. Of more than four lost fragments, at least one
+ * is unrecoverable. LRC_BAD_ARGUMENT if and only if one of these holds: there is no such code; a
+ * numbered fragment is not the code's or not in `lost`; its target does not have `len` bytes; a
+ * remaining fragment has fewer than from+len bytes; that sum is more than SIZE_MAX. */
+uint32_t lrc_decode(size_t data_fragments, const lrc_slice fragments[16], uint16_t lost,
+                    const uint8_t numbers[4], size_t from, size_t len,
                     uint8_t *first, size_t first_len, uint8_t *second, size_t second_len,
                     uint8_t *third, size_t third_len, uint8_t *fourth, size_t fourth_len);
 
@@ -148,10 +149,11 @@ static inline uint32_t lrc_encode_add_arrays(size_t data_fragments, size_t len, 
                           parities[2], len, parities[3], len);
 }
 
-/* `fragments` has data_fragments + 4 addresses, NULL for a lost one. `fragment` counts as lost, also
- * if an address is given for it. */
-static inline uint32_t lrc_rebuild_arrays(size_t data_fragments, size_t len, const uint8_t *const *fragments,
-                                          uint8_t fragment, uint8_t *target)
+/* `fragments` has data_fragments + 4 addresses, NULL for a lost one. `fragment` counts as lost,
+ * also if an address is given for it. */
+static inline uint32_t lrc_rebuild_arrays(size_t data_fragments, size_t len,
+                                          const uint8_t *const *fragments, uint8_t fragment,
+                                          uint8_t *target)
 {
     static const uint8_t nothing = 0;
     lrc_slice slices[16];
@@ -171,7 +173,8 @@ static inline uint32_t lrc_rebuild_arrays(size_t data_fragments, size_t len, con
 
 /* `fragments` and `targets` have data_fragments + 4 addresses each. A fragment that has a target
  * counts as lost, also if an address is given for it. */
-static inline uint32_t lrc_decode_arrays(size_t data_fragments, size_t len, const uint8_t *const *fragments,
+static inline uint32_t lrc_decode_arrays(size_t data_fragments, size_t len,
+                                         const uint8_t *const *fragments,
                                          uint8_t *const *targets)
 {
     static const uint8_t nothing = 0;
@@ -198,8 +201,8 @@ static inline uint32_t lrc_decode_arrays(size_t data_fragments, size_t len, cons
     }
     if (count > 4)
         return LRC_OPEN;
-    return lrc_decode(data_fragments, slices, (uint16_t)lost, numbers, 0, len, four[0], lens[0], four[1], lens[1],
-                      four[2], lens[2], four[3], lens[3]);
+    return lrc_decode(data_fragments, slices, (uint16_t)lost, numbers, 0, len, four[0], lens[0],
+                      four[1], lens[1], four[2], lens[2], four[3], lens[3]);
 }
 
 #ifdef __cplusplus

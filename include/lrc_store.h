@@ -1,26 +1,30 @@
-/* lrc_store.h: an in-memory blob store, shared by the threads of a process, that keeps each blob in a
- * Local Reconstruction Code. It is read and repaired while fragments are lost. The functions down to
- * lrc_slot_release are proved, from libstore_c.a; the waiting forms at the end are plain C.
+/* lrc_store.h: an in-memory blob store that the threads of a process share. It keeps each blob
+ * in a Local Reconstruction Code, so it can read and repair blobs while fragments are lost. The
+ * functions down to lrc_slot_release are proved, and come from libstore_c.a. The waiting forms
+ * at the end are plain C.
  *
- * Slots. An lrc_slot holds one thing or nothing: a session of a store, a range that is lent, what a plan
- * of repairs has left, a buffer to be put, or the journal of a closed store. It begins as LRC_SLOT_EMPTY.
- * A program passes its address on, and never reads, writes or copies what is inside.
+ * Slots. An lrc_slot holds one thing or nothing: a session of a store, a lent range, the rest of
+ * a plan of repairs, a buffer, or the journal of a closed store. Initialise it with
+ * LRC_SLOT_EMPTY. Pass only its address, and never read, write or copy its content.
  *
- * Threads. Each thread has a session of its own, in a slot of its own. Any number of threads call at
- * once. All their calls together have the replies of one sequential store: each session knows one legal
- * history that ends with its latest call. One thread at a time uses a slot. To hand a slot to another
- * thread, order the two: by a lock, or by the start or the join of a thread. A store has at most 64
- * sessions at a time.
+ * Threads. Each thread has a session of its own, in a slot of its own, and any number of threads
+ * may call at once. All their calls together have the replies of one sequential store: each
+ * session's calls are part of one legal history, and that history ends with the session's latest
+ * call. Only one thread at a time may use a slot. To hand a slot to another thread, synchronise
+ * the two, by a lock or by the start or the join of a thread. A store has at most 64 sessions at
+ * a time.
  *
- * Waiting. No function waits. LRC_STORE_BUSY means that another thread was in the critical section:
- * call again, or call the waiting form (lrc_store_put_wait and so on). It never comes to the only
- * session of a store.
+ * Waiting. No function waits. LRC_STORE_BUSY means that another thread is in the critical
+ * section. Call again, or call the waiting form, such as lrc_store_put_wait. The only session of
+ * a store never gets it.
  *
- * Arguments. A name has 1 to 32 bytes of a-z, 0-9, '.', '_' and '-'. Each function tests its arguments,
- * except for what C has to keep: an address is not NULL, also at length 0, and is valid for its length;
- * an output overlaps no other argument; the two slots of a call are different ones. Stores that are open
- * at once and whose slots may meet in lrc_store_join have different numbers. An output is written only
- * where this file says so.
+ * Arguments. A name has 1 to 32 bytes of a-z, 0-9, '.', '_' and '-'. Each function validates its
+ * arguments. The caller ensures what it cannot check. An address is not NULL, also at length 0,
+ * and is valid for its length. An output overlaps no other argument. The two slots of a call are
+ * different ones. Two open stores have different numbers if a call of lrc_store_join may get
+ * their slots.
+ *
+ * Outputs. A function writes an output only where this file says so.
  *
  * Memory comes from malloc, realloc and free, by the functions rattle_alloc, rattle_realloc and
  * rattle_dealloc of the Rattle kit's liblibc_c.a. */
@@ -41,7 +45,7 @@ typedef struct {
 } lrc_slot;
 #define LRC_SLOT_EMPTY { 0 }
 
-/* Bytes that are lent: the layout of POSIX's struct iovec, so an array of them goes to writev. */
+/* Lent bytes. The layout is that of POSIX's struct iovec, so an array of them can go to writev. */
 #ifndef LRC_SLICE
 #define LRC_SLICE
 typedef struct {
@@ -50,13 +54,13 @@ typedef struct {
 } lrc_slice;
 #endif
 
-/* A buffer to be filled. */
+/* A buffer that the caller fills. */
 typedef struct {
     uint8_t *at;
     size_t len;
 } lrc_buffer;
 
-/* What an entry of a journal says was called. */
+/* The call of a journal entry. */
 enum {
     LRC_CALL_PUT = 0,
     LRC_CALL_READ = 1,
@@ -66,134 +70,150 @@ enum {
     LRC_CALL_STAT = 5
 };
 
-/* An entry of a journal. What a call or a reply does not have is 0. */
+/* An entry of a journal. A number that the call or the reply does not have is 0. */
 typedef struct {
     lrc_slice name;
-    uint64_t first, second; /* data fragments and bytes of a put; start and length; stripe and fragment */
-    uint64_t version;       /* of the reply */
+    /* data fragments and length of a put; start and length; stripe and fragment */
+    uint64_t first, second;
+    uint64_t version;            /* of the reply */
     uint64_t len, stripes, lost; /* of the reply to a stat */
     uint32_t who, call, status;  /* the caller's label, LRC_CALL_.., LRC_STORE_.. */
 } lrc_entry;
 
-/* What a function returns. Unless a comment says more, nothing but LRC_STORE_DONE changes a slot's
- * content or an output. */
+/* What a function returns. On any status other than LRC_STORE_DONE, slots and outputs are
+ * unchanged, unless a comment says otherwise. */
 enum {
     LRC_STORE_DONE = 0,
     LRC_STORE_BUSY = 1,          /* another thread is in the critical section: call again */
     LRC_STORE_NO_NAME = 2,       /* the name has no blob */
     LRC_STORE_OUT_OF_RANGE = 3,  /* the range does not lie inside the blob */
-    LRC_STORE_UNRECOVERABLE = 4, /* the remaining fragments do not determine it; `version` is written */
-    LRC_STORE_NO_FRAGMENT = 5,   /* the blob has no such stripe, or its code no such fragment */
-    LRC_STORE_ALREADY_LOST = 6,  /* the fragment was lost before */
-    LRC_STORE_NOT_LOST = 7,      /* the fragment is there */
-    LRC_STORE_NO_MEMORY = 8,     /* out of memory: the call is in no history */
+    LRC_STORE_UNRECOVERABLE = 4, /* the remaining fragments do not determine it; `version` is
+                                  * written */
+    LRC_STORE_NO_FRAGMENT = 5,   /* the blob lacks this stripe, or the stripe this fragment */
+    LRC_STORE_ALREADY_LOST = 6,  /* the fragment was lost already */
+    LRC_STORE_NOT_LOST = 7,      /* the fragment is present */
+    LRC_STORE_NO_MEMORY = 8,     /* out of memory; no history has the call */
     LRC_STORE_JOURNAL_FULL = 9,  /* the journal has as many entries as its limit: trim it */
     LRC_STORE_TOO_LONG = 10,     /* the blob needs more than 4,096 stripes */
-    LRC_STORE_BAD_NAME = 11,     /* the bytes are no name */
+    LRC_STORE_BAD_NAME = 11,     /* the bytes are not a valid name */
     LRC_STORE_BAD_WIDTH = 12,    /* the width is not in 1 to 65,536 */
-    LRC_STORE_NO_PASS = 13,      /* the session has no other session left to split off */
+    LRC_STORE_NO_PASS = 13,      /* no further session can be split off this one */
     LRC_STORE_EMPTY = 14,        /* a slot does not hold what the function needs */
-    LRC_STORE_OCCUPIED = 15,     /* the slot that is to be filled holds something */
-    LRC_STORE_BAD_ARGUMENT = 16, /* a limit not in 1 to 1,048,576; a number of data fragments other than
-                                  * 12 and 6; or sessions of two stores */
+    LRC_STORE_OCCUPIED = 15,     /* the slot that the function fills is not empty */
+    LRC_STORE_BAD_ARGUMENT = 16, /* a limit not in 1 to 1,048,576; a number of data fragments other
+                                  * than 12 and 6; or sessions of two stores */
     LRC_STORE_NOT_ALONE = 17,    /* the store has other sessions */
-    LRC_STORE_NOT_REBUILT = 18,  /* out of memory for what is absent of the range, or for the list of the
-                                  * pieces of lrc_store_lend; the call is in the history, `version` is
-                                  * written, and so may be any of `target` */
-    LRC_STORE_NOTHING_LEFT = 19  /* the plan has no item left, or the journal no such entry */
+    LRC_STORE_NOT_REBUILT = 18,  /* out of memory for rebuilding lost fragments, or for the list of
+                                  * pieces of lrc_store_lend; the history has the call, `version` is
+                                  * written, and any byte of `target` may be */
+    LRC_STORE_NOTHING_LEFT = 19  /* the plan has no further item, or the journal no such entry */
 };
 
-/* Opens a store whose fragments have `width` bytes and whose journal holds at most `limit` entries. Its
- * first session is put into `slot`, which is empty before. `number` tells stores apart. */
+/* Opens a store whose fragments have `width` bytes and whose journal holds at most `limit`
+ * entries. Puts its first session into the empty `slot`. `number` distinguishes stores. */
 uint32_t lrc_store_open(uint32_t width, uint32_t limit, uint64_t number, lrc_slot *slot);
 
-/* Splits a session off the one in `slot` and puts it into `other`, which is empty before. `who` is the
- * label of its calls in the journal. Only a store's first session can be split, up to 63 times at once;
- * a join gives the session back. */
+/* Splits a session off the one in `slot` and puts it into the empty `other`. Its journal entries
+ * have the label `who`. Only a store's first session can be split, and it has at most 63 others
+ * at a time. A join gives one back. */
 uint32_t lrc_store_split(lrc_slot *slot, uint32_t who, lrc_slot *other);
 
-/* Joins the session in `other` into the one in `slot`, which counts as the caller of all its calls from
- * then on. `other` is empty afterwards. LRC_STORE_BAD_ARGUMENT if the two stores' numbers differ. */
+/* Joins the session in `other` into the one in `slot`, which then counts as the caller of all
+ * its calls. `other` is empty afterwards. LRC_STORE_BAD_ARGUMENT if the numbers of the two
+ * stores differ. */
 uint32_t lrc_store_join(lrc_slot *slot, lrc_slot *other);
 
-/* Closes the store of the only session left, and empties `slot`. `entries`: how many the journal has.
- * `lawful`: 1 if a check found that they are a legal history, 2 if there was no memory for the check; it
- * is proved that the check never fails. LRC_STORE_NOT_ALONE if other sessions were not joined. */
+/* Closes the store of the last session, and empties `slot`. `entries` gets the number of journal
+ * entries. `lawful` gets 1 if a check found them to be a legal history, and 2 if there was no
+ * memory for the check. The check is proved never to fail. LRC_STORE_NOT_ALONE if other sessions
+ * were not joined. */
 uint32_t lrc_store_close(lrc_slot *slot, uint64_t *entries, uint32_t *lawful);
 
-/* The same, and puts the journal into `other`, which is empty before. `discarded`: how many entries it had
- * that were trimmed. The memory of the store is freed when `other` is released. */
-uint32_t lrc_store_close_to(lrc_slot *slot, lrc_slot *other, uint64_t *discarded, uint64_t *entries, uint32_t *lawful);
+/* Does the same, and puts the journal into the empty `other`. `discarded` gets the number of
+ * entries that were trimmed. Releasing `other` frees the memory of the store. */
+uint32_t lrc_store_close_to(lrc_slot *slot, lrc_slot *other, uint64_t *discarded,
+                            uint64_t *entries, uint32_t *lawful);
 
-/* Gives the entry of a journal at an index, from 0. `entry->name` is a valid slice before, such as
- * { (const uint8_t *)"", 0 }; afterwards it is valid until the slot is passed to another function.
- * LRC_STORE_NOTHING_LEFT if the journal has no such entry. */
+/* Writes the entry of a journal at an index, from 0. Before the call `entry->name` is a valid
+ * slice, such as { (const uint8_t *)"", 0 }. Afterwards it is valid until the slot is passed to
+ * another function. LRC_STORE_NOTHING_LEFT if the journal has no such entry. */
 uint32_t lrc_slot_entry(lrc_slot *slot, size_t index, lrc_entry *entry);
 
-/* Stores a copy of the blob under the name, in place of an older one, in LRC(12,2,2) or LRC(6,2,2) as
- * `data_fragments` is 12 or 6. `version`: the number of this put in the store's history. */
-uint32_t lrc_store_put(lrc_slot *slot, const uint8_t *name, size_t name_len, const uint8_t *blob, size_t blob_len,
-                       uint32_t data_fragments, uint64_t *version);
+/* Stores a copy of the blob under the name, in place of an older one. The code is LRC(12,2,2) or
+ * LRC(6,2,2) if `data_fragments` is 12 or 6. `version` gets the number of this put in the
+ * store's history. */
+uint32_t lrc_store_put(lrc_slot *slot, const uint8_t *name, size_t name_len, const uint8_t *blob,
+                       size_t blob_len, uint32_t data_fragments, uint64_t *version);
 
-/* To put a blob without a copy: reserves `len` bytes, which are 0, in a slot that is empty before; gives
- * their address to be filled; and stores them under the name. `*buffer` is valid before, such as
- * { (uint8_t *)"", 0 }; afterwards it is valid until the slot is passed to another function. With
- * LRC_STORE_DONE of the put, `other` is empty afterwards. On another status it still has the bytes: they
- * can be put again, and no longer be written (lrc_slot_buffer returns LRC_STORE_EMPTY). */
+/* A put without a copy, in three steps. lrc_slot_reserve puts a buffer of `len` zero bytes into
+ * the empty slot. lrc_slot_buffer gives its address, which the caller fills. lrc_store_put_from
+ * stores the bytes under the name.
+ *
+ * Before lrc_slot_buffer, `*buffer` is valid, such as { (uint8_t *)"", 0 }. Afterwards it is
+ * valid until the slot is passed to another function.
+ *
+ * If the put returns LRC_STORE_DONE, `other` is empty. On any other status it still has the
+ * bytes. They can be put again, but not written: lrc_slot_buffer returns LRC_STORE_EMPTY. */
 uint32_t lrc_slot_reserve(size_t len, lrc_slot *slot);
 uint32_t lrc_slot_buffer(lrc_slot *slot, lrc_buffer *buffer);
 uint32_t lrc_store_put_from(lrc_slot *slot, const uint8_t *name, size_t name_len, lrc_slot *other,
                             uint32_t data_fragments, uint64_t *version);
 
-/* Copies `len` bytes of the blob, from the byte `start` on, into `target`. Bytes of absent fragments are
- * rebuilt. `lent`, `built`: how many bytes were copied from fragments, and how many were rebuilt. */
-uint32_t lrc_store_read(lrc_slot *slot, const uint8_t *name, size_t name_len, uint64_t start, uint8_t *target,
-                        size_t len, uint64_t *version, uint64_t *lent, uint64_t *built);
+/* Copies `len` bytes of the blob, from the byte `start` on, into `target`, and rebuilds those of
+ * lost fragments. `lent` and `built` get the numbers of bytes copied from fragments and of bytes
+ * rebuilt. */
+uint32_t lrc_store_read(lrc_slot *slot, const uint8_t *name, size_t name_len, uint64_t start,
+                        uint8_t *target, size_t len, uint64_t *version, uint64_t *lent,
+                        uint64_t *built);
 
-/* Lends `len` bytes of the blob, from the byte `start` on: puts them into `other`, which is empty before.
- * `pieces`: how many pieces lrc_slot_slices gives. It takes memory for a list of the pieces and for the
- * bytes of absent fragments. The bytes stay as they are while others put, lose, repair and delete, until `other` is released. */
-uint32_t lrc_store_lend(lrc_slot *slot, const uint8_t *name, size_t name_len, uint64_t start, uint64_t len,
-                        lrc_slot *other, uint64_t *version, uint64_t *pieces);
+/* Lends `len` bytes of the blob, from the byte `start` on, and puts the range into the empty
+ * `other`. `pieces` gets the number of pieces for lrc_slot_slices. The call allocates a list of
+ * the pieces, and the bytes of lost fragments. Until `other` is released the bytes do not
+ * change, even if threads put, lose, repair and delete. */
+uint32_t lrc_store_lend(lrc_slot *slot, const uint8_t *name, size_t name_len, uint64_t start,
+                        uint64_t len, lrc_slot *other, uint64_t *version, uint64_t *pieces);
 
-/* Writes the pieces of a range that is lent into `slices`, in order: as many as there are, at most
- * `capacity`. Each element of `slices` is a valid slice before, such as { (const uint8_t *)"", 0 }.
- * `count`: how many were written. They are valid until the slot is passed to another function. */
+/* Writes the pieces of a lent range into `slices`, in order, as many as there are and at most
+ * `capacity`. Before the call each element of `slices` is a valid slice, such as { (const
+ * uint8_t *)"", 0 }. `count` gets the number of written pieces. They are valid until the slot is
+ * passed to another function. */
 uint32_t lrc_slot_slices(lrc_slot *slot, lrc_slice *slices, size_t capacity, uint64_t *count);
 
-/* Loses a fragment of a stripe, as after a disk failure; repairs a lost one from the remaining
+/* Lose a fragment of a stripe, as after a disk failure, and repair one from the remaining
  * fragments. Stripes and fragments count from 0. */
-uint32_t lrc_store_lose(lrc_slot *slot, const uint8_t *name, size_t name_len, uint64_t stripe, uint64_t fragment,
-                        uint64_t *version);
-uint32_t lrc_store_repair(lrc_slot *slot, const uint8_t *name, size_t name_len, uint64_t stripe, uint64_t fragment,
-                          uint64_t *version);
+uint32_t lrc_store_lose(lrc_slot *slot, const uint8_t *name, size_t name_len, uint64_t stripe,
+                        uint64_t fragment, uint64_t *version);
+uint32_t lrc_store_repair(lrc_slot *slot, const uint8_t *name, size_t name_len, uint64_t stripe,
+                          uint64_t fragment, uint64_t *version);
 
-/* Deletes the blob. */
+/* Deletes the blob. `version` gets the version that it had. */
 uint32_t lrc_store_delete(lrc_slot *slot, const uint8_t *name, size_t name_len, uint64_t *version);
 
-/* `len`, `stripes`, `lost`: how many bytes, stripes and lost fragments the blob has. */
-uint32_t lrc_store_stat(lrc_slot *slot, const uint8_t *name, size_t name_len, uint64_t *version, uint64_t *len,
-                        uint64_t *stripes, uint64_t *lost);
+/* Writes the shape of the blob: its version, its length in bytes, and the numbers of stripes and
+ * lost fragments. */
+uint32_t lrc_store_stat(lrc_slot *slot, const uint8_t *name, size_t name_len, uint64_t *version,
+                        uint64_t *len, uint64_t *stripes, uint64_t *lost);
 
-/* Discards all entries of the journal but the last `keep`. `discarded`: how many these were. */
+/* Discards all journal entries except the last `keep`. `discarded` gets how many it discarded. */
 uint32_t lrc_store_trim(lrc_slot *slot, uint64_t keep, uint64_t *discarded);
 
-/* Puts a plan to repair all lost fragments of all blobs into `other`, which is empty before. `items`: how
- * many they are. */
+/* Puts a plan to repair all lost fragments of all blobs into the empty `other`. `items` gets
+ * their number. */
 uint32_t lrc_store_plan(lrc_slot *slot, lrc_slot *other, uint64_t *items);
 
-/* Repairs the next fragment of the plan in `other`, with the status of lrc_store_repair. After
- * LRC_STORE_BUSY, LRC_STORE_NO_MEMORY and LRC_STORE_JOURNAL_FULL the fragment is still the next one;
- * after another status the next call takes the next fragment. */
+/* Repairs the next fragment of the plan in `other`, and returns the status of lrc_store_repair.
+ * After LRC_STORE_BUSY, LRC_STORE_NO_MEMORY and LRC_STORE_JOURNAL_FULL the fragment stays the
+ * next one. After any other status the next call takes the next fragment. */
 uint32_t lrc_store_mend_step(lrc_slot *slot, lrc_slot *other, uint64_t *version);
 
-/* Empties the slot, whatever it holds. A session that is released instead of joined keeps its store from
- * being closed; the store is freed with its last session. */
+/* Empties the slot, whatever it holds. If a session is released and not joined, its store can't
+ * be closed. Releasing the last session frees the store. */
 void lrc_slot_release(lrc_slot *slot);
 
-/* ---- Waiting forms. Each repeats its function until the status is not LRC_STORE_BUSY: it spins, then
- * yields, then sleeps. With `timeout_ms` of 0 or more it gives up after so many milliseconds, and
- * returns LRC_STORE_BUSY; with a negative one it never does. They need POSIX's clock_gettime. */
+/* ---- Waiting forms. Each repeats its function while the status is LRC_STORE_BUSY: it spins,
+ * then yields, then sleeps. If `timeout_ms` is 0 or more, it stops after so many milliseconds
+ * and returns LRC_STORE_BUSY. If it is negative, it never stops. They need POSIX's
+ * clock_gettime. */
 #ifdef CLOCK_MONOTONIC
 
 static inline int64_t lrc_store_now_ms(void)
@@ -203,8 +223,9 @@ static inline int64_t lrc_store_now_ms(void)
     return (int64_t)now.tv_sec * 1000 + now.tv_nsec / 1000000;
 }
 
-/* Waits before attempt number `attempt`, from 1: it spins twice, yields once, then sleeps, the longer the
- * more often. So few threads contend at a time. 0 if the deadline has passed. */
+/* Waits before attempt number `attempt`, from 1. It spins twice, yields once, and then sleeps,
+ * longer at each attempt, so that few threads contend at a time. Returns 0 if the deadline has
+ * passed. */
 static inline int lrc_store_wait(unsigned attempt, int64_t deadline)
 {
     if (attempt < 3) {
@@ -224,67 +245,81 @@ static inline int lrc_store_wait(unsigned attempt, int64_t deadline)
 #define LRC_STORE_WAIT(timeout_ms, call)                                              \
     const int64_t deadline = (timeout_ms) < 0 ? -1 : lrc_store_now_ms() + (timeout_ms); \
     uint32_t status = (call);                                                         \
-    for (unsigned attempt = 1; status == LRC_STORE_BUSY && lrc_store_wait(attempt, deadline); attempt++) \
+    for (unsigned attempt = 1;                                                        \
+         status == LRC_STORE_BUSY && lrc_store_wait(attempt, deadline); attempt++)    \
         status = (call);                                                              \
     return status
 
-static inline uint32_t lrc_store_put_wait(lrc_slot *slot, const uint8_t *name, size_t name_len, const uint8_t *blob,
-                                          size_t blob_len, uint32_t data_fragments, uint64_t *version,
+static inline uint32_t lrc_store_put_wait(lrc_slot *slot, const uint8_t *name, size_t name_len,
+                                          const uint8_t *blob, size_t blob_len,
+                                          uint32_t data_fragments, uint64_t *version,
                                           int64_t timeout_ms)
 {
-    LRC_STORE_WAIT(timeout_ms, lrc_store_put(slot, name, name_len, blob, blob_len, data_fragments, version));
+    LRC_STORE_WAIT(timeout_ms, lrc_store_put(slot, name, name_len, blob, blob_len, data_fragments,
+                                             version));
 }
 
-static inline uint32_t lrc_store_put_from_wait(lrc_slot *slot, const uint8_t *name, size_t name_len, lrc_slot *other,
-                                               uint32_t data_fragments, uint64_t *version, int64_t timeout_ms)
+static inline uint32_t lrc_store_put_from_wait(lrc_slot *slot, const uint8_t *name,
+                                               size_t name_len, lrc_slot *other,
+                                               uint32_t data_fragments, uint64_t *version,
+                                               int64_t timeout_ms)
 {
-    LRC_STORE_WAIT(timeout_ms, lrc_store_put_from(slot, name, name_len, other, data_fragments, version));
+    LRC_STORE_WAIT(timeout_ms, lrc_store_put_from(slot, name, name_len, other, data_fragments,
+                                                  version));
 }
 
-static inline uint32_t lrc_store_read_wait(lrc_slot *slot, const uint8_t *name, size_t name_len, uint64_t start,
-                                           uint8_t *target, size_t len, uint64_t *version, uint64_t *lent,
-                                           uint64_t *built, int64_t timeout_ms)
-{
-    LRC_STORE_WAIT(timeout_ms, lrc_store_read(slot, name, name_len, start, target, len, version, lent, built));
-}
-
-static inline uint32_t lrc_store_lend_wait(lrc_slot *slot, const uint8_t *name, size_t name_len, uint64_t start,
-                                           uint64_t len, lrc_slot *other, uint64_t *version, uint64_t *pieces,
+static inline uint32_t lrc_store_read_wait(lrc_slot *slot, const uint8_t *name, size_t name_len,
+                                           uint64_t start, uint8_t *target, size_t len,
+                                           uint64_t *version, uint64_t *lent, uint64_t *built,
                                            int64_t timeout_ms)
 {
-    LRC_STORE_WAIT(timeout_ms, lrc_store_lend(slot, name, name_len, start, len, other, version, pieces));
+    LRC_STORE_WAIT(timeout_ms, lrc_store_read(slot, name, name_len, start, target, len, version,
+                                              lent, built));
 }
 
-static inline uint32_t lrc_store_lose_wait(lrc_slot *slot, const uint8_t *name, size_t name_len, uint64_t stripe,
-                                           uint64_t fragment, uint64_t *version, int64_t timeout_ms)
+static inline uint32_t lrc_store_lend_wait(lrc_slot *slot, const uint8_t *name, size_t name_len,
+                                           uint64_t start, uint64_t len, lrc_slot *other,
+                                           uint64_t *version, uint64_t *pieces, int64_t timeout_ms)
+{
+    LRC_STORE_WAIT(timeout_ms, lrc_store_lend(slot, name, name_len, start, len, other, version,
+                                              pieces));
+}
+
+static inline uint32_t lrc_store_lose_wait(lrc_slot *slot, const uint8_t *name, size_t name_len,
+                                           uint64_t stripe, uint64_t fragment, uint64_t *version,
+                                           int64_t timeout_ms)
 {
     LRC_STORE_WAIT(timeout_ms, lrc_store_lose(slot, name, name_len, stripe, fragment, version));
 }
 
-static inline uint32_t lrc_store_repair_wait(lrc_slot *slot, const uint8_t *name, size_t name_len, uint64_t stripe,
-                                             uint64_t fragment, uint64_t *version, int64_t timeout_ms)
+static inline uint32_t lrc_store_repair_wait(lrc_slot *slot, const uint8_t *name, size_t name_len,
+                                             uint64_t stripe, uint64_t fragment, uint64_t *version,
+                                             int64_t timeout_ms)
 {
     LRC_STORE_WAIT(timeout_ms, lrc_store_repair(slot, name, name_len, stripe, fragment, version));
 }
 
-static inline uint32_t lrc_store_delete_wait(lrc_slot *slot, const uint8_t *name, size_t name_len, uint64_t *version,
-                                             int64_t timeout_ms)
+static inline uint32_t lrc_store_delete_wait(lrc_slot *slot, const uint8_t *name, size_t name_len,
+                                             uint64_t *version, int64_t timeout_ms)
 {
     LRC_STORE_WAIT(timeout_ms, lrc_store_delete(slot, name, name_len, version));
 }
 
-static inline uint32_t lrc_store_stat_wait(lrc_slot *slot, const uint8_t *name, size_t name_len, uint64_t *version,
-                                           uint64_t *len, uint64_t *stripes, uint64_t *lost, int64_t timeout_ms)
+static inline uint32_t lrc_store_stat_wait(lrc_slot *slot, const uint8_t *name, size_t name_len,
+                                           uint64_t *version, uint64_t *len, uint64_t *stripes,
+                                           uint64_t *lost, int64_t timeout_ms)
 {
     LRC_STORE_WAIT(timeout_ms, lrc_store_stat(slot, name, name_len, version, len, stripes, lost));
 }
 
-static inline uint32_t lrc_store_trim_wait(lrc_slot *slot, uint64_t keep, uint64_t *discarded, int64_t timeout_ms)
+static inline uint32_t lrc_store_trim_wait(lrc_slot *slot, uint64_t keep, uint64_t *discarded,
+                                           int64_t timeout_ms)
 {
     LRC_STORE_WAIT(timeout_ms, lrc_store_trim(slot, keep, discarded));
 }
 
-static inline uint32_t lrc_store_plan_wait(lrc_slot *slot, lrc_slot *other, uint64_t *items, int64_t timeout_ms)
+static inline uint32_t lrc_store_plan_wait(lrc_slot *slot, lrc_slot *other, uint64_t *items,
+                                           int64_t timeout_ms)
 {
     LRC_STORE_WAIT(timeout_ms, lrc_store_plan(slot, other, items));
 }

@@ -1,5 +1,5 @@
-// lrc_store.hpp: the store of lrc_store.h for C++17, with slots that are released by their destructors and
-// errors that are thrown. All calls wait while other threads are in the critical section.
+// lrc_store.hpp: the store of lrc_store.h for C++17. Destructors release slots, and errors are
+// thrown. All calls wait while other threads are in the critical section.
 #ifndef LRC_STORE_HPP
 #define LRC_STORE_HPP
 
@@ -14,7 +14,7 @@
 
 namespace lrc {
 
-// What a status means; its text ends what() of an error.
+// The text for a status, with which what() of an error ends.
 inline const char *text_of(uint32_t status)
 {
     static const char *const texts[] = {
@@ -29,7 +29,7 @@ inline const char *text_of(uint32_t status)
     return status < sizeof texts / sizeof *texts ? texts[status] : "unknown status";
 }
 
-// A call that was not done, with its status.
+// The error of a call that failed, with its status.
 class store_error : public std::runtime_error {
 public:
     explicit store_error(const char *call, uint32_t code)
@@ -39,7 +39,7 @@ public:
     const uint32_t status;
 };
 
-// A slot, which is released at last. It is moved, never copied.
+// A slot, which its destructor releases. It can be moved and not copied.
 class slot {
 public:
     slot() = default;
@@ -56,7 +56,7 @@ private:
     lrc_slot held LRC_SLOT_EMPTY;
 };
 
-// A range of a blob that is lent. The bytes stay as they are for as long as this lives.
+// A lent range of a blob. Its bytes do not change while this lives.
 class grant {
 public:
     uint64_t version() const { return number; }
@@ -76,7 +76,7 @@ private:
     std::vector<lrc_slice> pieces;
 };
 
-// Bytes to be filled and then put without a copy. After a put it has none to be filled.
+// Bytes that the caller fills, and that a put stores without a copy. After the put there are none.
 class buffer {
 public:
     buffer(buffer &&) = delete;
@@ -97,12 +97,13 @@ private:
     lrc_buffer bytes{ &none, 0 };
 };
 
-// The journal of a store that was closed. An entry's name is valid until the next call.
+// The journal of a closed store. An entry's name is valid until the next call.
 class journal {
 public:
     uint64_t discarded() const { return trimmed; }
     uint64_t size() const { return count; }
-    bool is_checked() const { return lawful == 1; } // it was found lawful, or there was no memory to find out
+    // Whether a check found it lawful. False if there was no memory for the check.
+    bool is_checked() const { return lawful == 1; }
     lrc_entry entry(size_t index)
     {
         lrc_entry told{ { reinterpret_cast<const uint8_t *>(""), 0 }, 0, 0, 0, 0, 0, 0, 0, 0, 0 };
@@ -125,13 +126,15 @@ struct shape {
 
 struct closed {
     uint64_t entries;
-    bool is_checked; // the journal was found lawful, or there was no memory to find out
+    // Whether a check found the journal lawful. False if there was no memory for the check.
+    bool is_checked;
 };
 
-// A session of a store: for one thread at a time.
+// A session of a store, for one thread at a time.
 class session {
 public:
-    // The first session of a new store.
+    // Opens a store and returns its first session. Its fragments have `width` bytes, and its
+    // journal at most `limit` entries.
     static session open(uint32_t width, uint32_t limit)
     {
         static std::atomic<uint64_t> next{ 1 };
@@ -147,7 +150,7 @@ public:
         return made;
     }
 
-    // On an error, the other session is as it was.
+    // Joins another session of the store into this one. On an error, it is unchanged.
     void join(session &&other)
     {
         done("join", &other == this ? uint32_t{ LRC_STORE_BAD_ARGUMENT } : lrc_store_join(held.get(), other.held.get()));
@@ -162,7 +165,7 @@ public:
         return told;
     }
 
-    // The same, and gives the journal.
+    // Closes the store and returns its journal.
     journal close_to_journal()
     {
         journal made;
@@ -170,7 +173,7 @@ public:
         return made;
     }
 
-    // Without a copy. After an error the same bytes can be put again.
+    // Stores a buffer without a copy. After an error the same bytes can be put again.
     uint64_t put(std::string_view name, buffer &blob, uint32_t data_fragments = 12)
     {
         uint64_t version = 0;
@@ -232,7 +235,7 @@ public:
         return discarded;
     }
 
-    // Repairs all lost fragments that can be rebuilt, and gives how many these were.
+    // Repairs all lost fragments that can be rebuilt, and returns their number.
     uint64_t mend()
     {
         slot plan;

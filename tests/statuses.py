@@ -26,8 +26,9 @@ REFUSED = [
     ["script.csv", "--limit", "1048577"],
     ["script.csv", "--limit", "x"],
 ]
-# What the help has to name: the operations, the statuses and where the rest is told.
-HELPS = ["put", "put6", "read", "lose", "repair", "delete", "stat", "trim", "mend", "/dev/stdin", "--history", "Exit status", "docs/script.md"]
+# What the help has to name: the operations, the statuses and the document with the rest.
+HELPS = ["put", "put6", "read", "lose", "repair", "delete", "stat", "trim", "mend"]
+HELPS += ["/dev/stdin", "--history", "Exit status", "docs/script.md"]
 MOST_ROWS = 65536
 
 

@@ -96,4 +96,5 @@ test_of "Rust example" cargo cargo example in_rust
 test_of "Rust" cargo cargo rust_tests
 test_of "Python example" python3 python3 example python bindings/python/store.py
 test_of "Python" python3 python3 python tests/store/bindings.py
+test_of "limits" python3 python3 python tests/store/limits.py
 summary store

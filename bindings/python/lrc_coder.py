@@ -1,8 +1,12 @@
-"""The Local Reconstruction Codes LRC(12,2,2) and LRC(6,2,2), by ctypes over liblrc_coder.so, which is libcoder_c.a as a shared library. It is looked for
-beside this file, or where the environment's LRC_CODER_SO says. include/lrc_coder.h describes the functions.
+"""The Local Reconstruction Codes LRC(12,2,2) and LRC(6,2,2).
 
-A code is named by its number of data fragments, 12 or 6; `lost` is any iterable of fragment numbers. A call raises Open where nothing that is left tells
-the fragment, and ValueError where an argument is none that it takes. Every call lets other threads of Python run.
+The module calls liblrc_coder.so by ctypes, which is libcoder_c.a as a shared library. It loads the
+library from its own folder, or from the path in the environment's LRC_CODER_SO. include/lrc_coder.h
+describes the functions.
+
+A code is named by its number of data fragments, 12 or 6; `lost` is any iterable of fragment
+numbers. A call raises Open if the fragment is unrecoverable, and ValueError if an argument is
+invalid. Every call lets other threads of Python run.
 """
 
 import ctypes
@@ -10,7 +14,7 @@ import os
 
 
 class Open(ValueError):
-    """Nothing that is left tells the fragment."""
+    """The fragment is unrecoverable: the remaining fragments do not determine it."""
 
 
 class Slice(ctypes.Structure):
@@ -55,12 +59,15 @@ def _set(lost):
 
 
 def _source(data):
-    """An address of the bytes and their number. An array of one place more keeps the address from being NULL."""
+    """The address of the bytes and their number.
+
+    The array has one element more, so that its address is never NULL.
+    """
     return (_U8 * (len(data) + 1)).from_buffer_copy(bytes(data) + b"\0"), len(data)
 
 
 def _target(data):
-    """The same of a bytearray that is written to."""
+    """The address and the length of a bytearray that a call writes to."""
     return ((_U8 * len(data)).from_buffer(data) if data else (_U8 * 1)()), len(data)
 
 
@@ -82,13 +89,13 @@ def encode(data):
 
 
 def encode_add(data_fragments, fragment, source, parities):
-    """Adds a data fragment into the four parities, which are bytearrays."""
+    """Adds a data fragment to the four parities, which are bytearrays."""
     first, second, third, fourth = map(_target, parities)
     _call("lrc_encode_add", data_fragments, _number(fragment, "fragment", 8), *_source(source), *first, *second, *third, *fourth)
 
 
 def is_open(data_fragments, lost, fragment):
-    """Whether nothing that is left tells the fragment."""
+    """Whether the fragment is unrecoverable."""
     try:
         _call("lrc_is_open", data_fragments, _set(lost), _number(fragment, "fragment", 8))
     except Open:
@@ -97,14 +104,15 @@ def is_open(data_fragments, lost, fragment):
 
 
 def _length(left, start, length):
-    """The length that was given, or that from `start` to the end of the shortest fragment left."""
+    """The given length, or that from `start` to the end of the shortest remaining fragment."""
     return max(0, min(map(len, left.values()), default=0) - start) if length is None else length
 
 
 def rebuild(data_fragments, left, fragment, start=0, length=None):
-    """The bytes of a lost fragment from `start` on, as many as `length`, or to the end of the shortest fragment left.
+    """`length` bytes of a lost fragment, from `start` on.
 
-    `left` has the bytes of the fragments left, by their numbers.
+    `left` maps the numbers of the remaining fragments to their bytes. Without a length, the bytes
+    go to the end of the shortest remaining fragment. Raises Open if the fragment is unrecoverable.
     """
     slices, _kept = _slices(left.get(i, b"") for i in range(16))
     target = bytearray(_length(left, start, length))
@@ -114,7 +122,10 @@ def rebuild(data_fragments, left, fragment, start=0, length=None):
 
 
 def decode(data_fragments, left, fragments, start=0, length=None):
-    """The bytes of several lost fragments as `rebuild` gives them, by their numbers, in less time. It raises Open if one of them is."""
+    """The bytes of several lost fragments, by their numbers, as `rebuild` returns them.
+
+    It takes less time than a rebuild of each. Raises Open if one of them is unrecoverable.
+    """
     slices, _kept = _slices(left.get(i, b"") for i in range(16))
     length, chosen = _length(left, start, length), [_number(fragment, "fragment", 4) for fragment in dict.fromkeys(fragments)]
     if len(chosen) > 4:  # one of them is open
@@ -129,12 +140,12 @@ def decode(data_fragments, left, fragments, start=0, length=None):
 
 
 def recipe(data_fragments, lost, fragment):
-    """How a lost fragment comes from those left: a list of pairs of a fragment and its coefficient."""
+    """A recipe for a lost fragment: pairs of a remaining fragment and its coefficient."""
     fragments, coefficients, count = (_U8 * 16)(), (_U8 * 16)(), _U32()
     _call("lrc_recipe", data_fragments, _set(lost), _number(fragment, "fragment", 8), fragments, coefficients, ctypes.byref(count))
     return list(zip(fragments, coefficients))[: count.value]
 
 
 def add(target, coefficient, source):
-    """Adds a source times a coefficient to a bytearray, byte by byte."""
+    """Adds a source times a coefficient to a bytearray, byte by byte, in the field."""
     _call("lrc_add", *_target(target), _number(coefficient, "coefficient", 8), *_source(source))

@@ -1,8 +1,8 @@
-"""An in-memory blob store that keeps each blob in a Local Reconstruction Code, by ctypes over liblrc_store.so.
+"""An in-memory blob store that keeps each blob in a Local Reconstruction Code.
 
-The library is looked for beside this file, or where the environment's LRC_STORE_SO says. include/lrc_store.h
-describes the functions. A call waits while other threads are in the critical section, and lets other threads of
-Python run.
+The module calls liblrc_store.so by ctypes. It loads the library from its own folder, or from the
+path in the environment's LRC_STORE_SO. include/lrc_store.h describes the functions. A call waits
+while other threads are in the critical section, and lets other threads of Python run.
 """
 
 from __future__ import annotations
@@ -40,7 +40,7 @@ _NO_MEMORY, _JOURNAL_FULL, _NOTHING_LEFT = 8, 9, 19
 
 
 class StoreError(Exception):
-    """A call that was not done, with its arguments and its status of lrc_store.h."""
+    """A call failed. It has the call's arguments and its status, a number of lrc_store.h."""
 
     def __init__(self, call: str, arguments: tuple, status: int) -> None:
         texts = _BAD_ARGUMENTS.get(call) if status == _BAD_ARGUMENT else _TEXTS.get(status)
@@ -119,7 +119,7 @@ def _status(function: str, *arguments) -> int:
 
 
 def _check(status: int, call: str, *arguments) -> None:
-    """Raises if the call with these arguments was not done."""
+    """Raises StoreError if the call with these arguments failed."""
     if status != _DONE:
         raise StoreError(call, arguments, status)
 
@@ -130,7 +130,7 @@ def _named(name: str) -> tuple[bytes, int]:
 
 
 class Shape(NamedTuple):
-    """How many bytes, stripes and lost fragments a blob has."""
+    """A blob's version, its length in bytes, and the numbers of its stripes and lost fragments."""
 
     version: int
     len: int
@@ -139,14 +139,20 @@ class Shape(NamedTuple):
 
 
 class Closed(NamedTuple):
-    """How many entries a closed store's journal has, and whether a check found them lawful."""
+    """The number of entries in a closed store's journal, and whether a check found them lawful.
+
+    `is_checked` is false if there was no memory for the check.
+    """
 
     entries: int
     is_checked: bool
 
 
 class Entry(NamedTuple):
-    """An entry of a journal: the call's two numbers are 0 if it has none, and `shape` is that of a stat."""
+    """An entry of a journal.
+
+    The call's two numbers are 0 if it has none. Only a stat that succeeded has a shape.
+    """
 
     who: int
     call: str
@@ -159,7 +165,10 @@ class Entry(NamedTuple):
 
 
 class Journal(NamedTuple):
-    """The entries of a closed store's journal, how many were trimmed before, and whether these were found lawful."""
+    """A closed store's journal: the number of trimmed entries, and the others in order.
+
+    `is_checked` is true if a check found them lawful, and false if there was no memory for it.
+    """
 
     discarded: int
     entries: list[Entry]
@@ -167,8 +176,10 @@ class Journal(NamedTuple):
 
 
 class Grant:
-    """A range of a blob that is lent, as memoryviews that are read-only. The memory is given back when the
-    last of them is gone, and the grant released."""
+    """A lent range of a blob, as read-only memoryviews in `pieces`.
+
+    Its memory is freed when the grant and the last of the views are gone.
+    """
 
     def __init__(self, lent: _Slot, version: int, pieces: int) -> None:
         self.version = version
@@ -207,20 +218,26 @@ def _entry(held: _Slot, index: int) -> Entry:
 
 
 class Session:
-    """A session of a store, for one thread at a time. As a context manager it closes the store at the end."""
+    """A session of a store, for one thread at a time.
+
+    As a context manager it closes the store at the end of the block, unless the block raised.
+    """
 
     def __init__(self, slot: _Slot) -> None:
         self._slot = slot
 
     @classmethod
     def open(cls, width: int, limit: int) -> Session:
-        """The first session of a new store: fragments of `width` bytes, at most `limit` journal entries."""
+        """Opens a store and returns its first session.
+
+        Its fragments have `width` bytes, and its journal at most `limit` entries.
+        """
         slot = _Slot()
         _check(_status("lrc_store_open", width, limit, next(_numbers), slot), "open", width, limit)
         return cls(slot)
 
     def split(self, who: int) -> Session:
-        """A further session, whose calls have the label `who` in the journal."""
+        """Splits off a further session, whose calls have the label `who` in the journal."""
         other = _Slot()
         _check(_status("lrc_store_split", self._slot, who, other), "split", who)
         return Session(other)
@@ -232,19 +249,19 @@ class Session:
         _check(_status("lrc_store_join", self._slot, other._slot), "join")
 
     def close(self) -> Closed:
-        """Closes the store, once all its sessions are joined into this one."""
+        """Closes the store. All its other sessions have to be joined into this one first."""
         entries, lawful = _U64(), _U32()
         _check(_status("lrc_store_close", self._slot, entries, lawful), "close")
         return Closed(entries.value, lawful.value == 1)
 
     def close_to_journal(self) -> Journal:
-        """Closes the store, and gives the entries of its journal."""
+        """Closes the store, and returns the entries of its journal."""
         held, discarded, entries, lawful = _Slot(), _U64(), _U64(), _U32()
         _check(_status("lrc_store_close_to", self._slot, held, discarded, entries, lawful), "close")
         return Journal(discarded.value, [_entry(held, index) for index in range(entries.value)], lawful.value == 1)
 
     def put(self, name: str, blob: bytes | bytearray | memoryview, data_fragments: int = 12) -> int:
-        """Stores a copy of a blob, which may be any buffer, and gives its version."""
+        """Stores a copy of a blob, which may be any buffer, and returns its version."""
         version = _U64()
         view = memoryview(blob).cast("B")
         source = (ctypes.c_uint8 * (len(view) or 1)).from_buffer(view) if view and not view.readonly else bytes(view)
@@ -285,13 +302,13 @@ class Session:
         return Shape(*(number.value for number in numbers))
 
     def trim(self, keep: int) -> int:
-        """Discards all entries of the journal but the last `keep`, and gives how many these were."""
+        """Discards all journal entries but the last `keep`, and returns how many it discarded."""
         discarded = _U64()
         _check(_status("lrc_store_trim", self._slot, keep, discarded), "trim", keep)
         return discarded.value
 
     def mend(self) -> int:
-        """Repairs all lost fragments that can be rebuilt, and gives how many these were."""
+        """Repairs all lost fragments that can be rebuilt, and returns their number."""
         plan, items, version, repaired = _Slot(), _U64(), _U64(), 0
         _check(_status("lrc_store_plan", self._slot, plan, items), "mend")
         while (status := _status("lrc_store_mend_step", self._slot, plan, version)) != _NOTHING_LEFT:

@@ -1,6 +1,8 @@
-//! The Local Reconstruction Codes LRC(12,2,2) and LRC(6,2,2), by `libcoder_c.a`: safe calls over the functions that
-//! `include/lrc_coder.h` describes: it says which arguments each of them refuses. After an error every target is as it was. A set of lost
-//! fragments is a number: bit i is set where fragment i is lost.
+//! The Local Reconstruction Codes LRC(12,2,2) and LRC(6,2,2), from `libcoder_c.a`.
+//!
+//! The calls are safe forms of the functions of `include/lrc_coder.h`, which says which arguments
+//! each refuses. After an error every target is unchanged. A set of lost fragments is a number: bit
+//! i is set if and only if fragment i is lost.
 #![warn(missing_docs)]
 
 use std::fmt;
@@ -43,12 +45,12 @@ pub enum Code {
     Small = 6,
 }
 
-/// Why nothing was done.
+/// Why a call failed.
 #[derive(Clone, Copy, Debug, PartialEq, Eq)]
 pub enum Error {
-    /// Nothing that is left tells the fragment.
+    /// The fragment is unrecoverable: the remaining fragments do not determine it.
     Open,
-    /// An argument is none that the call takes: `lrc_coder.h` says which are.
+    /// An argument is invalid: `lrc_coder.h` says which are valid.
     BadArgument,
 }
 
@@ -71,7 +73,7 @@ fn result_of(status: u32) -> Result<(), Error> {
     }
 }
 
-/// A fragment that is left, and what its bytes are multiplied by.
+/// A remaining fragment, and the coefficient of its bytes.
 #[derive(Clone, Copy, Debug, PartialEq, Eq)]
 pub struct Term {
     /// The number of the fragment.
@@ -97,7 +99,7 @@ pub fn encode(data: &[&[u8]], parities: [&mut [u8]; 4]) -> Result<(), Error> {
     })
 }
 
-/// Adds a data fragment into the four parities. All have one length.
+/// Adds a data fragment to the four parities. All have one length.
 pub fn encode_add(code: Code, fragment: u8, source: &[u8], parities: [&mut [u8]; 4]) -> Result<(), Error> {
     let [a, b, c, d] = parities;
     // SAFETY: as in `encode`.
@@ -109,9 +111,9 @@ pub fn encode_add(code: Code, fragment: u8, source: &[u8], parities: [&mut [u8];
     })
 }
 
-/// Whether nothing that is left tells the fragment.
+/// Whether the fragment is unrecoverable.
 pub fn is_open(code: Code, lost: u16, fragment: u8) -> Result<bool, Error> {
-    // SAFETY: numbers alone are passed.
+    // SAFETY: only numbers are passed.
     match result_of(unsafe { lrc_is_open(code as usize, lost, fragment) }) {
         Ok(()) => Ok(false),
         Err(Error::Open) => Ok(true),
@@ -119,7 +121,7 @@ pub fn is_open(code: Code, lost: u16, fragment: u8) -> Result<bool, Error> {
     }
 }
 
-/// The slices of the fragments that are left, and the set of the others.
+/// The slices of the remaining fragments, and the set of the others.
 fn slices_of(fragments: &[Option<&[u8]>]) -> ([Slice; 16], u16) {
     let mut slices = [Slice::from(&[][..]); 16];
     let mut lost = u16::MAX;
@@ -132,8 +134,8 @@ fn slices_of(fragments: &[Option<&[u8]>]) -> ([Slice; 16], u16) {
     (slices, lost)
 }
 
-/// Writes the bytes of a lost fragment from `from` on, as many as `target` has. `fragments` has those that are left at their
-/// numbers, and None elsewhere.
+/// Writes the bytes of a lost fragment from `from` on, as many as `target` has. `fragments` has the
+/// remaining ones at their numbers, and None elsewhere.
 pub fn rebuild(code: Code, fragments: &[Option<&[u8]>], fragment: u8, from: usize, target: &mut [u8]) -> Result<(), Error> {
     let (slices, lost) = slices_of(fragments);
     // SAFETY: sixteen slices are passed, and as in `encode`.
@@ -145,8 +147,9 @@ pub fn rebuild(code: Code, fragments: &[Option<&[u8]>], fragment: u8, from: usiz
 /// A lost fragment by its number, and the bytes to write it to.
 pub type Target<'a> = (u8, &'a mut [u8]);
 
-/// Writes the bytes of several lost fragments from `from` on, in less time than `rebuild` takes for each. All targets have one length.
-/// `Open` if one of the fragments is open, as one always is of more than four.
+/// Writes the bytes of several lost fragments from `from` on, in less time than a `rebuild` of
+/// each. All targets have one length. `Open` if one of the fragments is unrecoverable. Of more than
+/// four, one always is.
 pub fn decode(code: Code, fragments: &[Option<&[u8]>], from: usize, targets: &mut [Target]) -> Result<(), Error> {
     let (slices, lost) = slices_of(fragments);
     let len = targets.first().map_or(0, |(_, target)| target.len());
@@ -172,10 +175,10 @@ pub fn decode(code: Code, fragments: &[Option<&[u8]>], from: usize, targets: &mu
     })
 }
 
-/// How a lost fragment comes from those that are left: it is their sum, each times its coefficient.
+/// A recipe for a lost fragment: it is the sum of these fragments, each times its coefficient.
 pub fn recipe(code: Code, lost: u16, fragment: u8) -> Result<Vec<Term>, Error> {
     let (mut fragments, mut coefficients, mut count) = ([0; 16], [0; 16], 0);
-    // SAFETY: both lists have sixteen places.
+    // SAFETY: both arrays have sixteen elements.
     result_of(unsafe {
         lrc_recipe(code as usize, lost, fragment, fragments.as_mut_ptr(), coefficients.as_mut_ptr(), &mut count)
     })?;
@@ -183,7 +186,8 @@ pub fn recipe(code: Code, lost: u16, fragment: u8) -> Result<Vec<Term>, Error> {
     Ok(terms.map(|(fragment, coefficient)| Term { fragment, coefficient }).collect())
 }
 
-/// Adds a source times a coefficient to the target, byte by byte. Both have one length.
+/// Adds a source times a coefficient to the target, byte by byte, in the field. Both have one
+/// length.
 pub fn add(target: &mut [u8], coefficient: u8, source: &[u8]) -> Result<(), Error> {
     // SAFETY: as in `encode`.
     result_of(unsafe { lrc_add(target.as_mut_ptr(), target.len(), coefficient, source.as_ptr(), source.len()) })

@@ -1,6 +1,8 @@
-//! An in-memory blob store, shared by the threads of a process, that keeps each blob in a Local Reconstruction
-//! Code: safe calls over the functions of `include/lrc_store.h`, which says what each of them does. A call waits
-//! while other threads are in the critical section.
+//! An in-memory blob store that the threads of a process share. It keeps each blob in a Local
+//! Reconstruction Code.
+//!
+//! The calls are safe forms of the functions of `include/lrc_store.h`, which describes each. A call
+//! waits while other threads are in the critical section.
 #![warn(missing_docs)]
 
 use std::fmt;
@@ -14,7 +16,7 @@ struct Slot {
     at: *mut u8,
 }
 
-/// Bytes that are lent, with the layout of `lrc_slice`.
+/// Lent bytes, with the layout of `lrc_slice`.
 #[repr(C)]
 #[derive(Clone, Copy)]
 struct Slice {
@@ -80,7 +82,7 @@ impl Drop for Slot {
     }
 }
 
-/// Why a call was not done.
+/// Why a call failed.
 #[derive(Clone, Copy, Debug, PartialEq, Eq)]
 #[non_exhaustive]
 pub enum Error {
@@ -88,13 +90,13 @@ pub enum Error {
     NoName,
     /// The range does not lie inside the blob.
     OutOfRange,
-    /// The remaining fragments do not determine what was asked.
+    /// The remaining fragments do not determine what was asked for.
     Unrecoverable,
-    /// The blob has no such fragment.
+    /// The blob lacks this stripe, or the stripe this fragment.
     NoFragment,
-    /// The fragment was lost before.
+    /// The fragment was lost already.
     AlreadyLost,
-    /// The fragment is not lost.
+    /// The fragment is present.
     NotLost,
     /// Out of memory.
     NoMemory,
@@ -106,7 +108,7 @@ pub enum Error {
     BadName,
     /// The width is not in 1 to 65,536.
     BadWidth,
-    /// No further session can be split off.
+    /// No further session can be split off this one.
     NoPass,
     /// The limit is not in 1 to 1,048,576.
     BadLimit,
@@ -143,11 +145,11 @@ impl fmt::Display for Error {
 
 impl std::error::Error for Error {}
 
-/// A join or a close that was not done, with the session that was passed to it.
+/// Why a join or a close failed, with the session that was passed to it.
 pub struct Refused {
-    /// As it was.
+    /// The unchanged session.
     pub session: Session,
-    /// Why.
+    /// The reason.
     pub error: Error,
 }
 
@@ -197,7 +199,8 @@ fn done(status: u32) -> Result<(), Error> {
     })
 }
 
-/// Repeats a call while another thread is in the critical section: it spins, then yields, then sleeps.
+/// Repeats a call while another thread is in the critical section. It spins, then yields, then
+/// sleeps.
 fn wait(mut call: impl FnMut() -> u32) -> u32 {
     for attempt in 0u32.. {
         let status = call();
@@ -222,29 +225,29 @@ pub enum Code {
     Small = 6,
 }
 
-/// How many bytes, stripes and lost fragments a blob has.
+/// The version of a blob, its length, and the numbers of its stripes and lost fragments.
 #[derive(Clone, Copy, Debug, PartialEq, Eq)]
 pub struct Shape {
-    /// The number of its put.
+    /// The number of the put that stored it.
     pub version: u64,
-    /// In bytes.
+    /// The length in bytes.
     pub len: u64,
-    /// All stripes.
+    /// The number of stripes.
     pub stripes: u64,
-    /// All lost fragments.
+    /// The number of lost fragments.
     pub lost: u64,
 }
 
-/// What closing a store leaves.
+/// The report on a closed store.
 #[derive(Clone, Copy, Debug, PartialEq, Eq)]
 pub struct Closed {
-    /// How many entries the journal has.
+    /// The number of entries in the journal.
     pub entries: u64,
-    /// Whether they were checked and found lawful; false if there was no memory for the check.
+    /// Whether a check found them lawful. False if there was no memory for the check.
     pub is_checked: bool,
 }
 
-/// Bytes to be filled and then put without a copy, by [`Session::put_buffer`].
+/// Bytes that the caller fills, and that [`Session::put_buffer`] stores without a copy.
 pub struct Buffer {
     slot: Slot,
     at: *mut u8,
@@ -255,7 +258,7 @@ pub struct Buffer {
 unsafe impl Send for Buffer {}
 
 impl Buffer {
-    /// So many bytes, which are 0.
+    /// A buffer of `len` zero bytes.
     pub fn new(len: usize) -> Result<Buffer, Error> {
         let mut slot = Slot::empty();
         done(unsafe { lrc_slot_reserve(len, &mut slot) })?;
@@ -265,46 +268,46 @@ impl Buffer {
         Ok(Buffer { slot, at: raw.at, len: raw.len })
     }
 
-    /// The bytes that can be filled: none after a put.
+    /// The bytes, for writing. There are none after a put.
     pub fn as_mut_slice(&mut self) -> &mut [u8] {
         unsafe { std::slice::from_raw_parts_mut(self.at, self.len) }
     }
 }
 
-/// What an entry of a journal says was called.
+/// The call of a journal entry.
 #[derive(Clone, Copy, Debug, PartialEq, Eq)]
 pub enum Call {
-    /// To store so many bytes.
+    /// Store a blob.
     Put {
-        /// The blob's code.
+        /// The code of the blob.
         code: Code,
         /// In bytes.
         len: u64,
     },
-    /// To read a range.
+    /// Read a range.
     Read {
-        /// Its first byte.
+        /// The first byte, from 0.
         start: u64,
         /// In bytes.
         len: u64,
     },
-    /// To lose a fragment.
+    /// Lose a fragment.
     Lose {
         /// From 0.
         stripe: u64,
         /// From 0.
         fragment: u64,
     },
-    /// To repair a lost fragment.
+    /// Repair a lost fragment.
     Repair {
         /// From 0.
         stripe: u64,
         /// From 0.
         fragment: u64,
     },
-    /// To delete the blob.
+    /// Delete the blob.
     Delete,
-    /// To ask for the blob's shape.
+    /// Ask for the shape of the blob.
     Stat,
 }
 
@@ -315,9 +318,9 @@ pub struct Entry {
     pub who: u32,
     /// The name of the blob.
     pub name: String,
-    /// What was called.
+    /// The call.
     pub call: Call,
-    /// The blob's version in the reply, or why nothing was done.
+    /// The version in the reply, or why the call did nothing.
     pub reply: Result<u64, Error>,
     /// The reply to a stat.
     pub shape: Option<Shape>,
@@ -345,31 +348,31 @@ impl Entry {
     }
 }
 
-/// What closing a store leaves, with the entries of its journal.
+/// The report on a closed store, with the entries of its journal.
 #[derive(Clone, Debug, PartialEq, Eq)]
 pub struct Journal {
-    /// How many entries were trimmed before these.
+    /// How many entries were trimmed.
     pub discarded: u64,
-    /// The others, in order.
+    /// The other entries, in order.
     pub entries: Vec<Entry>,
-    /// Whether they were checked and found lawful; false if there was no memory for the check.
+    /// Whether a check found them lawful. False if there was no memory for the check.
     pub is_checked: bool,
 }
 
-/// A range of a blob that is lent. The bytes stay as they are for as long as this lives.
+/// A lent range of a blob. Its bytes do not change while this lives.
 pub struct Grant {
-    // The slices point into what the slot holds, which stays in its place.
+    // The slices point into the content of the slot, which stays in place.
     _lent: Slot,
     version: u64,
     slices: Vec<Slice>,
 }
 
-// A grant is only read, and what it points to never changes.
+// A grant is only read, and the bytes that it points to never change.
 unsafe impl Send for Grant {}
 unsafe impl Sync for Grant {}
 
 impl Grant {
-    /// The number of the blob's put.
+    /// The version of the blob.
     pub fn version(&self) -> u64 {
         self.version
     }
@@ -379,22 +382,23 @@ impl Grant {
         self.slices.iter().map(|slice| unsafe { std::slice::from_raw_parts(slice.at, slice.len) })
     }
 
-    /// A copy of the range.
+    /// A copy of the bytes of the range.
     pub fn to_vec(&self) -> Vec<u8> {
         self.pieces().flatten().copied().collect()
     }
 }
 
-/// A session of a store: one thread at a time calls by it, and it may go to another thread.
+/// A session of a store, for one thread at a time. It may move to another thread.
 pub struct Session {
     slot: Slot,
 }
 
-// A session goes from thread to thread, and its raw address keeps it from being shared.
+// A session may move between threads. Its raw address keeps threads from sharing it.
 unsafe impl Send for Session {}
 
 impl Session {
-    /// The first session of a new store, whose fragments have `width` bytes and whose journal has at most `limit` entries.
+    /// Opens a store and returns its first session. Its fragments have `width` bytes, and its
+    /// journal at most `limit` entries.
     pub fn open(width: u32, limit: u32) -> Result<Session, Error> {
         static NEXT: AtomicU64 = AtomicU64::new(1);
         let number = NEXT.fetch_add(1, Ordering::Relaxed);
@@ -403,14 +407,15 @@ impl Session {
         Ok(Session { slot })
     }
 
-    /// Splits a session off, whose calls have the label `who` in the journal.
+    /// Splits off a session, whose calls have the label `who` in the journal.
     pub fn split(&mut self, who: u32) -> Result<Session, Error> {
         let mut slot = Slot::empty();
         done(unsafe { lrc_store_split(&mut self.slot, who, &mut slot) })?;
         Ok(Session { slot })
     }
 
-    /// Joins another session of the store into this one. A session of another store comes back.
+    /// Joins another session of the store into this one. The error returns a session of another
+    /// store.
     pub fn join(&mut self, mut other: Session) -> Result<(), Refused> {
         match unsafe { lrc_store_join(&mut self.slot, &mut other.slot) } {
             DONE => Ok(()),
@@ -418,7 +423,8 @@ impl Session {
         }
     }
 
-    /// Closes the store, if all its sessions are joined into this one. Else the session comes back.
+    /// Closes the store, if all its other sessions are joined into this one. Otherwise the error
+    /// returns the session.
     pub fn close(mut self) -> Result<Closed, Refused> {
         let (mut entries, mut lawful) = (0, 0);
         match unsafe { lrc_store_close(&mut self.slot, &mut entries, &mut lawful) } {
@@ -427,7 +433,7 @@ impl Session {
         }
     }
 
-    /// The same, and gives the entries of the journal.
+    /// Does the same, and returns the entries of the journal.
     pub fn close_to_journal(mut self) -> Result<Journal, Refused> {
         let (mut held, mut discarded, mut entries, mut lawful) = (Slot::empty(), 0, 0, 0);
         match unsafe { lrc_store_close_to(&mut self.slot, &mut held, &mut discarded, &mut entries, &mut lawful) } {
@@ -447,7 +453,8 @@ impl Session {
         Ok(Journal { discarded, entries, is_checked: lawful == 1 })
     }
 
-    /// Stores a blob without a copy, and gives its version. After an error the same bytes can be put again.
+    /// Stores a buffer without a copy, and returns its version. After an error the same bytes can
+    /// be put again.
     pub fn put_buffer(&mut self, name: &str, buffer: &mut Buffer, code: Code) -> Result<u64, Error> {
         let mut version = 0;
         buffer.len = 0; // no longer to be filled, whatever the reply
@@ -457,7 +464,7 @@ impl Session {
         Ok(version)
     }
 
-    /// Stores a copy of a blob, and gives its version.
+    /// Stores a copy of a blob, and returns its version.
     pub fn put(&mut self, name: &str, blob: &[u8], code: Code) -> Result<u64, Error> {
         let mut version = 0;
         done(wait(|| unsafe {
@@ -514,14 +521,14 @@ impl Session {
         Ok(shape)
     }
 
-    /// Discards all entries of the journal but the last `keep`, and gives how many these were.
+    /// Discards all journal entries except the last `keep`, and returns how many it discarded.
     pub fn trim(&mut self, keep: u64) -> Result<u64, Error> {
         let mut discarded = 0;
         done(wait(|| unsafe { lrc_store_trim(&mut self.slot, keep, &mut discarded) }))?;
         Ok(discarded)
     }
 
-    /// Repairs all lost fragments that can be rebuilt, and gives how many these were.
+    /// Repairs all lost fragments that can be rebuilt, and returns their number.
     pub fn mend(&mut self) -> Result<u64, Error> {
         let (mut plan, mut items, mut version, mut repaired) = (Slot::empty(), 0, 0, 0);
         done(wait(|| unsafe { lrc_store_plan(&mut self.slot, &mut plan, &mut items) }))?;

@@ -1,4 +1,5 @@
--- The replies by a book's catalogue are those of each history that it tells.
+-- The replies that a book's catalogue determines are those of each history that the book
+-- represents.
 use Rattle.std.proofs.Common.{◌≡◌, ℕ, Bool, true, false, List, [], ◌∷◌, ◌++◌, Option, None, Some, cond, refl, sym, ap, ◌∙◌, subst}
 use Rattle.std.specs.Option.{option_map}
 use Rattle.std.specs.FinMap as finite
@@ -60,7 +61,7 @@ carries_stat old new who n answer right =
     (λ s. refl)
 
 -- ---- a deletion
--- the blob of each name after the name n is out of the catalogue
+-- the blob of each name after the catalogue has lost the name n
 module _ (w : ℕ) (s : State) (n : List ℕ) where
   out_of_both : (b : Bool) (found : Option Sealed) (had : Option Blob) → Correspond w found had → Correspond w (cond b None found) (cond b None had)
   out_of_both true found had same = tt

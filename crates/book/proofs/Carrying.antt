@@ -42,7 +42,7 @@ carried old new h e told reply same_width same_base entries kept =
       catalogue = subst Q (sym same_width) (subst R (sym (after_all-append empty_state h (e ∷ []))) kept);
     }
 
--- an empty book tells the empty history
+-- an empty book represents the empty history
 pub tells_none : (book : Contents) → book.base ≡ empty_base → book.entries ≡ [] → book.catalogue ≡ [] → Tells book []
 tells_none book base entries catalogue =
     record {
@@ -56,7 +56,7 @@ tells_none book base entries catalogue =
           subst K (sym (ap (λ (c : List (List ℕ × Sealed)). lookup (is_at (name_cmp n)) c) catalogue)) none;
     }
 
--- the entries of a book that tells a history are lawful from its base
+-- the entries of a book that represents a history are lawful from its base
 pub told_is_lawful : (book : Contents) (h : History) → Tells book h → IsLawfulFrom book.base book.width book.entries
 told_is_lawful book h told =
     record {

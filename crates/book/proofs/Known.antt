@@ -1,4 +1,5 @@
--- A fragment that was rebuilt outside the book is the fragment of each blob that the value of its version stands for.
+-- A fragment that was rebuilt outside the book is the fragment of each blob that the value of its
+-- version represents.
 use Rattle.std.proofs.Common.{◌≡◌, ℕ, ◌<◌, Bool, true, false, List, [], ◌∷◌, ◌++◌, Option, None, Some, is_none, cond, length, refl, sym, ap, ◌∙◌, subst, inl, inr}
 use Rattle.std.specs.Prelude.{IfSome, nat_le, slice_index}
 use Rattle.std.specs.FinMap as finite
@@ -32,7 +33,7 @@ use Rattle.book.proofs.Mending.{lacks_here}
 use Rattle.book.proofs.Versions.{was_put, put_later, only_put}
 
 -- ---- what can be rebuilt
--- the value has the fragment, lacks it, and the test for open ones says no
+-- the value has the fragment, lacks it, and the test for unrecoverable ones is false
 rebuildable_so : (s : Sealed) (j f : ℕ) → IsRebuildable s j f → (no_such s.width (seen_of s) j f ≡ false) × (lacks s j f ≡ true) × (open_test s.code (lacks s j) f ≡ false)
 rebuildable_so s j f can = (there, lacks_here s j f can.has.0 can.has.1 ∙ can.lost, closed)
   where
@@ -47,7 +48,7 @@ rebuildable_so s j f can = (there, lacks_here s j f can.has.0 can.has.1 ∙ can.
           | inr shut ↦ shut
         ]
 
--- and where it can't be rebuilt though it is lacked, the test says yes
+-- if it lacks the fragment and can't rebuild it, the test is true
 open_so : (s : Sealed) (j f : ℕ) → no_such s.width (seen_of s) j f ≡ false → lacks s j f ≡ true → (IsRebuildable s j f → ⊥) → open_test s.code (lacks s j) f ≡ true
 open_so s j f there gone not_so =
     let parts = or_parts (nat_le (stripe_count s.code s.width s.len) j) _ there in
@@ -88,7 +89,7 @@ module _ (s : Sealed) (b c : List ℕ) (lost also : Lost) (one : StandsFor s b l
   long : (x : List ℕ) (f : ℕ) → length (fragment s.code s.width x j f) ≡ s.width
   long x f = length-map-range_with_len (λ p. column s.code (data_at s.code s.width x j p) f) 0 s.width
 
-  -- they agree at each fragment that can be told from those left
+  -- they agree at each fragment that the remaining ones determine
   pub same_closed : (f : ℕ) → f < fragment_count s.code → (Open s.code (absent_in s j) f → ⊥) → fragment s.code s.width b j f ≡ fragment s.code s.width c j f
   same_closed f inside closed =
       same_number_lists _ _ (long b f ∙ sym (long c f))

@@ -34,7 +34,7 @@ pub count_none : (p : ℕ → Bool) (n : ℕ) → ((i : ℕ) → i < n → p i �
 count_none p zero none = refl
 count_none p (suc n) none = λ t. cond (none n (omega arith) t) 1 0 + count_none p n (λ i l. none i (omega arith)) t
 
--- one more number passes
+-- one more number fulfils the condition
 pub count_more : (p q : ℕ → Bool) (k n : ℕ) → k < n → p k ≡ false → q k ≡ true → ((i : ℕ) → i < n → i ≢ k → p i ≡ q i) → count_below q n ≡ count_below p n + 1
 count_more p q k zero l old new same = absurd (omega arith)
 count_more p q k (suc n) l old new same =

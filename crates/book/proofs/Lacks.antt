@@ -31,7 +31,7 @@ same_name : (n q : List ℕ) → is_at (name_cmp n) q ≡ true → n ≡ q
 same_name n q tied = exact_bytes n q ((Equal-is (name_cmp n q)).0 tied)
 
 module _ (blobs : Catalogue) (n : List ℕ) (has : List ℕ → Bool) (others : (q : List ℕ) → is_at (name_cmp n) q ≡ false → has q ≡ lacks_at blobs q) where
-  -- where its blob lacks nothing, it is taken out
+  -- if its blob lacks nothing, the name is taken out
   pub taken_out : (new : List ℕ → Bool) → ((q : List ℕ) → new q ≡ cond (is_at (name_cmp n) q) false (has q)) → lacks_at blobs n ≡ false → (q : List ℕ) → new q ≡ lacks_at blobs q
   taken_out new updates whole q =
       elim (cases_Bool (is_at (name_cmp n) q)) [
@@ -39,7 +39,7 @@ module _ (blobs : Catalogue) (n : List ℕ) (has : List ℕ → Bool) (others : 
         | inr other ↦ updates q ∙ ap (λ b. cond b false (has q)) other ∙ others q other
       ]
 
-  -- where it lacks some, it stays
+  -- if its blob lacks some, it stays
   pub stays : (lacks_at blobs n ≡ true → has n ≡ true) → lacks_at blobs n ≡ true → (q : List ℕ) → has q ≡ lacks_at blobs q
   stays own lacking q =
       elim (cases_Bool (is_at (name_cmp n) q)) [
@@ -73,7 +73,7 @@ keys_found : (es : Catalogue) (names : List (List ℕ)) → keys_of (found_in es
 keys_found es [] = refl
 keys_found es (n ∷ names) = ap (λ (l : List (List ℕ)). n ∷ l) (keys_found es names)
 
--- a name is found with its value where it is among the names
+-- a name is found with its value if it is among the names
 one_found : (es : Catalogue) (q n : List ℕ) (later : Option (Option Sealed)) (b any : Bool) → is_at (name_cmp q) n ≡ b → later ≡ cond any (Some (value_at es q)) None
     → cond b (Some (value_at es n)) later ≡ cond (b || any) (Some (value_at es q)) None
 one_found es q n later true any tied same = ap (λ k. Some (value_at es k)) (sym (same_name q n tied))
@@ -122,7 +122,7 @@ same_entries es names rises rising agree =
     ∙ ap (option_map (λ s. Some s)) (sym (lookup-filter-values (eq_by_cmp_equiv nat_list_cmp_total) lacks_some q es (IsDistinct-from_sorted name_cmp (keys_of es) rises)))
     ∙ sym (lookup-map_values (λ (s : Sealed). Some s) (is_at (name_cmp q)) (lacking_of es)))
 
--- of the others nothing is listed
+-- nothing is listed of the others
 none_of : (c : ℕ) → nat_lt 0 c ≡ false → c ≡ 0
 none_of c none = grind (arith)
 

@@ -63,7 +63,7 @@ with_represents w change s t blob is new =
     record { version = new.version ∙ is.version; width = new.width ∙ is.width; code = new.code ∙ is.code; stands = new.stands blob.bytes blob.lost is.stands }
 
 module _ (w : ℕ) (state : State) (n : List ℕ) (blob : Blob) (here : finite.get state.names n ≡ Some blob) where
-  -- the names of a later state are those of the state, but for n, which has a blob that the value represents
+  -- a later state has the same names, except that n has a blob that the value represents
   abbrev pub HasBlob : Sealed → State → Type 0
   HasBlob t later = (new : Blob) × Represents w t new × ((q : List ℕ) → finite.get later.names q ≡ cond (is_at (name_cmp n) q) (Some new) (finite.get state.names q))
 
@@ -93,7 +93,8 @@ module _ (w : ℕ) (state : State) (n : List ℕ) (blob : Blob) (here : finite.g
   after_repair j f m s t is new = as_before s t is new
 
 -- ---- the catalogue afterwards
--- an operation that leaves a state as it is where the name has no blob, and else gives the name one that the new value represents
+-- an operation that leaves the state unchanged if the name has no blob, and otherwise gives the
+-- name one that the new value represents
 module _ (old new : Contents) (who : ℕ) (n : List ℕ) (o : Operation) (answer : Answer) (reply : ℕ → Option View → Note) (Becomes : Sealed → Sealed → Type 0)
     (replaced : Replaces reply Becomes old.catalogue new.catalogue n (note_of answer))
     (is_reply : (h : History) → Tells old h → IsReply old.width (state_of h) o (note_of answer))

@@ -1,4 +1,4 @@
--- What a catalogue lacks is what is lost of each state that it has the names of.
+-- The fragments that a catalogue lacks are the lost ones of each state with the catalogue's names.
 use Rattle.std.proofs.Common.{◌≡◌, ℕ, zero, suc, ◌+◌, ◌*◌, ◌/◌, ◌%◌, ◌<◌, ◌≤◌, Bool, true, false, List, [], ◌∷◌, ◌++◌, Option, None, Some, map, cond, length, refl, sym, ap, ◌∙◌, subst, inl, inr, arith}
 use Rattle.std.specs.Prelude.{nat_lt}
 use Rattle.std.specs.Option.{option_map}
@@ -114,7 +114,7 @@ module _ (s : Sealed) where
   lacked_has : (q : ℕ × ℕ) → list_any (is_at (pair_cmp q)) (lacked_below s (16 * length s.stripes)) ≡ lacks s q.0 q.1
   lacked_has q = same_truth _ _ (has_only (16 * length s.stripes) q.0 q.1) (has_lacking q.0 q.1)
 
--- so it is what is lost of the blob that the value represents
+-- so these are the lost fragments of the blob that the value represents
 same_lacked : (w : ℕ) (s : Sealed) (blob : Blob) → Represents w s blob → IsLostInside w blob → lacked_below s (16 * length s.stripes) ≡ pairs_of blob.lost
 same_lacked w s blob is inside =
     same_pairs _ (pairs_of blob.lost) (lacked_rises s (16 * length s.stripes)) (pairs_rise blob.lost)

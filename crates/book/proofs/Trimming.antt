@@ -1,4 +1,4 @@
--- A book that gives up the beginning of its journal tells what it told.
+-- A book represents the same history after it discards the oldest entries of its journal.
 use Rattle.std.proofs.Common.{◌≡◌, ℕ, ◌+◌, ◌≤◌, List, [], ◌∷◌, ◌++◌, map, take, drop, length, sym, ap, ◌∙◌, subst, arith, length-drop}
 use Rattle.std.proofs.Math.Seq.{take-add}
 use Rattle.std.proofs.lemmas.List.{take-map, drop-map, drop-drop, take-append-drop, length-map}
@@ -36,7 +36,8 @@ module _ (old : Contents) (n : ℕ) (h : History) (told : Tells old h) where
       let t = old.base.trimmed in
       omega (arith, few, ap length told.entries, length-map (drop t h) entry_of, length-drop t h, told.long)
 
--- the first n entries are given up, and the base outlines what they make of each state that it outlined
+-- the first n entries are discarded, and the base outlines what they make of each state that it
+-- outlined
 pub tells_trimmed : (old new : Contents) (n : ℕ) → n ≤ length old.entries
     → ((s : State) (g : History) → Outlines old.base s → IsLegalFrom old.width s g → map entry_of g ≡ take n old.entries → Outlines new.base (after_all s g))
     → new.base.trimmed ≡ old.base.trimmed + n → new.entries ≡ drop n old.entries → new.width ≡ old.width → new.catalogue ≡ old.catalogue → (h : History) → Tells old h → Tells new h

@@ -93,7 +93,7 @@ was_put w h legal n blob is =
       | inr there ↦ there
     ]
 
--- and stays put where more is made
+-- and a longer history still has its put
 pub put_later : (h more : History) (v : ℕ) (n : List ℕ) (code : Code) (b : List ℕ) → HasPut h v n code b → HasPut (h ++ more) v n code b
 put_later h more v n code b is =
     record {

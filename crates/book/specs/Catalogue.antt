@@ -1,4 +1,4 @@
--- Which names of a catalogue have a blob that lacks a fragment, and what is listed for a name.
+-- The names whose blob lacks a fragment, and the items that are listed for a name.
 use Rattle.std.specs.Prelude.{ℕ, Bool, false, List, [], Option, None, Some, nat_lt}
 use Rattle.sealed.specs.declared.value.Sealed.{Sealed}
 use Rattle.book.specs.Lacking.{lacked_count}
@@ -14,7 +14,7 @@ abbrev pub lacks_any : Option Sealed → Bool
 lacks_any None = false
 lacks_any (Some s) = lacks_some s
 
--- the name has a value that does
+-- the name has a value that lacks a fragment
 abbrev pub lacks_at : Catalogue → List ℕ → Bool
 lacks_at catalogue n = lacks_any (value_at catalogue n)
 

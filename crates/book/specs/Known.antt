@@ -1,4 +1,4 @@
--- What is known of a fragment that was rebuilt outside the book.
+-- What a caller knows of a fragment that was rebuilt outside the book.
 use Rattle.std.specs.Prelude.{◌≡◌, ℕ, ◌<◌, List, length}
 use Rattle.lrc_code.specs.declared.Code.{Code}
 use Rattle.lrc_code.specs.Code.{fragment_count}
@@ -17,7 +17,8 @@ pub record IsFragmentIn (h : History) (w : ℕ) (name : List ℕ) (version j f :
   pub number : f < fragment_count code
   pub is : found ≡ fragment code w bytes j f
 
--- the bytes serve to mend the value: where it has this version, and the fragment f of stripe j can be rebuilt, they are that fragment
+-- the bytes can mend the value: if it has this version and the fragment f of stripe j can be
+-- rebuilt, they are that fragment
 pub record Serves (version j f : ℕ) (bytes : List ℕ) (s : Sealed) : Type 0 where
   pub long : length bytes ≡ s.width
   pub own : version ≡ s.version → IsRebuildable s j f → IsFragmentOf s j f bytes

@@ -1,4 +1,4 @@
--- What a sealed value lacks, and what the replies for it depend on.
+-- The fragments that a sealed value lacks, and the view of it that determines the replies.
 use Rattle.std.specs.Prelude.{ℕ, zero, suc, ◌*◌, ◌/◌, ◌%◌, Bool, ◌&&◌, List, [], ◌∷◌, ◌++◌, Option, None, Some, cond, nat_lt, length}
 use Rattle.lrc_code.specs.Code.{fragment_count}
 use Rattle.lrc_code.specs.Count.{count_below}

@@ -1,4 +1,4 @@
--- What a loss or a repair makes of a catalogue.
+-- The effect of a loss or a repair on a catalogue.
 use Rattle.std.specs.Prelude.{◌≡◌, ℕ, List, Option, None, Some, cond}
 use Rattle.std.specs.FinSet as set
 use Rattle.std.specs.Map.{lookup}
@@ -12,7 +12,7 @@ use Rattle.book.specs.Lacking.{reply_for}
 use Rattle.history.specs.Names.{name_cmp}
 use Rattle.history.specs.Views.{View}
 
--- the new value stands for the bytes of the old one, with its lost fragments changed
+-- the new value represents the bytes of the old one, with its lost fragments changed
 pub record IsWith (change : Lost → Lost) (old new : Sealed) : Type 0 where
   pub version : new.version ≡ old.version
   pub width : new.width ≡ old.width
@@ -35,7 +35,7 @@ Catalogue = List (List ℕ × Sealed)
 abbrev pub value_at : Catalogue → List ℕ → Option Sealed
 value_at catalogue n = lookup (is_at (name_cmp n)) catalogue
 
--- the note is the reply by the value of the name, which alone is replaced
+-- the note is the reply by the value of the name, and no other value is replaced
 pub record Replaces (reply : ℕ → Option View → Note) (Becomes : Sealed → Sealed → Type 0) (old new : Catalogue) (n : List ℕ) (m : Note) : Type 0 where
   pub note_is : m ≡ reply_for reply (value_at old n)
   pub absent : value_at old n ≡ None → new ≡ old

@@ -1,4 +1,4 @@
-//! A new book, and what it shows.
+//! The constructor of a book, and its accessors.
 ghost use Rattle.std.specs.Prelude.{◌≡◌, ◌≤◌, ◌↔◌, [], length, IsTrue, IfOk, IfErr};
 ghost use Rattle.std.specs.Option.{option_map};
 ghost use Rattle.history.specs.Base.{empty_base};
@@ -14,11 +14,18 @@ use std::alloc::Global;
 use std::sync::Arc;
 
 impl Book {
-    /// An empty book. It makes the room for as many entries as the limit, so that no later call asks for memory to note itself.
+    /// An empty book, whose blobs have this width and whose journal holds at most `limit` entries.
+    /// It allocates the whole journal, so that no later call allocates for its entry.
     ///
-    /// `NoMemory` where that room is refused.
+    /// `NoMemory` if memory for the journal runs out.
     pub fn new(alloc: Global, width: Width, limit: Limit) -> Result<Book, Fault>
-        ensures ok { IfOk result (λ b. b ≡ record { width = width; limit = limit; base = empty_base; entries = []; catalogue = [] }) }
+        ensures ok { IfOk result (λ b. b ≡ record {
+          width = width;
+          limit = limit;
+          base = empty_base;
+          entries = [];
+          catalogue = [];
+        }) }
         ensures told { IfOk result (λ b. Tells b []) }
         ensures err { IfErr result (λ e. e ≡ Fault.NoMemory) }
     {
@@ -41,7 +48,7 @@ impl Book {
         self.journal.is_full()
     }
 
-    /// The sealed blob of a name, or None where there is none.
+    /// The sealed blob of a name, or `None` if it has none.
     pub fn find(&self, name: &Name) -> Option<&Arc<Sealed>>
         ensures { option_map (λ a. a.now.value) result ≡ sealed_at self.now name.now }
     {
@@ -51,28 +58,29 @@ impl Book {
         }
     }
 
-    /// The calls that were made since the base, in order.
+    /// The entries of the journal: the calls since the base, in order, each with its note.
     pub fn entries(&self) -> &[Entry]
         ensures { result.now ≡ self.now.entries }
     {
         &self.journal.entries
     }
 
-    /// What is kept of the calls that were given up.
+    /// What remains of the discarded calls: how many they were, and an outline of the state after
+    /// them.
     pub fn base(&self) -> &Base
         ensures { result.now ≡ self.now.base }
     {
         &self.base
     }
 
-    /// The width of all its blobs.
+    /// The width of all blobs: the bytes of a fragment.
     pub fn width(&self) -> Width
         ensures { result ≡ self.now.width }
     {
         self.width
     }
 
-    /// How many entries its journal may hold.
+    /// How many entries the journal may hold.
     pub fn limit(&self) -> Limit
         ensures { result ≡ self.now.limit }
     {

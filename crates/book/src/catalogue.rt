@@ -1,5 +1,6 @@
 //! The sealed blobs by name.
-ghost use Rattle.std.specs.Prelude.{◌≡◌, List, ℕ, [], None, Some, true, false, cond, IfOk, IfErr, IfSome, OnOk, OnErr};
+ghost use Rattle.std.specs.Prelude.{◌≡◌, List, ℕ, [], None, Some, true, false, cond, IfOk, IfErr};
+ghost use Rattle.std.specs.Prelude.{IfSome, OnOk, OnErr};
 ghost use Rattle.std.specs.BTreeMap.{is_at};
 ghost use Rattle.std.specs.BTreeSet.{contains};
 ghost use Rattle.std.specs.List.{flat_map};
@@ -27,7 +28,8 @@ use std::collections::{BTreeMap, BTreeSet};
 use std::marker::Model;
 use std::sync::Arc;
 
-/// The sealed blobs by name, and beside them the names of those that lack a fragment: what is lost is listed without a look at the others.
+/// The sealed blobs by name, and the names of those that lack a fragment. So the lost fragments are
+/// listed without a look at the other blobs.
 #[derive(Drop)]
 pub(crate) struct Catalogue {
     blobs: BTreeMap<Name, StoredBlob>,
@@ -46,11 +48,12 @@ impl Model for Catalogue {
 
     ghost view = { λ c. c.blobs.entries };
 
-    ghost invariant = { λ c. (n : List ℕ) → contains name_cmp c.lacking n ≡ lacks_at c.blobs.entries n };
+    ghost invariant = { λ c. (n : List ℕ) → contains name_cmp c.lacking n
+        ≡ lacks_at c.blobs.entries n };
 }
 
 impl Catalogue {
-    /// No blob.
+    /// A catalogue without names.
     pub fn new(alloc: Global) -> Catalogue
         ensures { result ≡ [] }
     {
@@ -67,10 +70,12 @@ impl Catalogue {
         self.blobs.get(name)
     }
 
-    /// Gives a name a blob of which nothing is lost, in place of the one that it had. After a refusal of memory the catalogue is as it was.
+    /// Gives a name a blob without lost fragments, and drops the blob that it had. `AllocError` if
+    /// memory runs out; the catalogue is then unchanged.
     pub fn insert(&mut self, name: &Name, sealed: Arc<Sealed>) -> Result<(), AllocError>
         requires { (b : List ℕ) × StandsFor sealed.value b nothing }
-        ensures ok { OnOk result ((q : List ℕ) → value_at self.new q ≡ cond (is_at (name_cmp name.now) q) (Some sealed.value) (value_at self.old q)) }
+        ensures ok { OnOk result ((q : List ℕ) → value_at self.new q
+            ≡ cond (is_at (name_cmp name.now) q) (Some sealed.value) (value_at self.old q)) }
         ensures err { OnErr result (self.new ≡ self.old) }
     {
         let Ok(_) = self
@@ -83,16 +88,18 @@ impl Catalogue {
         Ok(())
     }
 
-    /// Takes a name out, and its blob.
+    /// Removes a name, and returns its blob.
     pub fn remove(&mut self, name: &Name) -> Option<StoredBlob>
         ensures value { result ≡ value_at self.old name.now }
-        ensures updates { (q : List ℕ) → value_at self.new q ≡ cond (is_at (name_cmp name.now) q) None (value_at self.old q) }
+        ensures updates { (q : List ℕ) → value_at self.new q
+            ≡ cond (is_at (name_cmp name.now) q) None (value_at self.old q) }
     {
         self.lacking.remove(name);
         self.blobs.remove(name)
     }
 
-    /// Loses a fragment of a name's blob. The only fault is `NoMemory`. After it the catalogue is as it was.
+    /// Loses a fragment of a name's blob. The only error is `NoMemory`; the catalogue is then
+    /// unchanged.
     pub fn lose(
         &mut self,
         alloc: Global,
@@ -100,7 +107,8 @@ impl Catalogue {
         stripe: u64,
         fragment: u64,
     ) -> Result<Answer, Fault>
-        ensures ok { IfOk result (λ a. Replaces (λ w x. lose_reply w x stripe fragment) (Loses stripe fragment (note_of a)) self.old self.new name.now (note_of a)) }
+        ensures ok { IfOk result (λ a. Replaces (λ w x. lose_reply w x stripe fragment)
+            (Loses stripe fragment (note_of a)) self.old self.new name.now (note_of a)) }
         ensures faults { IfErr result (λ e. e ≡ Fault.NoMemory) }
         ensures err { OnErr result (self.new ≡ self.old) }
     {
@@ -112,7 +120,8 @@ impl Catalogue {
         answer
     }
 
-    /// Rebuilds a lost fragment of a name's blob. The only fault is `NoMemory`. After it the catalogue is as it was.
+    /// Rebuilds a lost fragment of a name's blob. The only error is `NoMemory`; the catalogue is
+    /// then unchanged.
     pub fn repair(
         &mut self,
         alloc: Global,
@@ -120,7 +129,8 @@ impl Catalogue {
         stripe: u64,
         fragment: u64,
     ) -> Result<Answer, Fault>
-        ensures ok { IfOk result (λ a. Replaces (λ w x. repair_reply w x stripe fragment) (Mends stripe fragment (note_of a)) self.old self.new name.now (note_of a)) }
+        ensures ok { IfOk result (λ a. Replaces (λ w x. repair_reply w x stripe fragment)
+            (Mends stripe fragment (note_of a)) self.old self.new name.now (note_of a)) }
         ensures faults { IfErr result (λ e. e ≡ Fault.NoMemory) }
         ensures err { OnErr result (self.new ≡ self.old) }
     {
@@ -129,7 +139,8 @@ impl Catalogue {
         answer
     }
 
-    /// Does as `repair` does, but puts back these bytes where the blob has this version. The only fault is `NoMemory`. After it the catalogue is as it was.
+    /// Does the same as `repair`, but installs these bytes if the blob has this version. The only
+    /// error is `NoMemory`; the catalogue is then unchanged.
     pub fn install(
         &mut self,
         alloc: Global,
@@ -140,7 +151,8 @@ impl Catalogue {
         bytes: Bytes,
     ) -> Result<Answer, Fault>
         requires { IfSome (value_at self.old name.now) (Serves version stripe fragment bytes) }
-        ensures ok { IfOk result (λ a. Replaces (λ w x. repair_reply w x stripe fragment) (Mends stripe fragment (note_of a)) self.old self.new name.now (note_of a)) }
+        ensures ok { IfOk result (λ a. Replaces (λ w x. repair_reply w x stripe fragment)
+            (Mends stripe fragment (note_of a)) self.old self.new name.now (note_of a)) }
         ensures faults { IfErr result (λ e. e ≡ Fault.NoMemory) }
         ensures err { OnErr result (self.new ≡ self.old) }
     {
@@ -157,7 +169,8 @@ impl Catalogue {
         answer
     }
 
-    /// The lost fragments of all blobs, by name, then by stripe, then by fragment. It looks only at blobs that lack some.
+    /// The lost fragments of all blobs, by name, then stripe, then fragment. It reads only the
+    /// blobs that lack one. `AllocError` if memory runs out.
     pub fn list_lost(&self, alloc: Global) -> Result<Vec<Item>, AllocError>
         ensures value { IfOk result (λ items. items.items ≡ flat_map items_lacked self.now) }
         ensures rising { IsStrictlySortedBy name_cmp (keys_of self.now) }
@@ -166,7 +179,7 @@ impl Catalogue {
     }
 }
 
-/// The lost fragments of the blobs of these names, which are those that lack some.
+/// The lost fragments of the blobs of these names.
 fn list_lacking(
     blobs: &BTreeMap<Name, StoredBlob>,
     lacking: &BTreeSet<Name>,
@@ -188,10 +201,12 @@ fn list_lacking(
     Ok(items)
 }
 
-/// Takes the name out of those that lack a fragment, unless its blob does.
+/// Removes a name from the set of lacking names, unless its blob lacks a fragment.
 fn settle(lacking: &mut BTreeSet<Name>, blobs: &BTreeMap<Name, StoredBlob>, name: &Name)
-    requires own { lacks_at blobs.now.entries name.now ≡ true → contains name_cmp lacking.old name.now ≡ true }
-    requires others { (q : List ℕ) → is_at (name_cmp name.now) q ≡ false → contains name_cmp lacking.old q ≡ lacks_at blobs.now.entries q }
+    requires own { lacks_at blobs.now.entries name.now ≡ true
+        → contains name_cmp lacking.old name.now ≡ true }
+    requires others { (q : List ℕ) → is_at (name_cmp name.now) q ≡ false
+        → contains name_cmp lacking.old q ≡ lacks_at blobs.now.entries q }
     ensures { (q : List ℕ) → contains name_cmp lacking.new q ≡ lacks_at blobs.now.entries q }
 {
     if !is_lacking(blobs, name) {

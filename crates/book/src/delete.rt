@@ -1,4 +1,4 @@
-//! Taking a name out.
+//! Deletion of a name.
 ghost use Rattle.std.specs.Prelude.{◌≡◌, ◌↔◌, length, IfOk, IfErr, OnErr};
 ghost use Rattle.book.specs.Lacking.{reply_for};
 ghost use Rattle.book.specs.Notes.{note_of};
@@ -11,14 +11,16 @@ use crate::stored_blob::StoredBlob;
 use crate::{Answer, Call, Entry, Fault, Name};
 
 impl Book {
-    /// Takes a name out of the catalogue. It asks for no memory.
+    /// Removes a name and its blob. Does not allocate.
     ///
-    /// The answer is `NoName` where the name has no blob, else `Deleted`, with the version of the blob that it had.
+    /// The answer is `NoName` if the name has no blob. Otherwise it is `Deleted`, with the version
+    /// of the removed blob.
     ///
-    /// `JournalFull` where the journal holds as many entries as its limit. Then the book is as it was.
+    /// `JournalFull` if the journal holds as many entries as its limit; the book is then unchanged.
     pub fn delete(&mut self, who: u32, name: Name) -> Result<Answer, Fault>
         ensures ok { IfOk result (CarriesOn self.old self.new who (delete_of name)) }
-        ensures full { (result ≡ Err Fault.JournalFull) ↔ (length self.old.entries ≡ self.old.limit) }
+        ensures full { (result ≡ Err Fault.JournalFull)
+            ↔ (length self.old.entries ≡ self.old.limit) }
         ensures kept { KeepsBase self.old self.new }
         ensures faults { IfErr result (λ e. e ≡ Fault.JournalFull) }
         ensures err { OnErr result (self.new ≡ self.old) }

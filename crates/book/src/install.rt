@@ -1,4 +1,4 @@
-//! Mending by a fragment that was rebuilt elsewhere.
+//! Repair with a fragment that was rebuilt outside the book.
 ghost use Rattle.std.specs.Prelude.{◌≡◌, true, ◌↔◌, length, IfSome, IfOk, IfErr, OnErr};
 ghost use Rattle.history.specs.History.{History};
 ghost use Rattle.history.specs.Step.{repair as repair_of};
@@ -17,13 +17,14 @@ use std::alloc::Global;
 use std::collections::BTreeMap;
 
 impl Book {
-    /// Mends a lost fragment of a name's blob with bytes that were rebuilt from the blob of this version, without the book, before.
+    /// Repairs a lost fragment of a name's blob with `bytes`. A caller has rebuilt them, outside
+    /// the book, from the blob of this version.
     ///
-    /// It answers as `repair` does, by what the book holds now: where the name has another version by now, and the fragment is lost and can be told from
-    /// those left, it is rebuilt here and the bytes aren't used.
+    /// The answer is that of `repair` for the book's present state. If the name has another version
+    /// by now, the book ignores `bytes` and rebuilds the fragment itself, if it can be rebuilt.
     ///
-    /// `JournalFull` where the journal holds as many entries as its limit, and then nothing was asked of memory; else `NoMemory` where memory is
-    /// refused. After either the book is as it was.
+    /// `JournalFull` if the journal holds as many entries as its limit; it has then not allocated.
+    /// Otherwise `NoMemory` if memory runs out. On either error the book is unchanged.
     pub fn install(
         &mut self,
         alloc: Global,
@@ -34,9 +35,12 @@ impl Book {
         fragment: u64,
         bytes: Bytes,
     ) -> Result<Answer, Fault>
-        requires known { (h : History) × Tells self.old h × IsFragmentIn h self.old.width name version stripe fragment bytes }
-        ensures ok { IfOk result (CarriesOn self.old self.new who (repair_of name stripe fragment)) }
-        ensures full { (result ≡ Err Fault.JournalFull) ↔ (length self.old.entries ≡ self.old.limit) }
+        requires known { (h : History) × Tells self.old h
+            × IsFragmentIn h self.old.width name version stripe fragment bytes }
+        ensures ok { IfOk result (CarriesOn self.old self.new who
+            (repair_of name stripe fragment)) }
+        ensures full { (result ≡ Err Fault.JournalFull)
+            ↔ (length self.old.entries ≡ self.old.limit) }
         ensures kept { KeepsBase self.old self.new }
         ensures faults { IfErr result IsCallFault }
         ensures err { OnErr result (self.new ≡ self.old) }
@@ -62,7 +66,8 @@ impl Book {
     }
 }
 
-/// Mends a lost fragment of a name's blob in the catalogue, with these bytes where the blob has this version. The only fault is `NoMemory`.
+/// Repairs a lost fragment of a name's blob in the catalogue, with these bytes if the blob has this
+/// version. The only error is `NoMemory`.
 pub(crate) fn install_in(
     catalogue: &mut BTreeMap<Name, StoredBlob>,
     alloc: Global,
@@ -72,9 +77,13 @@ pub(crate) fn install_in(
     fragment: u64,
     bytes: Bytes,
 ) -> Result<Answer, Fault>
-    requires { IfSome (value_at catalogue.old.entries name.now) (Serves version stripe fragment bytes) }
-    ensures ok { IfOk result (λ a. Replaces (λ w x. repair_reply w x stripe fragment) (Mends stripe fragment (note_of a)) catalogue.old.entries catalogue.new.entries name.now (note_of a)) }
-    ensures fewer { lacks_at catalogue.new.entries name.now ≡ true → lacks_at catalogue.old.entries name.now ≡ true }
+    requires { IfSome (value_at catalogue.old.entries name.now)
+        (Serves version stripe fragment bytes) }
+    ensures ok { IfOk result (λ a. Replaces (λ w x. repair_reply w x stripe fragment)
+        (Mends stripe fragment (note_of a)) catalogue.old.entries catalogue.new.entries name.now
+        (note_of a)) }
+    ensures fewer { lacks_at catalogue.new.entries name.now ≡ true
+        → lacks_at catalogue.old.entries name.now ≡ true }
     ensures faults { IfErr result (λ e. e ≡ Fault.NoMemory) }
     ensures err { OnErr result (catalogue.new.entries ≡ catalogue.old.entries) }
 {

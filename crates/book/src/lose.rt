@@ -1,4 +1,4 @@
-//! Losing a fragment.
+//! Loss of a fragment.
 ghost use Rattle.std.specs.Prelude.{◌≡◌, ◌↔◌, length, IfOk, IfErr, OnErr};
 ghost use Rattle.book.specs.Losing.{Loses, Replaces};
 ghost use Rattle.book.specs.Notes.{note_of};
@@ -13,13 +13,15 @@ use std::alloc::Global;
 use std::collections::BTreeMap;
 
 impl Book {
-    /// Loses a fragment of a name's blob: only grants from before lend its bytes. Their memory is given back with the last of the blob.
+    /// Loses a fragment of a name's blob. Only earlier grants still lend its bytes; their memory is
+    /// freed with the last owner of the blob.
     ///
-    /// The answer is `NoName` where the name has no blob; else `NoFragment` where the blob has no such stripe, or its code no such fragment; else
-    /// `AlreadyLost` where it was lost before; else `Lost`, with the version.
+    /// The answer is `NoName` if the name has no blob. It is `NoFragment` if the blob lacks this
+    /// stripe, or the stripe this fragment. It is `AlreadyLost` if the fragment was lost before.
+    /// Otherwise it is `Lost`, with the version.
     ///
-    /// `JournalFull` where the journal holds as many entries as its limit, and then nothing was asked of memory; else `NoMemory` where memory is
-    /// refused. After either the book is as it was.
+    /// `JournalFull` if the journal holds as many entries as its limit; it has then not allocated.
+    /// Otherwise `NoMemory` if memory runs out. On either error the book is unchanged.
     pub fn lose(
         &mut self,
         alloc: Global,
@@ -29,7 +31,8 @@ impl Book {
         fragment: u64,
     ) -> Result<Answer, Fault>
         ensures ok { IfOk result (CarriesOn self.old self.new who (lose_of name stripe fragment)) }
-        ensures full { (result ≡ Err Fault.JournalFull) ↔ (length self.old.entries ≡ self.old.limit) }
+        ensures full { (result ≡ Err Fault.JournalFull)
+            ↔ (length self.old.entries ≡ self.old.limit) }
         ensures kept { KeepsBase self.old self.new }
         ensures faults { IfErr result IsCallFault }
         ensures err { OnErr result (self.new ≡ self.old) }
@@ -52,7 +55,7 @@ impl Book {
     }
 }
 
-/// Loses a fragment of a name's blob in the catalogue. The only fault is `NoMemory`.
+/// Loses a fragment of a name's blob in the catalogue. The only error is `NoMemory`.
 pub(crate) fn lose_in(
     catalogue: &mut BTreeMap<Name, StoredBlob>,
     alloc: Global,
@@ -60,7 +63,9 @@ pub(crate) fn lose_in(
     stripe: u64,
     fragment: u64,
 ) -> Result<Answer, Fault>
-    ensures ok { IfOk result (λ a. Replaces (λ w x. lose_reply w x stripe fragment) (Loses stripe fragment (note_of a)) catalogue.old.entries catalogue.new.entries name.now (note_of a)) }
+    ensures ok { IfOk result (λ a. Replaces (λ w x. lose_reply w x stripe fragment)
+        (Loses stripe fragment (note_of a)) catalogue.old.entries catalogue.new.entries name.now
+        (note_of a)) }
     ensures faults { IfErr result (λ e. e ≡ Fault.NoMemory) }
     ensures err { OnErr result (catalogue.new.entries ≡ catalogue.old.entries) }
 {

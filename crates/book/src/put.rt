@@ -1,4 +1,4 @@
-//! Storing.
+//! Storage of a sealed blob.
 ghost use Rattle.std.specs.Prelude.{◌≡◌, ◌↔◌, ◌+◌, List, ℕ, length, count_by, IfOk, IfErr, OnErr};
 ghost use Rattle.sealed.specs.Blob.{nothing};
 ghost use Rattle.sealed.specs.Sealed.{StandsFor};
@@ -13,10 +13,11 @@ use std::alloc::Global;
 use std::sync::Arc;
 
 impl Book {
-    /// Stores a sealed blob under a name, in place of the one that the name had. The answer is `Stored`, with the number of this put.
+    /// Stores a sealed blob under a name, and drops the blob that the name had. The answer is
+    /// `Stored`, with the number of this put as version.
     ///
-    /// `JournalFull` where the journal holds as many entries as its limit, and then nothing was asked of memory; else `NoMemory` where memory is
-    /// refused. After either the book is as it was.
+    /// `JournalFull` if the journal holds as many entries as its limit; it has then not allocated.
+    /// Otherwise `NoMemory` if memory runs out. On either error the book is unchanged.
     pub fn put(
         &mut self,
         alloc: Global,
@@ -26,9 +27,12 @@ impl Book {
     ) -> Result<Answer, Fault>
         requires width { sealed.width ≡ self.old.width }
         requires stands { (b : List ℕ) × StandsFor sealed b nothing }
-        ensures ok { IfOk result (λ a. (b : List ℕ) → StandsFor sealed b nothing → CarriesOn self.old self.new who (put_of name sealed.code b) a) }
-        ensures answer { IfOk result (λ a. a ≡ Answer.Stored (self.old.base.puts + count_by is_put self.old.entries + 1)) }
-        ensures full { (result ≡ Err Fault.JournalFull) ↔ (length self.old.entries ≡ self.old.limit) }
+        ensures ok { IfOk result (λ a. (b : List ℕ) → StandsFor sealed b nothing
+            → CarriesOn self.old self.new who (put_of name sealed.code b) a) }
+        ensures answer { IfOk result (λ a. a ≡ Answer.Stored
+            (self.old.base.puts + count_by is_put self.old.entries + 1)) }
+        ensures full { (result ≡ Err Fault.JournalFull)
+            ↔ (length self.old.entries ≡ self.old.limit) }
         ensures kept { KeepsBase self.old self.new }
         ensures faults { IfErr result IsCallFault }
         ensures err { OnErr result (self.new ≡ self.old) }

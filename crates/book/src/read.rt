@@ -1,4 +1,4 @@
-//! Reading.
+//! Reads, which grant a range.
 ghost use Rattle.std.specs.Prelude.{◌≡◌, IfErr, ◌↔◌, length, IfOk, OnErr};
 ghost use Rattle.std.specs.Option.{option_map};
 ghost use Rattle.book.specs.Asked.{IsReadAnswer, IsGrantable};
@@ -14,18 +14,22 @@ use std::alloc::AllocError;
 use std::sync::Arc;
 
 impl Book {
-    /// Grants `len` bytes of the blob of a name, from the byte `start` on.
+    /// Grants `len` bytes of a name's blob, from the byte `start` on.
     ///
-    /// The answer is `NoName` where the name has no blob; else `OutOfRange` where the range does not lie inside the blob; else `Unrecoverable`,
-    /// with the version, where some byte of it stands in a fragment that can't be told from those left; else `Granted`.
+    /// The answer is `NoName` if the name has no blob. It is `OutOfRange` if the range does not lie
+    /// inside the blob. It is `Unrecoverable`, with the version, if some byte of the range lies in
+    /// an unrecoverable fragment. Otherwise it is `Granted`.
     ///
-    /// `JournalFull` where the journal holds as many entries as its limit; `NoMemory` only in place of `Granted`, where one more owner of the
-    /// blob was refused. After either the book is as it was.
+    /// `JournalFull` if the journal holds as many entries as its limit. `NoMemory` comes only in
+    /// place of `Granted`, if the count of the blob's owners can't grow. On either error the book
+    /// is unchanged.
     pub fn read(&mut self, who: u32, name: Name, start: u64, len: u64) -> Result<Answer, Fault>
         ensures ok { IfOk result (CarriesOn self.old self.new who (read_of name start len)) }
         ensures answer { IfOk result (IsReadAnswer (sealed_at self.old name) start len) }
-        ensures full { (result ≡ Err Fault.JournalFull) ↔ (length self.old.entries ≡ self.old.limit) }
-        ensures no_memory { result ≡ Err Fault.NoMemory → IsGrantable (sealed_at self.old name) start len }
+        ensures full { (result ≡ Err Fault.JournalFull)
+            ↔ (length self.old.entries ≡ self.old.limit) }
+        ensures no_memory { result ≡ Err Fault.NoMemory
+            → IsGrantable (sealed_at self.old name) start len }
         ensures kept { KeepsBase self.old self.new }
         ensures faults { IfErr result IsCallFault }
         ensures err { OnErr result (self.new ≡ self.old) }

@@ -1,4 +1,4 @@
-//! Rebuilding a lost fragment.
+//! Repair of a lost fragment.
 ghost use Rattle.std.specs.Prelude.{◌≡◌, true, ◌↔◌, length, IfOk, IfErr, OnErr};
 ghost use Rattle.book.specs.Catalogue.{lacks_at};
 ghost use Rattle.book.specs.Losing.{Mends, Replaces};
@@ -14,14 +14,15 @@ use std::alloc::Global;
 use std::collections::BTreeMap;
 
 impl Book {
-    /// Rebuilds a lost fragment of a name's blob from what is left of its stripe.
+    /// Rebuilds a lost fragment of a name's blob from the remaining fragments of its stripe.
     ///
-    /// The answer is `NoName` where the name has no blob; else `NoFragment` where the blob has no such stripe, or its code no such fragment; else
-    /// `NotLost` where it is there; else `Unrecoverable`, with the version, where it can't be told from the fragments left; else `Repaired`, with
-    /// the version.
+    /// The answer is `NoName` if the name has no blob. It is `NoFragment` if the blob lacks this
+    /// stripe, or the stripe this fragment. It is `NotLost` if the fragment is present. It is
+    /// `Unrecoverable`, with the version, if the remaining fragments do not determine it. Otherwise
+    /// it is `Repaired`, with the version.
     ///
-    /// `JournalFull` where the journal holds as many entries as its limit, and then nothing was asked of memory; else `NoMemory` where memory is
-    /// refused. After either the book is as it was.
+    /// `JournalFull` if the journal holds as many entries as its limit; it has then not allocated.
+    /// Otherwise `NoMemory` if memory runs out. On either error the book is unchanged.
     pub fn repair(
         &mut self,
         alloc: Global,
@@ -30,8 +31,10 @@ impl Book {
         stripe: u64,
         fragment: u64,
     ) -> Result<Answer, Fault>
-        ensures ok { IfOk result (CarriesOn self.old self.new who (repair_of name stripe fragment)) }
-        ensures full { (result ≡ Err Fault.JournalFull) ↔ (length self.old.entries ≡ self.old.limit) }
+        ensures ok { IfOk result (CarriesOn self.old self.new who
+            (repair_of name stripe fragment)) }
+        ensures full { (result ≡ Err Fault.JournalFull)
+            ↔ (length self.old.entries ≡ self.old.limit) }
         ensures kept { KeepsBase self.old self.new }
         ensures faults { IfErr result IsCallFault }
         ensures err { OnErr result (self.new ≡ self.old) }
@@ -54,7 +57,7 @@ impl Book {
     }
 }
 
-/// Rebuilds a lost fragment of a name's blob in the catalogue. The only fault is `NoMemory`.
+/// Rebuilds a lost fragment of a name's blob in the catalogue. The only error is `NoMemory`.
 pub(crate) fn repair_in(
     catalogue: &mut BTreeMap<Name, StoredBlob>,
     alloc: Global,
@@ -62,8 +65,11 @@ pub(crate) fn repair_in(
     stripe: u64,
     fragment: u64,
 ) -> Result<Answer, Fault>
-    ensures ok { IfOk result (λ a. Replaces (λ w x. repair_reply w x stripe fragment) (Mends stripe fragment (note_of a)) catalogue.old.entries catalogue.new.entries name.now (note_of a)) }
-    ensures fewer { lacks_at catalogue.new.entries name.now ≡ true → lacks_at catalogue.old.entries name.now ≡ true }
+    ensures ok { IfOk result (λ a. Replaces (λ w x. repair_reply w x stripe fragment)
+        (Mends stripe fragment (note_of a)) catalogue.old.entries catalogue.new.entries name.now
+        (note_of a)) }
+    ensures fewer { lacks_at catalogue.new.entries name.now ≡ true
+        → lacks_at catalogue.old.entries name.now ≡ true }
     ensures faults { IfErr result (λ e. e ≡ Fault.NoMemory) }
     ensures err { OnErr result (catalogue.new.entries ≡ catalogue.old.entries) }
 {

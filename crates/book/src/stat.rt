@@ -1,4 +1,4 @@
-//! Asking for the shape of a blob.
+//! The shape of a blob.
 ghost use Rattle.std.specs.Prelude.{◌≡◌, ◌↔◌, length, IfOk, IfErr, OnErr};
 ghost use Rattle.std.specs.Option.{option_copied};
 ghost use Rattle.book.specs.Lacking.{reply_for};
@@ -12,14 +12,17 @@ use crate::stored_blob::StoredBlob;
 use crate::{Answer, Call, Entry, Fault, Name};
 
 impl Book {
-    /// Tells the shape of a name's blob. It asks for no memory, and costs the same for each blob.
+    /// Asks for the shape of a name's blob. Does not allocate, and takes the same time for each
+    /// blob.
     ///
-    /// The answer is `NoName` where the name has no blob, else `Shape`, with how many bytes, stripes and lost fragments the blob has.
+    /// The answer is `NoName` if the name has no blob. Otherwise it is `Shape`, with the version,
+    /// the length in bytes, and the numbers of stripes and lost fragments.
     ///
-    /// `JournalFull` where the journal holds as many entries as its limit. Then the book is as it was.
+    /// `JournalFull` if the journal holds as many entries as its limit; the book is then unchanged.
     pub fn stat(&mut self, who: u32, name: Name) -> Result<Answer, Fault>
         ensures ok { IfOk result (CarriesOn self.old self.new who (stat_of name)) }
-        ensures full { (result ≡ Err Fault.JournalFull) ↔ (length self.old.entries ≡ self.old.limit) }
+        ensures full { (result ≡ Err Fault.JournalFull)
+            ↔ (length self.old.entries ≡ self.old.limit) }
         ensures kept { KeepsBase self.old self.new }
         ensures faults { IfErr result (λ e. e ≡ Fault.JournalFull) }
         ensures err { OnErr result (self.new ≡ self.old) }
@@ -35,7 +38,7 @@ impl Book {
     }
 }
 
-/// The answer to a question for the shape, by what the name has.
+/// The answer to a stat, by what the name has.
 fn answer_stat(found: Option<&StoredBlob>) -> Answer
     ensures { note_of result ≡ reply_for stat_reply (option_copied found.entry) }
 {

@@ -1,5 +1,6 @@
 //! A sealed blob in the catalogue.
-ghost use Rattle.std.specs.Prelude.{◌≡◌, ◌<◌, ◌≤◌, ◌++◌, List, ℕ, Some, true, false, length, IfOk, IfErr, OnOk, OnErr};
+ghost use Rattle.std.specs.Prelude.{◌≡◌, ◌<◌, ◌≤◌, ◌++◌, List, ℕ, Some, true, false, length, IfOk};
+ghost use Rattle.std.specs.Prelude.{IfErr, OnOk, OnErr};
 ghost use Rattle.std.specs.FinSet as set;
 ghost use Rattle.lrc_code.specs.Code.{fragment_count};
 ghost use Rattle.sealed.specs.Layout.{stripe_count};
@@ -21,7 +22,8 @@ use std::alloc::{AllocError, Global};
 use std::marker::Model;
 use std::sync::Arc;
 
-/// A sealed blob, and how many of its fragments are lost: to tell this costs the same for each blob.
+/// A sealed blob with the number of its lost fragments, so that a stat takes the same time for each
+/// blob.
 #[derive(Drop)]
 pub struct StoredBlob {
     sealed: Arc<Sealed>,
@@ -42,7 +44,7 @@ impl Model for StoredBlob {
 }
 
 impl StoredBlob {
-    /// A blob of which nothing is lost.
+    /// A blob without lost fragments.
     pub fn whole(sealed: Arc<Sealed>) -> StoredBlob
         requires { (b : List ℕ) × StandsFor sealed.value b nothing }
         ensures { result ≡ sealed.value }
@@ -57,7 +59,7 @@ impl StoredBlob {
         &self.sealed
     }
 
-    /// The answer to a question for its shape.
+    /// The answer to a stat.
     pub fn stat(&self) -> Answer
         ensures { note_of result ≡ reply_for stat_reply (Some self.now) }
     {
@@ -69,14 +71,14 @@ impl StoredBlob {
         }
     }
 
-    /// Whether a fragment is lost.
+    /// Whether some fragment is lost.
     pub fn lacks_some(&self) -> bool
         ensures { result ≡ lacks_some self.now }
     {
         self.lost > 0
     }
 
-    /// Whether the blob has no such fragment.
+    /// Whether the blob lacks this stripe, or the stripe this fragment.
     fn is_no_fragment(&self, stripe: u64, fragment: u64) -> bool
         ensures { result ≡ no_such self.now.width (seen_of self.now) stripe fragment }
     {
@@ -93,9 +95,11 @@ impl StoredBlob {
         self.sealed.fragment(stripe, f).is_none()
     }
 
-    /// Adds an item for each lost fragment, by stripe and then by fragment. `AllocError` where memory is refused.
+    /// Appends an item for each lost fragment, by stripe and then by fragment. `AllocError` if
+    /// memory runs out.
     pub fn list_lost(&self, name: &Name, items: &mut Vec<Item>) -> Result<(), AllocError>
-        ensures { OnOk result (items.new.items ≡ items.old.items ++ items_lacked (name.now, self.now)) }
+        ensures { OnOk result (items.new.items ≡ items.old.items
+            ++ items_lacked (name.now, self.now)) }
     {
         if self.lost == 0 {
             return Ok(());
@@ -117,9 +121,10 @@ impl StoredBlob {
         Ok(())
     }
 
-    /// Loses a fragment. The only fault is `NoMemory`. After it the blob is as it was.
+    /// Loses a fragment. The only error is `NoMemory`; the blob is then unchanged.
     pub fn lose(&mut self, alloc: Global, stripe: u64, fragment: u64) -> Result<Answer, Fault>
-        ensures answer { IfOk result (λ a. note_of a ≡ reply_for (λ w x. lose_reply w x stripe fragment) (Some self.old)) }
+        ensures answer { IfOk result (λ a. note_of a ≡ reply_for
+            (λ w x. lose_reply w x stripe fragment) (Some self.old)) }
         ensures changed { IfOk result (λ a. Loses stripe fragment (note_of a) self.old self.new) }
         ensures faults { IfErr result (λ e. e ≡ Fault.NoMemory) }
         ensures err { OnErr result (self.new ≡ self.old) }
@@ -137,7 +142,7 @@ impl StoredBlob {
         }
     }
 
-    /// Takes out a fragment that is there.
+    /// Takes out a fragment that is present.
     fn take_out(&mut self, alloc: Global, stripe: u64, f: u8) -> Result<(), Fault>
         requires stripe_below { stripe < stripe_count self.old.code self.old.width self.old.len }
         requires f_below { f < fragment_count self.old.code }
@@ -155,9 +160,10 @@ impl StoredBlob {
         }
     }
 
-    /// Rebuilds a lost fragment. The only fault is `NoMemory`. After it the blob is as it was.
+    /// Rebuilds a lost fragment. The only error is `NoMemory`; the blob is then unchanged.
     pub fn repair(&mut self, alloc: Global, stripe: u64, fragment: u64) -> Result<Answer, Fault>
-        ensures answer { IfOk result (λ a. note_of a ≡ reply_for (λ w x. repair_reply w x stripe fragment) (Some self.old)) }
+        ensures answer { IfOk result (λ a. note_of a ≡ reply_for
+            (λ w x. repair_reply w x stripe fragment) (Some self.old)) }
         ensures changed { IfOk result (λ a. Mends stripe fragment (note_of a) self.old self.new) }
         ensures fewer { lacked_count self.new ≤ lacked_count self.old }
         ensures faults { IfErr result (λ e. e ≡ Fault.NoMemory) }
@@ -178,7 +184,8 @@ impl StoredBlob {
         }
     }
 
-    /// Does as `repair` does, but puts back these bytes where the blob has this version. The only fault is `NoMemory`. After it the blob is as it was.
+    /// Does the same as `repair`, but installs these bytes if the blob has this version. The only
+    /// error is `NoMemory`; the blob is then unchanged.
     pub fn install(
         &mut self,
         alloc: Global,
@@ -188,7 +195,8 @@ impl StoredBlob {
         bytes: Bytes,
     ) -> Result<Answer, Fault>
         requires { Serves version stripe fragment bytes self.old }
-        ensures answer { IfOk result (λ a. note_of a ≡ reply_for (λ w x. repair_reply w x stripe fragment) (Some self.old)) }
+        ensures answer { IfOk result (λ a. note_of a ≡ reply_for
+            (λ w x. repair_reply w x stripe fragment) (Some self.old)) }
         ensures changed { IfOk result (λ a. Mends stripe fragment (note_of a) self.old self.new) }
         ensures fewer { lacked_count self.new ≤ lacked_count self.old }
         ensures faults { IfErr result (λ e. e ≡ Fault.NoMemory) }
@@ -200,7 +208,8 @@ impl StoredBlob {
         self.mend(alloc, stripe, fragment, bytes)
     }
 
-    /// Mends a fragment by these bytes. The only fault is `NoMemory`. After it the blob is as it was.
+    /// Repairs a fragment with these bytes. The only error is `NoMemory`; the blob is then
+    /// unchanged.
     fn mend(
         &mut self,
         alloc: Global,
@@ -211,7 +220,8 @@ impl StoredBlob {
         requires rebuildable { IsRebuildable self.old stripe fragment }
         requires long { length bytes ≡ self.old.width }
         requires own { IsFragmentOf self.old stripe fragment bytes }
-        ensures answer { IfOk result (λ a. note_of a ≡ reply_for (λ w x. repair_reply w x stripe fragment) (Some self.old)) }
+        ensures answer { IfOk result (λ a. note_of a ≡ reply_for
+            (λ w x. repair_reply w x stripe fragment) (Some self.old)) }
         ensures changed { IfOk result (λ a. Mends stripe fragment (note_of a) self.old self.new) }
         ensures fewer { lacked_count self.new ≤ lacked_count self.old }
         ensures faults { IfErr result (λ e. e ≡ Fault.NoMemory) }
@@ -224,7 +234,7 @@ impl StoredBlob {
         }
     }
 
-    /// Puts back an absent fragment.
+    /// Puts back a lost fragment.
     fn put_back(&mut self, alloc: Global, stripe: u64, f: u8, bytes: Bytes) -> Result<(), Fault>
         requires stripe_below { stripe < stripe_count self.old.code self.old.width self.old.len }
         requires f_below { f < fragment_count self.old.code }
@@ -246,9 +256,11 @@ impl StoredBlob {
     }
 }
 
-/// Takes a fragment out of a value: in place where it has no other owner, and else out of a value of its own, which shares its stripes.
+/// Takes a fragment out of a sealed value. If the value has other owners, it does so in a copy that
+/// shares the stripes.
 fn take_out_of(sealed: &mut Arc<Sealed>, alloc: Global, stripe: u64, f: u8) -> Result<(), Fault>
-    requires stripe_below { stripe < stripe_count sealed.old.value.code sealed.old.value.width sealed.old.value.len }
+    requires stripe_below { stripe < stripe_count sealed.old.value.code sealed.old.value.width
+        sealed.old.value.len }
     requires f_below { f < fragment_count sealed.old.value.code }
     ensures ok { OnOk result (IsChanged sealed.old.value stripe f None sealed.new.value) }
     ensures faults { IfErr result (λ e. e ≡ Fault.NoMemory) }
@@ -267,7 +279,7 @@ fn take_out_of(sealed: &mut Arc<Sealed>, alloc: Global, stripe: u64, f: u8) -> R
     Ok(())
 }
 
-/// Puts a fragment in, in the same way.
+/// Puts a fragment back, in place or in a copy, as `take_out_of` does.
 fn put_back_in(
     sealed: &mut Arc<Sealed>,
     alloc: Global,
@@ -275,7 +287,8 @@ fn put_back_in(
     f: u8,
     bytes: Bytes,
 ) -> Result<(), Fault>
-    requires stripe_below { stripe < stripe_count sealed.old.value.code sealed.old.value.width sealed.old.value.len }
+    requires stripe_below { stripe < stripe_count sealed.old.value.code sealed.old.value.width
+        sealed.old.value.len }
     requires f_below { f < fragment_count sealed.old.value.code }
     requires long { length bytes ≡ sealed.old.value.width }
     ensures ok { OnOk result (IsChanged sealed.old.value stripe f (Some bytes) sealed.new.value) }

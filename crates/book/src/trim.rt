@@ -1,4 +1,4 @@
-//! Giving up the beginning of the journal.
+//! Discarding the oldest entries of the journal.
 ghost use Rattle.std.specs.Prelude.{◌≡◌, ◌+◌, drop, length, IsOk, IfOk, IfErr, OnErr};
 ghost use Rattle.history.specs.History.{History};
 ghost use Rattle.book.specs.Tells.{Tells};
@@ -9,20 +9,25 @@ use crate::book::Book;
 use std::alloc::Global;
 
 impl Book {
-    /// Gives up all entries but the last `keep`, and answers how many these were. The base is then that of the state after them, and the journal has
-    /// room for as many entries more.
+    /// Discards all journal entries except the last `keep`, and returns how many it discarded. The
+    /// base then outlines the state after the discarded calls, and the journal has room for as many
+    /// entries more.
     ///
-    /// Nothing is given up, and the answer is 0, where there are no more entries than `keep`, or where more than 2^63 calls would have been given up;
-    /// then no memory is asked for. It is no call of the history: what the book tells stays told.
+    /// It discards nothing and returns 0, without an allocation, in two cases: there are at most
+    /// `keep` entries, or more than 2^63 calls would be discarded in all. A trim is no call of the
+    /// history, and the history stays what it was.
     ///
-    /// `NoMemory` where memory to carry the base on is refused, and then the book is as it was.
+    /// `NoMemory` if memory for the new base runs out; the book is then unchanged.
     pub fn trim(&mut self, alloc: Global, keep: u64) -> Result<u64, Fault>
         ensures told { (h : History) → Tells self.old h → Tells self.new h }
-        ensures answer { IfOk result (λ n. n ≡ given_up self.old.base.trimmed (length self.old.entries) keep) }
+        ensures answer { IfOk result (λ n. n ≡ given_up self.old.base.trimmed
+            (length self.old.entries) keep) }
         ensures trimmed { IfOk result (λ n. self.new.base.trimmed ≡ self.old.base.trimmed + n) }
         ensures entries { IfOk result (λ n. self.new.entries ≡ drop n self.old.entries) }
-        ensures kept { (self.new.width ≡ self.old.width) × (self.new.limit ≡ self.old.limit) × (self.new.catalogue ≡ self.old.catalogue) }
-        ensures free { given_up self.old.base.trimmed (length self.old.entries) keep ≡ 0 → IsOk result }
+        ensures kept { (self.new.width ≡ self.old.width) × (self.new.limit ≡ self.old.limit)
+            × (self.new.catalogue ≡ self.old.catalogue) }
+        ensures free { given_up self.old.base.trimmed (length self.old.entries) keep ≡ 0
+            → IsOk result }
         ensures faults { IfErr result (λ e. e ≡ Fault.NoMemory) }
         ensures err { OnErr result (self.new ≡ self.old) }
     {

@@ -1,4 +1,4 @@
--- What the parser's answer says of the words.
+-- What the parser's result determines about the words.
 use Rattle.std.proofs.Common.{◌≡◌, ◌⊎◌, ◌∙◌, ◌<◌, ◌^◌, ℕ, List, Option, Some, None, Result, Ok, Err, true, inl, inr, refl, sym, ap, subst}
 use Rattle.std.specs.Prelude.{SomeIff, option_map}
 use Rattle.std.specs.Str.Parse.{IsNumeral, ParsesUnsigned, digits_value, without_leading_plus}
@@ -12,7 +12,7 @@ use Rattle.clap.proofs.WalkLemmas.{one_text-rows}
 use Rattle.command_line.specs.Line.{Refuses, number_of, refusal_by, refusal_of}
 use Rattle.command_line.specs.Program.{program}
 
--- `clap` says exactly what it finds in the words of this command, and for what it refuses them
+-- `clap` is exactly specified for this command: what it finds in the words, and why it refuses them
 pub program_is_simple : is_simple program ≡ true
 unfolding program clap_on_literals
 program_is_simple = refl
@@ -30,7 +30,7 @@ number_read {E} G k found id n parses none value = ap (option_map (λ text. digi
     go None is = cc (none is)
     go (Some t) is = ap Some (sym ((parses t (Ok n) (value t is)).1))
 
--- what was read of a text is its number, where it has one
+-- the number read from a text, if it has one
 pub text_read : {E : Type 0} (G : List ℕ → Result ℕ E → Type 0) (k : ℕ) (found : Found) (id : Text) (o : Option ℕ) → ((t : List ℕ) (r : Result ℕ E) → G t r → ParsesUnsigned k 10 t r)
     → ((t : List ℕ) → one_text found id ≡ Some t → ReadsOne G t o) → (t : Text) → one_of id (rows_of found) ≡ Some t
     → SomeIff o (IsNumeral 10 (without_leading_plus t) × (digits_value 10 (without_leading_plus t) < 2 ^ k)) (digits_value 10 (without_leading_plus t))
@@ -45,7 +45,7 @@ text_given found id n none = go (one_text found id) refl
     go None is = cc (none is)
     go (Some t) is = (t, sym (one_text-rows found id) ∙ is)
 
--- what is refused by `clap` is refused for what `clap` refuses it for
+-- an error of `clap` has the kind of a fault that `clap` finds in the words
 pub refuses : (words : List Text) (error : Error) → HasKind (fault_of program words) error → Refuses words (refusal_of error)
 refuses words error has = go (kind_of error) refl has
   where

@@ -1,4 +1,4 @@
--- What the words after the program's name say.
+-- The options in the words after the program's name.
 use Rattle.std.specs.Prelude.{◌≡◌, ℕ, List, [], Option, Some, true, false, codes, option_map, string_bytes}
 use Rattle.std.specs.Str.Parse.{IsNumeral, digits_value, without_leading_plus}
 use Rattle.clap.specs.Words.{IsAmong, Row, Text, fault_of, first_of, kind_of, matches_of, one_of}
@@ -7,9 +7,9 @@ use Rattle.clap.specs.declared.error.kind.ErrorKind.{ErrorKind}
 use Rattle.clap.specs.declared.error.kind.ErrorKind.TheVariants as kind
 use Rattle.command_line.specs.declared.line.BadLine.{BadLine}
 use Rattle.command_line.specs.declared.line.BadLine.TheVariants.{Clap, NoMemory}
-use Rattle.command_line.specs.declared.line.Options.{Options}
+use Rattle.command_line.specs.declared.line.CommandLine.{CommandLine}
 use Rattle.command_line.specs.Program.{program}
-use Rattle.command_line.specs.Ranges.{InRange}
+use Rattle.play.specs.Ranges.{InRange}
 
 -- the number that an option was given, or has by default
 abbrev pub number_of : Text → List Row → Option ℕ
@@ -26,21 +26,21 @@ pub record HasNumber (id : Text) (most : ℕ) (found : List Row) : Type 0 where
   pub given : one_of id found ≡ Some text
   pub number : IsNumberText most text
 
--- the options are those that were found
-pub record AreFound (found : List Row) (options : Options) : Type 0 where
-  pub script : first_of (codes "SCRIPT") found ≡ Some (string_bytes options.script)
-  pub width : number_of (codes "width") found ≡ Some options.width
-  pub workers : number_of (codes "workers") found ≡ Some options.workers
-  pub limit : number_of (codes "limit") found ≡ Some options.limit
-  pub history : one_of (codes "history") found ≡ Some (codes "true") → options.history ≡ true
-  pub no_history : one_of (codes "history") found ≡ Some (codes "false") → options.history ≡ false
+-- the command line is what was found
+pub record IsFound (found : List Row) (line : CommandLine) : Type 0 where
+  pub script : first_of (codes "SCRIPT") found ≡ Some (string_bytes line.script)
+  pub width : number_of (codes "width") found ≡ Some line.options.width
+  pub workers : number_of (codes "workers") found ≡ Some line.options.workers
+  pub limit : number_of (codes "limit") found ≡ Some line.options.limit
+  pub history : one_of (codes "history") found ≡ Some (codes "true") → line.options.history ≡ true
+  pub no_history : one_of (codes "history") found ≡ Some (codes "false") → line.options.history ≡ false
 
--- the words are taken, and say this
-pub record Says (words : List Text) (options : Options) : Type 0 where
+-- the words are accepted, and have this meaning
+pub record Says (words : List Text) (line : CommandLine) : Type 0 where
   pub taken : fault_of program words ≡ []
-  pub found : AreFound (matches_of program words) options
+  pub found : IsFound (matches_of program words) line
 
--- an error of `clap`, from which want of memory is told apart
+-- the error for an error of `clap`. Out of memory becomes an error of its own
 abbrev pub refusal_by : ErrorKind → Error → BadLine
 refusal_by kind.OutOfMemory error = NoMemory
 refusal_by _ error = Clap error
@@ -48,7 +48,7 @@ refusal_by _ error = Clap error
 abbrev pub refusal_of : Error → BadLine
 refusal_of error = refusal_by (kind_of error) error
 
--- what the words are refused for is what `clap` refuses them for; or memory ran out
+-- the words are refused for what `clap` refuses them for, or memory ran out
 abbrev pub Refuses : List Text → BadLine → Type 0
 Refuses words (Clap error) = IsAmong (kind_of error) (fault_of program words)
 Refuses words NoMemory = Unit {0}

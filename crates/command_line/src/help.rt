@@ -1,10 +1,10 @@
-//! What `--help` says beside the options.
+//! The text of `--help`, apart from the options.
 
-/// What the program does.
+/// The purpose of the program, in the first line of the help.
 pub(crate) const ABOUT: &str =
     "Runs a script of calls over an in-memory blob store that reads and mends blobs with lost fragments.";
 
-/// What stands below the options.
+/// The text below the options.
 pub(crate) const MORE: &str = "A row of SCRIPT is round,worker,op,name,a,b, with no header row:
   put      a: text or hex     b: the bytes            stores a blob in LRC(12,2,2)
   put6     a: text or hex     b: the bytes            stores a blob in LRC(6,2,2)

@@ -5,8 +5,5 @@ mod help;
 mod line;
 mod reading;
 
-pub use line::{BadLine, Options};
-pub use reading::options;
-
-#[cfg(test)]
-mod tests;
+pub use line::{BadLine, CommandLine};
+pub use reading::parse_line;

@@ -1,31 +1,25 @@
-//! What the command line says.
+//! The options of the program.
 ghost use Rattle.std.specs.Prelude.{◌≡◌};
 ghost use Rattle.command_line.specs.declared.line.BadLine.TheVariants.{NoMemory};
 
 use clap::Error;
+use play::Options;
 use std::alloc::AllocError;
 
-/// What the command line says.
+/// What the words of a command line ask for.
 #[derive(Drop)]
-pub struct Options {
+pub struct CommandLine {
     /// The path of the script.
     pub script: String,
-    /// How many bytes a fragment of the store has.
-    pub width: u32,
-    /// The number of workers.
-    pub workers: u32,
-    /// How many entries the journal may hold.
-    pub limit: u32,
-    /// Whether the history is printed.
-    pub history: bool,
+    pub options: Options,
 }
 
-/// Why there are no options.
+/// Why a command line is refused.
 #[derive(Drop)]
 pub enum BadLine {
-    /// `clap` has a text to be printed: a refusal, or the help that was asked for.
+    /// `clap` has a text to print: a refusal, or the help or version.
     Clap(Error),
-    /// A request for memory was refused.
+    /// Out of memory.
     NoMemory,
 }
 

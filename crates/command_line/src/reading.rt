@@ -1,31 +1,32 @@
-//! Reading the command line.
+//! The parser of the command line.
 
 ghost use Rattle.std.specs.Prelude.{◌≡◌, ◌↔◌, IfErr, IfOk, IfSome, IsSome, Some, false, map};
 ghost use Rattle.clap.specs.Words.{app_of, found_of, rows_of, rule_of};
 ghost use Rattle.command_line.specs.Line.{HasNumber, Says, Refuses, number_of, refusal_of};
 ghost use Rattle.command_line.specs.Program.{history_rule, number_rule, program, script_rule};
-ghost use Rattle.command_line.specs.Ranges.{InRange};
+ghost use Rattle.play.specs.Ranges.{InRange};
 
 use crate::help::{ABOUT, MORE};
-use crate::line::{BadLine, Options};
+use crate::line::{BadLine, CommandLine};
 use clap::builder::ValueParser;
 use clap::error::ErrorKind;
 use clap::{Arg, ArgAction, ArgMatches, Command, Error};
+use play::Options;
 use std::alloc::{AllocError, Global};
 
-/// The most bytes that a fragment can have.
+/// The largest width of a fragment, in bytes.
 const MAX_WIDTH: u32 = 65_536;
 
-/// The most workers that a program can have.
+/// The largest number of workers.
 const MAX_WORKERS: u32 = 16;
 
-/// The most entries that a journal can have room for.
+/// The largest limit of a journal, in entries.
 const MAX_LIMIT: u32 = 1_048_576;
 
-/// What `--version` says after the program's name.
+/// What `--version` prints after the program's name.
 const VERSION: &str = "0.1.0";
 
-/// An error of `clap`, from which want of memory is told apart.
+/// The error for an error of `clap`. Out of memory becomes an error of its own.
 fn refused(error: Error) -> BadLine
     ensures { result ≡ refusal_of error }
 {
@@ -35,7 +36,7 @@ fn refused(error: Error) -> BadLine
     }
 }
 
-/// The script, which has to be there.
+/// The argument for the script, which is required.
 fn script_argument<'a>(alloc: Global) -> Arg<'a>
     ensures rule { rule_of result ≡ script_rule }
     ensures local { result.global ≡ false }
@@ -45,7 +46,7 @@ fn script_argument<'a>(alloc: Global) -> Arg<'a>
         .help("the script's file, or /dev/stdin")
 }
 
-/// Whether the history is printed.
+/// The option that prints the journal.
 fn history_option<'a>(alloc: Global) -> Arg<'a>
     ensures rule { rule_of result ≡ history_rule }
     ensures local { result.global ≡ false }
@@ -117,24 +118,29 @@ fn command<'a>(alloc: Global) -> Result<Command<'a>, AllocError>
     Ok(command)
 }
 
-/// The number of an option, where it has one and it is from 1 to `most`.
+/// The number of an option, or `None` if it has none from 1 to `most`.
 fn number(matches: &ArgMatches, id: &str, most: u32) -> Option<u32>
     ensures range { IfSome result (λ n. InRange n most) }
-    ensures value { IfSome result (λ n. number_of id.now (rows_of (found_of matches.now)) ≡ Some n) }
+    ensures value { IfSome result (λ n. number_of id.now (rows_of (found_of matches.now))
+        ≡ Some n) }
     ensures some { IsSome result ↔ HasNumber id.now most (rows_of (found_of matches.now)) }
 {
     let n = matches.get_one::<u32>(id)?;
     if 1 <= n && n <= most { Some(n) } else { None }
 }
 
-/// What the words after the program's name say: `SCRIPT [--width N] [--workers K] [--limit J] [--history]`, with N from 1 to 65,536, K from 1 to 16 and
-/// J from 1 to 1,048,576; without them 1, 1 and 4,096. The parser has tested that the numbers lie in their ranges; they are tested once more here, so
-/// that what a caller gets is proved to.
+/// The options in the words after the program's name: `SCRIPT [--width N] [--workers K] [--limit J]
+/// [--history]`. N is from 1 to 65,536, K from 1 to 16 and J from 1 to 1,048,576. Their defaults
+/// are 1, 1 and 4,096.
 ///
-/// `BadLine::Clap` has the text that `clap` prints, and comes only for a line that it refuses, or for `--help` or `--version`. Any line can be answered by
-/// `NoMemory`, where memory is refused.
-pub fn options<'a>(alloc: Global, words: &'a [&'a str]) -> Result<Options, BadLine>
-    ensures ranges { IfOk result (λ options. InRange options.width 65536 × InRange options.workers 16 × InRange options.limit 1048576) }
+/// The parser has tested the ranges. This function tests them again, so that they are proved for
+/// the caller.
+///
+/// `BadLine::Clap` has the text that `clap` prints. It comes only for a line that `clap` refuses,
+/// for `--help` or for `--version`. `BadLine::NoMemory` may come for any line, if memory runs out.
+pub fn parse_line<'a>(alloc: Global, words: &'a [&'a str]) -> Result<CommandLine, BadLine>
+    ensures ranges { IfOk result (λ line. InRange line.options.width 65536
+        × InRange line.options.workers 16 × InRange line.options.limit 1048576) }
     ensures said { IfOk result (Says (map (λ w. w.now) words.entry.now)) }
     ensures refused { IfErr result (Refuses (map (λ w. w.now) words.entry.now)) }
 {
@@ -148,14 +154,17 @@ pub fn options<'a>(alloc: Global, words: &'a [&'a str]) -> Result<Options, BadLi
         number(&matches, "workers", MAX_WORKERS),
         number(&matches, "limit", MAX_LIMIT),
     ) else {
-        // A line that the parser takes has all four.
+        // A line that the parser accepts has all four.
         return Err(BadLine::NoMemory);
     };
-    Ok(Options {
-        script: String::from_str(alloc, script)?,
+    let options = Options {
         width,
         workers,
         limit,
         history: matches.get_flag("history"),
+    };
+    Ok(CommandLine {
+        script: String::from_str(alloc, script)?,
+        options,
     })
 }

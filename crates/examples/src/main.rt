@@ -1,17 +1,19 @@
-//! Runs the scripts of `examples/` as the program would, and compares what they print with the texts beside them; and those of `examples/refused/`.
-//! It prints the words of each run, and ends with status 1 at the first that prints something else. Of a script that is refused it prints what is said of it.
+//! Runs the scripts of `examples/` and `examples/refused/` as the program would, and compares the
+//! output with the texts beside them. For a refused script it compares the message. It prints the
+//! words of each run, and ends with status 1 at the first difference.
 #![tactic(auto)]
 
 ghost use Rattle.std.specs.Prelude.{IfOk};
-ghost use Rattle.command_line.specs.Ranges.{InRange};
+ghost use Rattle.play.specs.Ranges.{InRange};
 
 use anyhow::{Result, bail, ensure};
-use command_line::{BadLine, Options, options};
+use command_line::{BadLine, CommandLine, parse_line};
 use play::{Always, play};
 use std::fs;
 use std::fs::File;
 
-/// A run: its words, without the program's name, and the texts of which it prints one. It has several where the order in which workers enter the store shows.
+/// A run: its words, without the program's name, and the texts that it may print. It has several if
+/// the output depends on the order of the workers' calls.
 struct Run {
     words: &'static [&'static str],
     texts: &'static [&'static str],
@@ -71,7 +73,7 @@ const REFUSED: [&str; 11] = [
     "refused/mend_beside_a_row.csv",
 ];
 
-/// Whether one of the files has just this text.
+/// Whether one of the files has exactly this text.
 fn is_one_of(rt: &HostRuntime, printed: &[u8], texts: &[&str]) -> Result<bool> {
     for path in texts {
         if fs::read_to_string(rt, *path)?.as_bytes() == printed {
@@ -81,14 +83,14 @@ fn is_one_of(rt: &HostRuntime, printed: &[u8], texts: &[&str]) -> Result<bool> {
     Ok(false)
 }
 
-/// The options that words give.
-fn options_of(rt: &HostRuntime, words: &[&str]) -> Result<Options>
-    ensures width { IfOk result (λ options. InRange options.width 65536) }
-    ensures workers { IfOk result (λ options. InRange options.workers 16) }
-    ensures limit { IfOk result (λ options. InRange options.limit 1048576) }
+/// What words say.
+fn line_of(rt: &HostRuntime, words: &[&str]) -> Result<CommandLine>
+    ensures width { IfOk result (λ line. InRange line.options.width 65536) }
+    ensures workers { IfOk result (λ line. InRange line.options.workers 16) }
+    ensures limit { IfOk result (λ line. InRange line.options.limit 1048576) }
 {
-    match options(rt.alloc(), words) {
-        Ok(options) => Ok(options),
+    match parse_line(rt.alloc(), words) {
+        Ok(line) => Ok(line),
         Err(BadLine::Clap(_)) => bail!("the words are refused"),
         Err(BadLine::NoMemory) => bail!("out of memory"),
     }
@@ -99,10 +101,17 @@ fn main(rt: HostRuntime) -> Result<()> {
         for word in run.words {
             print!(rt; "{word} ")?;
         }
-        let options = options_of(&rt, run.words)?;
-        let script = File::open(&rt, options.script.as_str())?;
+        let line = line_of(&rt, run.words)?;
+        let script = File::open(&rt, line.script.as_str())?;
         let mut printed: Vec<u8> = Vec::new(rt.alloc());
-        play(&rt, rt.alloc(), &options, script, &mut printed, &Always)?;
+        play(
+            &rt,
+            rt.alloc(),
+            &line.options,
+            script,
+            &mut printed,
+            &Always,
+        )?;
         ensure!(
             is_one_of(&rt, printed.as_slice(), run.texts)?,
             "another text is printed"
@@ -110,10 +119,17 @@ fn main(rt: HostRuntime) -> Result<()> {
         println!(rt; "prints its text")?;
     }
     for path in REFUSED {
-        let options = options_of(&rt, &[path])?;
+        let line = line_of(&rt, &[path])?;
         let script = File::open(&rt, path)?;
         let mut printed: Vec<u8> = Vec::new(rt.alloc());
-        match play(&rt, rt.alloc(), &options, script, &mut printed, &Always) {
+        match play(
+            &rt,
+            rt.alloc(),
+            &line.options,
+            script,
+            &mut printed,
+            &Always,
+        ) {
             Ok(()) => bail!("{path} is not refused"),
             Err(fail) => println!(rt; "{path}: {fail}")?,
         }

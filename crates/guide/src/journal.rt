@@ -1,4 +1,4 @@
-//! The journal's limit, and what to do at it.
+//! The journal's limit, and what to do when it is reached.
 ghost use Rattle.std.specs.Prelude.{◌≡◌};
 ghost use Rattle.shared.specs.Passes.{Stays};
 
@@ -7,7 +7,8 @@ use shared::{Bytes, Fault, Limit, Name, Pass, Store, is_lawful_from};
 use std::alloc::Global;
 use std::sync::Wait;
 
-/// Makes two calls and tries a third. Where the journal is full, it gives up all entries but the last.
+/// Makes two calls and tries a third. When the journal is full, it discards all entries but the
+/// last.
 fn fill_and_trim<R: Print + Wait>(
     rt: &R,
     alloc: Global,
@@ -28,7 +29,8 @@ fn fill_and_trim<R: Print + Wait>(
     Ok(())
 }
 
-/// Fills a journal of two entries, gives up the older, goes on, and closes the store.
+/// Fills a journal of two entries, discards the older one, makes another call, and closes the
+/// store.
 pub(crate) fn trim_and_close<R: Print + Wait>(rt: &R, alloc: Global) -> Result<()> {
     let name = Name::new("a")?;
     let limit = Limit::new(2).context("a limit")?;

@@ -1,4 +1,4 @@
-//! One fragment repaired, and then all that is lost mended.
+//! Repair of one fragment, and a mend of the others.
 ghost use Rattle.std.specs.Prelude.{◌≡◌};
 ghost use Rattle.shared.specs.Passes.{Stays};
 
@@ -45,7 +45,7 @@ fn repair_one<R: Print + Wait>(
     Ok(())
 }
 
-/// Mends all that is lost.
+/// Repairs all lost fragments.
 fn mend_all<R: Print + Wait>(rt: &R, alloc: Global, store: &Store, pass: &mut Pass) -> Result<()>
     requires { pass.old.store ≡ store.now }
 {

@@ -1,4 +1,4 @@
-//! Reads without a copy, and without the gate.
+//! Reads without a copy, and without the lock.
 ghost use Rattle.std.specs.Prelude.{◌≡◌};
 ghost use Rattle.shared.specs.Passes.{Stays};
 
@@ -7,7 +7,7 @@ use shared::{Answer, Asked, Bytes, Grant, Limit, Name, Pass, Piece, Plans, Store
 use std::alloc::Global;
 use std::sync::Wait;
 
-/// Prints the pieces of a grant as they come. What is there is lent; only what is lost is built, and takes memory.
+/// Prints the pieces of a grant one by one. Only a piece of a lost fragment is built and allocates.
 fn show<R: Print>(rt: &R, alloc: Global, grant: &Grant) -> Result<()> {
     let mut walk = grant.walk();
     while let Some(piece) = walk.next_piece(alloc)? {
@@ -37,7 +37,7 @@ fn put_and_lose<R: Wait>(
     Ok(())
 }
 
-/// Four bytes of the beginning of the blob, by a call of the store.
+/// Reads four bytes from the beginning of the blob, by a call of the store.
 fn beginning<R: Wait>(rt: &R, store: &Store, pass: &mut Pass, name: Name) -> Result<Grant>
     requires { pass.old.store ≡ store.now }
     ensures { Stays pass.old pass.new }
@@ -51,7 +51,8 @@ fn beginning<R: Wait>(rt: &R, store: &Store, pass: &mut Pass, name: Name) -> Res
     }
 }
 
-/// Eight bytes more of the version that a grant holds. It is no call of the store: nobody waits, and no entry is made.
+/// Reads eight bytes more of the grant's version. It is no call of the store: it does not wait, and
+/// the journal gets no entry.
 fn more(grant: &Grant) -> Result<Grant> {
     match Grant::ask(&grant.sealed, 4, 8)? {
         Asked::Granted(grant) => Ok(grant),
@@ -60,7 +61,7 @@ fn more(grant: &Grant) -> Result<Grant> {
     }
 }
 
-/// A walk that builds by kept recipes: how many pieces it built.
+/// Walks a grant with kept recipes, and returns how many pieces were built.
 fn count_built(alloc: Global, grant: &Grant, plans: &mut Plans) -> Result<u64> {
     let mut built = 0u64;
     let mut walk = grant.walk_with(plans);
@@ -70,7 +71,7 @@ fn count_built(alloc: Global, grant: &Grant, plans: &mut Plans) -> Result<u64> {
     Ok(built)
 }
 
-/// Prints what a grant has, more of the same version, and what its walks built.
+/// Prints the bytes of a grant, more of the same version, and how many pieces its walks built.
 fn show_version<R: Print>(rt: &R, alloc: Global, grant: &Grant) -> Result<()> {
     show(rt, alloc, grant)?;
     show(rt, alloc, &more(grant)?)?;
@@ -81,7 +82,8 @@ fn show_version<R: Print>(rt: &R, alloc: Global, grant: &Grant) -> Result<()> {
     Ok(())
 }
 
-/// Reads a blob in parts. The second part is of the version of the first, though the name has none by then.
+/// Reads a blob in parts. The second part is of the first part's version, although the name has no
+/// blob by then.
 pub(crate) fn read_on<R: Print + Wait>(rt: &R, alloc: Global) -> Result<()> {
     let name = Name::new("a")?;
     let limit = Limit::new(1_000).context("a limit")?;

@@ -1,10 +1,11 @@
-//! What a read of a lost fragment costs: from which fragments it is built.
+//! The cost of reading a lost fragment: the fragments that it is built from.
 ghost use Rattle.std.specs.Prelude.{◌<◌, All};
 
 use anyhow::{Result, ensure};
 use lrc_code::{Code, LostSet, recipe_in};
 
-/// Prints from which fragments the first one is built where these are lost, or that it is open.
+/// Prints from which fragments the first one is built if these are lost, or that it is
+/// unrecoverable.
 fn show<R: Print>(rt: &R, lost: &[u8]) -> Result<()>
     requires { All (λ f. f < 16) lost.now }
 {

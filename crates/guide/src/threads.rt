@@ -8,7 +8,7 @@ use std::sync::Wait;
 use std::thread;
 use std::thread::Threads;
 
-/// What a thread does: it gives its pass back, with what its call answered.
+/// The work of a thread. It returns its pass with the answer to its call.
 fn put<R: Wait>(
     rt: &R,
     alloc: Global,
@@ -24,7 +24,7 @@ fn put<R: Wait>(
     (pass, answer)
 }
 
-/// Opens a store, gives a second thread a pass, and takes it back.
+/// Opens a store, gives a second thread a pass, and takes the pass back.
 pub(crate) fn share<R: Print + Threads + Wait + Sync>(rt: &R, alloc: Global) -> Result<()> {
     let limit = Limit::new(1_000).context("a limit")?;
     let (store, mut first) = Store::open(alloc, 1, limit)?;

@@ -1,4 +1,4 @@
-//! The store in a dozen lines: what is asked for is read, though a fragment of it is lost.
+//! The store in a dozen lines: it reads a blob while one of its fragments is lost.
 #![tactic(auto)]
 
 use anyhow::{Context, Result, bail};

@@ -1,4 +1,4 @@
--- Histories whose beginning is given up.
+-- Histories of which a beginning is discarded.
 use Rattle.std.proofs.Common.{◌≡◌, ℕ, List, [], ◌∷◌, ◌++◌, map, length, refl, sym, ap, ◌∙◌, subst, arith}
 use Rattle.std.specs.Prelude.{◌↔◌}
 use Rattle.std.specs.FinMap as finite
@@ -48,14 +48,14 @@ pub none_rise : IsRising []
 unfolding IsStrictlySortedBy
 none_rise = (tt, λ k d l. absurd (omega arith))
 
--- so, with nothing given up, entries are lawful exactly where they are those of a legal history
+-- so, with nothing discarded, entries are lawful if and only if they are those of a legal history
 pub lawful_is : (w : ℕ) (entries : List Entry) → IsLawful w entries ↔ ((h : History) × IsLegal w h × (map entry_of h ≡ entries))
 lawful_is w entries = (
   λ l. (l.events, subst (λ (s : State). IsLegalFrom w s l.events) (empty_alone l.state l.outlined) l.legal, l.entries_are),
   λ l. record { state = empty_state; outlined = empty_outlined; events = l.0; legal = l.1; entries_are = l.2 },
 )
 
--- ---- twelve letters were put, and that call was given up: then the first loss is noted as one, and the second as none
+-- ---- twelve letters were put, and that call was discarded: then the first loss is noted as one, and the second as none
 abbrev pub a : List ℕ
 a = 97 ∷ []
 

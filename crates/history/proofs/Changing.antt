@@ -13,7 +13,7 @@ tail_idle e es idle = by (can_change e.call) idle
     by true some = absurd (cc)
     by false none = none
 
--- after the first ones are given up
+-- after the first ones are discarded
 pub idle_behind : (n k m : ℕ) (es : List Entry) → m ≡ k - n → changes_of (drop k es) ≡ [] → changes_of (drop m (drop n es)) ≡ []
 idle_behind zero k m es is none = let same : m ≡ k = omega arith in ap (λ x. changes_of (drop x es)) same ∙ none
 idle_behind (suc n) k m [] is none = ap changes_of (drop-nil m)

@@ -1,4 +1,5 @@
--- Entries leave all names but their own as they were, so the replay of the part that has those names is the replay of all, there.
+-- Entries change no names but their own. So on the names of a part, the replay of the part is the
+-- replay of all names.
 use Rattle.std.proofs.Common.{◌≡◌, ℕ, ◌+◌, ◌<◌, Bool, true, false, ◌&&◌, List, [], ◌∷◌, replicate, length, get_or, drop, Option, None, Some, cond, refl, sym, ap, ◌∙◌, subst}
 use Rattle.std.specs.Ordering.{eq_by_cmp}
 use Rattle.std.specs.Cmp.Lexicographic.{nat_list_cmp_total}
@@ -64,7 +65,7 @@ module _ (within : List ℕ → Bool) where
   next_over v p (Delete n) m h = refl
   next_over v p (Stat n) m h = refl
 
-  -- entries within change only what is within
+  -- entries on names within change only those names
   pub all_next_over : (v p : Views) (es : List Entry) → AreWithin es → all_next (over v p) es ≡ over v (all_next p es)
   all_next_over v p [] h = refl
   all_next_over v p (e ∷ es) h = ap (λ x. all_next x es) (next_over v p e.call e.note h.0) ∙ all_next_over v (next p e) es h.1

@@ -1,4 +1,4 @@
--- What is kept of a blob tells which fragments are open.
+-- A blob's metadata determines which fragments are unrecoverable.
 use Rattle.std.proofs.Common.{◌≡◌, ℕ, ◌+◌, ◌-◌, ◌*◌, ◌/◌, ◌%◌, ◌<◌, ◌≤◌, Bool, true, false, ◌&&◌, List, [], ◌∷◌, cond, refl, sym, ap, ◌∙◌, subst, arith, inl, inr}
 use Rattle.std.specs.Prelude.{nat_le, nat_lt, IsTrue, ◌↔◌, ◌||◌, ◌==◌, not}
 use Rattle.std.specs.List.{list_any, list_all, filter}
@@ -31,7 +31,7 @@ same_truth true b forth back = sym (forth refl)
 same_truth false true forth back = back refl
 same_truth false false forth back = refl
 
--- a set of lost fragments tells what is open
+-- a set of lost fragments determines which are unrecoverable
 pub open_known : (code : Code) (known lost : ℕ → Bool) (f : ℕ) (r : Bool) → f < fragment_count code → IsTrue r ↔ Open code known f
     → ((g : ℕ) → g < 16 → known g ≡ lost g) → r ≡ open_test code lost f
 open_known code known lost f r l is same =
@@ -72,7 +72,7 @@ is_lt a b h = grind (arith, common_steps)
 pub both : (a b : Bool) → a ≡ true → b ≡ true → (a && b) ≡ true
 both a b h k = grind (arith, common_steps)
 
--- what is no fragment, by the test for one
+-- the test for a fragment that the blob lacks
 pub by_fragment : (code : Code) (w len j f : ℕ) (r : Bool) → IsTrue r ↔ HasFragment code w len j f → not r ≡ (nat_le (stripe_count code w len) j || nat_le (fragment_count code) f)
 by_fragment code w len j f r is =
     same_truth _ _
@@ -95,7 +95,7 @@ module _ (k : BlobMetadata) (w start len : ℕ) (some : 1 ≤ w) (bytes : 0 < le
   meets : (n : ℕ) → start / w ≤ n → n ≤ (start + len - 1) / w → Meets w start len n
   meets n low high = record { first = low; last = grind arith }
 
-  -- the number of a pair's fragment gives the pair
+  -- the number of a pair's fragment determines the pair
   stripe_back : (j f : ℕ) → f < data_count k.code → (data_count k.code * j + f) / data_count k.code ≡ j
   stripe_back j f l = ap (λ n. n / data_count k.code) (let e : data_count k.code * j + f ≡ j * data_count k.code + f = omega arith in e) ∙ div-mul-add j (data_count k.code) f l
 

@@ -1,4 +1,4 @@
--- What outlines tell: of what is kept, and of a state.
+-- What outlines determine of metadata and of states.
 use Rattle.std.proofs.Common.{◌≡◌, ℕ, ◌<◌, Bool, true, false, List, [], ◌∷◌, ◌++◌, map, length, take, get_or, append_assoc, length-append, replicate, Option, None, Some, cond, refl, sym, ap, ◌∙◌, subst, arith}
 use Rattle.std.specs.Prelude.{All, IfSome}
 use Rattle.std.specs.FinMap as finite
@@ -74,7 +74,7 @@ blob_shown e = λ i. record {
 state_shown : (s : State) (n : List ℕ) → option_map view_of (finite.get s.names n) ≡ option_map shown_by (found (map outline_of (finite.entries s.names)) n)
 state_shown s n = ap (option_map view_of) (finite.get-entries s.names n) ∙ shown_in view_of outline_of (λ e. refl) blob_shown (finite.entries s.names) n
 
--- what is kept of a base shows what each state does that the base outlines
+-- a base's metadata shows the same as each state that the base outlines
 pub view_outlined : (base : Checkpoint) (s : State) (r : Replay) → Outlines base s → outlines_of r ≡ base.names → r.puts ≡ base.puts → view s ≡ views_of r
 view_outlined base s r is names puts = λ i. record {
   names = λ n. (state_shown s n ∙ ap (λ (os : List Outline). option_map shown_by (found os n)) (sym is.names ∙ sym names) ∙ sym (kept_shown r.names.entries n)) i;
@@ -126,7 +126,7 @@ state_rises s = (
   All-map (λ (o : Outline). IsStrictlySortedBy pair_cmp o.lost) outline_of (finite.entries s.names) (λ k d l. pairs_rise _),
 )
 
--- so what is kept has the outlines of each state that shows the same
+-- so the metadata has the outlines of each state that shows the same
 pub outlines_are : (s : State) (r : Replay) → IsRising (outlines_of r) → view s ≡ views_of r → outlines_of r ≡ map outline_of (finite.entries s.names)
 outlines_are s r rise e =
     same_outlines (outlines_of r) (map outline_of (finite.entries s.names)) rise (state_rises s) (λ n. sym (kept_shown r.names.entries n) ∙ sym (λ i. (e i).names n) ∙ state_shown s n)

@@ -58,7 +58,7 @@ any_made p a (suc n) i l u h =
 div_below : (x d w : ℕ) → 1 ≤ w → x < d * w → x / w < d
 div_below x d w some l = div_under x w d some l
 
--- also where no fragment has a byte: then each stands at the place 0
+-- also if no fragment has a byte: then each lies at index 0
 fragment_below : (code : Code) (w i : ℕ) → fragment_of code w i < fragment_count code
 fragment_below Wide zero i = subst (λ x. x < 16) (sym (div-zero (i % 0))) (omega arith)
 fragment_below Small zero i = subst (λ x. x < 10) (sym (div-zero (i % 0))) (omega arith)
@@ -102,7 +102,7 @@ module _ (w : ℕ) where
   stat_is None m = (λ e. e, λ e. e)
   stat_is (Some blob) m = (λ e. e, λ e. e)
 
-  -- the law: a note is the reply exactly where it is the computed one
+  -- the law: a note is the reply if and only if it is the computed one
   pub reply_is : (s : State) (o : Operation) (m : Note) → IsReply w s o m ↔ (CanPut w o × (m ≡ reply w (view s) o))
   reply_is s (put n code b) m = (λ e. e, λ e. e)
   reply_is s (read n start len) m = let r = read_is (finite.get s.names n) start len m in (λ e. (tt, r.0 e), λ e. r.1 e.1)

@@ -1,4 +1,4 @@
--- Lists in order: what stands in them tells what they are.
+-- Sorted lists are determined by their elements.
 use Rattle.std.proofs.Common.{◌≡◌, ℕ, ◌+◌, ◌<◌, Bool, true, false, ◌&&◌, T, List, [], ◌∷◌, ◌++◌, map, length, take, get_or, cond, refl, sym, ap, ◌∙◌, subst, arith}
 use Rattle.std.specs.Prelude.{All}
 use Rattle.std.specs.FinMap as finite
@@ -67,7 +67,7 @@ module _ {K X : Type 0} {R : K → K → Ordering} where
   pub keys_rise : (m : finite.FinMap R X) → IsStrictlySortedBy R (finite.keys m)
   keys_rise m = rises_from R (finite.entries m) (finite.entries_sorted m)
 
-  -- two lists whose keys rise are equal where the same is found in them
+  -- two maps with sorted keys are equal if a search finds the same in both
   pub same_found : IsTotalOrder R → CmpEqualImpliesEq R → (es fs : List (K × X)) → IsStrictlySortedBy R (keys_of es) → IsStrictlySortedBy R (keys_of fs)
       → ((q : K) → lookup (is_at (R q)) es ≡ lookup (is_at (R q)) fs) → es ≡ fs
   same_found total exact es fs s t h = same_entries R total exact es fs (sorted_from R es s) (sorted_from R fs t) h
@@ -109,7 +109,7 @@ pairs_of-has lost q = sym (finite.contains_key-keys (finite.from_entries (marked
 pub pairs_rise : (lost : Lost) → IsStrictlySortedBy pair_cmp (pairs_of lost)
 pairs_rise lost = keys_rise (finite.from_entries (marked (set.items lost)))
 
--- two lists of pairs that rise are equal where they have the same
+-- two sorted lists of pairs are equal if they have the same elements
 pub same_pairs : (xs ys : List (ℕ × ℕ)) → IsStrictlySortedBy pair_cmp xs → IsStrictlySortedBy pair_cmp ys
     → ((q : ℕ × ℕ) → list_any (is_at (pair_cmp q)) xs ≡ list_any (is_at (pair_cmp q)) ys) → xs ≡ ys
 same_pairs xs ys s t h = btree_set_from_contains pairs_total (record { keys = xs }) (record { keys = ys }) s t h exact

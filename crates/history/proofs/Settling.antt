@@ -177,7 +177,7 @@ and_not : (b : Bool) → true ≡ (b && false) → ⊥
 and_not true e = false≢true (sym e)
 and_not false e = false≢true (sym e)
 
--- a name is as it was once the places are taken back
+-- a name has its old value once the added places are removed
 pub back : (f : Bool) (p o was now : Option BlobMetadata) → f ≡ (is_some p && not (is_some o)) → (f ≡ false → was ≡ o) → now ≡ cond f None was → now ≡ o
 back true p None was now is same e = e
 back true p (Some k) was now is same e = absurd (and_not (is_some p) is)

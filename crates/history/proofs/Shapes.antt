@@ -1,4 +1,5 @@
--- Replies depend on no bytes, so entries are lawful exactly where each note is the reply, one after the other.
+-- Replies depend on no bytes. So entries are lawful if and only if each note is the reply, one
+-- after the other.
 use Rattle.std.proofs.Common.{◌≡◌, ℕ, ◌+◌, ◌≤◌, ◌<◌, false, List, [], ◌∷◌, map, Some, cond, length, replicate, get_or, refl, sym, ap, ◌∙◌, subst, arith, drop, suc, add-one, drop-cons}
 use Rattle.std.specs.Prelude.{◌↔◌, All}
 use Rattle.std.specs.Ordering.{eq_by_cmp}
@@ -79,7 +80,7 @@ entries_back : (es : List Entry) → map entry_of (map event_of es) ≡ es
 entries_back [] = refl
 entries_back (e ∷ es) = λ i. record e { call = call_back e.call i } ∷ entries_back es i
 
--- where all states that a base outlines show the same, and there is one
+-- if all states that a base outlines show the same, and there is one
 lawful_noted : (w : ℕ) (base : Checkpoint) (v : Views) (s : State) → Outlines base s → ((t : State) → Outlines base t → view t ≡ v) → (es : List Entry) → IsLawfulFrom base w es ↔ AreNoted w v es
 lawful_noted w base v s outlined shows es = (
   λ l. subst (AreNoted w v) l.entries_are (noted w v l.events (subst (λ (x : Views). Follows w x l.events) (shows l.state l.outlined) ((legal_is w l.state l.events).0 l.legal))),
@@ -92,12 +93,13 @@ lawful_noted w base v s outlined shows es = (
   },
 )
 
--- so of what is kept of a base
+-- so it is with the metadata of a base
 pub lawful_kept : (w : ℕ) (base : Checkpoint) (r : Replay) → outlines_of r ≡ base.names → IsRising (outlines_of r) → r.puts ≡ base.puts → (es : List Entry) → IsLawfulFrom base w es ↔ AreNoted w (views_of r) es
 lawful_kept w base r names rise puts es =
     lawful_noted w base (views_of r) (state_from base) (state_from-outlined base (subst IsRising names rise)) (λ t is. view_outlined base t r is names puts) es
 
--- the entries of a legal history are noted, and give the views of the state after it
+-- the entries of a legal history have the right notes, and determine the views of the state after
+-- it
 pub legal_noted : (w : ℕ) (s : State) (h : History) → IsLegalFrom w s h → AreNoted w (view s) (map entry_of h)
 legal_noted w s h legal = noted w (view s) h ((legal_is w s h).0 legal)
 

@@ -1,4 +1,4 @@
--- What is kept of a state whose calls are given up: all but the bytes.
+-- What remains of a state whose calls are discarded: all except the bytes.
 use Rattle.std.specs.Prelude.{◌≡◌, ℕ, List, [], map, All, length}
 use Rattle.std.specs.FinMap as finite
 use Rattle.std.specs.FinSet as set
@@ -8,7 +8,7 @@ use Rattle.sealed.specs.Blob.{Lost, pair_cmp}
 use Rattle.history.specs.Names.{name_cmp}
 use Rattle.history.specs.State.{Blob, State}
 
--- a name with its blob, whose bytes are replaced by their length. The lost pairs stand in order
+-- a name with its blob, whose bytes are replaced by their length. The lost pairs are sorted
 pub record Outline : Type 0 where
   pub name : List ℕ
   pub version : ℕ
@@ -16,7 +16,8 @@ pub record Outline : Type 0 where
   pub code : Code
   pub lost : List (ℕ × ℕ)
 
--- what contracts see of a base: how many calls were given up, how many puts there had been, and the names in order
+-- what contracts see of a base: the numbers of discarded calls and of their puts, and the names in
+-- order
 pub record Checkpoint : Type 0 where
   pub trimmed : ℕ
   pub puts : ℕ
@@ -25,11 +26,12 @@ pub record Checkpoint : Type 0 where
 abbrev pub empty_base : Checkpoint
 empty_base = record { trimmed = 0; puts = 0; names = [] }
 
--- the names, and the pairs of each, rise without repeats
+-- the names are sorted without repeats, and so are the pairs of each
 abbrev pub IsRising : List Outline → Type 0
 IsRising names = IsStrictlySortedBy name_cmp (map (λ o. o.name) names) × All (λ o. IsStrictlySortedBy pair_cmp o.lost) names
 
--- the lost pairs in order. Std says which items a set has, and not in which order they stand, but a map's keys rise
+-- the lost pairs, sorted. Std specifies the members of a set and not their order, but a map's keys
+-- are sorted
 abbrev pub pairs_of : Lost → List (ℕ × ℕ)
 pairs_of lost = finite.keys (finite.from_entries {X = Unit {0}} {R = pair_cmp} (map (λ pair. (pair, tt)) (set.items lost)))
 

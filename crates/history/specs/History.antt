@@ -1,4 +1,4 @@
--- Histories: which operations were made, by whom, and the reply to each.
+-- Histories: which operations were made, by which callers, and the reply to each.
 use Rattle.std.specs.Prelude.{◌≡◌, ◌++◌, ℕ, Bool, true, false, List, [], ◌∷◌, length}
 use Rattle.lrc_code.specs.declared.Code.{Code}
 use Rattle.history.specs.declared.note.Note.{Note}
@@ -22,7 +22,7 @@ abbrev pub after_all : State → History → State
 after_all s [] = s
 after_all s (e ∷ es) = after_all (after s e.operation e.note) es
 
--- each note is the object's reply at its place, from s on
+-- each note is the reply in the state before it, from s on
 abbrev pub IsLegalFrom : ℕ → State → History → Type 0
 IsLegalFrom w s [] = Unit {0}
 IsLegalFrom w s (e ∷ es) = IsReply w s e.operation e.note × IsLegalFrom w (after s e.operation e.note) es
@@ -58,7 +58,7 @@ is_put_call (Stat n) = false
 abbrev pub is_put : Entry → Bool
 is_put e = is_put_call e.call
 
--- the history has the put of this version, of these bytes under this name
+-- the history has the put of this version, which stored these bytes under this name
 pub record HasPut (h : History) (version : ℕ) (name : List ℕ) (code : Code) (bytes : List ℕ) : Type 0 where
   pub who : ℕ
   pub before : History

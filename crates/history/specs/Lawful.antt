@@ -1,11 +1,11 @@
--- Which entries are those of a legal history.
+-- The entries of legal histories.
 use Rattle.std.specs.Prelude.{◌≡◌, ℕ, List, map}
 use Rattle.history.specs.State.{State}
 use Rattle.history.specs.History.{History, IsLegalFrom, entry_of}
 use Rattle.history.specs.Base.{Checkpoint, Outlines, empty_base}
 use Rattle.history.specs.declared.note.Entry.{Entry}
 
--- the entries are those of some list of events that is legal from some state which the base outlines
+-- the entries are those of events that are legal from some state which the base outlines
 pub record IsLawfulFrom (base : Checkpoint) (w : ℕ) (entries : List Entry) : Type 0 where
   pub state : State
   pub outlined : Outlines base state
@@ -13,6 +13,6 @@ pub record IsLawfulFrom (base : Checkpoint) (w : ℕ) (entries : List Entry) : T
   pub legal : IsLegalFrom w state events
   pub entries_are : map entry_of events ≡ entries
 
--- the same with nothing given up
+-- the same with nothing discarded
 abbrev pub IsLawful : ℕ → List Entry → Type 0
 IsLawful w entries = IsLawfulFrom empty_base w entries

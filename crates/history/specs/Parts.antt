@@ -1,4 +1,4 @@
--- The part of the names that entries can change.
+-- The names that entries can change.
 use Rattle.std.specs.Prelude.{ℕ, Bool, true, false, ◌&&◌, List}
 use Rattle.std.specs.List.{filter, list_any}
 use Rattle.std.specs.Ordering.{eq_by_cmp}
@@ -24,7 +24,7 @@ can_change (Repair n j f) = true
 can_change (Delete n) = true
 can_change (Stat n) = false
 
--- the entries of such calls
+-- the entries whose calls can change a state
 abbrev pub changes_of : List Entry → List Entry
 changes_of es = filter (λ e. can_change e.call) es
 

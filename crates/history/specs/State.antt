@@ -1,4 +1,4 @@
--- The object of one thread: a map from names to bytes with lost fragments.
+-- The state of the sequential specification: a map from names to bytes with lost fragments.
 use Rattle.std.specs.Prelude.{◌≡◌, ℕ, ◌<◌, true, List, length}
 use Rattle.std.specs.FinMap as map
 use Rattle.lrc_code.specs.declared.Code.{Code}

@@ -20,7 +20,7 @@ pub data Operation : Type 0 where
   delete : (name : List ℕ) → Operation
   stat : (name : List ℕ) → Operation
 
--- the first where P holds, and else the second
+-- the first if P holds, and otherwise the second
 abbrev pub IfHolds : Type 0 → Type 0 → Type 0 → Type 0
 IfHolds P first second = (P × first) ⊎ ((P → ⊥) × second)
 
@@ -28,7 +28,7 @@ module _ (w : ℕ) where
   abbrev pub stripes_of : Blob → ℕ
   stripes_of blob = stripe_count blob.code w (length blob.bytes)
 
-  -- there is no such fragment of the blob
+  -- the blob has no such fragment
   abbrev pub is_no_fragment : Blob → ℕ → ℕ → Bool
   is_no_fragment blob j f = nat_le (stripes_of blob) j || nat_le (fragment_count blob.code) f
 
@@ -50,7 +50,7 @@ module _ (w : ℕ) where
       (IfHolds (Open blob.code (lost_in blob.lost j) f) (note ≡ Unrecoverable blob.version) (note ≡ Repaired blob.version))
       (note ≡ NotLost)))
 
-  -- the note is the object's reply to the operation in this state
+  -- the note is the reply of the sequential specification to the operation in this state
   abbrev pub IsReply : State → Operation → Note → Type 0
   IsReply s (put n code b) note = IsBlob code w b × (note ≡ Stored (s.puts + 1))
   IsReply s (read n start len) note = IsReadReply (map.get s.names n) start len note
@@ -65,7 +65,8 @@ abbrev pub with_lost : State → List ℕ → Option Blob → (Lost → Lost) �
 with_lost s n None change = s
 with_lost s n (Some blob) change = record s { names = map.insert s.names n (record blob { lost = change blob.lost }) }
 
--- the state after an operation with this reply. Lost alone adds a pair, Repaired alone takes it out, Deleted alone takes the name out
+-- the state after an operation with this reply. Only Lost adds a pair, only Repaired removes one,
+-- only Deleted removes the name
 abbrev pub after : State → Operation → Note → State
 after s (put n code b) note = record {
   names = map.insert s.names n (record { version = s.puts + 1; bytes = b; code = code; lost = nothing });

@@ -1,4 +1,5 @@
--- What replies depend on: of a blob all but its bytes. With it the reply is computed, and so is what it depends on afterwards.
+-- The part of a state that replies depend on: all of a blob except its bytes. It determines the
+-- reply and the part after it.
 use Rattle.std.specs.Prelude.{◌≡◌, ℕ, zero, suc, ◌+◌, ◌-◌, Bool, false, not, ◌&&◌, ◌||◌, List, [], ◌∷◌, Option, None, Some, cond, length, replicate, nat_le, nat_lt}
 use Rattle.std.specs.Option.{option_map}
 use Rattle.std.specs.FinMap as finite
@@ -40,7 +41,8 @@ abbrev pub any_from : (ℕ → Bool) → ℕ → ℕ → Bool
 any_from p a zero = false
 any_from p a (suc n) = p a || any_from p (suc a) n
 
--- whether f can't be told from the fragments left: the two global parities don't make up for the lost ones, and f is not alone lost in its group
+-- whether f is unrecoverable: the losses exceed what the two global parities restore, and f's group
+-- has another loss
 abbrev pub open_test : Code → (ℕ → Bool) → ℕ → Bool
 open_test code lost f = lost f && (not (is_alone code lost f) && nat_lt 2 (excess_of code lost))
 
@@ -131,7 +133,7 @@ abbrev pub all_next : Views → List Entry → Views
 all_next v [] = v
 all_next v (e ∷ es) = all_next (next v e) es
 
--- one after the other
+-- the same for entries in order
 abbrev pub AreNoted : ℕ → Views → List Entry → Type 0
 AreNoted w v [] = Unit {0}
 AreNoted w v (e ∷ es) = IsNoted w v e × AreNoted w (next v e) es

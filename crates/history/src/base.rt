@@ -1,4 +1,4 @@
-//! What is kept of the calls that were given up.
+//! What remains of discarded journal entries.
 ghost use Rattle.std.specs.Prelude.{◌≡◌, ◌≤◌, ◌+◌, ◌^◌, map, length, count_by, OnOk, OnErr};
 ghost use Rattle.history.specs.Base.{Outlines, empty_base};
 ghost use Rattle.history.specs.History.{History, IsLegalFrom, after_all, entry_of, is_put};
@@ -14,14 +14,14 @@ use std::alloc::{AllocError, Global};
 use std::collections::BTreeMap;
 use std::marker::Model;
 
-/// How many calls were given up, at most 2^63, and an outline of the state after them.
+/// How many calls were discarded, at most 2^63, and an outline of the state after them.
 #[derive(Drop)]
 pub struct Base {
-    /// How many calls.
+    /// How many calls were discarded.
     pub trimmed: u64,
-    /// How many puts were among them.
+    /// How many of them were puts.
     pub puts: u64,
-    /// The names with their blobs.
+    /// The names in the state after them, each with its blob's outline.
     pub names: BTreeMap<Name, BlobMetadata>,
 }
 
@@ -55,7 +55,7 @@ impl Model for Base {
 }
 
 impl Base {
-    /// Nothing given up. It asks for no memory.
+    /// The base of a journal that has discarded nothing. Does not allocate.
     pub fn empty(alloc: Global) -> Base
         ensures { result ≡ empty_base }
     {
@@ -66,11 +66,13 @@ impl Base {
         }
     }
 
-    /// Takes in these calls more, which were made on a book of this width: the base then outlines the state after them, from each state that it outlined
-    /// and from which they are legal. `changes` are those of them that can change something: it looks at no others and at no name but theirs, and copies the lost
-    /// pairs of no blob that they can't change.
+    /// Adds the calls of these entries, which a book of this width answered. For each state that
+    /// the base outlined and from which they are legal, it then outlines the state after them.
     ///
-    /// `AllocError` where memory is refused, and then the base is as it was.
+    /// `changes` are the entries whose calls can change a state. The function reads no other entry
+    /// and no other name, and copies only the lost fragments of blobs that they can change.
+    ///
+    /// `AllocError` if memory runs out; the base is then unchanged.
     pub fn advance(
         &mut self,
         alloc: Global,
@@ -83,7 +85,9 @@ impl Base {
         requires puts { self.old.puts ≤ self.old.trimmed }
         ensures trimmed { OnOk result (self.new.trimmed ≡ self.old.trimmed + length entries.now) }
         ensures puts { OnOk result (self.new.puts ≡ self.old.puts + count_by is_put entries.now) }
-        ensures outlines { OnOk result ((s : State) (h : History) → Outlines self.old s → IsLegalFrom width s h → map entry_of h ≡ entries.now → Outlines self.new (after_all s h)) }
+        ensures outlines { OnOk result ((s : State) (h : History) → Outlines self.old s
+            → IsLegalFrom width s h → map entry_of h ≡ entries.now
+            → Outlines self.new (after_all s h)) }
         ensures err { OnErr result (self.new ≡ self.old) }
     {
         let mut part = Replay::part(alloc, &self.names, self.puts, changes, width)?;

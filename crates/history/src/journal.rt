@@ -1,5 +1,6 @@
-//! The journal, whose room is made at once.
-ghost use Rattle.std.specs.Prelude.{◌≡◌, ◌<◌, ◌≤◌, [], ◌∷◌, ◌++◌, ◌==◌, drop, take, map, length, vec_len, IfOk};
+//! The journal, whose memory is allocated at once.
+ghost use Rattle.std.specs.Prelude.{◌≡◌, ◌<◌, ◌≤◌, [], ◌∷◌, ◌++◌, ◌==◌, drop, take, map, length};
+ghost use Rattle.std.specs.Prelude.{vec_len, IfOk};
 ghost use Rattle.std.specs.Vec.{vec_capacity};
 ghost use Rattle.history.specs.Parts.{changes_of};
 
@@ -7,12 +8,12 @@ use crate::note::changes_in;
 use crate::{Entry, Limit};
 use std::alloc::{AllocError, Global};
 
-/// Entries, and room for as many as the limit.
+/// The entries, with room for as many as the limit.
 #[derive(Drop)]
 pub struct Journal {
     pub entries: Vec<Entry>,
     pub limit: Limit,
-    /// How many entries there are up to the last one that can change something, with it.
+    /// The number of entries up to the last one whose call can change a state, that one included.
     changing: usize,
     ghost idle: { changes_of (drop changing entries.items) ≡ [] },
     ghost fits: { vec_len entries ≤ limit },
@@ -21,7 +22,7 @@ pub struct Journal {
 }
 
 impl Journal {
-    /// An empty journal.
+    /// An empty journal. `AllocError` if there is no memory for `limit` entries.
     pub fn new(alloc: Global, limit: Limit) -> Result<Journal, AllocError>
         ensures { IfOk result (λ j. (j.entries.items ≡ []) × (j.limit ≡ limit)) }
     {
@@ -40,7 +41,7 @@ impl Journal {
         self.entries.len() == self.limit.get() as usize
     }
 
-    /// Adds an entry. It asks for no memory.
+    /// Appends an entry. Does not allocate.
     pub fn push(&mut self, entry: Entry)
         requires { length self.old.entries.items < self.old.limit }
         ensures entries { self.new.entries.items ≡ self.old.entries.items ++ entry ∷ [] }
@@ -55,15 +56,17 @@ impl Journal {
         }
     }
 
-    /// Those of the first `n` entries that can change something. It looks at none behind the last such entry of the journal.
+    /// The entries among the first `n` whose calls can change a state. It reads none behind the
+    /// journal's last such entry. `AllocError` if memory runs out.
     pub fn changes(&self, alloc: Global, n: usize) -> Result<Vec<&Entry>, AllocError>
         requires { n ≤ length self.now.entries.items }
-        ensures { IfOk result (λ changes. map (λ e. e.now) changes.items ≡ changes_of (take n self.now.entries.items)) }
+        ensures { IfOk result (λ changes. map (λ e. e.now) changes.items
+            ≡ changes_of (take n self.now.entries.items)) }
     {
         changes_in(alloc, &self.entries[..n.min(self.changing)])
     }
 
-    /// Gives up the first `n` entries. The room stays.
+    /// Discards the first `n` entries. The journal keeps its memory. Does not allocate.
     pub fn give_up(&mut self, n: usize)
         requires { n ≤ length self.old.entries.items }
         ensures entries { self.new.entries.items ≡ drop n self.old.entries.items }

@@ -1,4 +1,5 @@
-//! The object of one thread as it is defined: names, calls and their notes, the history of them, and which entries are those of a legal one.
+//! The sequential specification of the store: names, calls with their notes, histories, and which
+//! journals are those of a legal history.
 #![tactic(auto)]
 
 mod base;
@@ -20,6 +21,3 @@ pub use metadata::BlobMetadata;
 pub use name::Name;
 pub use note::{Call, Entry, Note};
 pub use sealed::Fault;
-
-#[cfg(test)]
-mod tests;

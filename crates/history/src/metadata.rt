@@ -1,11 +1,12 @@
-//! What is kept of a blob, to know the replies.
+//! A blob without its bytes, which determines the replies.
 ghost use Rattle.std.specs.Prelude.{◌≡◌, ℕ, ◌+◌, ◌<◌, ◌≤◌, Some, IsTrue, IfOk};
 ghost use Rattle.std.specs.List.{list_any};
 ghost use Rattle.std.specs.BTreeSet.{IsOrdered};
 ghost use Rattle.lrc_code.specs.Code.{fragment_count, is_lost};
 ghost use Rattle.sealed.specs.Blob.{pair_cmp};
 ghost use Rattle.history.specs.Metadata.{lost_of, seen_as, is_open_between};
-ghost use Rattle.history.specs.Views.{no_such, open_test, open_in_range, read_reply, lose_reply, repair_reply, stat_reply};
+ghost use Rattle.history.specs.Views.{no_such, open_test, open_in_range, read_reply, lose_reply};
+ghost use Rattle.history.specs.Views.{repair_reply, stat_reply};
 
 use crate::Note;
 use lrc_code::{Code, LostSet, is_open_in};
@@ -13,21 +14,21 @@ use sealed::{Width, count_stripes, has_fragment};
 use std::alloc::{AllocError, Global};
 use std::collections::BTreeSet;
 
-/// A blob of a name, without its bytes.
+/// The blob of a name, without its bytes.
 #[derive(Debug, Drop)]
 pub struct BlobMetadata {
-    /// The number of its put.
+    /// The number of the put that stored it, from 1.
     pub version: u64,
-    /// How many bytes it has.
+    /// Its length in bytes.
     pub len: u64,
-    /// The code that it is kept in.
+    /// The code of its stripes.
     pub code: Code,
-    /// The lost fragments: pairs of a stripe and a fragment.
+    /// The lost fragments, as pairs of a stripe and a fragment, both from 0.
     pub lost: BTreeSet<(u64, u8)>,
 }
 
 impl BlobMetadata {
-    /// A copy. Its lost pairs rise, as those of each set do.
+    /// A copy. `AllocError` if memory runs out.
     pub(crate) fn duplicate(&self, alloc: Global) -> Result<BlobMetadata, AllocError>
         ensures copy { IfOk result (λ kept. kept ≡ self.now) }
         ensures rising { IsOrdered pair_cmp self.now.lost }
@@ -51,7 +52,7 @@ impl BlobMetadata {
         lost
     }
 
-    /// Whether a fragment can't be told from those left.
+    /// Whether a fragment is lost and unrecoverable.
     fn is_open(&self, stripe: u64, f: u8) -> bool
         requires { f < fragment_count self.now.code }
         ensures { result ≡ open_test self.now.code (lost_of self.now stripe) f }
@@ -59,7 +60,8 @@ impl BlobMetadata {
         is_open_in(self.code, self.lost_in(stripe), f)
     }
 
-    /// Whether the fragment is an open data fragment, and by its number in the blob one from `first` to `last`.
+    /// Whether the fragment is an unrecoverable data fragment with a number from `first` to `last`.
+    /// A blob's data fragments are numbered over all stripes.
     fn is_open_between(&self, first: u64, last: u64, stripe: u64, f: u8) -> bool
         ensures { result ≡ is_open_between self.now first last (stripe, f) }
     {
@@ -71,7 +73,7 @@ impl BlobMetadata {
         u128::from(first) <= number && number <= u128::from(last) && self.is_open(stripe, f)
     }
 
-    /// Whether some data fragment from the one numbered `first` to the one numbered `last` is open.
+    /// Whether some lost data fragment numbered from `first` to `last` is unrecoverable.
     fn has_open_between(&self, first: u64, last: u64) -> bool
         requires { first ≤ last }
         ensures { result ≡ list_any (is_open_between self.now first last) self.now.lost.keys }
@@ -82,7 +84,7 @@ impl BlobMetadata {
         self.lost.range(low..=high).any(|&(stripe, f)| self.is_open_between(first, last, stripe, f))
     }
 
-    /// Whether some byte of the range stands in an open fragment.
+    /// Whether some byte of the range lies in an unrecoverable fragment.
     fn has_open(&self, width: Width, start: u64, len: u64) -> bool
         requires { start + len ≤ self.now.len }
         ensures { result ≡ open_in_range self.now.code width (lost_of self.now) start len }
@@ -94,7 +96,7 @@ impl BlobMetadata {
         self.has_open_between(start / width, (start + len - 1) / width)
     }
 
-    /// Whether the blob has no such fragment.
+    /// Whether the blob lacks this stripe, or the stripe this fragment.
     fn is_no_fragment(&self, width: Width, stripe: u64, fragment: u64) -> bool
         ensures { result ≡ no_such width (seen_as self.now) stripe fragment }
     {
@@ -142,7 +144,7 @@ impl BlobMetadata {
         }
     }
 
-    /// The reply to a question for its shape.
+    /// The reply to a stat.
     pub(crate) fn stat(&self, width: Width) -> Note
         ensures { result ≡ stat_reply width (Some (seen_as self.now)) }
     {

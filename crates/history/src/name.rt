@@ -1,7 +1,8 @@
 //! The names of blobs.
 ghost use Rattle.std.specs.Prelude.{◌≡◌, ◌↔◌, IsOk, IfOk, IfErr, nat_eq, refl, Some};
 ghost use Rattle.std.specs.Ordering.{nat_cmp};
-ghost use Rattle.std.specs.Cmp.Lexicographic.{pointwise, slice_cmp, nat_list_eq_equiv, nat_list_cmp_total, texts_ties, texts_po};
+ghost use Rattle.std.specs.Cmp.Lexicographic.{pointwise, slice_cmp, nat_list_eq_equiv};
+ghost use Rattle.std.specs.Cmp.Lexicographic.{nat_list_cmp_total, texts_ties, texts_po};
 ghost use Rattle.std.specs.Cmp.{partial_equiv_from_equiv};
 ghost use Rattle.history.specs.Names.{IsName, is_name_byte as is_plain};
 
@@ -10,7 +11,7 @@ use arrayvec::ArrayString;
 use std::cmp::Ordering;
 use std::marker::Model;
 
-/// The name of a blob: from 1 to 32 bytes of `a-z`, `0-9`, `.`, `_` and `-`.
+/// The name of a blob: from 1 to 32 bytes, each one of `a-z`, `0-9`, `.`, `_` and `-`.
 #[derive(Debug, Drop)]
 pub struct Name {
     text: ArrayString<32>,
@@ -28,7 +29,8 @@ impl Model for Name {
 }
 
 impl Name {
-    /// The name of this text. `BadName` where it is none.
+    /// The name with this text. `BadName` if the text is empty, is longer than 32 bytes, or has
+    /// another byte.
     pub fn new(text: &str) -> Result<Name, Fault>
         ensures variant { IsOk result ↔ IsName text.now }
         ensures ok { IfOk result (λ n. n ≡ text.now) }
@@ -44,14 +46,14 @@ impl Name {
         }
     }
 
-    /// A copy. It asks for no memory.
+    /// A copy. Does not allocate.
     pub fn duplicate(&self) -> Name
         ensures { result ≡ self.now }
     {
         Name { text: self.text }
     }
 
-    /// Its text.
+    /// The text of the name.
     pub fn as_str(&self) -> &str
         ensures value { result.now ≡ self.now }
         ensures name { IsName self.now }

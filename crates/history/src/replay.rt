@@ -1,5 +1,6 @@
-//! The object of one thread without its bytes: what it replies to each call, and what is kept after it.
-ghost use Rattle.std.specs.Prelude.{◌≡◌, ◌≤◌, ◌+◌, ◌↔◌, IsTrue, IfOk, OnOk, None, cond, map, replicate};
+//! The sequential specification without bytes: its reply to each call, and its state afterwards.
+ghost use Rattle.std.specs.Prelude.{◌≡◌, ◌≤◌, ◌+◌, ◌↔◌, IsTrue, IfOk, OnOk, None, cond, map};
+ghost use Rattle.std.specs.Prelude.{replicate};
 ghost use Rattle.std.specs.Option.{option_map};
 ghost use Rattle.std.specs.BTreeMap.{get};
 ghost use Rattle.sealed.specs.Layout.{stripe_count};
@@ -7,7 +8,9 @@ ghost use Rattle.history.specs.Metadata.{seen_as, views_of, outlines_of, PairsRi
 ghost use Rattle.history.specs.Base.{IsRising};
 ghost use Rattle.history.specs.Names.{name_cmp};
 ghost use Rattle.history.specs.Parts.{changes_of, is_changed};
-ghost use Rattle.history.specs.Views.{read_reply, lose_reply, repair_reply, delete_reply, stat_reply, view_after, added, taken, changed, IsNoted, AreNoted, next, all_next};
+ghost use Rattle.history.specs.Views.{read_reply, lose_reply, repair_reply, delete_reply};
+ghost use Rattle.history.specs.Views.{stat_reply, view_after, added, taken, changed, IsNoted};
+ghost use Rattle.history.specs.Views.{AreNoted, next, all_next};
 ghost use Rattle.history.specs.Step.{put};
 
 use crate::metadata::BlobMetadata;
@@ -17,7 +20,7 @@ use sealed::{Width, count_stripes};
 use std::alloc::{AllocError, Global};
 use std::collections::{BTreeMap, BTreeSet};
 
-/// The names with what is kept of their blobs, and how many puts there were.
+/// The names with their blobs' outlines, and the number of puts so far.
 #[derive(Drop)]
 pub struct Replay {
     pub names: BTreeMap<Name, BlobMetadata>,
@@ -26,7 +29,7 @@ pub struct Replay {
 }
 
 impl Replay {
-    /// The names of a base, and how many puts there were.
+    /// The state that a base outlines. `AllocError` if memory runs out.
     pub fn from_base(alloc: Global, base: &Base, width: Width) -> Result<Replay, AllocError>
         ensures names { IfOk result (λ replay. outlines_of replay ≡ base.now.names) }
         ensures rising { IfOk result (λ replay. IsRising (outlines_of replay)) }
@@ -47,7 +50,8 @@ impl Replay {
         })
     }
 
-    /// Of these names those that the entries can change, after so many puts. It copies no other name's blob.
+    /// The part of the names that the entries can change, after this many puts. It copies no other
+    /// name's blob. `AllocError` if memory runs out.
     pub fn part(
         alloc: Global,
         all: &BTreeMap<Name, BlobMetadata>,
@@ -55,7 +59,9 @@ impl Replay {
         entries: &[&Entry],
         width: Width,
     ) -> Result<Replay, AllocError>
-        ensures names { IfOk result (λ replay. (q : _) → get name_cmp replay.names q ≡ cond (is_changed (map (λ e. e.now) entries.now) q) (get name_cmp all.now q) None) }
+        ensures names { IfOk result (λ replay. (q : _)
+            → get name_cmp replay.names q ≡ cond (is_changed (map (λ e. e.now) entries.now) q)
+            (get name_cmp all.now q) None) }
         ensures rising { IfOk result (λ replay. PairsRise replay.names) }
         ensures puts { IfOk result (λ replay. replay.puts ≡ puts) }
         ensures width { IfOk result (λ replay. replay.width ≡ width) }
@@ -77,10 +83,13 @@ impl Replay {
         Ok(Replay { names, puts, width })
     }
 
-    /// Takes in those of the entries that can change something, up to the first of them whose note isn't the reply to its call. It looks at no other
-    /// entry.
+    /// Applies the entries whose calls can change a state, up to the first whose note is not the
+    /// reply. It reads no other entry. `AllocError` if memory runs out.
     pub fn take_in(&mut self, alloc: Global, entries: &[&Entry]) -> Result<(), AllocError>
-        ensures views { OnOk result (AreNoted self.old.width (views_of self.old) (changes_of (map (λ e. e.now) entries.now)) → views_of self.new ≡ all_next (views_of self.old) (changes_of (map (λ e. e.now) entries.now))) }
+        ensures views { OnOk result (AreNoted self.old.width (views_of self.old)
+            (changes_of (map (λ e. e.now) entries.now))
+            → views_of self.new ≡ all_next (views_of self.old)
+            (changes_of (map (λ e. e.now) entries.now))) }
         ensures rising { OnOk result (PairsRise self.old.names → PairsRise self.new.names) }
     {
         for entry in entries {
@@ -94,10 +103,13 @@ impl Replay {
         Ok(())
     }
 
-    /// Takes in entries, up to the first whose note isn't the reply to its call. Whether there was none such.
+    /// Applies the entries up to the first whose note is not the reply, and returns whether there
+    /// was none. `AllocError` if memory runs out.
     pub fn follow(&mut self, alloc: Global, entries: &[Entry]) -> Result<bool, AllocError>
-        ensures variant { IfOk result (λ followed. IsTrue followed ↔ AreNoted self.old.width (views_of self.old) entries.now) }
-        ensures views { IfOk result (λ followed. IsTrue followed → views_of self.new ≡ all_next (views_of self.old) entries.now) }
+        ensures variant { IfOk result (λ followed. IsTrue followed
+            ↔ AreNoted self.old.width (views_of self.old) entries.now) }
+        ensures views { IfOk result (λ followed. IsTrue followed
+            → views_of self.new ≡ all_next (views_of self.old) entries.now) }
     {
         for entry in entries {
             if !self.expects(entry) {
@@ -130,9 +142,10 @@ impl Replay {
         }
     }
 
-    /// Whether so many bytes can be put, and the note is the reply.
+    /// Whether this many bytes can be stored, and the note is the reply to the put.
     fn expects_put(&self, code: Code, len: u64, note: Note) -> bool
-        ensures { IsTrue result ↔ ((stripe_count code self.now.width len ≤ 4096) × (note ≡ Note.Stored (self.now.puts + 1))) }
+        ensures { IsTrue result ↔ ((stripe_count code self.now.width len ≤ 4096)
+            × (note ≡ Note.Stored (self.now.puts + 1))) }
     {
         match note {
             Note::Stored(version) => {
@@ -144,7 +157,7 @@ impl Replay {
         }
     }
 
-    /// What is kept of a name's blob.
+    /// The outline of a name's blob.
     fn find(&self, name: &Name) -> Option<&BlobMetadata>
         ensures { option_map (λ k. seen_as k.now) result ≡ (views_of self.now).names name.now }
     {
@@ -153,7 +166,8 @@ impl Replay {
 
     /// The reply to a read.
     fn read(&self, name: &Name, start: u64, len: u64) -> Note
-        ensures { result ≡ read_reply self.now.width ((views_of self.now).names name.now) start len }
+        ensures { result ≡ read_reply self.now.width ((views_of self.now).names name.now) start
+            len }
     {
         match self.find(name) {
             Some(kept) => kept.read(self.width, start, len),
@@ -163,7 +177,8 @@ impl Replay {
 
     /// The reply to a loss.
     fn lose(&self, name: &Name, stripe: u64, fragment: u64) -> Note
-        ensures { result ≡ lose_reply self.now.width ((views_of self.now).names name.now) stripe fragment }
+        ensures { result ≡ lose_reply self.now.width ((views_of self.now).names name.now) stripe
+            fragment }
     {
         match self.find(name) {
             Some(kept) => kept.lose(self.width, stripe, fragment),
@@ -173,7 +188,8 @@ impl Replay {
 
     /// The reply to a repair.
     fn repair(&self, name: &Name, stripe: u64, fragment: u64) -> Note
-        ensures { result ≡ repair_reply self.now.width ((views_of self.now).names name.now) stripe fragment }
+        ensures { result ≡ repair_reply self.now.width ((views_of self.now).names name.now) stripe
+            fragment }
     {
         match self.find(name) {
             Some(kept) => kept.repair(self.width, stripe, fragment),
@@ -191,7 +207,7 @@ impl Replay {
         }
     }
 
-    /// The reply to a question for a blob's shape.
+    /// The reply to a stat.
     fn stat(&self, name: &Name) -> Note
         ensures { result ≡ stat_reply self.now.width ((views_of self.now).names name.now) }
     {
@@ -201,7 +217,7 @@ impl Replay {
         }
     }
 
-    /// Takes in an entry whose note is the reply to its call.
+    /// Applies an entry whose note is the reply to its call. `AllocError` if memory runs out.
     pub fn apply(&mut self, alloc: Global, entry: &Entry) -> Result<(), AllocError>
         requires { IsNoted self.old.width (views_of self.old) entry.now }
         ensures views { OnOk result (views_of self.new ≡ next (views_of self.old) entry.now) }
@@ -241,7 +257,7 @@ impl Replay {
         }
     }
 
-    /// The name has a new blob, under the next version.
+    /// Gives the name a new blob with the next version.
     fn apply_put(
         &mut self,
         alloc: Global,
@@ -251,7 +267,9 @@ impl Replay {
         version: u64,
     ) -> Result<(), AllocError>
         requires { version ≡ self.old.puts + 1 }
-        ensures views { OnOk result (views_of self.new ≡ view_after (views_of self.old) (put name.now code (replicate len 0)) (Note.Stored version)) }
+        ensures views { OnOk result (views_of self.new
+            ≡ view_after (views_of self.old) (put name.now code (replicate len 0))
+            (Note.Stored version)) }
         ensures rising { OnOk result (PairsRise self.old.names → PairsRise self.new.names) }
         ensures width { self.new.width ≡ self.old.width }
     {
@@ -268,9 +286,11 @@ impl Replay {
         Ok(())
     }
 
-    /// A fragment of the name's blob is lost.
+    /// Adds a lost fragment to the name's blob.
     fn add_lost(&mut self, name: &Name, stripe: u64, f: u8) -> Result<(), AllocError>
-        ensures views { OnOk result (views_of self.new ≡ changed (views_of self.old) name.now ((views_of self.old).names name.now) (added stripe f)) }
+        ensures views { OnOk result (views_of self.new
+            ≡ changed (views_of self.old) name.now ((views_of self.old).names name.now)
+            (added stripe f)) }
         ensures rising { OnOk result (PairsRise self.old.names → PairsRise self.new.names) }
         ensures width { self.new.width ≡ self.old.width }
     {
@@ -283,9 +303,10 @@ impl Replay {
         Ok(())
     }
 
-    /// A fragment of the name's blob is there again.
+    /// Removes a lost fragment from the name's blob.
     fn take_lost(&mut self, name: &Name, stripe: u64, f: u8)
-        ensures views { views_of self.new ≡ changed (views_of self.old) name.now ((views_of self.old).names name.now) (taken stripe f) }
+        ensures views { views_of self.new ≡ changed (views_of self.old) name.now
+            ((views_of self.old).names name.now) (taken stripe f) }
         ensures rising { PairsRise self.old.names → PairsRise self.new.names }
         ensures width { self.new.width ≡ self.old.width }
     {

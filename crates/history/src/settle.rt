@@ -1,5 +1,7 @@
-//! Carrying what a replay of part of a base's names left into the base. Only making room can fail, and then the names are as they were.
-ghost use Rattle.std.specs.Prelude.{◌≡◌, ◌&&◌, not, true, None, Some, cond, map, OnOk, OnErr, IfOk, IsSome};
+//! Moves the result of a replay, which has part of a base's names, into the base. Only `make_room`
+//! can fail, and it then leaves the names unchanged.
+ghost use Rattle.std.specs.Prelude.{◌≡◌, ◌&&◌, not, true, None, Some, cond, map, OnOk, OnErr, IfOk};
+ghost use Rattle.std.specs.Prelude.{IsSome};
 ghost use Rattle.std.specs.Option.{is_some, option_or};
 ghost use Rattle.std.specs.BTreeMap.{get, IsOrdered};
 ghost use Rattle.history.specs.Names.{name_cmp};
@@ -10,13 +12,14 @@ use lrc_code::Code;
 use std::alloc::{AllocError, Global};
 use std::collections::{BTreeMap, BTreeSet};
 
-/// The names of the part that aren't there.
+/// The names that the part has and the base lacks. `AllocError` if memory runs out.
 fn absent(
     alloc: Global,
     names: &BTreeMap<Name, BlobMetadata>,
     part: &BTreeMap<Name, BlobMetadata>,
 ) -> Result<Vec<Name>, AllocError>
-    ensures { IfOk result (λ fresh. (q : _) → has_name fresh.items q ≡ (is_some (get name_cmp part.now q) && not (is_some (get name_cmp names.now q)))) }
+    ensures { IfOk result (λ fresh. (q : _) → has_name fresh.items q
+        ≡ (is_some (get name_cmp part.now q) && not (is_some (get name_cmp names.now q)))) }
 {
     let mut fresh = Vec::new(alloc);
     for (name, _) in part {
@@ -27,9 +30,10 @@ fn absent(
     Ok(fresh)
 }
 
-/// Takes these names out.
+/// Removes these names.
 fn withdraw(names: &mut BTreeMap<Name, BlobMetadata>, gone: &[Name])
-    ensures names { (q : _) → get name_cmp names.new q ≡ cond (has_name gone.now q) None (get name_cmp names.old q) }
+    ensures names { (q : _) → get name_cmp names.new q
+        ≡ cond (has_name gone.now q) None (get name_cmp names.old q) }
     ensures ordered { IsOrdered name_cmp names.old → IsOrdered name_cmp names.new }
 {
     for name in gone {
@@ -37,17 +41,19 @@ fn withdraw(names: &mut BTreeMap<Name, BlobMetadata>, gone: &[Name])
     }
 }
 
-/// Makes a place for each name of the part that isn't there. What the other names have stays.
+/// Adds each name that the part has and the base lacks. The other names keep their blobs.
 ///
-/// `AllocError` where memory is refused, and then the names are as they were.
+/// `AllocError` if memory runs out; the names are then unchanged.
 pub fn make_room(
     alloc: Global,
     names: &mut BTreeMap<Name, BlobMetadata>,
     part: &BTreeMap<Name, BlobMetadata>,
 ) -> Result<(), AllocError>
     requires { IsOrdered name_cmp names.old }
-    ensures placed { OnOk result ((q : _) → IsSome (get name_cmp part.now q) → IsSome (get name_cmp names.new q)) }
-    ensures others { OnOk result ((q : _) → get name_cmp part.now q ≡ None → get name_cmp names.new q ≡ get name_cmp names.old q) }
+    ensures placed { OnOk result ((q : _) → IsSome (get name_cmp part.now q)
+        → IsSome (get name_cmp names.new q)) }
+    ensures others { OnOk result ((q : _) → get name_cmp part.now q ≡ None
+        → get name_cmp names.new q ≡ get name_cmp names.old q) }
     ensures ordered { IsOrdered name_cmp names.new }
     ensures err { OnErr result (names.new.entries ≡ names.old.entries) }
 {
@@ -67,13 +73,15 @@ pub fn make_room(
     Ok(())
 }
 
-/// Takes out the names that the entries can have changed and that the part doesn't have.
+/// Removes the names that the entries can change and that the part lacks.
 pub fn take_out(
     names: &mut BTreeMap<Name, BlobMetadata>,
     part: &BTreeMap<Name, BlobMetadata>,
     entries: &[&Entry],
 )
-    ensures names { (q : _) → get name_cmp names.new q ≡ cond (is_changed (map (λ e. e.now) entries.now) q && not (is_some (get name_cmp part.now q))) None (get name_cmp names.old q) }
+    ensures names { (q : _) → get name_cmp names.new q
+        ≡ cond (is_changed (map (λ e. e.now) entries.now) q
+        && not (is_some (get name_cmp part.now q))) None (get name_cmp names.old q) }
     ensures ordered { IsOrdered name_cmp names.old → IsOrdered name_cmp names.new }
 {
     for entry in entries {
@@ -85,10 +93,12 @@ pub fn take_out(
     }
 }
 
-/// Gives each name of the part what it has there. It has its place already, so no memory is asked for.
+/// Gives each name of the part its blob there. The name is there already, so this does not
+/// allocate.
 pub fn fill(names: &mut BTreeMap<Name, BlobMetadata>, mut part: BTreeMap<Name, BlobMetadata>)
     requires { (q : _) → IsSome (get name_cmp part q) → IsSome (get name_cmp names.old q) }
-    ensures names { (q : _) → get name_cmp names.new q ≡ option_or (get name_cmp part q) (get name_cmp names.old q) }
+    ensures names { (q : _) → get name_cmp names.new q
+        ≡ option_or (get name_cmp part q) (get name_cmp names.old q) }
     ensures ordered { IsOrdered name_cmp names.old → IsOrdered name_cmp names.new }
 {
     while let Some((name, kept)) = part.pop_first() {

@@ -12,6 +12,3 @@ mod place;
 
 pub use combine::combine_lists;
 pub use groups::write_parities;
-
-#[cfg(test)]
-mod tests;

@@ -1,4 +1,4 @@
--- Pieces that a walk gave so far.
+-- The pieces that a walk has returned so far.
 use Rattle.std.proofs.Common.{◌≡◌, ℕ, ◌<◌, ◌||◌, Bool, true, false, List, [], ◌∷◌, ◌++◌, Option, None, Some, Result, Ok, Err, length, refl, sym, ap, ◌∙◌, subst, arith, append_assoc, append-nil, length-append}
 use Rattle.std.specs.Prelude.{OnErr}
 use Rattle.sealed.specs.declared.value.Sealed.{Sealed}
@@ -25,7 +25,7 @@ pub at_end : (old new : Ahead) (found : Option Piece) → IsStep old new found �
 at_end old new None is none = is.0
 at_end old new (Some piece) is none = absurd (none piece refl)
 
--- a walk that began at `first` and stands at `now` has given these pieces
+-- a walk that began at `first` and is at `now` has returned these pieces
 pub record Collects (first now : Ahead) (pieces : List Piece) : Type 0 where
   pub done : List Part
   pub rest : done ++ now.parts ≡ first.parts
@@ -81,7 +81,7 @@ absent_behind : (s : Sealed) (done rest : List Part) → HasAbsent s rest → Ha
 absent_behind s [] rest has = has
 absent_behind s (part ∷ done) rest has = or_right (absent_in s part.stripe part.fragment) _ (absent_behind s done rest has)
 
--- what is absent ahead is absent in the range
+-- a fragment that is absent ahead is absent in the range
 pub absent_ahead : (first now : Ahead) (pieces : List Piece) → Collects first now pieces → IsAbsent now.sealed now.parts → HasAbsent first.sealed first.parts
 absent_ahead first now pieces collects absent =
     subst (HasAbsent first.sealed) collects.rest (absent_behind first.sealed collects.done now.parts (first_absent first.sealed now.parts (subst (λ s. IsAbsent s now.parts) collects.same absent)))

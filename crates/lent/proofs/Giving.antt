@@ -1,4 +1,4 @@
--- What lies ahead of a walk whose recipes are kept: the cut without what was given.
+-- The parts ahead of a walk that keeps its recipes: the cut without the parts already returned.
 use Rattle.std.proofs.Common.{◌≡◌, ℕ, zero, suc, ◌+◌, ◌-◌, ◌*◌, ◌/◌, ◌<◌, ◌≤◌, ◌^◌, List, [], ◌∷◌, drop, map, length, refl, sym, ap, ap₂, ◌∙◌, subst, arith}
 use Rattle.std.specs.List.{range_with_len}
 use Rattle.std.proofs.lemmas.List.{drop-map}

@@ -83,7 +83,7 @@ cut_bytes code w start len b wide inside =
     ∙ sym (fill_from (λ i. slice_index_or b i 0) (slice_range b start (start + len)) start len (let e = length_of_range b start (start + len) inside in omega arith)
     (λ k l. item_of_range b start (start + len) k inside (omega arith)))
 
--- what lies ahead of a walk that stands at the data fragment k, of which n is behind the last
+-- the parts ahead of a walk at the data fragment k, if n is behind the last one
 abbrev pub ahead_at : Sealed → ℕ → ℕ → ℕ → ℕ → Ahead
 ahead_at s start end n k = record { sealed = s; parts = map (part_of s.code s.width start end) (range_with_len k (n - k)) }
 

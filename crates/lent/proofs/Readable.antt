@@ -1,4 +1,4 @@
--- Open bytes of a range, by the data fragments that it meets.
+-- Unrecoverable bytes of a range, found by the data fragments that it overlaps.
 use Rattle.std.proofs.Common.{◌≡◌, ℕ, ◌+◌, ◌-◌, ◌*◌, ◌/◌, ◌%◌, ◌<◌, ◌≤◌, Bool, max, sym, ◌∙◌, ap, subst, arith}
 use Rattle.std.proofs.Math.Nat.{div-eq_of_lt-le, div-mul-le_self, lt-div-mul-add, mul-le-mul_right}
 use Rattle.lrc_code.specs.declared.Code.{Code}
@@ -20,12 +20,12 @@ some_met w start len k met = grind (arith, met.first, met.last)
 end_above : (w start len : ℕ) → 0 < len → (start + len - 1) / w < cut_end w start len
 end_above w start len some = grind arith
 
--- the k-th data fragment is open
+-- the k-th data fragment is unrecoverable
 abbrev pub OpenAt : Code → (ℕ → ℕ → Bool) → ℕ → Type 0
 OpenAt code lost k = Open code (lost (k / data_count code)) (k % data_count code)
 
 module _ (code : Code) (w : ℕ) (some : 1 ≤ w) (start len : ℕ) where
-  -- what is met begins below the range's end
+  -- a fragment that the range meets begins below the range's end
   pub begins_below : (k : ℕ) → Meets w start len k → k * w < start + len
   begins_below k met =
       let m = some_met w start len k met in
@@ -46,7 +46,7 @@ module _ (code : Code) (w : ℕ) (some : 1 ≤ w) (start len : ℕ) where
       let scaled : start / w * w ≤ k * w = mul-le-mul_right w met.first in
       (max start (k * w), omega arith, omega (arith, m.0), div-eq_of_lt-le w (omega arith) (omega arith))
 
-  -- each byte of the range stands in what is met
+  -- each byte of the range lies in a fragment that is met
   met_around : (i : ℕ) → start ≤ i → i < start + len → Meets w start len (i / w)
   met_around i low high =
       let a : start / w ≤ i / w = div_mono w start i some low in

@@ -34,12 +34,12 @@ pub record IsCut (code : Code) (w start len : ℕ) (parts : List Part) : Type 0 
   pub apart : AreApart parts
 
 -- ---- the cut, computed: of each data fragment that the range meets, what lies between its ends
--- of the k-th data fragment of the blob, what lies between the bytes start and end
+-- the part of the blob's k-th data fragment that lies between the bytes start and end
 abbrev pub part_of : Code → ℕ → ℕ → ℕ → ℕ → Part
 part_of code w start end k =
     record { stripe = k / data_count code; fragment = k % data_count code; from = start - k * w; to = min w (end - k * w) }
 
--- the data fragment behind the last one that the range meets
+-- the number of the data fragment behind the last one that the range overlaps
 abbrev pub cut_end : ℕ → ℕ → ℕ → ℕ
 cut_end w start len = if len == 0 then start / w else (start + len - 1) / w + 1
 

@@ -1,4 +1,4 @@
--- Walks: what lies ahead, and what a step gives.
+-- Walks: the parts ahead, and the result of a step.
 use Rattle.std.specs.Prelude.{◌≡◌, ℕ, true, List, [], ◌∷◌, ◌++◌, map, Option, None, Some, slice_index_or}
 use Rattle.std.specs.List.{list_any}
 use Rattle.sealed.specs.declared.value.Sealed.{Sealed}
@@ -11,7 +11,7 @@ use Rattle.lent.specs.Cut.{all_numbers}
 use Rattle.lent.specs.Pieces.{IsPieceOf, bytes_of}
 use Rattle.lent.specs.Ahead.{Ahead}
 
--- the walk gave the piece of the first part ahead, and has the others ahead
+-- the walk returned the piece of the first part ahead, and has the others ahead
 pub record Gives (old new : Ahead) (piece : Piece) : Type 0 where
   pub part : Part
   pub next : old.parts ≡ part ∷ new.parts
@@ -36,7 +36,8 @@ HasAbsent s parts = list_any (λ part. absent_in s part.stripe part.fragment) pa
 abbrev pub bytes_ahead : Ahead → List ℕ → List ℕ
 bytes_ahead ahead b = map (λ i. slice_index_or b i 0) (all_numbers ahead.sealed.code ahead.sealed.width ahead.parts)
 
--- of each blob that the value stands for, the piece is what lay ahead and does no more
+-- in each blob that the value represents, the piece is exactly the bytes that were ahead and no
+-- longer are
 abbrev pub Joins : Ahead → Ahead → Piece → Type 0
 Joins old new piece = (b : List ℕ) (lost : Lost) → StandsFor old.sealed b lost → bytes_ahead old b ≡ bytes_of piece ++ bytes_ahead new b
 

@@ -1,4 +1,4 @@
-//! Asking for a range.
+//! Requests for a range.
 ghost use Rattle.std.specs.Prelude.{◌≡◌, ◌+◌, ◌/◌, ◌<◌, ◌≤◌, ℕ, false, IfOk, OnErr, MatchBool};
 ghost use Rattle.lrc_code.specs.Code.{data_count, Open};
 ghost use Rattle.sealed.specs.Layout.{stripe_count};
@@ -22,10 +22,12 @@ impl Grant {
         self.sealed.version
     }
 
-    /// Asks for `len` bytes from the byte `start` on. `NoMemory` comes only in place of a grant, where one more owner of the blob was refused.
+    /// Asks for `len` bytes from the byte `start` on. `NoMemory` comes only in place of a grant, if
+    /// the count of the blob's owners can't grow.
     pub fn ask(sealed: &Arc<Sealed>, start: u64, len: u64) -> Result<Asked, NoMemory>
         ensures ok { IfOk result (IsAnswer sealed.now.value start len) }
-        ensures err { OnErr result ((is_outside sealed.now.value.len start len ≡ false) × IsReadable sealed.now.value start len) }
+        ensures err { OnErr result ((is_outside sealed.now.value.len start len ≡ false)
+            × IsReadable sealed.now.value start len) }
     {
         let blob: &Sealed = sealed;
         if start > blob.len || len > blob.len - start {
@@ -47,13 +49,15 @@ impl Grant {
     }
 }
 
-/// Whether no byte of the range stands in an open fragment. It is judged stripe by stripe.
+/// Whether no byte of the range lies in an unrecoverable fragment. It decides this stripe by
+/// stripe.
 #[tactic(auto, using(sealed::proofs::Counting::some_data, sealed::proofs::Counting::few_data))]
 fn is_readable(sealed: &Sealed, start: u64, len: u64, met: &Range<u64>) -> bool
     requires inside { start + len ≤ sealed.now.len }
     requires first { met.now.start ≡ start / sealed.now.width }
     requires last { met.now.end ≡ cut_end sealed.now.width start len }
-    ensures { MatchBool result (IsReadable sealed.now start len) (IsUnreadable sealed.now start len) }
+    ensures { MatchBool result (IsReadable sealed.now start len)
+        (IsUnreadable sealed.now start len) }
 {
     let mut k = met.start;
     while k < met.end {
@@ -67,12 +71,14 @@ fn is_readable(sealed: &Sealed, start: u64, len: u64, met: &Range<u64>) -> bool
     true
 }
 
-/// Whether one of the data fragments of a stripe from `from` on, up to `to`, is open. The first of them that is lost, and not alone in its group, tells it: it is
-/// open where the excess is above 2, and else nothing of the stripe is.
+/// Whether one of the data fragments `from..to` of a stripe is unrecoverable. The first of them
+/// that is lost together with another of its group decides. It is unrecoverable if the excess is
+/// above 2; otherwise no fragment of the stripe is.
 fn has_open(sealed: &Sealed, stripe: u64, from: u8, to: u8) -> bool
     requires stripe_below { stripe < stripe_count sealed.now.code sealed.now.width sealed.now.len }
     requires to_below { to ≤ data_count sealed.now.code }
-    ensures { MatchBool result ((f : ℕ) × (from ≤ f) × (f < to) × Open sealed.now.code (absent_in sealed.now stripe) f)
+    ensures { MatchBool result ((f : ℕ) × (from ≤ f) × (f < to)
+        × Open sealed.now.code (absent_in sealed.now stripe) f)
         ((f : ℕ) → from ≤ f → f < to → Open sealed.now.code (absent_in sealed.now stripe) f → ⊥) }
 {
     let lost = sealed.lost(stripe);

@@ -1,4 +1,4 @@
-//! All pieces of a range.
+//! Collection of all pieces of a range.
 ghost use Rattle.std.specs.Prelude.{◌≡◌, ◌<◌, ◌⊎◌, ℕ, List, IfOk, OnErr, length};
 ghost use Rattle.sealed.specs.Blob.{Lost};
 ghost use Rattle.sealed.specs.Sealed.{StandsFor};
@@ -12,12 +12,16 @@ use smallvec::SmallVec;
 use std::alloc::Global;
 
 impl Grant {
-    /// All pieces of the range, in order. Up to twelve of them ask for no memory but what is built: `NoMemory` comes only where there are more, or where
-    /// the fragment of one is absent.
+    /// All pieces of the range, in order. Up to twelve present fragments are collected without an
+    /// allocation. `NoMemory` comes only if there are more than twelve pieces, or if one is of a
+    /// lost fragment.
     pub fn collect(&self, alloc: Global) -> Result<SmallVec<Piece<'_>, 12>, NoMemory>
-        ensures pieces { IfOk result (λ pieces. ArePieces self.now.sealed.value (cut_of self.now) pieces.items) }
-        ensures joined { IfOk result (λ pieces. (b : List ℕ) (lost : Lost) → StandsFor self.now.sealed.value b lost → joined pieces.items ≡ range_of self.now b) }
-        ensures err { OnErr result (HasAbsent self.now.sealed.value (cut_of self.now) ⊎ (12 < length (cut_of self.now))) }
+        ensures pieces { IfOk result (λ pieces. ArePieces self.now.sealed.value (cut_of self.now)
+            pieces.items) }
+        ensures joined { IfOk result (λ pieces. (b : List ℕ) (lost : Lost)
+            → StandsFor self.now.sealed.value b lost → joined pieces.items ≡ range_of self.now b) }
+        ensures err { OnErr result (HasAbsent self.now.sealed.value (cut_of self.now)
+            ⊎ (12 < length (cut_of self.now))) }
     {
         let mut pieces = SmallVec::new(alloc);
         let mut walk = self.walk();

@@ -1,4 +1,4 @@
-//! The data fragments that a range meets, counted through the blob.
+//! The data fragments that a range overlaps, numbered through the blob.
 ghost use Rattle.std.specs.Prelude.{◌≡◌, ◌+◌, ◌/◌, ◌%◌, ◌≤◌, ◌<◌};
 ghost use Rattle.lrc_code.specs.Code.{data_count, Open};
 ghost use Rattle.sealed.specs.Layout.{stripe_count};
@@ -10,7 +10,7 @@ use lrc_code::Code;
 use sealed::Sealed;
 use std::ops::Range;
 
-/// The data fragments that a range inside the blob meets.
+/// The data fragments that overlap a range inside the blob.
 pub(crate) fn met_by(sealed: &Sealed, start: u64, len: u64) -> Range<u64>
     requires { start + len ≤ sealed.now.len }
     ensures start { result.start ≡ start / sealed.now.width }
@@ -24,7 +24,8 @@ pub(crate) fn met_by(sealed: &Sealed, start: u64, len: u64) -> Range<u64>
     first..(start + len - 1) / width + 1
 }
 
-/// The stripe of the `k`-th data fragment of a blob, and its number there. Each code divides by a number of its own, which costs less than by one that is looked up.
+/// The stripe of the `k`-th data fragment of a blob, and its number there. The match gives each
+/// code a constant divisor, which is faster than one from a variable.
 pub(crate) fn place_of(code: Code, k: u64) -> (u64, u8)
     ensures stripe { result.0 ≡ k / data_count code }
     ensures fragment { result.1 ≡ k % data_count code }
@@ -40,10 +41,13 @@ pub(crate) fn place_of(code: Code, k: u64) -> (u64, u8)
 pub(crate) fn part_at(grant: &Grant, k: u64) -> Part
     requires first { grant.now.start / grant.now.sealed.value.width ≤ k }
     requires last { k < cut_end grant.now.sealed.value.width grant.now.start grant.now.len }
-    ensures value { result ≡ part_of grant.now.sealed.value.code grant.now.sealed.value.width grant.now.start (grant.now.start + grant.now.len) k }
-    ensures stripe { result.stripe < stripe_count grant.now.sealed.value.code grant.now.sealed.value.width grant.now.sealed.value.len }
+    ensures value { result ≡ part_of grant.now.sealed.value.code grant.now.sealed.value.width
+        grant.now.start (grant.now.start + grant.now.len) k }
+    ensures stripe { result.stripe < stripe_count grant.now.sealed.value.code
+        grant.now.sealed.value.width grant.now.sealed.value.len }
     ensures fragment { result.fragment < data_count grant.now.sealed.value.code }
-    ensures closed { Open grant.now.sealed.value.code (absent_in grant.now.sealed.value result.stripe) result.fragment → ⊥ }
+    ensures closed { Open grant.now.sealed.value.code
+        (absent_in grant.now.sealed.value result.stripe) result.fragment → ⊥ }
     ensures range { (result.from ≤ result.to) × (result.to ≤ grant.now.sealed.value.width) }
 {
     let sealed: &Sealed = &grant.sealed;

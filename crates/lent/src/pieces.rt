@@ -1,4 +1,4 @@
-//! How pieces are made.
+//! How a piece is made.
 ghost use Rattle.std.specs.Prelude.{◌≡◌, ◌+◌, ◌<◌, ◌≤◌, [], None, IfOk, OnErr};
 ghost use Rattle.lrc_code.specs.Code.{fragment_count, Open};
 ghost use Rattle.sealed.specs.Layout.{stripe_count};
@@ -12,7 +12,7 @@ use sealed::Sealed;
 use std::alloc::Global;
 
 impl Piece<'_> {
-    /// The bytes, lent or built.
+    /// The bytes, whether lent or built.
     pub fn bytes(&self) -> &[u8]
         ensures { result.now ≡ bytes_of self.now }
     {
@@ -32,7 +32,8 @@ impl Default for Piece<'_> {
     }
 }
 
-/// The piece of a part of a fragment that is not open. Only that of an absent fragment asks for memory.
+/// The piece of a part of a fragment that is present or can be rebuilt. It allocates only for a
+/// lost fragment. `NoMemory` if memory runs out.
 pub(crate) fn piece_of<'a>(
     alloc: Global,
     sealed: &'a Sealed,
@@ -54,7 +55,7 @@ pub(crate) fn piece_of<'a>(
     }
 }
 
-/// The same, where an absent fragment is built by the recipes that `plans` keeps. A new one is kept, and none is taken out.
+/// Does the same with the recipes of `plans`. It adds a new recipe to `plans` and removes none.
 pub(crate) fn piece_by<'a>(
     alloc: Global,
     sealed: &'a Sealed,

@@ -1,16 +1,16 @@
 //! Spans.
 
-/// A part of a data fragment, with its bytes where the fragment is there.
+/// A part of a data fragment, with its bytes if the fragment is present.
 #[derive(Clone, Copy, Debug)]
 pub struct Span<'a> {
-    /// The stripe of the fragment.
+    /// The stripe of the fragment, from 0.
     pub stripe: u64,
-    /// The fragment in its stripe.
+    /// The number of the fragment in its stripe, from 0.
     pub fragment: u8,
-    /// The first place.
+    /// The first byte, counted from the fragment's beginning.
     pub from: usize,
-    /// The place behind the last.
+    /// The byte behind the last one.
     pub to: usize,
-    /// The fragment's bytes at the places `from..to`, or `None` where it is absent.
+    /// The bytes `from..to` of the fragment, or `None` if it is lost.
     pub bytes: Option<&'a [u8]>,
 }

@@ -1,4 +1,4 @@
-//! The cut of a range, with the bytes that are there.
+//! The parts of a range, with the bytes that are present.
 ghost use Rattle.std.specs.Prelude.{◌≡◌, ◌≤◌, ◌<◌};
 ghost use Rattle.sealed.specs.Layout.{stripe_count};
 ghost use Rattle.lent.specs.Granted.{cut_of};
@@ -8,7 +8,8 @@ use crate::{Grant, Part, Span, Walk};
 use sealed::Sealed;
 use std::marker::Model;
 
-/// The spans of a granted range. Contracts see the list of those that are still ahead, each as its part and the bytes that it has.
+/// An iterator over the spans of a granted range. Contracts see the list of those that are still
+/// ahead, each as its part with its bytes.
 #[derive(Drop)]
 pub struct Spans<'a> {
     walk: Walk<'a>,
@@ -25,7 +26,7 @@ impl<'a> Model for Spans<'a> {
 }
 
 impl Grant {
-    /// The range from its first byte to its last, cut where fragments end. An empty range has no span. It asks for no memory.
+    /// The range in order, cut where fragments end. An empty range has no span. Does not allocate.
     pub fn spans(&self) -> Spans<'_>
         ensures { result ≡ spans_of self.now.sealed.value (cut_of self.now) }
     {

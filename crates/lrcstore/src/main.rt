@@ -1,4 +1,4 @@
-//! The program: it gets its words, and hands them over with the file system and both outputs.
+//! The program `lrcstore`. It passes its words, the file system and both outputs to `program`.
 #![tactic(auto)]
 
 use play::Fail;
@@ -7,7 +7,7 @@ use std::fs::File;
 use std::process::ExitCode;
 use std::{env, io};
 
-/// Reports a failure, and gives its exit status.
+/// Reports a failure, and returns its exit status.
 fn fail<E: io::Write>(fail: Fail, errors: &mut E) -> ExitCode {
     ExitCode::from(report(fail, errors).ending.status())
 }

@@ -15,6 +15,3 @@ pub use report::{Gather, Report};
 pub use results::gather;
 pub use tickets::{Drawer, Tickets};
 pub use workers::{scrub, work};
-
-#[cfg(test)]
-mod tests;

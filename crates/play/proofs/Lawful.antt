@@ -1,4 +1,4 @@
--- The history of a run is legal, and no more of it is given up than there is.
+-- The history of a run is legal, and it has at least as many calls as were discarded.
 use Rattle.std.proofs.Common.{ℕ, zero, suc, ◌+◌, ◌-◌, ◌≤◌, Bool, true, false, cond, List, [], ◌∷◌, ◌++◌, length, All, fold, refl, arith}
 use Rattle.std.specs.Prelude.{◌^◌, ◌||◌, nat_le, nat_lt}
 use Rattle.std.proofs.lemmas.List.Elements.{All-head, All-tail}
@@ -53,7 +53,7 @@ module _ (w limit : ℕ) where
       by (trimmed keep zero) does rest = rest (omega (arith, fits))
       by (trimmed keep (suc n)) does rest = rest (let few = few_given s.given (s.calls - s.given) keep in omega (arith, fits, does, few))
 
--- what a run prints tells a legal history
+-- the output of a run represents a legal history
 pub output_of : (w limit workers : ℕ) (history : Bool) (rows : List Row) (steps : List Step) → IsRun w limit workers rows steps → IsOutput w history (printed w history rows steps)
 output_of w limit workers history rows steps run = record {
   calls = calls_in steps;

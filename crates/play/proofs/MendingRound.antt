@@ -1,4 +1,4 @@
--- What the workers of a mend did, as the pass shows it that joined them.
+-- The effect of a mend's workers, as the pass shows it that joined them.
 use Rattle.std.proofs.Common.{◌≡◌, ◌∙◌, ℕ, ◌+◌, ◌<◌, ◌≤◌, List, [], ◌∷◌, ◌++◌, length, map, None, Some, Ok, Err, refl, ap, sym, subst, append-nil, length-append, arith, inl, inr}
 use Rattle.std.specs.Prelude.{slice_get}
 use Rattle.std.proofs.lemmas.Grind.{flat_map-append}
@@ -42,7 +42,7 @@ use Rattle.play.proofs.Parts.{MendPart, mend_part}
 use Rattle.play.proofs.Taking.{Took, took_none, took_more, took_ok, took_full, deeds_finished, deeds_full}
 use Rattle.play.proofs.Repaired.{deeds_in, mends_told}
 
--- all was asked for, where each had a reply
+-- if each had a reply, all were asked for
 all_asked : (v w : Shows) (asks : List Ask) (replies : List Reply) (serves : Serves v asks replies w) → length replies ≡ length asks → map (λ (t : Turn). t.ask) serves.turns ≡ asks
 all_asked v w asks replies serves many =
     let a : length (map (λ (t : Turn). t.ask) serves.turns) ≡ length serves.turns = length-map serves.turns (λ t. t.ask) in

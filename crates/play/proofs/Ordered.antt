@@ -1,4 +1,5 @@
--- All steps in the order in which they were done: each is what one thread does after those before it.
+-- All steps in the order in which they were done: each follows the sequential specification after
+-- those before it.
 use Rattle.std.proofs.Common.{◌≡◌, ◌≢◌, ◌∙◌, ℕ, zero, suc, ◌+◌, ◌-◌, ◌<◌, ◌≤◌, ◌==◌, Bool, true, false, cond, List, [], ◌∷◌, ◌++◌, length, map, take, fold, All, refl, ap, sym, subst, ⊎_elim, arith, true≢false, eq-eqb, append-nil, append_assoc, length-append, ne_eqb}
 use Rattle.std.specs.List.{filter, AllPairs}
 use Rattle.std.proofs.lemmas.List.{take_all}
@@ -245,14 +246,14 @@ calls_are s [] = append-nil (events_in s)
 calls_are s (p ∷ xs) =
     sym (append_assoc (events_in s) (events_in (act_at p)) (calls_in (steps_at xs))) ∙ ap (λ h. h ++ calls_in (steps_at xs)) (sym (events-append s (act_at p))) ∙ calls_are (goes_on s p) xs
 
--- each is what one thread does there
+-- each step follows the sequential specification there
 pub are_done : (w l : ℕ) (acts : List Act) (xs : List Placed) → Follow [] xs → Each (Stands w l acts) xs → AreDone w l (steps_at xs)
 are_done w l acts xs goes stand =
     subst (All (λ (f : Found). Does w l f.0 f.1.deed)) (sym (found_are [] xs goes))
     (all_each (λ (f : Found). Does w l f.0 f.1.deed) (map found_of xs)
     (each-map found_of (λ (f : Found). Does w l f.0 f.1.deed) xs (each-weaker (Stands w l acts) (λ p. Does w l (standing_of p.before) p.step.deed) (λ p is. is.does) xs stand)))
 
--- one stands before another only where it may
+-- one comes before another only if it may
 pub order_is : (round_of : ℕ → ℕ) (n : ℕ) (xs : List Placed) → Pairs (IsGood round_of) xs → AllPairs (MayPrecede round_of) (steps_at (in_order_below n xs))
 order_is round_of n xs good =
     let R : Placed → Placed → Type 0 = λ x y. MayPrecede round_of x.step y.step in

@@ -32,11 +32,11 @@ use Rattle.play.specs.Paced.{HoldsBack}
 use Rattle.play.proofs.Buckets.{each-filter}
 use Rattle.play.proofs.Ordered.{each-map}
 
--- a row of so many
+-- one of this many rows
 abbrev pub IsWithin : ℕ → ℕ → Type 0
 IsWithin rows row = (1 ≤ row) × (row ≤ rows)
 
--- an errand asks the pace of such rows alone
+-- a task asks the pace only about such rows
 abbrev AsksWithin : ℕ → Errand → Type 0
 AsksWithin rows (Calls jobs) = Each (λ (job : Job). IsWithin rows job.row) jobs.items
 AsksWithin rows (Mend m) = IsWithin rows m.row

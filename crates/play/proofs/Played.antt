@@ -40,7 +40,7 @@ all_earlier : (n : ℕ) (xs : List Placed) → Each (λ (p : Placed). p.step.row
 all_earlier n [] early = refl
 all_earlier n (p ∷ xs) early = let yes : nat_lt p.step.row n ≡ true = grind (arith, nat_tests, early.0) in ap (λ b. cond b (p ∷ earlier n xs) (earlier n xs)) yes ∙ ap (λ l. p ∷ l) (all_earlier n xs early.1)
 
--- later steps change nothing of what a row found
+-- later steps do not change what a row found
 earlier_old : (n : ℕ) (xs ys : List Placed) → Each (λ (p : Placed). n ≤ p.step.row) ys → earlier n (xs ++ ys) ≡ earlier n xs
 earlier_old n xs ys late = filter-append (λ (p : Placed). nat_lt p.step.row n) xs ys ∙ ap (λ l. earlier n xs ++ l) (none_earlier n ys late) ∙ append-nil (earlier n xs)
 
@@ -108,7 +108,7 @@ played_more w l workers rows round base top numbers before acts old_did new_did 
           (each-weaker (IsNext base top before acts old_did ys) (IsDone w l top acts (xs ++ ys)) (done_now w l base top before acts old_did xs ys p.places p.stand p.few) r.accounts r.are_next));
     }
 
--- each row up to this one is told of once
+-- each row up to this one has one outcome
 abbrev pub AreTold : ℕ → List ℕ → List ℕ → Type 0
 AreTold top told waiting = (k : ℕ) → times k told + times k waiting ≡ once_later (top + 1) k
 
@@ -134,7 +134,7 @@ pub record Waits (w l workers : ℕ) (rows : List Row) (round number : ℕ) (act
   pub rise : RiseFrom base calls
   pub once : AreTold number (numbers_in done) (numbers_of calls)
 
--- what is promised of calls that are made
+-- the property of a round of calls that were made
 abbrev pub MakesRound : ℕ → ℕ → ℕ → List RowCall → List Act → List Act → List ℕ → List ℕ → List NumberedOutcome → List NumberedOutcome → Type 0
 MakesRound w l workers calls before acts old_did new_did old new =
     (rows : List Row) (round top base : ℕ) → Each (IsCallOf workers rows round top) calls → RiseFrom base calls → IsRound w l workers rows round top base (numbers_of calls) before acts old_did new_did old new
@@ -152,7 +152,7 @@ made_all w l workers rows round number before acts old_did new_did old new calls
           omega (arith, both, mine, all),
     )
 
--- the same, by a pool of so many
+-- the same, by a pool of this many workers
 pub made_last : (w l workers : ℕ) (rows : List Row) (round number : ℕ) (before acts : List Act) (old_did new_did : List ℕ) (old new : List NumberedOutcome) (pool : ℕ) (calls : List RowCall)
     → Waits w l workers rows round number before old_did old calls → IsPrefix before acts → pool ≡ workers → MakesRound w l pool calls before acts old_did new_did old new
     → IsPlayed w l workers rows number acts new_did new × AreTold number (numbers_in new) []
@@ -257,7 +257,7 @@ makes_call store workers rows done_rows rest row ask number next round pool done
     let more = waits_more store.width store.limit workers rows row.round number pool.first.acts pool.first.did done calls c f.waits call next_is in
     subst (λ (u : ℕ × (ℕ × List RowCall)). Waits store.width store.limit workers rows u.0 u.1.0 pool.first.acts pool.first.did done u.1.1) (λ i. (sym f.current i, (sym next_is i, sym is i))) more
 
--- what is promised of a mend
+-- the property of a mend
 abbrev pub MakesMend : ℕ → ℕ → ℕ → ℕ → List Act → List Act → List ℕ → List ℕ → List NumberedOutcome → List NumberedOutcome → Type 0
 MakesMend w l workers number before acts old_did new_did old new =
     (rows : List Row) (round top base : ℕ) → IsMendOf rows round top base number → IsRound w l workers rows round top base (number ∷ []) before acts old_did new_did old new

@@ -1,4 +1,4 @@
--- A mend's steps are repairs of its plan, and its reply tells them.
+-- A mend's steps are repairs of its plan, and its outcome is their text.
 use Rattle.std.proofs.Common.{◌≡◌, ◌∙◌, ℕ, zero, suc, ◌<◌, ◌≤◌, ◌==◌, ◌||◌, Bool, true, false, cond, List, [], ◌∷◌, ◌++◌, length, map, take, drop, Some, IsPermutation, refl, ap, sym, subst, arith, true≢false}
 use Rattle.std.specs.Prelude.{slice_get, count_by, codes, decimal, if◌then◌else◌}
 use Rattle.std.specs.List.{filter, list_any}
@@ -49,7 +49,7 @@ counted : (n : ℕ) (taken : List Taken) → count_by (has_key (λ (t : Taken). 
 counted n [] = refl
 counted n (t ∷ taken) = omega (arith, sum_by-cons (λ (u : Taken). cond {A = ℕ} (u.0 == n) 1 0) t taken, sum_by-cons (λ m. cond {A = ℕ} (m == n) 1 0) t.0 (tickets_in taken), counted n taken)
 
--- no ticket is as great as a number from which on none stands there
+-- no ticket is as great as a number from which on no ticket is drawn
 tickets_below : (c : ℕ) (taken : List Taken) → ((n : ℕ) → c ≤ n → times n (tickets_in taken) ≡ 0) → Each (λ (t : Taken). t.0 < c) taken
 tickets_below c [] none = tt
 tickets_below c (t ∷ taken) none = (
@@ -101,7 +101,7 @@ meets_are : (steps : List Placed) → meets_full (map found_of steps) ≡ list_a
 meets_are [] = refl
 meets_are (p ∷ steps) = ap (λ b. is_full p.step.deed || b) (meets_are steps)
 
--- repairs of the first items of the plan, of all of them where none met a full journal
+-- repairs of the first items of the plan, or of all of them if none met a full journal
 mends_first : (workers : ℕ) (plan : List Item) (os : List Outcome) (steps : List Placed) (c : ℕ) → (took : Took plan os (deeds_in steps)) → ((n : ℕ) → times n (tickets_in took.taken) ≡ once_below n c)
     → Each (λ (p : Placed). (1 ≤ p.step.who) × (p.step.who ≤ workers)) steps → (list_any is_full (deeds_in steps) ≡ false → drop c plan ≡ []) → Mends workers plan (map found_of steps)
 mends_first workers plan os steps c took once are_by all =
@@ -146,7 +146,7 @@ same_tests answer.NotLost = (refl, refl, refl, refl)
 same_tests (answer.Deleted v) = (refl, refl, refl, refl)
 same_tests (answer.Shape v len stripes lost) = (refl, refl, refl, refl)
 
--- the reply where no repair met a full journal
+-- the reply if no repair met a full journal
 abbrev numbers_text : List Found → List ℕ
 numbers_text steps = codes "mended " ++ (noted is_repaired steps ++ (codes " " ++ (noted is_not_lost steps ++ (codes " " ++ (noted is_gone steps ++ (codes " " ++ noted is_unrecoverable steps))))))
 

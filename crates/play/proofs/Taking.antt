@@ -90,7 +90,7 @@ took_more plan xs ys one two a b =
     }
 
 -- ---- one worker
--- what the replies tell, one after the other
+-- the deeds of the replies, in order
 abbrev told_all : List Ask → List Reply → List (Option Deed)
 told_all [] replies = []
 told_all (a ∷ asks) [] = []

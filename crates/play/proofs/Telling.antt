@@ -62,7 +62,7 @@ HasOwn a = Each (λ (p : Placed). p.step.row ≡ a.done.number) a.steps
 times-first : (k : ℕ) (a : Account) (accounts : List Account) → times k (numbers (a ∷ accounts)) ≡ cond {A = ℕ} (a.done.number == k) 1 0 + times k (numbers accounts)
 times-first k a accounts = sum_by-cons (λ n. cond {A = ℕ} (n == k) 1 0) a.done.number (numbers accounts)
 
--- where a number is none of theirs
+-- if a number is none of theirs
 others_are : (k : ℕ) (accounts : List Account) → times k (numbers accounts) ≡ 0 → Each (λ (a : Account). a.done.number ≢ k) accounts
 others_are k [] none = tt
 others_are k (a ∷ accounts) none = (
@@ -96,7 +96,7 @@ are_alone (a ∷ accounts) own once =
           accounts (each-both (λ (b : Account). b.done.number ≢ a.done.number) (IsAlone (steps_in accounts)) accounts others rest),
     )
 
--- the account of a number that stands among theirs
+-- the account of a number that is among theirs
 pub the_account : (P : Account → Type 0) (k : ℕ) (accounts : List Account) → times k (numbers accounts) ≡ 1 → Each P accounts → (a : Account) × (a.done.number ≡ k) × P a
 the_account P k [] once all = absurd (omega (arith, once))
 the_account P k (a ∷ accounts) once all = by (a.done.number == k) refl (the_account P k accounts)
@@ -106,7 +106,7 @@ the_account P k (a ∷ accounts) once all = by (a.done.number == k) refl (the_ac
     by false e rest = let none = ap (λ b. cond {A = ℕ} b 1 0) e in rest (omega (arith, times-first k a accounts, once, none)) all.1
 
 -- ---- in another order
--- the operation of a deed, where it has one
+-- the operation of a deed, if it has one
 abbrev operation_for : Deed → Operation
 operation_for (called o m) = o
 operation_for (full o) = o
@@ -136,7 +136,7 @@ few_operations : (fs : List Found) → length (operations_in fs) ≤ length fs
 few_operations [] = omega arith
 few_operations (f ∷ fs) = omega (arith, length-append (operation_in f.1.deed) (operations_in fs), one_at_most f.1.deed, few_operations fs)
 
--- where each has one
+-- if each has one
 each_operation : (fs : List Found) → length (operations_in fs) ≡ length fs → operations_in fs ≡ map (λ (f : Found). operation_for f.1.deed) fs
 each_operation [] all = refl
 each_operation (f ∷ fs) all =
@@ -182,7 +182,7 @@ ordered acts accounts = in_order_below (length acts) (steps_in accounts)
 abbrev pub run_of : List Act → List Account → List Step
 run_of acts accounts = steps_at (ordered acts accounts)
 
--- the line of what is told of a row
+-- the line of a row's outcome
 pub record IsLineOf (w : ℕ) (rows : List Row) (steps : List Step) (d : NumberedOutcome) : Type 0 where
   pub before : ℕ
   pub row : Row
@@ -313,7 +313,7 @@ each_all P (x ∷ xs) all = (All-head P x xs all, each_all P xs (All-tail P x xs
 pub lines_moved : (w : ℕ) (rows : List Row) (steps : List Step) (ds sorted : List NumberedOutcome) → IsPermutation ds sorted → Each (IsLineOf w rows steps) ds → Each (IsLineOf w rows steps) sorted
 lines_moved w rows steps ds sorted moved known = each_all (IsLineOf w rows steps) sorted (All-permutation (IsLineOf w rows steps) ds sorted moved (all_each (IsLineOf w rows steps) ds known))
 
--- numbers that are told once and do not fall
+-- numbers without repeats that do not fall
 pub in_order_once : (n : ℕ) (ds sorted : List NumberedOutcome) → IsPermutation ds sorted → ((k : ℕ) → times k (numbers_in ds) ≡ once_later (n + 1) k) → Pairs (λ x y. x ≤ y) (numbers_in sorted) → numbers_in sorted ≡ range_with_len 1 n
 in_order_once n ds sorted moved once rise =
     let same : (k : ℕ) → times k (numbers_in sorted) ≡ once_later (n + 1) k = λ k. sum_by-IsPermutation (λ q. cond {A = ℕ} (q == k) 1 0) (numbers_in ds) (numbers_in sorted) (IsPermutation-map (λ (d : NumberedOutcome). d.number) ds sorted moved) ∙ once k in

@@ -1,4 +1,4 @@
--- What is printed of a reply is the text of the deed that it tells.
+-- The printed text of a reply is the text of the deed that it represents.
 use Rattle.std.proofs.Common.{◌≡◌, ◌∙◌, ℕ, Bool, true, false, List, [], ◌∷◌, ◌++◌, Option, None, Some, MatchBool, MatchOption, length, refl, ap, sym, subst, ⊎_elim}
 use Rattle.std.specs.Option.{option_map}
 use Rattle.std.specs.FinMap as finite
@@ -83,7 +83,7 @@ plain w before (read n start len) (note.Shape v len' stripes lost) none = refl
 noted_text : (w : ℕ) (before : List Act) (o : Operation) (m : Note) (reply : lines.Line) → ((v : ℕ) → m ≡ note.Granted v → ⊥) → reply ≡ line.Noted m → line_text reply ≡ printed.reply_text w (standing_of before) o m
 noted_text w before o m reply none is = ap line_text is ∙ sym (plain w before o m none)
 
--- where it is a read, and the answer is a grant, it is one after this history
+-- if it is a read and the answer is a grant, the grant is one after this history
 abbrev GrantsIn : History → ℕ → Operation → Answer → Type 0
 GrantsIn h w o a = (n : List ℕ) (start len : ℕ) (g : Grant) → o ≡ read n start len → a ≡ answer.Granted g → GrantedIn h w n start len g
 

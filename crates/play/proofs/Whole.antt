@@ -40,7 +40,7 @@ pub record HasRun (w l workers : ℕ) (rows : List Row) (acts : List Act) (told 
   pub standing : standing_after steps ≡ standing_of acts
   pub calls : calls_in steps ≡ events_in acts
 
--- where each act is one of the pool's
+-- if each act is one of the pool's
 pub has_run : (w l workers : ℕ) (rows : List Row) (before acts : List Act) (did : List ℕ) (told : List NumberedOutcome) → IsPlayed w l workers rows (length rows) before did told → IsPrefix before acts
     → ((k : ℕ) → k < length acts → times k did ≡ 1) → ((k : ℕ) → times k (numbers_in told) ≡ once_later (length rows + 1) k) → HasRun w l workers rows acts told
 has_run w l workers rows before acts did told played more own once_told =

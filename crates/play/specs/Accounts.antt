@@ -1,4 +1,4 @@
--- What is told of each row, beside the steps that it took.
+-- The outcome of each row, with the steps that it took.
 use Rattle.std.specs.Prelude.{◌≡◌, ◌⊎◌, ℕ, ◌+◌, ◌<◌, ◌≤◌, nat_lt, List, [], ◌∷◌, ◌++◌, map, length, Option, Some, slice_get}
 use Rattle.std.specs.List.{filter, flat_map}
 use mathlib.Core.List.{IsPrefix}
@@ -19,7 +19,7 @@ use Rattle.transcript.specs.declared.outcome.NumberedOutcome.{NumberedOutcome}
 use Rattle.transcript.specs.declared.outcome.RowOutcome.{RowOutcome}
 use Rattle.transcript.specs.declared.line.Line.{Line}
 
--- a step, and the acts that were done before it
+-- a step, with the acts done before it
 pub record Placed : Type 0 where
   pub before : List Act
   pub step : Step
@@ -28,7 +28,7 @@ pub record Placed : Type 0 where
 abbrev pub act_at : Placed → List Act
 act_at p = act_of p.step.who p.step.deed
 
--- it is what one thread does after the first of these acts, and the next of them, where it is one
+-- the step is legal after the first of these acts, and is the next of them if it is an act
 pub record Stands (w limit : ℕ) (acts : List Act) (p : Placed) : Type 0 where
   pub does : Does w limit (standing_of p.before) p.step.deed
   pub stands : IsPrefix (p.before ++ act_at p) acts
@@ -37,7 +37,7 @@ pub record Stands (w limit : ℕ) (acts : List Act) (p : Placed) : Type 0 where
 abbrev pub own_places : List Placed → List ℕ
 own_places steps = flat_map (λ p. number_if (length p.before) (act_at p)) steps
 
--- what is told of a row, its steps, and for a mend the acts that were done before it
+-- the account of a row: its outcome, its steps, and for a mend the acts that were done before it
 pub record Account : Type 0 where
   pub done : NumberedOutcome
   pub steps : List Placed
@@ -49,19 +49,20 @@ dones_in accounts = map (λ a. a.done) accounts
 abbrev pub steps_in : List Account → List Placed
 steps_in accounts = flat_map (λ a. a.steps) accounts
 
--- the reply is the text of the step
+-- the outcome is the text of the step
 abbrev pub IsTextOf : ℕ → Placed → RowOutcome → Type 0
 IsTextOf w p outcome = (line : Line) → IsLineFor outcome line → line_text line ≡ deed_text w (standing_of p.before) p.step.deed
 
--- the step, beside the standing that it finds
+-- the step, with the standing that it finds
 abbrev pub found_of : Placed → Found
 found_of p = (standing_of p.before, p.step)
 
--- the reply is the text of a mend's steps
+-- the outcome is the text of a mend's steps
 abbrev pub IsMendTextOf : List Found → RowOutcome → Type 0
 IsMendTextOf steps outcome = (line : Line) → IsLineFor outcome line → line_text line ≡ mend_text steps
 
--- the row's steps are what it asks for, and the reply tells them. A mend's plan is that of the standing after the acts that it found
+-- the row's steps are what it asks for, and the outcome is their text. A mend's plan is that of the
+-- standing after the acts that it found
 abbrev pub Settles : ℕ → ℕ → Row → Task → Account → Type 0
 Settles w workers row (Make ask) a = (p : Placed) × (a.steps ≡ p ∷ []) × (p.step.who ≡ row.worker) × IsAsked ask p.step.deed × IsTextOf w p a.done.outcome
 Settles w workers row Mend a =
@@ -76,7 +77,7 @@ pub record IsAccount (w workers : ℕ) (rows : List Row) (a : Account) : Type 0 
   pub settles : Settles w workers row row.task a
   pub of_row : Each (λ (p : Placed). p.step.row ≡ a.done.number) a.steps
 
--- the numbers of the rows that are told of
+-- the row numbers of the outcomes
 abbrev pub numbers_in : List NumberedOutcome → List ℕ
 numbers_in done = map (λ d. d.number) done
 
@@ -84,13 +85,14 @@ numbers_in done = map (λ d. d.number) done
 abbrev pub earlier : ℕ → List Placed → List Placed
 earlier number steps = filter (λ p. nat_lt p.step.row number) steps
 
--- the steps are all that was done, each act by one of them
+-- the steps are all that was done, and each act is one of them
 pub record HasDone (w limit : ℕ) (acts : List Act) (steps : List Placed) : Type 0 where
   pub stand : Each (Stands w limit acts) steps
   pub all : (k : ℕ) → k < length acts → times k (own_places steps) ≡ 1
 
 -- ---- a round
--- the call is that of a row of the script, by one of so many workers, of this round, and no later one than `top`
+-- the call is that of a row of the script, by one of this many workers, of this round, and no later
+-- than `top`
 pub record IsCallOf (workers : ℕ) (rows : List Row) (round top : ℕ) (call : RowCall) : Type 0 where
   pub before : ℕ
   pub row : Row
@@ -102,12 +104,12 @@ pub record IsCallOf (workers : ℕ) (rows : List Row) (round top : ℕ) (call : 
   pub few : call.number ≤ top
   pub in_round : round_in rows call.number ≡ round
 
--- the calls' numbers rise, past this one
+-- the calls' numbers rise, and all are above this one
 abbrev pub RiseFrom : ℕ → List RowCall → Type 0
 RiseFrom base [] = Unit {0}
 RiseFrom base (c ∷ calls) = (base < c.number) × RiseFrom c.number calls
 
--- one is done, and its row is no later, before the other begins
+-- one is done before the other begins, and its row is no later
 abbrev pub IsBefore : Placed → Placed → Type 0
 IsBefore x y = (x.step.row ≤ y.step.row) × (length x.before + length (act_at x) ≤ length y.before)
 
@@ -130,7 +132,8 @@ pub record IsMendOf (rows : List Row) (round top base number : ℕ) : Type 0 whe
   pub few : number ≤ top
   pub in_round : round_in rows number ≡ round
 
--- one may stand before the other, and the other before it, but where it is done before the other begins
+-- if the other is not done before the one begins, the one may precede it; and the same the other
+-- way round
 abbrev pub IsGood : (ℕ → ℕ) → Placed → Placed → Type 0
 IsGood round_of x y = MayPrecede round_of x.step y.step × (MayPrecede round_of y.step x.step ⊎ (length x.before + length (act_at x) ≤ length y.before))
 
@@ -141,7 +144,8 @@ pub record IsLater (rows : List Row) (round top base low : ℕ) (p : Placed) : T
   pub place : low ≤ length p.before
   pub in_round : round_in rows p.step.row ≡ round
 
--- what a mend finds in a round: all that was done before it, at these places and no others, and no step of the round is of an earlier row
+-- what a mend finds in a round: all acts done before it, at these places and no others, and no step
+-- of the round is of an earlier row
 pub record FindsAll (before acts found : List Act) (did : List ℕ) (number : ℕ) (steps : List Placed) : Type 0 where
   pub after : IsPrefix before found
   pub within : IsPrefix found acts
@@ -154,7 +158,8 @@ pub record IsNext (base top : ℕ) (before acts : List Act) (did : List ℕ) (st
   pub few : a.done.number ≤ top
   pub finds : (found : List Act) → a.found ≡ Some found → FindsAll before acts found did a.done.number steps
 
--- what a round did of the rows with these numbers, between these acts and places: it is told of them behind what was told before
+-- the effect of a round on the rows with these numbers, between these acts and places: their
+-- outcomes are appended to the earlier ones
 pub record IsRound (w limit workers : ℕ) (rows : List Row) (round top base : ℕ) (numbers : List ℕ) (before acts : List Act) (old_did new_did : List ℕ) (old new : List NumberedOutcome) : Type 0 where
   pub accounts : List Account
   pub dones : new ≡ old ++ dones_in accounts
@@ -167,12 +172,13 @@ pub record IsRound (w limit workers : ℕ) (rows : List Row) (round top base : �
   pub once : (k : ℕ) → times k (numbers_in (dones_in accounts)) ≡ times k numbers
 
 -- ---- the whole
--- a row no later than `top`. If it is a mend's, what it finds is what the rows before it did
+-- a row no later than `top`. If it is a mend's, it finds what the rows before it did
 pub record IsDone (w limit top : ℕ) (acts : List Act) (steps : List Placed) (a : Account) : Type 0 where
   pub few : a.done.number ≤ top
   pub finds : (found : List Act) → a.found ≡ Some found → IsPrefix found acts × HasDone w limit found (earlier a.done.number steps)
 
--- What the first rows did, up to this one, as far as it is told of: each account is that of a row, and the steps of all accounts are the acts that the pool has for its own
+-- The effect of the first rows, up to this one, as far as there are outcomes. Each account is that
+-- of a row, and the steps of all accounts are the acts of the pool
 pub record IsPlayed (w limit workers : ℕ) (rows : List Row) (top : ℕ) (acts : List Act) (did : List ℕ) (done : List NumberedOutcome) : Type 0 where
   pub accounts : List Account
   pub dones : done ≡ dones_in accounts

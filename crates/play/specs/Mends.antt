@@ -20,7 +20,7 @@ use Rattle.transcript.specs.declared.outcome.RowOutcome.{RowOutcome}
 use Rattle.transcript.specs.declared.outcome.RowOutcome.TheVariants as row
 
 -- ---- before the round
--- a part in mending this plan, with a drawer of these tickets that has drawn nothing
+-- a part in mending this plan, with a drawer of these tickets that has drawn none
 pub record IsPart (plan : List Item) (tickets : TableId) (m : Mending) : Type 0 where
   pub drawer_of : m.drawer.tickets ≡ tickets
   pub tickets_are : m.tickets.value ≡ tickets
@@ -36,7 +36,7 @@ abbrev pub AreMenders : List Item → TableId → List Work → Type 0
 AreMenders plan tickets [] = Unit {0}
 AreMenders plan tickets (w ∷ ws) = IsMender plan tickets w.errand × AreMenders plan tickets ws
 
--- each mends for this row, of which the pace is asked
+-- each mends for this row, and asks the pace about it
 abbrev pub IsForRow : ℕ → Errand → Type 0
 IsForRow row (Calls jobs) = ⊥
 IsForRow row (Mend m) = m.row ≡ row
@@ -45,7 +45,7 @@ abbrev pub AreForRow : ℕ → List Work → Type 0
 AreForRow row [] = Unit {0}
 AreForRow row (w ∷ ws) = IsForRow row w.errand × AreForRow row ws
 
--- the allowances that the workers were given
+-- the allowances that the workers got
 abbrev pub given_to : Errand → ℕ
 given_to (Calls jobs) = 0
 given_to (Mend m) = m.drawer.allowance
@@ -59,7 +59,8 @@ abbrev pub results_in : Mended → List Done
 results_in (Worked (Ok done)) = done.items
 results_in m = []
 
--- a worker at its end. Draws leave the sum of a drawer's allowance and its draws, so that this is the allowance that it was given
+-- a worker at its end. Draws leave the sum of a drawer's allowance and its draws unchanged, so this
+-- is the allowance that it got
 abbrev pub left_with : DrawerState → List Done → Left
 left_with drawer done = record { given = drawer.allowance + length drawer.drawn; drawer = drawer; done = done }
 
@@ -88,7 +89,7 @@ AreBack plan tickets (o ∷ os) = IsBack plan tickets o × AreBack plan tickets 
 abbrev pub given_before : List Outcome → ℕ
 given_before outcomes = sum_by (λ (left : Left). left.given) (all_left outcomes)
 
--- the worker did what it could: it was let through, and stopped only at a full journal
+-- the worker did what it could: the pace admitted it, and it stopped only at a full journal
 abbrev pub HasEnded : Mended → Type 0
 HasEnded (Worked (Ok done)) = Unit {0}
 HasEnded (Worked (Err stop)) = stop.fault ≡ JournalFull
@@ -119,11 +120,12 @@ drawn_in (outcome.Mended drawer m) = drawer.drawn
 abbrev pub drawn_by : List Outcome → List ℕ
 drawn_by outcomes = flat_map drawn_in outcomes
 
--- all tickets that were drawn are the first ones, each once
+-- the drawn tickets of all workers are the first ones, each once
 abbrev pub AreDrawnOnce : List Outcome → Type 0
 AreDrawnOnce outcomes = AreFirst (drawn_by outcomes) (length (drawn_by outcomes))
 
--- What is told of a mend: that no worker stopped, so that each item has one result, and the counts of all results; or that one did
+-- The outcome of a mend. If no worker stopped, each item has one result, and it has the counts of
+-- all results; otherwise a worker stopped
 abbrev pub TellsMend : List Item → List Outcome → RowOutcome → Type 0
 TellsMend plan outcomes (row.Replied reply) = ⊥
 TellsMend plan outcomes (row.Mended report) =

@@ -1,4 +1,4 @@
--- What is noted of the rows of a round.
+-- The outcomes of the rows of a round.
 use Rattle.std.specs.Prelude.{◌≡◌, List, [], ◌∷◌, ◌++◌, map, Ok, Err}
 use Rattle.requests.specs.declared.jobs.RowReply.{RowReply}
 use Rattle.rounds.specs.declared.work.Outcome.{Outcome}
@@ -19,7 +19,7 @@ outcome_for r = record { number = r.row; outcome = Replied r.reply }
 abbrev pub noted : List RowReply → List NumberedOutcome
 noted replies = map outcome_for replies
 
--- the replies of all workers, one worker after the other, are put behind what was noted before
+-- the replies of all workers, one worker after the other, are appended to the earlier ones
 abbrev pub AreNoted : List Outcome → List NumberedOutcome → List NumberedOutcome → Type 0
 AreNoted [] old new = new ≡ old
 AreNoted (o ∷ outcomes) old new =

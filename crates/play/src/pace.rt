@@ -1,8 +1,8 @@
-//! How a run goes on.
+//! The pace of a run.
 
 use shared::Pace;
 
-/// The pace that lets every row through at once.
+/// A pace that admits every row at once.
 #[derive(Clone, Copy, Drop)]
 pub struct Always;
 

@@ -1,4 +1,4 @@
--- How the program ends: its exit status and its message.
+-- The endings of the program: exit status and message.
 use Rattle.std.specs.Prelude.{◌≡◌, ◌≢◌, ◌↔◌, ◌⊎◌, ℕ, List, ◌++◌, codes}
 use Rattle.clap.specs.Words.{kind_of}
 use Rattle.clap.specs.declared.error.Error.{Error}
@@ -34,7 +34,7 @@ IsQuiet HelpText = ⊥
 IsQuiet UsageError = Unit {0}
 IsQuiet (Failure fail) = fail ≢ Write
 
--- the ending that the parser's error leads to
+-- the ending for an error of the parser
 abbrev pub IsEndingOf : Error → Ending → Type 0
 IsEndingOf error Success = ⊥
 IsEndingOf error HelpText = IsHelpKind (kind_of error)

@@ -1,7 +1,6 @@
--- What the program writes of a run.
+-- The output that the program writes for a run.
 use Rattle.std.specs.Prelude.{◌≡◌, ℕ, List, Option, IfSome, map}
 use Rattle.std.specs.Io.KnownBytes.{Appends}
-use Rattle.command_line.specs.declared.line.Options.{Options}
 use Rattle.script.specs.Fields.{row_of}
 use Rattle.script.specs.Script.{script_records}
 use Rattle.script.specs.declared.rows.Row.{Row}
@@ -9,9 +8,10 @@ use Rattle.play.specs.Fails.{IsAccepted}
 use Rattle.play.specs.Printed.{printed}
 use Rattle.play.specs.Runs.{IsRun}
 use Rattle.play.specs.Steps.{Step}
+use Rattle.play.specs.declared.options.Options.{Options}
 
--- a run of the rows in the script's bytes, with the options' width, limit and workers, is printed,
--- with the history if the options say so; and no row is refused
+-- a run of the rows in the script's bytes is printed, and no row is refused. The options have its
+-- width, limit and workers, and whether the journal is printed
 pub record HasOutput (options : Options) (script old new : Option (List ℕ)) : Type 0 where
   pub rows : List Row
   pub steps : List Step

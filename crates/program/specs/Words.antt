@@ -6,24 +6,24 @@ use Rattle.clap.specs.declared.error.kind.ErrorKind.{ErrorKind}
 use Rattle.clap.specs.declared.error.kind.ErrorKind.TheVariants.{DisplayHelp, DisplayVersion}
 use Rattle.command_line.specs.Line.{Says}
 use Rattle.command_line.specs.Program.{program}
-use Rattle.command_line.specs.declared.line.Options.{Options}
+use Rattle.command_line.specs.declared.line.CommandLine.{CommandLine}
 
--- the words say options of which this holds
-abbrev pub HasOptions : List Text → (Options → Type 0) → Type 0
-HasOptions words P = (options : Options) × Says words options × P options
+-- the words say a command line of which this holds
+abbrev pub HasCommandLine : List Text → (CommandLine → Type 0) → Type 0
+HasCommandLine words P = (line : CommandLine) × Says words line × P line
 
 -- what an opener may answer for a path
 abbrev pub Opens : Type 0 → Type 1
 Opens File = List ℕ → Result File IoError → Type 0
 
--- for the options' script the opener gave a file of which this holds
-abbrev pub HasScript : {File : Type 0} → Opens File → Options → (File → Type 0) → Type 0
-HasScript {File} opens options P =
-    (file : File) × opens (string_bytes options.script) (Ok file) × P file
+-- the opener returned a file for the line's script, of which this holds
+abbrev pub HasScript : {File : Type 0} → Opens File → CommandLine → (File → Type 0) → Type 0
+HasScript {File} opens line P =
+    (file : File) × opens (string_bytes line.script) (Ok file) × P file
 
--- for the options' script the opener gave no file
-abbrev pub IsUnopened : {File : Type 0} → Opens File → Options → Type 0
-IsUnopened opens options = (error : IoError) × opens (string_bytes options.script) (Err error)
+-- the opener returned no file for the line's script
+abbrev pub IsUnopened : {File : Type 0} → Opens File → CommandLine → Type 0
+IsUnopened opens line = (error : IoError) × opens (string_bytes line.script) (Err error)
 
 -- the kind of a request for the help or the version
 abbrev pub IsHelpKind : ErrorKind → Type 0

@@ -1,19 +1,19 @@
-//! How the program ends.
+//! The endings of the program.
 
 ghost use Rattle.program.specs.Endings.{HasStatus};
 
 use play::Fail;
 
-/// How the program ends.
+/// How the program ended.
 #[derive(Clone, Copy, PartialEq, Eq, Debug)]
 pub enum Ending {
     /// The script ran, and its output is written.
     Success,
-    /// The words ask for the help or the version, and its text is written.
+    /// The words asked for the help or the version, and its text is written.
     HelpText,
     /// The parser refuses the words.
     UsageError,
-    /// The script has no output, or a text can't be written.
+    /// The run of the script has no output, or a text can't be written.
     Failure(Fail),
 }
 
@@ -31,11 +31,11 @@ impl Ending {
     }
 }
 
-/// The end of the program, and whether its message was written.
+/// The ending of the program, and whether its message was written.
 #[derive(Clone, Copy, PartialEq, Eq, Debug)]
 pub struct Exit {
-    /// How the program ends.
+    /// How the program ended.
     pub ending: Ending,
-    /// False if the message that belongs to the ending couldn't be written to standard error.
+    /// False if the message of the ending could not be written to standard error.
     pub is_reported: bool,
 }

@@ -1,4 +1,5 @@
-//! The program from its words to its exit status, over an opener of scripts and two writers.
+//! The program, from its words to its exit status. A caller passes the opener of scripts and two
+//! writers.
 #![tactic(auto)]
 
 mod ending;

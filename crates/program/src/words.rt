@@ -1,17 +1,19 @@
-//! A run of the program's words.
+//! The run of the program's words.
 
-ghost use Rattle.std.specs.Prelude.{◌≡◌, ◌≢◌, ◌⊎◌, Err, IfErr, IfSome, Ok, OnOk, map, string_bytes, true};
+ghost use Rattle.std.specs.Prelude.{◌≡◌, ◌≢◌, ◌⊎◌, Err, IfErr, IfSome, Ok, OnOk, map, string_bytes};
+ghost use Rattle.std.specs.Prelude.{true};
 ghost use Rattle.std.specs.Fn.{FnOnceReturnsAt};
 ghost use Rattle.std.specs.Io.KnownBytes.{Appends, Keeps};
 ghost use Rattle.command_line.specs.Line.{Says};
-ghost use Rattle.command_line.specs.Ranges.{InRange};
+ghost use Rattle.play.specs.Ranges.{InRange};
 ghost use Rattle.play.specs.Fails.{Tells};
 ghost use Rattle.program.specs.Endings.{IfFailure, IsEndingOf, IsQuiet, IsSuccess, message_of};
 ghost use Rattle.program.specs.Output.{HasOutput};
-ghost use Rattle.program.specs.Words.{HasHelpRequest, HasOptions, HasScript, HasUsageError, IsUnopened};
+ghost use Rattle.program.specs.Words.{HasCommandLine, HasHelpRequest, HasScript, HasUsageError};
+ghost use Rattle.program.specs.Words.{IsUnopened};
 
 use crate::ending::{Ending, Exit};
-use command_line::{BadLine, Options, options};
+use command_line::{BadLine, CommandLine, parse_line};
 use play::{Always, Fail, play};
 use std::alloc::Global;
 use std::io;
@@ -32,7 +34,8 @@ pub fn report<E: Write>(fail: Fail, errors: &mut E) -> Exit
     }
 }
 
-/// Writes the parser's text: the help or the version to the output, a refusal to standard error.
+/// Writes the parser's text: the help or the version to the output, and a refusal to standard
+/// error.
 fn print_parser_text<W: Write, E: Write>(error: clap::Error, output: &mut W, errors: &mut E) -> Exit
     ensures ending { IsEndingOf error result.ending }
     ensures no_output { IsQuiet result.ending
@@ -64,28 +67,29 @@ fn run_script<
     R: Read + Drop,
     F: FnOnce(&str) -> io::Result<R>,
     W: Write,
->(rt: &Rt, alloc: Global, options: &Options, opener: F, output: &mut W) -> Result<(), Fail>
+>(rt: &Rt, alloc: Global, line: &CommandLine, opener: F, output: &mut W) -> Result<(), Fail>
     requires opener { F.IsAlwaysCallable opener }
-    requires width { InRange options.now.width 65536 }
-    requires workers { InRange options.now.workers 16 }
-    requires limit { InRange options.now.limit 1048576 }
-    ensures prints { OnOk result (HasScript (FnOnceReturnsAt F.FnOnce opener) options.now (λ file.
-        HasOutput options.now (R.remaining file) (W.contents output.old) (W.contents output.new))) }
+    requires width { InRange line.now.options.width 65536 }
+    requires workers { InRange line.now.options.workers 16 }
+    requires limit { InRange line.now.options.limit 1048576 }
+    ensures prints { OnOk result (HasScript (FnOnceReturnsAt F.FnOnce opener) line.now (λ file.
+        HasOutput line.now.options (R.remaining file) (W.contents output.old) (W.contents output.new))) }
     ensures no_output { IfErr result (λ fail. fail ≢ Fail.Write
         → Keeps (W.contents output.old) (W.contents output.new)) }
     ensures cause { IfErr result (λ fail.
-        ((fail ≡ Fail.Read) × IsUnopened (FnOnceReturnsAt F.FnOnce opener) options.now)
-        ⊎ HasScript (FnOnceReturnsAt F.FnOnce opener) options.now (λ file.
-        IfSome (R.remaining file) (λ text. Tells options.now.workers text fail))) }
+        ((fail ≡ Fail.Read) × IsUnopened (FnOnceReturnsAt F.FnOnce opener) line.now)
+        ⊎ HasScript (FnOnceReturnsAt F.FnOnce opener) line.now (λ file.
+        IfSome (R.remaining file) (λ text. Tells line.now.options.workers text fail))) }
+    ensures never_paused { IfErr result (λ fail. fail ≢ Fail.Paused) }
 {
-    match opener(options.script.as_str()) {
-        Ok(file) => play(rt, alloc, options, file, output, &Always),
+    match opener(line.script.as_str()) {
+        Ok(file) => play(rt, alloc, &line.options, file, output, &Always),
         Err(_) => Err(Fail::Read),
     }
 }
 
-/// Runs the program's words, those after its name: reads what they say, opens their script, runs
-/// it, and writes its output. The message of a failure goes to standard error.
+/// Runs the program for the words after its name. It parses them, opens their script, runs it, and
+/// writes its output. It writes the message of a failure to standard error.
 pub fn run_words<
     Rt: Threads + Wait + Sync,
     R: Read + Drop,
@@ -95,21 +99,22 @@ pub fn run_words<
 >(rt: &Rt, alloc: Global, words: &[&str], opener: F, output: &mut W, errors: &mut E) -> Exit
     requires opener { F.IsAlwaysCallable opener }
     ensures prints { result.ending ≡ Ending.Success
-        → HasOptions (map (λ w. w.now) words.now) (λ options.
-        HasScript (FnOnceReturnsAt F.FnOnce opener) options (λ file.
-        HasOutput options (R.remaining file)
+        → HasCommandLine (map (λ w. w.now) words.now) (λ line.
+        HasScript (FnOnceReturnsAt F.FnOnce opener) line (λ file.
+        HasOutput line.options (R.remaining file)
         (W.contents output.old) (W.contents output.new))) }
     ensures help { result.ending ≡ Ending.HelpText → HasHelpRequest (map (λ w. w.now) words.now) }
     ensures usage { result.ending ≡ Ending.UsageError
         → HasUsageError (map (λ w. w.now) words.now) }
-    // a request for memory may be refused at any time
+    // any request for memory may be refused
     ensures cause { IfFailure (λ fail. (fail ≡ Fail.Memory)
         ⊎ (((fail ≡ Fail.Write) × HasHelpRequest (map (λ w. w.now) words.now))
-        ⊎ HasOptions (map (λ w. w.now) words.now) (λ options.
-        ((fail ≡ Fail.Read) × IsUnopened (FnOnceReturnsAt F.FnOnce opener) options)
-        ⊎ HasScript (FnOnceReturnsAt F.FnOnce opener) options (λ file.
-        IfSome (R.remaining file) (λ text. Tells options.workers text fail)))))
+        ⊎ HasCommandLine (map (λ w. w.now) words.now) (λ line.
+        ((fail ≡ Fail.Read) × IsUnopened (FnOnceReturnsAt F.FnOnce opener) line)
+        ⊎ HasScript (FnOnceReturnsAt F.FnOnce opener) line (λ file.
+        IfSome (R.remaining file) (λ text. Tells line.options.workers text fail)))))
         result.ending }
+    ensures never_paused { IfFailure (λ fail. fail ≢ Fail.Paused) result.ending }
     ensures no_output { IsQuiet result.ending
         → Keeps (W.contents output.old) (W.contents output.new) }
     ensures no_errors { IsSuccess result.ending
@@ -117,12 +122,12 @@ pub fn run_words<
     ensures message { result.is_reported ≡ true → IfFailure (λ fail.
         Appends (E.contents errors.old) (E.contents errors.new) (message_of fail)) result.ending }
 {
-    let options = match options(alloc, words) {
-        Ok(options) => options,
+    let line = match parse_line(alloc, words) {
+        Ok(line) => line,
         Err(BadLine::Clap(error)) => return print_parser_text(error, output, errors),
         Err(BadLine::NoMemory) => return report(Fail::Memory, errors),
     };
-    match run_script(rt, alloc, &options, opener, output) {
+    match run_script(rt, alloc, &line, opener, output) {
         Ok(()) => Exit {
             ending: Ending::Success,
             is_reported: true,

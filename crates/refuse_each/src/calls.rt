@@ -1,4 +1,4 @@
-//! Calls that are made once more where memory is refused.
+//! Calls that are repeated if they run out of memory.
 ghost use Rattle.std.specs.Prelude.{◌≡◌};
 ghost use Rattle.shared.specs.Passes.{Stays};
 
@@ -10,7 +10,7 @@ use shared::{Pass, Store};
 use std::alloc::Global;
 use std::sync::Wait;
 
-/// A blob of one stripe of width 1: its code, its bytes, and the fragments that are lost, by number.
+/// A blob of one stripe of width 1: its code, its bytes, and the numbers of its lost fragments.
 #[derive(Drop)]
 pub(crate) struct Case {
     pub code: Code,
@@ -18,18 +18,18 @@ pub(crate) struct Case {
     pub lost: [u8; 4],
 }
 
-/// A call, with what it answers where it needs saying.
+/// A call, with its expected answer if the call alone does not determine it.
 #[derive(Clone, Copy)]
 pub(crate) enum Step {
     Put,
     Lose(u8),
     Repair(u8),
-    /// Keeps two entries, and gives up so many.
+    /// Keeps two entries, and discards this many.
     Trim(u64),
     Stat,
 }
 
-/// Makes a call, and tells whether it answers as with ample memory.
+/// Makes a call, and returns whether it has the expected answer.
 fn once<R: Wait>(
     rt: &R,
     alloc: Global,
@@ -75,7 +75,7 @@ fn once<R: Wait>(
     })
 }
 
-/// Whether just these fragments are lost.
+/// Whether exactly these fragments are lost.
 pub(crate) fn are_lost<R: Wait>(
     rt: &R,
     alloc: Global,
@@ -95,7 +95,7 @@ pub(crate) fn are_lost<R: Wait>(
     }
 }
 
-/// Makes a call, and once more where memory is refused: what is lost is as it was before.
+/// Makes a call, and repeats it if it runs out of memory. The lost fragments are then as before.
 pub(crate) fn make<R: Wait>(
     rt: &R,
     alloc: Global,

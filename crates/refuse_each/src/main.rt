@@ -1,5 +1,6 @@
-//! Calls of the store whose requests for memory are refused in turn. Whichever is refused, the call that made it leaves what is lost as it was, and made again it
-//! answers as with ample memory. It ends with status 1 at the first answer that is another one.
+//! Calls of the store, with each of their allocations refused in turn. A call that runs out of
+//! memory leaves the lost fragments unchanged, and gives the expected answer when repeated. The
+//! program ends with status 1 at the first other answer.
 #![tactic(auto)]
 
 ghost use Rattle.std.specs.Prelude.{◌≡◌, IfOk};
@@ -19,7 +20,7 @@ use shared::{Pass, Store};
 use std::alloc::Global;
 use std::sync::Wait;
 
-/// A store of width 1, opened once more where memory is refused.
+/// Opens a store of width 1, again if it runs out of memory.
 fn opened(alloc: Global) -> Result<(Store, Pass)>
     ensures { IfOk result (λ r. (r.1.store ≡ r.0) × (r.1.room ≡ 64)) }
 {
@@ -74,7 +75,7 @@ fn repair_and_mend<R: Wait>(
     make(rt, alloc, store, pass, case, Step::Stat, &[])
 }
 
-/// All calls on one blob. The closed book has what they entered, and nothing else.
+/// All calls on one blob. The closed book has their entries and no others.
 fn run<R: Wait>(rt: &R, alloc: Global, case: &Case) -> Result<()> {
     let (store, mut pass) = opened(alloc)?;
     put_and_lose(rt, alloc, &store, &mut pass, case)?;

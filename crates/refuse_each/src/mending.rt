@@ -1,4 +1,4 @@
-//! A mend of what is lost, each step once more where memory is refused.
+//! A mend, with each step repeated if it runs out of memory.
 ghost use Rattle.std.specs.Prelude.{◌≡◌, IfOk};
 ghost use Rattle.shared.specs.Passes.{Stays};
 
@@ -26,7 +26,7 @@ fn planned<R: Wait>(
     }
 }
 
-/// A copy of results.
+/// A copy of the results.
 fn copied(alloc: Global, done: &[Done]) -> std::result::Result<Vec<Done>, AllocError> {
     let mut copy = Vec::new(alloc);
     for one in done {
@@ -46,7 +46,7 @@ fn copied(alloc: Global, done: &[Done]) -> std::result::Result<Vec<Done>, AllocE
     Ok(copy)
 }
 
-/// That results, which all mended a fragment, make up the plan.
+/// Checks that the results, which all repaired a fragment, are those of the whole plan.
 fn ensure_gathered(alloc: Global, plan: &Plan, done: Vec<Done>) -> Result<()> {
     let copy = match copied(alloc, &done) {
         Err(_) => copied(alloc, &done)?,
@@ -66,7 +66,8 @@ fn ensure_gathered(alloc: Global, plan: &Plan, done: Vec<Done>) -> Result<()> {
     Ok(())
 }
 
-/// Goes on where a worker was refused memory: its results and a new plan name each of these fragments once, and are not all of the first plan.
+/// Continues after a worker ran out of memory. Its results and a new plan have each of these
+/// fragments once, and are not all of the first plan.
 fn mend_rest<R: Wait>(
     rt: &R,
     alloc: Global,
@@ -96,7 +97,7 @@ fn mend_rest<R: Wait>(
     }
 }
 
-/// Mends what is lost, which is just these fragments.
+/// Mends the lost fragments, which are exactly these.
 pub(crate) fn mend<R: Wait>(
     rt: &R,
     alloc: Global,

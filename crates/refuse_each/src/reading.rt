@@ -1,4 +1,4 @@
-//! A read whose grant is walked, each step once more where memory is refused.
+//! A read whose grant is walked, with each step repeated if it runs out of memory.
 ghost use Rattle.std.specs.Prelude.{◌≡◌};
 ghost use Rattle.shared.specs.Passes.{Stays};
 
@@ -34,7 +34,8 @@ pub(crate) fn read<R: Wait>(
     collect(alloc, &grant, case)
 }
 
-/// Walks a grant: each byte is a piece of its own, and those of lost fragments are built. A walk that was refused memory goes on with the same piece.
+/// Walks a grant. Each byte is a piece of its own, and those of lost fragments are built. A walk
+/// that ran out of memory continues with the same piece.
 fn walk(alloc: Global, grant: &Grant, case: &Case) -> Result<()> {
     let mut walk = grant.walk();
     let mut place: u8 = 0;

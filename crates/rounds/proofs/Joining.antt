@@ -18,7 +18,7 @@ pub joined-more : {Pace : Type 0} (P : Work → Ran → Type 0) (started : List 
 joined-more P started one rans r all last =
     subst (λ (works : List Work). EachRan P works (rans ++ r ∷ [])) (sym (map-append work_of started (one ∷ []))) (ran-more P (map work_of started) rans (work_of one) r all last)
 
--- what each worker did, and that it was paced
+-- the effect of each worker, and that it was paced
 pub each_did : (may_answer : ℕ → Bool → Type 0) (works : List Work) (rans : List Ran) → EachRan (DidAt may_answer) works rans → DidAll works rans × ArePaced may_answer works rans
 each_did may_answer [] [] all = (tt, tt)
 each_did may_answer [] (r ∷ rans) all = absurd all
@@ -30,7 +30,7 @@ pub if_each_did : {V E : Type 0} (items : V → List Ran) (may_answer : ℕ → 
 if_each_did items may_answer works (Ok v) all = each_did may_answer works (items v) all
 if_each_did items may_answer works (Err e) all = (tt, tt)
 
--- the one that stands between others has a pass to the store too
+-- the work between others has a pass to the store too
 pub one-of : (store : Which) (before after : List Work) (w : Work) → AreOf store (before ++ w ∷ after) → IsOf store w
 one-of store [] after w all = all.0
 one-of store (x ∷ before) after w all = one-of store before after w all.1

@@ -21,7 +21,7 @@ pub workers-more : (store : Which) (ps : List Shows) (p : Shows) → AreWorkers 
 workers-more store [] p all of one = ((of, one), tt)
 workers-more store (x ∷ ps) p all of one = (all.0, workers-more store ps p all.1 of one)
 
--- the one that stands between others is a worker too
+-- the pass between others is a worker's too
 pub one-worker : (store : Which) (before after : List Shows) (p : Shows) → AreWorkers store (before ++ p ∷ after) → (p.store ≡ store) × (p.room ≡ 1)
 one-worker store [] after p all = all.0
 one-worker store (x ∷ before) after p all = one-worker store before after p all.1
@@ -35,7 +35,7 @@ fits-calls : (e : Errand) → IsCalls e → FitsTickets e
 fits-calls (Calls jobs) is = tt
 fits-calls (Mend m) is = absurd is
 
--- what they are to do is done by passes of the store
+-- passes of the store run the tasks
 pub calls-of : (store : Which) (works : List Work) → AreWorkers store (passes_of works) → AreCalls works → AreOf store works
 calls-of store [] all are = tt
 calls-of store (w ∷ works) all are = ((all.0.0, fits-calls w.errand are.0), calls-of store works all.1 are.1)
@@ -64,7 +64,7 @@ back store (w ∷ works) (r ∷ rans) all did =
     let rest : AreWorkers store (passes_back rans) × (length (passes_back rans) ≡ length (passes_of works)) = back store works rans all.1 did.1 in
     (((same.0 ∙ all.0.0, same.2 ∙ all.0.1), rest.0), ap suc rest.1)
 
--- there are as many, and with what is left of the first pass their rooms are what they were
+-- there are as many, and with the rest of the first pass their rooms add up to the old sum
 pub pool-back : (store : Which) (room : ℕ) (passes left : List Shows) (works : List Work) (rans : List Ran) → passes_of works ≡ passes → left ≡ passes_back rans
     → AreWorkers store passes → room + length passes ≡ 64 → DidAll works rans → AreWorkers store left × (room + length left ≡ 64) × (length left ≡ length passes)
 pool-back store room passes left works rans given taken all rooms did =
@@ -73,7 +73,7 @@ pool-back store room passes left works rans given taken all rooms did =
     (subst (AreWorkers store) (sym taken) on.0, subst (λ (n : ℕ). room + n ≡ 64) (sym len) rooms, len)
 
 -- ---- passes are joined
--- what they have seen is seen still
+-- what they have seen stays a prefix
 pub seen-longer : (h h' : List Act) (ps : List Shows) → IsPrefix h h' → HaveSeen h ps → HaveSeen h' ps
 seen-longer h h' [] longer seen = tt
 seen-longer h h' (p ∷ ps) longer seen = (prefix_trans p.acts h h' seen.0 longer, seen-longer h h' ps longer seen.1)

@@ -17,13 +17,13 @@ use Rattle.rounds.specs.Pools.{outcomes_of}
 use Rattle.rounds.specs.declared.halt.Halt.{Halt}
 use Rattle.rounds.specs.declared.halt.Halt.TheVariants as halt
 
--- why a round that could not be run ends the run
+-- the halt for a round that could not be run
 abbrev pub halt_by : NotRun → Halt
 halt_by (not_run.Memory left) = halt.Memory
 halt_by (not_run.Start rans left) = halt.Start
 
 -- ---- after a round
--- the two kinds of a worker's fault, and of a cause
+-- the two errors of a worker, and of a cause
 abbrev pub is_journal_full : Fault → Bool
 is_journal_full JournalFull = true
 is_journal_full fault = false
@@ -32,7 +32,7 @@ abbrev pub is_no_memory : Cause → Bool
 is_no_memory cause.NoMemory = true
 is_no_memory cause.Paused = false
 
--- a worker was refused memory. A mend that meets a full journal comes to its end
+-- a worker ran out of memory. A mend that meets a full journal comes to its end
 abbrev pub lacks_memory : Outcome → Bool
 lacks_memory (Called (Ok replies)) = false
 lacks_memory (Called (Err stopped)) = is_no_memory stopped.cause
@@ -40,14 +40,14 @@ lacks_memory (Mended drawer (Worked (Ok done))) = false
 lacks_memory (Mended drawer (Worked (Err stop))) = not (is_journal_full stop.fault)
 lacks_memory (Mended drawer Paused) = false
 
--- a row of a worker was not let through
+-- the pace stopped a worker
 abbrev pub is_paused : Outcome → Bool
 is_paused (Called (Ok replies)) = false
 is_paused (Called (Err stopped)) = not (is_no_memory stopped.cause)
 is_paused (Mended drawer (Worked r)) = false
 is_paused (Mended drawer Paused) = true
 
--- why a round ends the run, if it does: want of memory is told before a pause
+-- why a round ends the run, if it does. Memory takes precedence over a pause
 abbrev pub halt_after : List Outcome → Option Halt
 halt_after outcomes =
     if list_any lacks_memory outcomes then Some halt.Memory

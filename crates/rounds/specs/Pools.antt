@@ -21,7 +21,7 @@ AreWorkers store (p ∷ ps) = ((p.store ≡ store) × (p.room ≡ 1)) × AreWork
 abbrev pub did_by : List Shows → List ℕ
 did_by passes = flat_map (λ p. p.did) passes
 
--- each has seen a beginning of these acts
+-- each has seen a prefix of these acts
 abbrev pub HaveSeen : List Act → List Shows → Type 0
 HaveSeen acts [] = Unit {0}
 HaveSeen acts (p ∷ ps) = IsPrefix p.acts acts × HaveSeen acts ps
@@ -30,7 +30,8 @@ HaveSeen acts (p ∷ ps) = IsPrefix p.acts acts × HaveSeen acts ps
 abbrev pub IsAllOwn : Shows → Type 0
 IsAllOwn v = (k : ℕ) → k < length v.acts → times k v.did ≡ 1
 
--- all passes to the store, one worker's at least, whose rooms make up the 64 of its first one
+-- all passes to the store, at least one worker's among them, whose rooms add up to the 64 of its
+-- first one
 pub record IsPool (store : Which) (pool : Pool) : Type 0 where
   pub first : pool.first.store ≡ store
   pub workers : AreWorkers store pool.passes.items
@@ -42,7 +43,8 @@ abbrev pub AreNew : List Act → ℕ → List Shows → Type 0
 AreNew acts who [] = Unit {0}
 AreNew acts who (p ∷ ps) = ((p.who ≡ who) × (p.acts ≡ acts) × (p.did ≡ [])) × AreNew acts (who + 1) ps
 
--- a pool before a round: the first pass has all acts for its own; each worker has its number as label, has seen them all, and did nothing since
+-- a pool before a round. The first pass has all acts as its own. Each worker has its number as
+-- label, has seen all acts, and has done none since
 pub record IsFresh (store : Which) (pool : Pool) : Type 0 where
   pub pool_is : IsPool store pool
   pub new : AreNew pool.first.acts 1 pool.passes.items

@@ -1,4 +1,4 @@
--- What the workers of a round do.
+-- The effect of a round's workers.
 use Rattle.std.specs.Prelude.{◌≡◌, ◌⊎◌, ◌≤◌, ℕ, Bool, true, false, List, [], ◌∷◌, ◌++◌, length, Ok, Err}
 use mathlib.Core.List.{IsPrefix}
 use Rattle.sealed.specs.declared.fault.Fault.{Fault}
@@ -35,8 +35,8 @@ AreOf store [] = Unit {0}
 AreOf store (w ∷ ws) = IsOf store w × AreOf store ws
 
 -- ---- what came of an errand, with the pass before and after it
--- each reply is to the next job's row, and tells what one thread does at its place, and nothing else
--- was done; where the run did not stop, there is a reply to each job
+-- each reply is to the next job's row, and is that of the sequential specification at its place, and
+-- nothing else was done; if the run did not stop, each job has a reply
 abbrev pub DidCalls : Shows → Errand → Outcome → Shows → Type 0
 DidCalls v (Calls jobs) (Called (Ok replies)) w =
     (length replies.items ≡ length jobs.items)
@@ -47,11 +47,12 @@ DidCalls v (Calls jobs) (Called (Err stopped)) w =
     × IsPrefix (rows_replied stopped.done.items) (rows_asked jobs.items)
 DidCalls v errand outcome w = ⊥
 
--- a worker stops for want of memory, or at a full journal: then as many calls were seen as the limit
+-- a worker stops if memory runs out, or at a full journal: then it has seen as many calls as the
+-- limit
 abbrev pub IsStop : Fault → Shows → Type 0
 IsStop fault w = IsCallFault fault × IfFull fault (w.store.limit ≤ length w.seen)
 
--- just the repairs with a result were made, in order, each by a ticket that was drawn
+-- exactly the repairs with a result were made, in order, each by a ticket that was drawn
 abbrev pub DidMend : Shows → Mending → Outcome → Shows → Type 0
 DidMend v m (Mended drawer (Worked (Ok done))) w = Finished m.plan.value.items.items m.drawer drawer done.items × AreMended v done.items w
 DidMend v m (Mended drawer (Worked (Err stop))) w =
@@ -67,19 +68,20 @@ DidErrand v (Mend m) outcome w = DidMend v m outcome w
 abbrev pub Did : Work → Ran → Type 0
 Did work ran = DidErrand work.pass work.errand ran.outcome ran.pass
 
--- of each work and of what came of it
+-- a relation of each work and its result
 abbrev pub EachRan : (Work → Ran → Type 0) → List Work → List Ran → Type 0
 EachRan P [] [] = Unit {0}
 EachRan P [] (r ∷ rs) = ⊥
 EachRan P (w ∷ ws) [] = ⊥
 EachRan P (w ∷ ws) (r ∷ rs) = P w r × EachRan P ws rs
 
--- each worker did its errand
+-- each worker ran its task
 abbrev pub DidAll : List Work → List Ran → Type 0
 DidAll works rans = EachRan Did works rans
 
 -- ---- what a pace, of which is known what it may answer for a row, has to do with it
--- rows that were let through may have been, and a row at which a worker was paused may have been held back
+-- the pace may have admitted the rows that ran, and may have stopped the row at which a worker
+-- paused
 abbrev pub IsPacedErrand : (ℕ → Bool → Type 0) → Shows → Errand → Outcome → Shows → Type 0
 IsPacedErrand may_answer v (Calls jobs) (Called (Ok replies)) w = AreLetThrough may_answer jobs.items
 IsPacedErrand may_answer v (Calls jobs) (Called (Err stopped)) w = HasNotBegun v stopped w ⊎ StoppedAt may_answer jobs.items stopped
@@ -93,17 +95,18 @@ IsPaced may_answer work ran = IsPacedErrand may_answer work.pass work.errand ran
 abbrev pub ArePaced : (ℕ → Bool → Type 0) → List Work → List Ran → Type 0
 ArePaced may_answer works rans = EachRan (IsPaced may_answer) works rans
 
--- a worker did its errand at this pace
+-- a worker ran its task at this pace
 abbrev pub DidAt : (ℕ → Bool → Type 0) → Work → Ran → Type 0
 DidAt may_answer work ran = Did work ran × IsPaced may_answer work ran
 
--- the works of a round that has no results: as they were; or the first ones are done, and the others are as they were
+-- the works of a round without results: unchanged, or the first ones are done and the others
+-- unchanged
 abbrev pub AreReturned : List Work → NotRun → Type 0
 AreReturned works (Memory left) = left.items ≡ works
 AreReturned works (Start rans left) = (done : List Work) × (works ≡ done ++ left.items) × DidAll done rans.items
 
 -- ---- between the start and the end of a round
--- the work that a worker was given
+-- the work of a worker
 abbrev pub work_of : {P : Type 0} → Started P → Work
 work_of (Busy handle) = handle.promise.0.value
 work_of (Idle work) = work

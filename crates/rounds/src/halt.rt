@@ -1,4 +1,4 @@
-//! Why a run stopped before its end.
+//! Halts: why a run stopped before its end.
 ghost use Rattle.std.specs.Prelude.{◌≡◌};
 ghost use Rattle.std.specs.List.{list_any};
 ghost use Rattle.rounds.specs.Halts.{lacks_memory, is_paused, halt_after};
@@ -12,11 +12,11 @@ use std::alloc::{AllocError, AllocFailed};
 /// Why a run stopped before its end.
 #[derive(Clone, Copy, PartialEq, Eq, Debug)]
 pub enum Halt {
-    /// A request for memory was refused.
+    /// The program is out of memory.
     Memory,
     /// A worker's thread can't be started.
     Start,
-    /// A row was not let through by `before`.
+    /// The pace stopped the run: `before` returned false for a row.
     Paused,
 }
 
@@ -49,7 +49,7 @@ impl From<NotRun> for Halt {
     }
 }
 
-/// Whether this worker was refused memory. One that met a full journal was not.
+/// Whether this worker ran out of memory. A worker that met a full journal did not.
 fn lacks_memory(outcome: &Outcome) -> bool
     ensures { result ≡ lacks_memory outcome.now }
 {
@@ -60,7 +60,7 @@ fn lacks_memory(outcome: &Outcome) -> bool
     }
 }
 
-/// Whether a row of this worker was not let through.
+/// Whether the pace stopped this worker.
 fn is_paused(outcome: &Outcome) -> bool
     ensures { result ≡ is_paused outcome.now }
 {
@@ -71,21 +71,22 @@ fn is_paused(outcome: &Outcome) -> bool
     }
 }
 
-/// Whether one of the workers was refused memory.
+/// Whether a worker ran out of memory.
 fn one_lacks_memory(outcomes: &[Outcome]) -> bool
     ensures { result ≡ list_any lacks_memory outcomes.now }
 {
     outcomes.iter().any(|outcome| lacks_memory(outcome))
 }
 
-/// Whether a row of one of the workers was not let through.
+/// Whether the pace stopped a worker.
 fn one_is_paused(outcomes: &[Outcome]) -> bool
     ensures { result ≡ list_any is_paused outcomes.now }
 {
     outcomes.iter().any(|outcome| is_paused(outcome))
 }
 
-/// Why a round ends the run, if it does: want of memory is told before a pause.
+/// Why a round ends the run, or `None` if it does not. If a worker ran out of memory and another
+/// was paused, this is `Memory`.
 pub fn halted(outcomes: &[Outcome]) -> Option<Halt>
     ensures { result ≡ halt_after outcomes.now }
 {

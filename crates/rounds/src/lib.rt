@@ -1,4 +1,4 @@
-//! A round of a script: each worker that has something to do in it does it on a thread of its own.
+//! Rounds of a script: each worker that has a task runs it on a thread of its own.
 #![tactic(auto)]
 
 mod halt;

@@ -1,6 +1,8 @@
-//! One round: a thread for each worker that has something to do, all joined at its end.
-ghost use Rattle.std.specs.Prelude.{◌≡◌, ◌≤◌, ◌++◌, [], false, IfOk, IfErr, map, vec_len, vec_capacity};
-ghost use Rattle.rounds.specs.Rounds.{AreOf, IsOf, ArePaced, AreReady, IsPacedErrand, IsReady, DidAll, DidAt, DidMend, EachRan, AreReturned, work_of};
+//! One round: a thread for each worker that has a task, all joined at its end.
+ghost use Rattle.std.specs.Prelude.{◌≡◌, ◌≤◌, ◌++◌, [], false, IfOk, IfErr, map, vec_len};
+ghost use Rattle.std.specs.Prelude.{vec_capacity};
+ghost use Rattle.rounds.specs.Rounds.{AreOf, IsOf, ArePaced, AreReady, IsPacedErrand, IsReady};
+ghost use Rattle.rounds.specs.Rounds.{DidAll, DidAt, DidMend, EachRan, AreReturned, work_of};
 ghost use Rattle.rounds.specs.declared.work.Errand.TheVariants.{Mend};
 
 use crate::work::{DoesErrand, Errand, Mended, Mending, NotRun, Outcome, Ran, Started, Work};
@@ -12,7 +14,7 @@ use std::sync::Wait;
 use std::thread;
 use std::thread::{Scope, SpawnError, Threads};
 
-/// Mends items of a plan, once the pace lets the row through.
+/// Repairs items of a plan, once the pace admits the row.
 fn mend_on<R: Wait, P: Pace>(
     rt: &R,
     alloc: Global,
@@ -40,7 +42,7 @@ fn mend_on<R: Wait, P: Pace>(
     Outcome::Mended(drawer, Mended::Worked(worked))
 }
 
-/// What runs on a worker's thread.
+/// The task of a worker, as its thread runs it.
 fn work_on<R: Wait, P: Pace>(rt: &R, alloc: Global, store: &Store, work: Work, pace: &P) -> Ran
     requires { IsOf store.now work }
     ensures { DidAt (P.may_answer pace.now) work result }
@@ -53,7 +55,8 @@ fn work_on<R: Wait, P: Pace>(rt: &R, alloc: Global, store: &Store, work: Work, p
     Ran { pass, outcome }
 }
 
-/// Starts a worker's thread, if it has something to do. Where no thread can be started the worker does it here.
+/// Starts a worker's thread if the worker has a task. If no thread can be started, the calling
+/// thread runs the task.
 fn start<'s, 'e, R: Threads + Wait + Sync, P: Pace + Sync>(
     scope: &Scope<'s, &'e ()>,
     rt: &'e R,
@@ -82,18 +85,18 @@ fn start<'s, 'e, R: Threads + Wait + Sync, P: Pace + Sync>(
     }
 }
 
-/// What the works of a round are put into, as it begins.
+/// The works of a round, while threads are started.
 #[derive(Drop)]
 struct Begun<P: Pace> {
-    /// The workers up to one whose thread can't be started.
+    /// The workers up to the first whose thread can't be started, that one included.
     started: Vec<Started<P>>,
     /// The works behind it.
     left: Vec<Work>,
-    /// Whether there is such a one.
+    /// Whether there is such a worker.
     is_short: bool,
 }
 
-/// Starts the workers, as long as that works.
+/// Starts the workers in order, up to the first whose thread can't be started.
 fn start_all<'s, 'e, R: Threads + Wait + Sync, P: Pace + Sync>(
     scope: &Scope<'s, &'e ()>,
     rt: &'e R,
@@ -104,8 +107,10 @@ fn start_all<'s, 'e, R: Threads + Wait + Sync, P: Pace + Sync>(
     begun: Begun<P>,
 ) -> Begun<P>
     requires works { AreOf store.now works.items }
-    requires none { (begun.started.items ≡ []) × (begun.left.items ≡ []) × (begun.is_short ≡ false) }
-    requires room { (vec_len works ≤ vec_capacity begun.started) × (vec_len works ≤ vec_capacity begun.left) }
+    requires none { (begun.started.items ≡ []) × (begun.left.items ≡ [])
+        × (begun.is_short ≡ false) }
+    requires room { (vec_len works ≤ vec_capacity begun.started)
+        × (vec_len works ≤ vec_capacity begun.left) }
     ensures works { map work_of result.started.items ++ result.left.items ≡ works.items }
     ensures ready { AreReady store.now pace.now (P.may_answer pace.now) result.started.items }
     ensures all { result.is_short ≡ false → result.left.items ≡ [] }
@@ -131,7 +136,7 @@ fn start_all<'s, 'e, R: Threads + Wait + Sync, P: Pace + Sync>(
     }
 }
 
-/// What a worker gives back, once its thread has ended. One with nothing to do needs none.
+/// The result of a worker, once its thread has ended. A worker without a task has no thread.
 fn join<R: Threads + Wait, P: Pace>(
     rt: &R,
     alloc: Global,
@@ -169,11 +174,15 @@ fn join_all<R: Threads + Wait, P: Pace>(
     rans
 }
 
-/// Runs a round: each worker that has something to do does it on a thread of its own, and all are joined at the end. What came of them stands in the order of the
-/// workers: each did its errand with its pass, and no more.
+/// Runs a round. Each worker that has a task runs it on a thread of its own, and all are joined at
+/// the end. The results are in the order of the workers: each ran its task with its pass, and did
+/// nothing else.
 ///
-/// `Memory` where a request for memory was refused before any work was begun, and then the works are as they were. `Start` where a thread can't be started: that worker does its errand on
-/// the caller's thread, those before it are joined, and those behind it are as they were.
+/// `Memory` if memory runs out before any task has begun; the error has the unchanged works.
+///
+/// `Start` if a thread can't be started. That worker's task runs on the caller's thread, and the
+/// workers before it are joined. The error has their results, and the unchanged works of the
+/// workers behind it.
 pub fn run_round<R: Threads + Wait + Sync, P: Pace + Sync>(
     rt: &R,
     alloc: Global,
@@ -203,10 +212,13 @@ pub fn run_round<R: Threads + Wait + Sync, P: Pace + Sync>(
         thread::scope_env(),
         rt,
         move |scope| -> Result<Vec<Ran>, NotRun>
-            requires { AreOf store.now works.items × (rans.items ≡ []) × (vec_len works ≤ vec_capacity rans)
+            requires { AreOf store.now works.items × (rans.items ≡ [])
+                × (vec_len works ≤ vec_capacity rans)
                 × (begun.started.items ≡ []) × (begun.left.items ≡ []) × (begun.is_short ≡ false)
-                × (vec_len works ≤ vec_capacity begun.started) × (vec_len works ≤ vec_capacity begun.left) }
-            ensures did { IfOk result (λ rans. EachRan (DidAt (P.may_answer pace.entry.now)) works.items rans.items) }
+                × (vec_len works ≤ vec_capacity begun.started)
+                × (vec_len works ≤ vec_capacity begun.left) }
+            ensures did { IfOk result (λ rans. EachRan (DidAt (P.may_answer pace.entry.now))
+                works.items rans.items) }
             ensures back { IfErr result (AreReturned works.items) }
         {
             let Begun {

@@ -1,4 +1,4 @@
-//! What a worker gets for a round, and what it gives back.
+//! What a worker gets for a round, and what it returns.
 
 use book::Plan;
 use mender::{Done, Drawer, Tickets, WorkFault};
@@ -7,17 +7,17 @@ use std::snapshot::Snapshot;
 use std::sync::Arc;
 use std::thread::{Promise, PromisedHandle};
 
-/// What a worker is to do in a round, with its pass.
+/// A worker's task in a round, with its pass.
 #[derive(Drop)]
 pub struct Work {
-    /// Its pass.
+    /// The worker's pass.
     pub pass: Pass,
-    /// What it is to do.
+    /// The worker's task.
     pub errand: Errand,
 }
 
 impl Work {
-    /// Whether it is to make calls, and there are none.
+    /// Whether the task has no calls to make.
     pub(crate) fn is_idle(&self) -> bool {
         match &self.errand {
             Errand::Calls(jobs) => jobs.is_empty(),
@@ -26,65 +26,66 @@ impl Work {
     }
 }
 
-/// What a worker is to do.
+/// The task of a worker.
 #[derive(Drop)]
 pub enum Errand {
-    /// To make these calls, in order.
+    /// Make these calls, in order.
     Calls(Vec<Job>),
-    /// To mend items of a plan.
+    /// Repair items of a plan.
     Mend(Mending),
 }
 
-/// A worker's part in mending a plan.
+/// A worker's part in a mend.
 #[derive(Drop)]
 pub struct Mending {
     /// The row that asks for it.
     pub row: u32,
-    /// What is lost.
+    /// The lost fragments.
     pub plan: Arc<Plan>,
     /// The plan's tickets.
     pub tickets: Arc<Tickets>,
-    /// The worker's drawer of these tickets.
+    /// The worker's drawer, which draws these tickets.
     pub drawer: Drawer,
 }
 
-/// What a worker gives back.
+/// What a worker returns.
 #[derive(Drop)]
 pub struct Ran {
-    /// Its pass.
+    /// The worker's pass.
     pub pass: Pass,
-    /// What came of its errand.
+    /// The outcome of its task.
     pub outcome: Outcome,
 }
 
-/// What came of an errand.
+/// The outcome of a task.
 #[derive(Drop)]
 pub enum Outcome {
-    /// Of calls.
+    /// Of calls: their replies, or why the worker stopped.
     Called(Result<Vec<RowReply>, Stopped>),
-    /// Of mending, with the drawer.
+    /// Of a mend, with the worker's drawer.
     Mended(Drawer, Mended),
 }
 
-/// What came of mending.
+/// The outcome of a worker's part in a mend.
 #[derive(Drop)]
 pub enum Mended {
-    /// The pace did not let the row through: nothing was drawn.
+    /// The pace did not admit the row, and no ticket was drawn.
     Paused,
-    /// The results, or why the worker stopped, with those so far.
+    /// The results, or why the worker stopped, with the results so far.
     Worked(Result<Vec<Done>, WorkFault>),
 }
 
-/// Why a round has no results, with all its works.
+/// Why a round has no results. The error returns all works.
 #[derive(Drop)]
 pub enum NotRun {
-    /// A request for memory was refused before any work was begun: the works, as they were.
+    /// Memory ran out before any task had begun. It has the unchanged works.
     Memory(Vec<Work>),
-    /// A thread can't be started. What came of the works up to that one, and those behind it, which were not begun.
+    /// A thread can't be started. It has the results of the workers up to that one, and the
+    /// unchanged works of those behind it.
     Start(Vec<Ran>, Vec<Work>),
 }
 
-/// A promise that a worker did its errand at this pace.
+/// A promise that a worker ran its task at this pace.
 #[derive(Drop)]
 pub(crate) struct DoesErrand<P>(pub(crate) Snapshot<Work>, pub(crate) Snapshot<P>);
 
@@ -94,7 +95,8 @@ impl<P: Pace> Promise<Ran> for DoesErrand<P> {
     ghost kept_by = { λ p r. DidAt (P.may_answer p.1.value) p.0.value r };
 }
 
-/// A worker in its round: on a thread, with nothing to do, or done already, since its thread can't be started.
+/// A worker in its round: on a thread, without a task, or already done, if its thread can't be
+/// started.
 #[derive(Drop)]
 pub(crate) enum Started<P: Pace> {
     Busy(PromisedHandle<Ran, DoesErrand<P>>),

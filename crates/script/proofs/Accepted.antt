@@ -26,7 +26,7 @@ all-passed [] h = tt
 all-passed ((true, w) ∷ ts) h = cc h
 all-passed ((false, w) ∷ ts) h = (refl, all-passed ts h)
 
--- what the tests say of a record that none refuses
+-- what the tests determine of a record that none refuses
 pub record Passed (workers : ℕ) (earlier : List Row) (r : Record) : Type 0 where
   pub room : (length earlier == 65536) ≡ false
   pub rises : last_round earlier ≤ value (round_field r)
@@ -78,7 +78,7 @@ last-of-more rows row =
     let at : length (rows ++ (row ∷ [])) - 1 ≡ length rows = omega (arith, length-append rows (row ∷ [])) in
     rw at (last-place rows row)
 
--- where a row breaks no rule of `mend`, its round has no earlier one
+-- if a row breaks no rule of `mend`, its round has no earlier one
 no-mend : (p q s : Bool) → (s ≡ true → p ≡ true) → (p && (q || s)) ≡ false → s ≡ false
 no-mend true true s i h = cc h
 no-mend true false s i h = h
@@ -121,7 +121,7 @@ tidy-more workers rows r t p =
       alone = rw (round, last, list_any-append, none, same (value (round_field r))) (or-false (is_mend (row_of r).task));
     }
 
--- a record that stands among the first is refused as it is among them alone
+-- among more records, one of the first is refused for the same reason
 pub refused-among : (workers : ℕ) (done rest : List Record) (i : ℕ) → i < length done → refused_at workers (done ++ rest) i ≡ refused_at workers done i
 unfolding refused_at
 refused-among workers done rest i l =

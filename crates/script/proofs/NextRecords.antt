@@ -1,4 +1,4 @@
--- The records of a text, one after the other, with enough turns for all of them.
+-- The records of a text, one after the other, with enough iterations for all of them.
 use Rattle.std.proofs.Common.{◌≡◌, ◌≤◌, ◌<◌, ℕ, zero, suc, List, [], ◌∷◌, ◌++◌, length, true, false, Bool, Option, Some, None, inl, inr, arith, refl, sym, subst, ◌∙◌, append_assoc}
 use Rattle.std.specs.Prelude.{if◌then◌else◌, ◌&&◌, ◌==◌}
 use Rattle.std.proofs.lemmas.Bool.{cases_Bool}
@@ -63,7 +63,8 @@ step-between cfg st.InComment c =
     choose (c == 10) (st.StartRecord, act.Skip) (st.InComment, act.Skip) (goes-on st.StartRecord act.Skip refl) (goes-on st.InComment act.Skip refl)
 step-between cfg st.AfterCr c = choose (c == 10) (st.StartRecord, act.Skip) (start_record cfg c) (goes-on st.StartRecord act.Skip refl) (start-record-between cfg c)
 
--- what is left after a record: the machine is between two records, and the text is shorter if it was so before
+-- the rest after a record: the machine is between two records, and the text is shorter if it was so
+-- before
 pub record Left (s : State) (xs : List ℕ) (p : Read) : Type 0 where
   pub done : ends_at_end p.1 ≡ false
   pub within : length p.2 ≤ length xs
@@ -97,14 +98,14 @@ next-left cfg s fields field (c ∷ rest) p h =
     record { done = left.done; within = omega (arith, left.within); shorter = λ n. omega (arith, left.within) })
     h
 
--- the records of what is left, with one turn more than there are bytes
+-- the records of the rest, with one iteration more than there are bytes
 pub record Rest (all : List Record) (done : List Record) (s : State) (y : List ℕ) : Type 0 where
   pub turns : ℕ
   pub enough : length y < turns
   pub between : ends_at_end s ≡ false
   pub are : all ≡ done ++ records_from default_config turns s y
 
--- no turn is left only where no byte could be
+-- the iterations end only if no byte can remain
 first-turn : (n : ℕ) (s : State) (y : List ℕ) (p : Read) → length y < n → next_record default_config s [] [] y ≡ Some p
     → (m : ℕ) × (n ≡ suc m) × (records_from default_config n s y ≡ p.0 ∷ records_from default_config m p.1 p.2)
 unfolding records_from

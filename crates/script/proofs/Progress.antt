@@ -27,7 +27,7 @@ pub record Place {R : Type 0} (rem : R → Option (List ℕ)) (workers : ℕ) (r
   pub source : source_of rem rdr ≡ Some left
   pub rest : Rest (script_records text) done (reader_state rdr) left
 
--- the rows that were read, and how far the reader is where its text is known
+-- the rows that were read, and how far the reader is if its text is known
 pub record Progress {R : Type 0} (rem : R → Option (List ℕ)) (known : Option (List ℕ)) (workers : ℕ) (rows : List Row) (rdr : Reader R) : Type 0 where
   pub trim : reader_trim rdr ≡ trim.None
   pub ready : Ready rdr
@@ -126,7 +126,7 @@ progress-end rem workers rows (Some text) a b r p read =
     let all = read-end rem a b r (script_records text) place.done place.left p.config place.source place.rest read in
     rw all (place.accepted, place.are)
 
--- an error of a reader is told whatever its text
+-- what holds of every value holds of the one in an option
 pub of_every : {A : Type 0} (P : A → Type 0) (o : Option A) → ((x : A) → P x) → IfSome o P
 of_every P None h = tt
 of_every P (Some x) h = h x
@@ -135,7 +135,7 @@ pub of_each : {A : Type 0} (P Q : A → Type 0) (o : Option A) → ((x : A) → 
 of_each P Q None h p = tt
 of_each P Q (Some x) h p = h x p
 
--- what is said of a good result holds of one that is good
+-- a property of a good result holds of a result that is good
 pub given : {T E P : Type 0} (r : Result T E) → is_ok r ≡ true → OnOk r P → P
 given (Ok x) ok p = p
 given (Err e) ok p = cc ok

@@ -1,4 +1,4 @@
--- What the six fields of a record stand for.
+-- What the six fields of a record represent.
 use Rattle.std.specs.Prelude.{ℕ, List, [], ◌∷◌, Bool, true, false, Option, Some, None, ◌&&◌, ◌||◌, ◌==◌, ◌+◌, ◌*◌, ◌-◌, length, slice_index_or, nat_le, if◌then◌else◌, codes, bytes_eq}
 use Rattle.std.specs.Char.{is_ascii_digit}
 use Rattle.lrc_code.specs.declared.Code.TheVariants.{Wide, Small}
@@ -15,7 +15,7 @@ use Rattle.script.specs.declared.rows.Task.TheVariants as task
 abbrev pub Record : Type 0
 Record = List (List ℕ)
 
--- the six fields, each empty where the record has fewer
+-- the six fields, each empty if the record has fewer
 abbrev pub round_field : Record → List ℕ
 round_field r = slice_index_or r 0 []
 
@@ -48,7 +48,7 @@ operation_of text =
     else if bytes_eq text (codes "mend") then Some Mend
     else None
 
--- a number from low to high
+-- the text is a number from low to high
 abbrev pub is_number_in : ℕ → ℕ → List ℕ → Bool
 is_number_in low high text = is_number text && nat_le low (value text) && nat_le (value text) high
 
@@ -81,7 +81,7 @@ hex_bytes [] = []
 hex_bytes (high ∷ []) = []
 hex_bytes (high ∷ low ∷ rest) = (hex_digit high * 16 + hex_digit low) ∷ hex_bytes rest
 
--- the bytes of a put: a field as it stands, or in hexadecimal
+-- the bytes of a put: a field as text, or in hexadecimal
 abbrev pub are_bytes : List ℕ → List ℕ → Bool
 are_bytes a b = bytes_eq a (codes "text") || (bytes_eq a (codes "hex") && are_hex_bytes b)
 
@@ -104,7 +104,7 @@ fits_arguments (Some Repair) a b = are_numbers a b
 fits_arguments (Some Trim) a b = is_number a && (length b == 0)
 fits_arguments operation a b = are_empty a b
 
--- what a record that is not refused asks for. One whose operation is none is refused
+-- the task of a record that is not refused. A record without an operation is refused
 abbrev pub task_of : Option Operation → List ℕ → List ℕ → List ℕ → Task
 task_of (Some Put) name a b = task.Make (ask.Put name Wide (bytes_of a b))
 task_of (Some PutSmall) name a b = task.Make (ask.Put name Small (bytes_of a b))
@@ -116,7 +116,7 @@ task_of (Some Stat) name a b = task.Make (ask.Stat name)
 task_of (Some Trim) name a b = task.Make (ask.Trim (value a))
 task_of operation name a b = task.Mend
 
--- the row that a record which is not refused stands for
+-- the row that a record represents if it is not refused
 abbrev pub row_of : Record → Row
 row_of r = record {
   round = value (round_field r);

@@ -23,7 +23,7 @@ abbrev pub is_mend : Task → Bool
 is_mend task.Mend = true
 is_mend (task.Make a) = false
 
--- the round of the last row, 0 where there is none
+-- the round of the last row, 0 if there is none
 abbrev pub last_round : List Row → ℕ
 last_round rows = slice_index_or (map (λ row. row.round) rows) (length rows - 1) 0
 
@@ -40,7 +40,7 @@ abbrev pub breaks_mend : List Row → Row → Bool
 breaks_mend earlier row =
     list_any (is_in_round row.round) earlier && (is_mend row.task || list_any (is_mend_in_round row.round) earlier)
 
--- the first word whose test refuses
+-- the word of the first test that refuses
 abbrev pub first_word : List (Bool × Word) → Option Word
 first_word [] = None
 first_word ((refuses, w) ∷ rest) = if refuses then Some w else first_word rest
@@ -62,7 +62,7 @@ tests workers earlier r =
 unfoldable pub refusal : ℕ → List Row → Record → Option Word
 refusal workers earlier r = first_word (tests workers earlier r)
 
--- a refusal of one record tells its word, or memory ran out
+-- a refusal of one record has its word, or memory ran out
 abbrev pub Tells : Refusal → Option Word → Type 0
 Tells (refusal_is.Refused w) o = o ≡ Some w
 Tells refusal_is.NoMemory o = Unit {0}
@@ -78,7 +78,8 @@ abbrev pub is_mend_row : Option Row → Bool
 is_mend_row None = false
 is_mend_row (Some row) = is_mend row.task
 
--- no row is of a later round than the last one, and the last round has a `mend` only where the last row is one
+-- no row is of a later round than the last one, and the last round has a `mend` only if the last
+-- row is one
 pub record IsTidy (rows : List Row) : Type 0 where
   pub rises : All (λ row. row.round ≤ last_round rows) rows
   pub alone : list_any (is_mend_in_round (last_round rows)) rows ≡ is_mend_row (last_row rows)
@@ -97,7 +98,7 @@ late_word earlier r =
     ∷ (breaks_mend earlier (row_of r), word.Mend)
     ∷ [])
 
--- the first tests are passed, and this is what the first three fields say
+-- the first tests are passed, and these are the first three fields
 pub record Heads (workers : ℕ) (earlier : List Row) (r : Record) (head : Head) : Type 0 where
   pub late : refusal workers earlier r ≡ late_word earlier r
   pub round : head.round ≡ value (round_field r)
@@ -105,12 +106,12 @@ pub record Heads (workers : ℕ) (earlier : List Row) (r : Record) (head : Head)
   pub worker : head.worker ≡ value (worker_field r)
   pub operation : operation_of (operation_field r) ≡ Some head.operation
 
--- a call is by one of so many workers
+-- a call is by one of this many workers
 abbrev pub IsWorkerOf : ℕ → ℕ → Task → Type 0
 IsWorkerOf workers who (task.Make a) = (1 ≤ who) × (who ≤ workers)
 IsWorkerOf workers who task.Mend = Unit {0}
 
--- the row's worker is one of so many, but where it is a `mend`
+-- the row's worker is one of this many, unless it is a `mend`
 abbrev pub HasWorker : ℕ → Row → Type 0
 HasWorker workers row = IsWorkerOf workers row.worker row.task
 
@@ -118,20 +119,21 @@ HasWorker workers row = IsWorkerOf workers row.worker row.task
 abbrev pub script_records : List ℕ → List Record
 script_records text = records default_config (strip_bom text)
 
--- the word that refuses the record at a place, after the rows of those before it
+-- the word that refuses the record at an index, after the rows of those before it
 unfoldable pub refused_at : ℕ → List Record → ℕ → Option Word
 refused_at workers all i = refusal workers (map row_of (take i all)) (slice_index_or all i [])
 
--- no record is refused before a place
+-- no record is refused before an index
 abbrev pub AcceptedBefore : ℕ → List Record → ℕ → Type 0
 AcceptedBefore workers all n = (i : ℕ) → i < n → refused_at workers all i ≡ None
 
--- the error names the first record that is refused, and its first word; or memory ran out
+-- the error has the first record that is refused and its first word, or memory ran out
 abbrev pub Explains : ℕ → List Record → BadScript → Type 0
 Explains workers all (bad.Refused number w) = (i : ℕ) × (number ≡ i + 1) × (i < length all) × AcceptedBefore workers all i × (refused_at workers all i ≡ Some w)
 Explains workers all bad.NoMemory = Unit {0}
 
--- why a script was not read: the error names the first record that is refused, and its first word; or memory ran out, or the reader failed
+-- why a script was not read: the error has the first record that is refused and its first word, or
+-- memory ran out, or the reader failed
 abbrev pub TellsWhy : ℕ → List Record → NotRead → Type 0
 TellsWhy workers all (not_read.Bad error) = Explains workers all error
 TellsWhy workers all (not_read.Reader kind) = Unit {0}

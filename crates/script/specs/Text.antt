@@ -1,4 +1,4 @@
--- What is printed of a script that is refused.
+-- The text that is printed for a refused script.
 use Rattle.std.specs.Prelude.{ℕ, List, ◌++◌, codes, decimal}
 use Rattle.script.specs.declared.rows.BadScript.{BadScript}
 use Rattle.script.specs.declared.rows.BadScript.TheVariants as bad

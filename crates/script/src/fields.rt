@@ -1,9 +1,12 @@
 //! The fields of a record.
 
-ghost use Rattle.std.specs.Prelude.{◌≡◌, ◌≢◌, ◌<◌, [], ◌∷◌, true, false, not, MatchOption, MatchResult, IfOk};
+ghost use Rattle.std.specs.Prelude.{◌≡◌, ◌≢◌, ◌<◌, [], ◌∷◌, true, false, not, MatchOption};
+ghost use Rattle.std.specs.Prelude.{MatchResult, IfOk};
 ghost use Rattle.script.specs.Names.{is_name};
 ghost use Rattle.script.specs.Numbers.{value};
-ghost use Rattle.script.specs.Fields.{are_bytes, are_empty, are_hex_bytes, are_numbers, bytes_of, fits_arguments, hex_bytes, hex_digit, is_hex_digit, is_number_in, is_worker, operation_of, task_of};
+ghost use Rattle.script.specs.Fields.{are_bytes, are_empty, are_hex_bytes, are_numbers, bytes_of};
+ghost use Rattle.script.specs.Fields.{fits_arguments, hex_bytes, hex_digit, is_hex_digit};
+ghost use Rattle.script.specs.Fields.{is_number_in, is_worker, operation_of, task_of};
 ghost use Rattle.script.specs.Script.{first_word, task_refusal, Tells};
 
 use crate::numbers::number;
@@ -15,9 +18,10 @@ use requests::Ask;
 use std::alloc::{AllocError, Global};
 use std::str;
 
-/// The number that a text stands for, where it is one from `low` to `high`.
+/// The number that a text represents, or `None` if it is none from `low` to `high`.
 pub(crate) fn number_in(text: &[u8], low: u32, high: u32) -> Option<u32>
-    ensures { MatchOption result (is_number_in low high text.now ≡ false) (λ n. (is_number_in low high text.now ≡ true) × (n ≡ value text.now)) }
+    ensures { MatchOption result (is_number_in low high text.now ≡ false)
+        (λ n. (is_number_in low high text.now ≡ true) × (n ≡ value text.now)) }
 {
     match number(text) {
         Some(n) => {
@@ -30,7 +34,7 @@ pub(crate) fn number_in(text: &[u8], low: u32, high: u32) -> Option<u32>
     }
 }
 
-/// The operation of this word.
+/// The operation with this word, or `None` if there is none.
 #[tactic(auto, unfolding(crate::specs::Fields::operation_of))]
 pub(crate) fn operation(text: &[u8]) -> Option<Operation>
     ensures { result ≡ operation_of text.now }
@@ -49,14 +53,14 @@ pub(crate) fn operation(text: &[u8]) -> Option<Operation>
     }
 }
 
-/// Whether a byte is a digit of a byte in hexadecimal.
+/// Whether a byte is a hexadecimal digit.
 fn is_hex_digit(byte: u8) -> bool
     ensures { result ≡ is_hex_digit byte }
 {
     byte.is_ascii_digit() || (b'a'..=b'f').contains(&byte)
 }
 
-/// What a digit stands for.
+/// The value of a hexadecimal digit.
 fn hex_digit(byte: u8) -> u8
     requires { is_hex_digit byte ≡ true }
     ensures value { result ≡ hex_digit byte }
@@ -69,9 +73,11 @@ fn hex_digit(byte: u8) -> u8
     }
 }
 
-/// The bytes of a text of two digits a byte, or nothing where it is none.
+/// The bytes of a text with two hexadecimal digits for each byte, or `None` if it is not such a
+/// text. `AllocError` if memory runs out.
 fn hex_bytes(alloc: Global, text: &[u8]) -> Result<Option<Vec<u8>>, AllocError>
-    ensures { IfOk result (λ o. MatchOption o (are_hex_bytes text.now ≡ false) (λ v. (are_hex_bytes text.now ≡ true) × (v.items ≡ hex_bytes text.now))) }
+    ensures { IfOk result (λ o. MatchOption o (are_hex_bytes text.now ≡ false)
+        (λ v. (are_hex_bytes text.now ≡ true) × (v.items ≡ hex_bytes text.now))) }
 {
     let mut bytes = Vec::with_capacity(alloc, text.len() / 2)?;
     let mut rest = text;
@@ -89,9 +95,11 @@ fn hex_bytes(alloc: Global, text: &[u8]) -> Result<Option<Vec<u8>>, AllocError>
     }
 }
 
-/// The bytes of a put.
+/// The bytes of a put, by the two fields that can have them, or `None` if they have none.
+/// `AllocError` if memory runs out.
 fn put_bytes(alloc: Global, a: &[u8], b: &[u8]) -> Result<Option<Bytes>, AllocError>
-    ensures { IfOk result (λ o. MatchOption o (are_bytes a.now b.now ≡ false) (λ v. (are_bytes a.now b.now ≡ true) × (v ≡ bytes_of a.now b.now))) }
+    ensures { IfOk result (λ o. MatchOption o (are_bytes a.now b.now ≡ false)
+        (λ v. (are_bytes a.now b.now ≡ true) × (v ≡ bytes_of a.now b.now))) }
 {
     match a {
         b"text" => Ok(Some(Bytes::copy_from_slice(alloc, b)?)),
@@ -103,9 +111,10 @@ fn put_bytes(alloc: Global, a: &[u8], b: &[u8]) -> Result<Option<Bytes>, AllocEr
     }
 }
 
-/// The name that a field is.
+/// The name in a field, or `None` if the field has none.
 fn name_of(text: &[u8]) -> Option<Name>
-    ensures { MatchOption result (is_name text.now ≡ false) (λ n. (is_name text.now ≡ true) × (n ≡ text.now)) }
+    ensures { MatchOption result (is_name text.now ≡ false)
+        (λ n. (is_name text.now ≡ true) × (n ≡ text.now)) }
 {
     match str::from_utf8(text) {
         Ok(text) => match Name::new(text) {
@@ -116,9 +125,11 @@ fn name_of(text: &[u8]) -> Option<Name>
     }
 }
 
-/// The worker of a row: one of the workers, and 0 for a `mend`.
+/// The worker of a row: a number from 1 to `workers`, and 0 for a `mend`. `None` if the field has
+/// another text.
 pub(crate) fn worker(operation: Option<Operation>, text: &[u8], workers: u32) -> Option<u32>
-    ensures { MatchOption result (is_worker workers operation text.now ≡ false) (λ n. (is_worker workers operation text.now ≡ true) × (n ≡ value text.now)) }
+    ensures { MatchOption result (is_worker workers operation text.now ≡ false)
+        (λ n. (is_worker workers operation text.now ≡ true) × (n ≡ value text.now)) }
 {
     if operation != Some(Operation::Mend) {
         return number_in(text, 1, workers);
@@ -129,7 +140,7 @@ pub(crate) fn worker(operation: Option<Operation>, text: &[u8], workers: u32) ->
     }
 }
 
-/// What a record asks for, by its operation, its name and its arguments.
+/// The task of a record, by its operation, its name and its arguments.
 pub(crate) fn task(
     alloc: Global,
     operation: Operation,
@@ -138,7 +149,8 @@ pub(crate) fn task(
     b: &[u8],
 ) -> Result<Task, Refusal>
     ensures { MatchResult result
-        (λ task. (task_refusal (Some operation) name.now a.now b.now ≡ None) × (task ≡ task_of (Some operation) name.now a.now b.now))
+        (λ task. (task_refusal (Some operation) name.now a.now b.now ≡ None)
+        × (task ≡ task_of (Some operation) name.now a.now b.now))
         (λ e. Tells e (task_refusal (Some operation) name.now a.now b.now)) }
 {
     if operation == Operation::Mend {
@@ -156,7 +168,8 @@ pub(crate) fn task(
 /// A `mend`, which has no name and no arguments.
 fn mend(name: &[u8], a: &[u8], b: &[u8]) -> Result<Task, Refusal>
     ensures { MatchResult result
-        (λ task. (task_refusal (Some Operation.Mend) name.now a.now b.now ≡ None) × (task ≡ task_of (Some Operation.Mend) name.now a.now b.now))
+        (λ task. (task_refusal (Some Operation.Mend) name.now a.now b.now ≡ None)
+        × (task ≡ task_of (Some Operation.Mend) name.now a.now b.now))
         (λ e. Tells e (task_refusal (Some Operation.Mend) name.now a.now b.now)) }
 {
     if !name.is_empty() {
@@ -168,10 +181,11 @@ fn mend(name: &[u8], a: &[u8], b: &[u8]) -> Result<Task, Refusal>
     Ok(Task::Mend)
 }
 
-/// A trim, which has no name, and one number.
+/// A trim, which has no name and one number.
 fn trim(name: &[u8], a: &[u8], b: &[u8]) -> Result<Task, Refusal>
     ensures { MatchResult result
-        (λ task. (task_refusal (Some Operation.Trim) name.now a.now b.now ≡ None) × (task ≡ task_of (Some Operation.Trim) name.now a.now b.now))
+        (λ task. (task_refusal (Some Operation.Trim) name.now a.now b.now ≡ None)
+        × (task ≡ task_of (Some Operation.Trim) name.now a.now b.now))
         (λ e. Tells e (task_refusal (Some Operation.Trim) name.now a.now b.now)) }
 {
     if !name.is_empty() {
@@ -183,13 +197,15 @@ fn trim(name: &[u8], a: &[u8], b: &[u8]) -> Result<Task, Refusal>
     }
 }
 
-/// A call under a name, by its operation, its name and its arguments.
+/// A call on a name, by its operation and its arguments.
 fn ask(alloc: Global, operation: Operation, name: Name, a: &[u8], b: &[u8]) -> Result<Ask, Refusal>
     requires mend { operation ≢ Operation.Mend }
     requires trim { operation ≢ Operation.Trim }
     ensures { MatchResult result
-        (λ ask. (fits_arguments (Some operation) a.now b.now ≡ true) × (Task.Make ask ≡ task_of (Some operation) name a.now b.now))
-        (λ e. Tells e (first_word ((not (fits_arguments (Some operation) a.now b.now), Word.Argument) ∷ []))) }
+        (λ ask. (fits_arguments (Some operation) a.now b.now ≡ true)
+        × (Task.Make ask ≡ task_of (Some operation) name a.now b.now))
+        (λ e. Tells e
+        (first_word ((not (fits_arguments (Some operation) a.now b.now), Word.Argument) ∷ []))) }
 {
     match operation {
         Operation::Put => put(alloc, name, Code::Wide, a, b),
@@ -251,7 +267,7 @@ fn numbers(a: &[u8], b: &[u8]) -> Result<(u64, u64), Refusal>
     }
 }
 
-/// No arguments.
+/// Checks that there are no arguments.
 fn nothing(a: &[u8], b: &[u8]) -> Result<(), Refusal>
     ensures { MatchResult result
         (λ _. are_empty a.now b.now ≡ true)

@@ -1,4 +1,4 @@
-//! Scripts: what the rows of a script ask for, and which of them are refused.
+//! Scripts: their rows, and why a row is refused.
 #![tactic(auto)]
 
 mod fields;
@@ -10,6 +10,3 @@ mod rows;
 
 pub use reading::{read_script, script};
 pub use rows::{BadScript, NotRead, Row, Task, Word};
-
-#[cfg(test)]
-mod tests;

@@ -5,7 +5,7 @@ ghost use Rattle.std.specs.Char.{is_ascii_digit};
 ghost use Rattle.std.specs.List.{list_all};
 ghost use Rattle.script.specs.Numbers.{is_number, is_numeral, value};
 
-/// Whether a text is one digit or more, with no leading zero.
+/// Whether a text is one or more digits without a leading zero.
 fn is_numeral(text: &[u8]) -> bool
     ensures { result ≡ is_numeral text.now }
 {
@@ -25,7 +25,7 @@ fn all_digits(text: &[u8]) -> bool
     text.iter().all(|digit| digit.is_ascii_digit())
 }
 
-/// The value of digits, where it fits.
+/// The value of digits, or `None` if it needs more than 64 bits.
 fn digits_value(text: &[u8]) -> Option<u64>
     requires { list_all is_ascii_digit text.now ≡ true }
     ensures { MatchOption result (2 ^ 64 ≤ value text.now) (λ n. n ≡ value text.now) }
@@ -37,10 +37,11 @@ fn digits_value(text: &[u8]) -> Option<u64>
     Some(sum)
 }
 
-/// The number that a text stands for, where it is one.
+/// The number that a text represents, or `None` if it represents none.
 #[tactic(auto, unfolding(crate::specs::Numbers::is_number))]
 pub(crate) fn number(text: &[u8]) -> Option<u64>
-    ensures { MatchOption result (is_number text.now ≡ false) (λ n. (is_number text.now ≡ true) × (n ≡ value text.now)) }
+    ensures { MatchOption result (is_number text.now ≡ false)
+        (λ n. (is_number text.now ≡ true) × (n ≡ value text.now)) }
 {
     if is_numeral(text) {
         digits_value(text)

@@ -1,8 +1,10 @@
-//! Reading a script.
+//! Reading of a script.
 
-ghost use Rattle.std.specs.Prelude.{◌≡◌, ◌<◌, ◌≤◌, All, ℕ, List, length, map, MatchResult, IfOk, IfErr, IfSome};
+ghost use Rattle.std.specs.Prelude.{◌≡◌, ◌<◌, ◌≤◌, All, ℕ, List, length, map, MatchResult, IfOk};
+ghost use Rattle.std.specs.Prelude.{IfErr, IfSome};
 ghost use Rattle.script.specs.Fields.{Record, row_of};
-ghost use Rattle.script.specs.Script.{AcceptedBefore, at_row, Explains, HasWorker, script_records, TellsWhy};
+ghost use Rattle.script.specs.Script.{AcceptedBefore, at_row, Explains, HasWorker, script_records};
+ghost use Rattle.script.specs.Script.{TellsWhy};
 
 use crate::records::row;
 use crate::retried::Retried;
@@ -12,7 +14,7 @@ use std::alloc::Global;
 use std::io;
 use std::io::Read;
 
-/// A refusal of the row of this number.
+/// The error for a refusal of the row with this number.
 fn at_row(refusal: Refusal, row: u32) -> BadScript
     ensures { result ≡ at_row refusal row }
 {
@@ -22,7 +24,7 @@ fn at_row(refusal: Refusal, row: u32) -> BadScript
     }
 }
 
-/// Why `csv` gave no record.
+/// The error for an error of `csv`.
 fn not_read(error: csv::Error) -> NotRead
     ensures { (workers : ℕ) (all : List Record) → TellsWhy workers all result }
 {
@@ -32,9 +34,10 @@ fn not_read(error: csv::Error) -> NotRead
     }
 }
 
-/// Reads what a reader has left, and tells the error: this one, or that of the reader where it fails.
+/// Reads the reader to its end. Returns this error, or the reader's own if the reader fails.
 fn read_out<R: Read + Drop>(mut input: R, error: BadScript) -> NotRead
-    ensures { (workers : ℕ) (all : List Record) → Explains workers all error → TellsWhy workers all result }
+    ensures { (workers : ℕ) (all : List Record) → Explains workers all error
+        → TellsWhy workers all result }
 {
     match io::copy(&mut input, &mut io::sink()) {
         Ok(_) => NotRead::Bad(error),
@@ -42,20 +45,25 @@ fn read_out<R: Read + Drop>(mut input: R, error: BadScript) -> NotRead
     }
 }
 
-/// The rows of a script for so many workers, in order, as a reader gives its bytes: the records that `csv` reads from them by
-/// default, with no header row and of any lengths. Of the script no more than one record is in memory at a time, beside the rows.
+/// Reads the rows of a script for this many workers from a reader, in order. Each record that `csv`
+/// reads by default is a row, of any length, and there is no header row. Besides the rows, at most
+/// one record is in memory at a time.
 ///
-/// `NotRead::Bad` where a record is refused, by the number of the first such record, from 1, and the first of its tests that
-/// refuses it; then the reader was read to its end. `NotRead::Reader` where the reader failed, before a refused record or behind
-/// it. Want of memory is answered where it is met.
+/// `NotRead::Bad` if a record is refused. The error has the number of the first such record, from
+/// 1, and the first test that refuses it. The function has then read the reader to its end.
+///
+/// `NotRead::Reader` if the reader failed, before or behind a refused record.
+/// `NotRead::Bad(BadScript::NoMemory)` if memory runs out.
 pub fn read_script<R: Read + Drop>(
     alloc: Global,
     input: R,
     workers: u32,
 ) -> Result<Vec<Row>, NotRead>
     ensures read { IfOk result (λ rows. IfSome (R.remaining input) (λ text.
-        AcceptedBefore workers (script_records text) (length (script_records text)) × (rows.items ≡ map row_of (script_records text)))) }
-    ensures refused { IfErr result (λ error. IfSome (R.remaining input) (λ text. TellsWhy workers (script_records text) error)) }
+        AcceptedBefore workers (script_records text) (length (script_records text))
+        × (rows.items ≡ map row_of (script_records text)))) }
+    ensures refused { IfErr result (λ error. IfSome (R.remaining input)
+        (λ text. TellsWhy workers (script_records text) error)) }
     ensures few { IfOk result (λ rows. length rows.items ≤ 65536) }
     ensures workers { IfOk result (λ rows. All (HasWorker workers) rows.items) }
 {
@@ -63,7 +71,7 @@ pub fn read_script<R: Read + Drop>(
         .has_headers(true)
         .flexible(true)
         .from_reader(alloc, Retried { reader: input });
-    // A header row that is given, and empty, spares the copies of a first record. Each record is a row then.
+    // An empty header row spares the copies of a first record, and makes each record a row.
     if reader.set_byte_headers(ByteRecord::new(alloc)).is_err() {
         return Err(NotRead::Bad(BadScript::NoMemory));
     }
@@ -89,12 +97,15 @@ pub fn read_script<R: Read + Drop>(
     }
 }
 
-/// The rows of a script for so many workers, in order: the records that `csv` reads from its bytes by default, with no header row
-/// and of any lengths. A script is refused where a record is: by the number of the first such record, from 1, and the first of its
-/// tests that refuses it. Want of memory is answered where it is met.
+/// Reads the rows of a script for this many workers from its bytes, in order. Each record that
+/// `csv` reads by default is a row, of any length, and there is no header row.
+///
+/// `BadScript::Refused` if a record is refused. The error has the number of the first such record,
+/// from 1, and the first test that refuses it. `BadScript::NoMemory` if memory runs out.
 pub fn script(alloc: Global, text: &[u8], workers: u32) -> Result<Vec<Row>, BadScript>
     ensures read { MatchResult result
-        (λ rows. AcceptedBefore workers (script_records text.now) (length (script_records text.now)) × (rows.items ≡ map row_of (script_records text.now)))
+        (λ rows. AcceptedBefore workers (script_records text.now) (length (script_records text.now))
+        × (rows.items ≡ map row_of (script_records text.now)))
         (λ error. Explains workers (script_records text.now) error) }
     ensures few { IfOk result (λ rows. length rows.items ≤ 65536) }
     ensures workers { IfOk result (λ rows. All (HasWorker workers) rows.items) }
@@ -102,7 +113,7 @@ pub fn script(alloc: Global, text: &[u8], workers: u32) -> Result<Vec<Row>, BadS
     match read_script(alloc, text, workers) {
         Ok(rows) => Ok(rows),
         Err(NotRead::Bad(error)) => Err(error),
-        // Reading bytes from memory has no error but want of memory.
+        // Reading from memory fails only if memory runs out.
         Err(NotRead::Reader(_)) => Err(BadScript::NoMemory),
     }
 }

@@ -3,7 +3,8 @@
 ghost use Rattle.std.specs.Prelude.{◌≡◌, ◌≤◌, [], None, Some, MatchResult, slice_index_or};
 ghost use Rattle.csv.specs.Records.{fields_of};
 ghost use Rattle.script.specs.Fields.{row_of};
-ghost use Rattle.script.specs.Script.{breaks_mend, Heads, is_mend, IsTidy, last_round, refusal, Tells};
+ghost use Rattle.script.specs.Script.{breaks_mend, Heads, is_mend, IsTidy, last_round, refusal};
+ghost use Rattle.script.specs.Script.{Tells};
 
 use crate::fields::{number_in, operation, task, worker};
 use crate::rows::{Head, Refusal, Row, Task, Word};
@@ -16,7 +17,7 @@ const MAX_ROWS: usize = 65_536;
 /// How many fields a row has.
 const FIELDS: usize = 6;
 
-/// The field at a place, empty where there is none.
+/// The field at an index, empty if there is none.
 fn field(fields: &ByteRecord, place: usize) -> &[u8]
     ensures { result.now ≡ slice_index_or (fields_of fields.now) place [] }
 {
@@ -26,7 +27,7 @@ fn field(fields: &ByteRecord, place: usize) -> &[u8]
     }
 }
 
-/// The round of the last row, 0 where there is none.
+/// The round of the last row, 0 if there is none.
 fn last_round(rows: &[Row]) -> u32
     ensures { result ≡ last_round rows.now }
 {
@@ -36,7 +37,8 @@ fn last_round(rows: &[Row]) -> u32
     }
 }
 
-/// Whether a row stands in one round with an earlier one, and one of them is a `mend`.
+/// Whether the row's round has an earlier row, and one of the round's rows, this one included, is a
+/// `mend`.
 fn breaks_mend(earlier: &[Row], row: &Row) -> bool
     requires tidy { IsTidy earlier.now }
     requires rises { last_round earlier.now ≤ row.now.round }
@@ -61,7 +63,7 @@ fn is_mend(task: &Task) -> bool
     }
 }
 
-/// What the first three fields of a record say, if they are not refused.
+/// The first three fields of a record, or why one of them is refused.
 #[tactic(auto, using(crate::proofs::Refusals::refusal_late), unfolding(crate::specs::Script::refusal))]
 fn head(fields: &ByteRecord, earlier: &[Row], workers: u32) -> Result<Head, Word>
     ensures { MatchResult result
@@ -94,7 +96,7 @@ fn head(fields: &ByteRecord, earlier: &[Row], workers: u32) -> Result<Head, Word
     })
 }
 
-/// The row that a record stands for after these, if it is not refused.
+/// The row that a record represents after the earlier rows, or why it is refused.
 pub(crate) fn row(
     alloc: Global,
     fields: &ByteRecord,
@@ -103,7 +105,8 @@ pub(crate) fn row(
 ) -> Result<Row, Refusal>
     requires { IsTidy earlier.now }
     ensures { MatchResult result
-        (λ row. (refusal workers earlier.now (fields_of fields.now) ≡ None) × (row ≡ row_of (fields_of fields.now)))
+        (λ row. (refusal workers earlier.now (fields_of fields.now) ≡ None)
+        × (row ≡ row_of (fields_of fields.now)))
         (λ e. Tells e (refusal workers earlier.now (fields_of fields.now))) }
 {
     let head = match head(fields, earlier, workers) {

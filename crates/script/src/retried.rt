@@ -1,9 +1,9 @@
-//! Reads that are tried again.
+//! Retries of interrupted reads.
 
 use std::io;
 use std::io::Read;
 
-/// A reader of which a read is tried again where a signal interrupted it.
+/// A reader that retries a read if a signal interrupted it.
 #[derive(Drop)]
 pub(crate) struct Retried<R> {
     pub reader: R,

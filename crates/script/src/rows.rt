@@ -1,4 +1,4 @@
-//! The rows of a script, and why one is refused.
+//! The rows of a script, and the errors.
 
 use requests::Ask;
 use std::error::Error;
@@ -8,9 +8,9 @@ use std::io::ErrorKind;
 /// What a row asks for.
 #[derive(Drop)]
 pub enum Task {
-    /// A call.
+    /// One call of the store.
     Make(Ask),
-    /// To mend all lost fragments.
+    /// Repair all lost fragments.
     Mend,
 }
 
@@ -19,7 +19,7 @@ pub enum Task {
 pub struct Row {
     /// The round in which it runs, from 1. No row is of an earlier round than the row before it.
     pub round: u32,
-    /// The worker that runs it, from 1, or 0 where all workers do.
+    /// The worker that runs it, from 1. It is 0 if all workers run it.
     pub worker: u32,
     /// What it asks for.
     pub task: Task,
@@ -28,25 +28,25 @@ pub struct Row {
 /// Why a row is refused, in the order of the tests.
 #[derive(Clone, Copy, PartialEq, Eq, Debug)]
 pub enum Word {
-    /// The script has more than 65,536 rows, and this is the first of the others.
+    /// The row is the first one past 65,536.
     Rows,
-    /// The row has not just six fields.
+    /// The row does not have exactly six fields.
     Fields,
-    /// Its round is no number in 1..=4294967295, or less than that of the row before it.
+    /// The round is not a number in 1..=4294967295, or is less than that of the row before.
     Round,
-    /// Its worker is none of the workers.
+    /// The worker is not one of the script's workers.
     Worker,
-    /// Its operation is unknown.
+    /// The operation is unknown.
     Op,
-    /// Its name is none.
+    /// The name is not valid.
     Name,
-    /// Its arguments don't fit the operation.
+    /// The arguments don't fit the operation.
     Argument,
-    /// Its round has an earlier row, and this row or an earlier one of the round is a `mend`.
+    /// The round has an earlier row, and this row or an earlier one of the round is a `mend`.
     Mend,
 }
 
-/// The word, in small letters.
+/// Prints the word in small letters.
 impl fmt::Display for Word {
     ghost use Rattle.std.specs.Prelude.{Some};
     ghost use Rattle.script.specs.Text.{word_text};
@@ -72,16 +72,16 @@ impl fmt::Display for Word {
 pub enum BadScript {
     /// A row is refused.
     Refused {
-        /// Its number, from 1.
+        /// The number of the row, from 1.
         row: u32,
-        /// Why.
+        /// The reason.
         word: Word,
     },
-    /// A request for memory was refused.
+    /// The program is out of memory.
     NoMemory,
 }
 
-/// The number of the row and its word, as `row 2: fields`, or `out of memory`.
+/// Prints the number of the row and its word, such as `row 2: fields`, or `out of memory`.
 impl fmt::Display for BadScript {
     ghost use Rattle.std.specs.Prelude.{Some};
     ghost use Rattle.script.specs.Text.{refusal_text};
@@ -98,16 +98,16 @@ impl fmt::Display for BadScript {
 
 impl Error for BadScript {}
 
-/// Why a script was not read.
+/// Why a script could not be read.
 #[derive(Clone, Copy, PartialEq, Eq, Debug)]
 pub enum NotRead {
-    /// A row is refused, or a request for memory was.
+    /// A row is refused, or the program is out of memory.
     Bad(BadScript),
     /// The reader failed, with an error of this kind.
     Reader(ErrorKind),
 }
 
-/// The line of a refusal, or that the script can't be read.
+/// Prints the line of a refusal, or that the script can't be read.
 impl fmt::Display for NotRead {
     ghost use Rattle.std.specs.Prelude.{Some};
     ghost use Rattle.script.specs.Text.{not_read_text};
@@ -141,13 +141,13 @@ pub(crate) enum Operation {
 /// Why one record is refused.
 #[derive(Clone, Copy, PartialEq, Eq, Debug)]
 pub(crate) enum Refusal {
-    /// By this word.
+    /// The first test that refuses it.
     Refused(Word),
-    /// A request for memory was refused.
+    /// The program is out of memory.
     NoMemory,
 }
 
-/// What the first three fields of a record say.
+/// The first three fields of a record.
 #[derive(Clone, Copy)]
 pub(crate) struct Head {
     pub round: u32,

@@ -1,4 +1,4 @@
--- Values that differ at one place.
+-- Values that differ in one slot.
 use Rattle.std.proofs.Common.{◌≡◌, ◌≢◌, ℕ, ◌<◌, Bool, true, false, List, [], length, map, get_or, Option, None, Some, Result, Ok, Err, OnOk, OnErr, cond, refl, sym, ap, ◌∙◌, subst, arith}
 use Rattle.std.specs.Prelude.{IfOk, slice_set, ◌&&◌, ◌||◌, ◌==◌, not}
 use Rattle.std.specs.FinSet as set
@@ -90,7 +90,7 @@ pub either_way : {T E P Q R : Type 0} (r : Result T E) → (P → R) → (Q → 
 either_way (Ok x) p q ok err = p ok
 either_way (Err x) p q ok err = q err
 
--- of what a call gives, two clauses say what follows from both
+-- from two clauses about a call's result follows what follows from both
 pub both_ok : {T E : Type 0} (r : Result T E) (P Q R : T → Type 0) → ((x : T) → P x → Q x → R x) → IfOk r P → IfOk r Q → IfOk r R
 both_ok (Ok x) P Q R follows p q = follows x p q
 both_ok (Err e) P Q R follows p q = tt
@@ -109,7 +109,7 @@ pairs_total = then_total (on_total (λ (p : ℕ × ℕ). p.0) nat_cmp_total) (on
 tied_pairs : (i g j f : ℕ) → eq_by_cmp pair_cmp (i, g) (j, f) ≡ ((i == j) && (g == f))
 tied_pairs i g j f = grind (arith, common_steps)
 
--- it stands for the same bytes where each fragment is lost in the new pairs or is the blob's
+-- it represents the same bytes if each fragment is lost in the new pairs or is the blob's
 stands_by : (s t : Sealed) (b : List ℕ) (lost : Lost) → t.len ≡ s.len → t.width ≡ s.width → t.code ≡ s.code → StandsFor s b lost → (new : Lost)
     → ((i g : ℕ) → i < stripe_count s.code s.width s.len → g < fragment_count s.code → fragment_at t.stripes i g ≡ cond (lost_in new i g) None (Some (fragment s.code s.width b i g))) → StandsFor t b new
 stands_by s t b lost len width code stands new at =

@@ -87,7 +87,7 @@ module _ (code : Code) (w : ℕ) (blob last parities : List ℕ) (count : ℕ) w
       ap (λ (row : List (Option (List ℕ))). get_or row f None) (packed_row j l)
       ∙ part_at code w (held_by (stripe_size code w) blob last j) (parities_by w parities j) f
 
--- what is found of stripe j by its place
+-- the slots of stripe j, by its number
 module _ (code : Code) (w : ℕ) (blob last parities : List ℕ) (count : ℕ) (are : ArePacked code w blob last parities count) (stripes : Stripes)
     (seen : packed code w blob last parities count ≡ stripes) (j : ℕ) (below : j < length stripes) (v d : ℕ) (wide : v ≡ w) (counted : d ≡ data_count code) where
   inside : j < count

@@ -57,7 +57,7 @@ module _ (code : Code) (w : ℕ) (some : 1 ≤ w) where
       let same : place_of w i ≡ p = ap (place_of w) all ∙ (place_back (i / S) f p (fragment_inside i) (omega arith)).2 in
       ap (byte_of code w (stripe_of code w i) f) same ∙ sym all
 
-  -- and stands in a stripe of the blob
+  -- and lies in a stripe of the blob
   pub stripe_inside : (i len : ℕ) → i < len → stripe_of code w i < stripe_count code w len
   stripe_inside i len l =
       let S = stripe_size code w in
@@ -66,7 +66,7 @@ module _ (code : Code) (w : ℕ) (some : 1 ≤ w) where
       let q : i / S + 1 ≤ (len + S - 1) / S = le-div (i / S + 1) (len + S - 1) S s (omega arith) in
       omega arith
 
-  -- the data fragments counted through the blob: byte i stands in the (i / w)-th
+  -- the data fragments numbered through the blob: byte i lies in the (i / w)-th
   counted : (i : ℕ) → i / w ≡ stripe_of code w i * data_count code + fragment_of code w i
   counted i =
       let j = stripe_of code w i in
@@ -82,7 +82,7 @@ module _ (code : Code) (w : ℕ) (some : 1 ≤ w) where
   pub fragment_by_count : (i : ℕ) → fragment_of code w i ≡ (i / w) % data_count code
   fragment_by_count i = sym (rest_of (i / w) (data_count code) (stripe_of code w i) (fragment_of code w i) (counted i) (sym (stripe_by_count i)))
 
-  -- the k-th of them stands in a stripe of the blob, where it begins below the blob's end
+  -- the k-th of them lies in a stripe of the blob, if it begins below the blob's end
   pub stripe_below : (k len : ℕ) → k * w < len → k / data_count code < stripe_count code w len
   stripe_below k len below =
       let whole : (k * w) / w ≡ k = ap (λ n. n / w) (let e : k * w ≡ k * w + 0 = omega arith in e) ∙ div-mul-add k w 0 some in

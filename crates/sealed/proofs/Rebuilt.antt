@@ -1,4 +1,4 @@
--- What a recipe makes of the fragments that are left of a stripe.
+-- The sum of a recipe over the remaining fragments of a stripe.
 use Rattle.std.proofs.Common.{◌≡◌, ℕ, ◌+◌, ◌-◌, ◌<◌, ◌≤◌, Bool, true, false, List, Option, None, Some, Bor, cond, length, map, get_or, sym, ap, ◌∙◌, subst, arith}
 use Rattle.std.specs.Prelude.{EachIndex, IfSome, is_none, slice_index, slice_range}
 use Rattle.std.proofs.lemmas.Grind.{common_steps, same_number_lists}
@@ -24,7 +24,7 @@ there_by None gone y P e here p = absurd (let clash : true ≡ false = here in c
 there_by (Some x) true y P e here p = absurd (let clash : Some x ≡ None = e in cc)
 there_by (Some x) false y P e here p = subst P (let same : Some x ≡ Some y = e in cc) p
 
--- a fragment that is there is that of each blob that the value stands for
+-- a fragment that is present is that of each blob that the value represents
 there : (s : Sealed) (j f : ℕ) (b : List ℕ) (lost : Lost) (P : List ℕ → Type 0) → StandsFor s b lost → j < stripe_count s.code s.width s.len → f < fragment_count s.code → absent_in s j f ≡ false
     → IfSome (fragment_at s.stripes j f) P → P (fragment s.code s.width b j f)
 there s j f b lost P stands below inside here =

@@ -1,4 +1,4 @@
--- What sealing makes: stripes with nothing lost.
+-- The result of sealing: stripes without lost fragments.
 use Rattle.std.proofs.Common.{◌≡◌, ℕ, zero, suc, ◌+◌, ◌-◌, ◌*◌, ◌/◌, ◌%◌, ◌<◌, ◌≤◌, ◌++◌, ◌∷◌, [], List, length, get_or, map, take, None, Some, Bor, cond, sym, ap, ap₂, ◌∙◌, subst, arith, inl, inr}
 use Rattle.std.specs.Prelude.{All, slice_index, slice_index_or, slice_range}
 use Rattle.std.specs.FinSet as set
@@ -203,7 +203,7 @@ module _ (w j : ℕ) (xs ys : List ℕ) (inside : 4 * w * j + 4 * w ≤ length x
   pub put_long : length after ≡ length xs
   put_long = grind (arith, common_steps, long, inside)
 
-  -- where they are a list's room, they are written back into it
+  -- if they are a list's free capacity, they are written back into it
   pub put_back : (n : ℕ) (rest : List ℕ) → length xs ≡ n → take n (after ++ rest) ≡ after
   put_back n rest room = written_back n after rest (put_long ∙ room)
 

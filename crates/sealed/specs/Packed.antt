@@ -7,7 +7,8 @@ use Rattle.sealed.specs.Layout.{stripe_size}
 use Rattle.sealed.specs.Stripes.{Stripes}
 use Rattle.sealed.specs.Blob.{fragment}
 
--- the bytes that stripe j holds: those of the blob that stand there, and the last ones, filled up, where they are fewer
+-- the bytes that stripe j holds: those of the blob, or the padded last ones if the blob does not
+-- fill the stripe
 abbrev pub held_by : ℕ → List ℕ → List ℕ → ℕ → List ℕ
 held_by size blob last j = if nat_lt (length blob) (size * j + size) then last else slice_range blob (size * j) (size * j + size)
 
@@ -15,7 +16,7 @@ held_by size blob last j = if nat_lt (length blob) (size * j + size) then last e
 abbrev pub parities_by : ℕ → List ℕ → ℕ → List ℕ
 parities_by w parities j = slice_range parities (4 * w * j) (4 * w * j + 4 * w)
 
--- they are those of the stripe that holds these bytes
+-- these are the parities of the stripe that holds these bytes
 pub record AreParitiesOf (code : Code) (w : ℕ) (held parities : List ℕ) : Type 0 where
   pub long : length parities ≡ 4 * w
   pub each : (k : ℕ) → k < 4 → slice_range parities (w * k) (w * k + w) ≡ fragment code w held 0 (data_count code + k)
@@ -36,7 +37,7 @@ unfoldable pub packed : Code → ℕ → List ℕ → List ℕ → List ℕ → 
 packed code w blob last parities count =
     map (λ j. parts_of code w (held_by (stripe_size code w) blob last j) (parities_by w parities j)) (range_with_len 0 count)
 
--- the three lists are long enough for so many stripes
+-- the three lists are long enough for this many stripes
 pub record ArePacked (code : Code) (w : ℕ) (blob last parities : List ℕ) (count : ℕ) : Type 0 where
   pub few : count ≤ 4096
   pub begin : (j : ℕ) → j < count → stripe_size code w * j < length blob
@@ -48,6 +49,6 @@ abbrev pub own_or : {A : Type 0} → (A → List (Option (List ℕ))) → Option
 own_or row (Some own) stripe = row own
 own_or row None stripe = stripe
 
--- the stripes of a list, but for those that have one of their own
+-- the stripes of a list, with each one replaced that has one of its own
 unfoldable pub laid_over : {A : Type 0} → (A → List (Option (List ℕ))) → List (Option A) → Stripes → Stripes
 laid_over row own stripes = map (λ j. own_or row (slice_index_or own j None) (slice_index_or stripes j [])) (range_with_len 0 (length own))

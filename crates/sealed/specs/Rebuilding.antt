@@ -1,4 +1,4 @@
--- Which fragments of a sealed value can be rebuilt, and what they are.
+-- The fragments of a sealed value that can be rebuilt, and their bytes.
 use Rattle.std.specs.Prelude.{◌≡◌, ℕ, true, List, slice_range}
 use Rattle.lrc_code.specs.Code.{Open}
 use Rattle.sealed.specs.declared.value.Sealed.{Sealed}
@@ -6,16 +6,18 @@ use Rattle.sealed.specs.Layout.{HasFragment}
 use Rattle.sealed.specs.Blob.{Lost, fragment}
 use Rattle.sealed.specs.Sealed.{StandsFor, absent_in}
 
--- the blob has the fragment f of stripe j, which the value lacks, and which can be told from those left
+-- the blob has the fragment f of stripe j, the value lacks it, and the remaining fragments
+-- determine it
 pub record IsRebuildable (s : Sealed) (j f : ℕ) : Type 0 where
   pub has : HasFragment s.code s.width s.len j f
   pub lost : absent_in s j f ≡ true
   pub closed : Open s.code (absent_in s j) f → ⊥
 
--- the bytes are those at from..to of the fragment f of stripe j, in each blob that the value stands for
+-- the bytes are those at from..to of the fragment f of stripe j, in each blob that the value
+-- represents
 abbrev pub IsPartOf : Sealed → ℕ → ℕ → ℕ → ℕ → List ℕ → Type 0
 IsPartOf s j f from to bytes = (b : List ℕ) (lost : Lost) → StandsFor s b lost → bytes ≡ slice_range (fragment s.code s.width b j f) from to
 
--- the bytes are the fragment f of stripe j, in each blob that the value stands for
+-- the bytes are the fragment f of stripe j, in each blob that the value represents
 abbrev pub IsFragmentOf : Sealed → ℕ → ℕ → List ℕ → Type 0
 IsFragmentOf s j f bytes = (b : List ℕ) (lost : Lost) → StandsFor s b lost → bytes ≡ fragment s.code s.width b j f

@@ -1,5 +1,6 @@
-//! Values that differ from an old one at one place.
-ghost use Rattle.std.specs.Prelude.{◌≡◌, ◌<◌, ℕ, List, None, Some, length, slice_set, IfOk, IfErr, IfSome, OnOk, OnErr};
+//! Values that differ from an old one in one fragment.
+ghost use Rattle.std.specs.Prelude.{◌≡◌, ◌<◌, ℕ, List, None, Some, length, slice_set, IfOk, IfErr};
+ghost use Rattle.std.specs.Prelude.{IfSome, OnOk, OnErr};
 ghost use Rattle.std.specs.FinSet as set;
 ghost use Rattle.lrc_code.specs.Code.{fragment_count};
 ghost use Rattle.sealed.specs.Layout.{stripe_count};
@@ -14,12 +15,14 @@ use std::alloc::Global;
 use std::sync::Arc;
 
 impl Sealed {
-    /// The same value without the fragment `f` of a stripe. All else is shared with this one. The only fault is `NoMemory`.
+    /// A copy without the fragment `f` of a stripe. It shares all other bytes with this value. The
+    /// only error is `NoMemory`.
     pub fn without(&self, alloc: Global, stripe: u64, f: u8) -> Result<Sealed, Fault>
         requires stripe_below { stripe < stripe_count self.now.code self.now.width self.now.len }
         requires f_below { f < fragment_count self.now.code }
         ensures ok { IfOk result (IsChanged self.now stripe f None) }
-        ensures stands { IfOk result (λ s. (b : List ℕ) (lost : Lost) → StandsFor self.now b lost → StandsFor s b (set.insert lost (stripe, f))) }
+        ensures stands { IfOk result (λ s. (b : List ℕ) (lost : Lost) → StandsFor self.now b lost
+            → StandsFor s b (set.insert lost (stripe, f))) }
         ensures err { IfErr result (λ e. e ≡ Fault.NoMemory) }
     {
         let Ok(mut sealed) = self.share(alloc) else {
@@ -31,14 +34,16 @@ impl Sealed {
         }
     }
 
-    /// The same value with these bytes for the fragment `f` of a stripe. All else is shared with this one. The only fault is `NoMemory`.
+    /// A copy with `bytes` as the fragment `f` of a stripe. It shares all other bytes with this
+    /// value. The only error is `NoMemory`.
     pub fn with(&self, alloc: Global, stripe: u64, f: u8, bytes: Bytes) -> Result<Sealed, Fault>
         requires stripe_below { stripe < stripe_count self.now.code self.now.width self.now.len }
         requires f_below { f < fragment_count self.now.code }
         requires long { length bytes ≡ self.now.width }
         ensures ok { IfOk result (IsChanged self.now stripe f (Some bytes)) }
         ensures stands { IfOk result (λ s. (b : List ℕ) (lost : Lost) → StandsFor self.now b lost
-            → bytes ≡ fragment self.now.code self.now.width b stripe f → StandsFor s b (set.remove lost (stripe, f))) }
+            → bytes ≡ fragment self.now.code self.now.width b stripe f
+            → StandsFor s b (set.remove lost (stripe, f))) }
         ensures err { IfErr result (λ e. e ≡ Fault.NoMemory) }
     {
         let Ok(mut sealed) = self.share(alloc) else {
@@ -50,12 +55,14 @@ impl Sealed {
         }
     }
 
-    /// Takes out the fragment `f` of a stripe. A value that shares the stripe keeps it. The only fault is `NoMemory`. After it the value is as it was.
+    /// Removes the fragment `f` of a stripe from this value. Other values that share the stripe
+    /// keep it. The only error is `NoMemory`; the value is then unchanged.
     pub fn take_out(&mut self, alloc: Global, stripe: u64, f: u8) -> Result<(), Fault>
         requires stripe_below { stripe < stripe_count self.old.code self.old.width self.old.len }
         requires f_below { f < fragment_count self.old.code }
         ensures ok { OnOk result (IsChanged self.old stripe f None self.new) }
-        ensures stands { OnOk result ((b : List ℕ) (lost : Lost) → StandsFor self.old b lost → StandsFor self.new b (set.insert lost (stripe, f))) }
+        ensures stands { OnOk result ((b : List ℕ) (lost : Lost) → StandsFor self.old b lost
+            → StandsFor self.new b (set.insert lost (stripe, f))) }
         ensures faults { IfErr result (λ e. e ≡ Fault.NoMemory) }
         ensures err { OnErr result (self.new ≡ self.old) }
     {
@@ -65,14 +72,16 @@ impl Sealed {
         }
     }
 
-    /// Puts these bytes in for the fragment `f` of a stripe. A value that shares the stripe keeps its own. The only fault is `NoMemory`. After it the value is as it was.
+    /// Sets the fragment `f` of a stripe to `bytes`, of the value's width. Other values that share
+    /// the stripe keep theirs. The only error is `NoMemory`; the value is then unchanged.
     pub fn put_back(&mut self, alloc: Global, stripe: u64, f: u8, bytes: Bytes) -> Result<(), Fault>
         requires stripe_below { stripe < stripe_count self.old.code self.old.width self.old.len }
         requires f_below { f < fragment_count self.old.code }
         requires long { length bytes ≡ self.old.width }
         ensures ok { OnOk result (IsChanged self.old stripe f (Some bytes) self.new) }
         ensures stands { OnOk result ((b : List ℕ) (lost : Lost) → StandsFor self.old b lost
-            → bytes ≡ fragment self.old.code self.old.width b stripe f → StandsFor self.new b (set.remove lost (stripe, f))) }
+            → bytes ≡ fragment self.old.code self.old.width b stripe f
+            → StandsFor self.new b (set.remove lost (stripe, f))) }
         ensures faults { IfErr result (λ e. e ≡ Fault.NoMemory) }
         ensures err { OnErr result (self.new ≡ self.old) }
     {
@@ -82,7 +91,7 @@ impl Sealed {
         }
     }
 
-    /// Puts this slot in for the fragment `f` of a stripe.
+    /// Sets the slot of the fragment `f` of a stripe. On an error the value is unchanged.
     fn change(
         &mut self,
         alloc: Global,
@@ -100,7 +109,7 @@ impl Sealed {
             .set(alloc, stripe as usize, usize::from(f), slot)
     }
 
-    /// The same value. The stripes are shared.
+    /// A copy that shares all stripes.
     fn share(&self, alloc: Global) -> Result<Sealed, NoMemory>
         ensures { IfOk result (λ s. s ≡ self.now) }
     {
@@ -114,7 +123,7 @@ impl Sealed {
     }
 }
 
-/// Puts this slot in for the fragment `f`: in place where the stripe has no other owner, and else in a stripe of its own.
+/// Sets the slot of the fragment `f`, in a copy of the stripe if the stripe has other owners.
 pub(crate) fn set_slot(
     stripe: &mut Arc<Stripe>,
     alloc: Global,
@@ -122,7 +131,8 @@ pub(crate) fn set_slot(
     slot: Option<Bytes>,
 ) -> Result<(), NoMemory>
     requires { f < 16 }
-    ensures ok { OnOk result (stripe.new.value.fragments ≡ slice_set stripe.old.value.fragments f slot) }
+    ensures ok { OnOk result (stripe.new.value.fragments
+        ≡ slice_set stripe.old.value.fragments f slot) }
     ensures err { OnErr result (stripe.new.value.fragments ≡ stripe.old.value.fragments) }
 {
     if let Some(own) = Arc::get_mut(stripe) {
@@ -134,7 +144,7 @@ pub(crate) fn set_slot(
     Ok(())
 }
 
-/// The same stripe with this slot for the fragment `f`. The other fragments are shared.
+/// A copy of the stripe with this slot for the fragment `f`. It shares the other fragments.
 fn with_slot(stripe: &Stripe, f: usize, slot: Option<Bytes>) -> Result<Stripe, NoMemory>
     requires { f < 16 }
     ensures { IfOk result (λ s. s.fragments ≡ slice_set stripe.now.fragments f slot) }
@@ -152,7 +162,7 @@ fn with_slot(stripe: &Stripe, f: usize, slot: Option<Bytes>) -> Result<Stripe, N
     Ok(Stripe::new(fragments))
 }
 
-/// One more owner of a fragment that is there.
+/// One more owner of the fragment in a slot.
 fn shared(slot: &Option<Bytes>) -> Result<Option<Bytes>, NoMemory>
     ensures { IfOk result (λ s. s ≡ slot.now) }
 {

@@ -1,5 +1,6 @@
-//! The stripes of a blob as they are sealed.
-ghost use Rattle.std.specs.Prelude.{◌≡◌, ◌+◌, ◌*◌, ◌<◌, ◌≤◌, ◌&&◌, ℕ, None, Some, [], length, nat_lt, is_none, slice_index_or, IfOk};
+//! The stripes of a blob as `seal` makes them.
+ghost use Rattle.std.specs.Prelude.{◌≡◌, ◌+◌, ◌*◌, ◌<◌, ◌≤◌, ◌&&◌, ℕ, None, Some, [], length};
+ghost use Rattle.std.specs.Prelude.{nat_lt, is_none, slice_index_or, IfOk};
 ghost use Rattle.std.specs.Option.{option_map};
 ghost use Rattle.lrc_code.specs.Code.{fragment_count, is_lost};
 ghost use Rattle.sealed.specs.Layout.{stripe_size};
@@ -11,7 +12,8 @@ use bytes::Bytes;
 use lrc_code::{Code, LostSet, NoMemory};
 use std::marker::Model;
 
-/// The stripes of a blob, nothing lost. None of them has handles of its own: what is theirs is found by its place. Contracts see the fragments of each.
+/// The stripes of a blob without lost fragments. None of them has handles of its own: a fragment is
+/// a slice of the blob's bytes or of the parities. Contracts see the fragments of each.
 #[derive(Drop)]
 pub(crate) struct Packed {
     code: Code,
@@ -34,7 +36,8 @@ impl Model for Packed {
 }
 
 impl Packed {
-    /// So many stripes of a blob's bytes, of the last ones, filled up, where they are fewer than a stripe holds, and of the parities of all.
+    /// `count` stripes of a blob's bytes. `last` holds the bytes of a last, partial stripe, padded
+    /// with zeros, and `parities` those of all stripes.
     pub(crate) fn new(
         code: Code,
         width: Width,
@@ -56,7 +59,7 @@ impl Packed {
         }
     }
 
-    /// How many stripes there are.
+    /// The number of stripes.
     #[tactic(auto, using(crate::proofs::Packing::packed_count))]
     pub(crate) fn len(&self) -> usize
         ensures { result ≡ length self.now }
@@ -64,7 +67,7 @@ impl Packed {
         self.count
     }
 
-    /// The bytes of a fragment, or `None` for a slot that is no fragment of the code.
+    /// The bytes of a fragment, or `None` for a slot that the code does not use.
     pub(crate) fn fragment(&self, j: usize, f: usize) -> Option<&[u8]>
         requires j_below { j < length self.now }
         requires f_below { f < 16 }
@@ -84,9 +87,10 @@ impl Packed {
         None
     }
 
-    /// The slots of each stripe that are `None`: those that are no fragment of the code.
+    /// The slots that the code does not use, which are `None` in each stripe.
     pub(crate) fn lost(&self) -> LostSet
-        ensures { (j f : ℕ) → j < length self.now → is_lost result f ≡ (nat_lt f 16 && is_none (fragment_at self.now j f)) }
+        ensures { (j f : ℕ) → j < length self.now → is_lost result f
+            ≡ (nat_lt f 16 && is_none (fragment_at self.now j f)) }
     {
         match self.code {
             Code::Wide => LostSet::empty(),
@@ -94,7 +98,7 @@ impl Packed {
         }
     }
 
-    /// A stripe with handles of its own, which share the bytes.
+    /// A stripe with handles of its own, which share the bytes. `NoMemory` if memory runs out.
     pub(crate) fn stripe(&self, j: usize) -> Result<Stripe, NoMemory>
         requires { j < length self.now }
         ensures { IfOk result (λ s. s.fragments ≡ slice_index_or self.now j []) }
@@ -106,7 +110,7 @@ impl Packed {
         handles(self.code, w, &held, &parities)
     }
 
-    /// The same stripes, which share the bytes.
+    /// A copy that shares the bytes.
     pub(crate) fn share(&self) -> Result<Packed, NoMemory>
         ensures { IfOk result (λ p. p ≡ self.now) }
     {
@@ -121,7 +125,7 @@ impl Packed {
     }
 }
 
-/// The bytes that stripe `j` holds, of `size` bytes each.
+/// The bytes that stripe `j` holds, if a stripe holds `size`.
 pub(crate) fn held_in<'a>(blob: &'a [u8], last: &'a [u8], size: usize, j: usize) -> &'a [u8]
     requires { size * j ≤ length blob.now }
     ensures { result.now ≡ held_by size blob.now last.now j }
@@ -133,7 +137,7 @@ pub(crate) fn held_in<'a>(blob: &'a [u8], last: &'a [u8], size: usize, j: usize)
     &blob[start..start + size]
 }
 
-/// One more owner of them.
+/// One more owner of those bytes.
 fn shared_held(blob: &Bytes, last: &Bytes, size: usize, j: usize) -> Result<Bytes, NoMemory>
     requires { size * j ≤ length blob.now }
     ensures { IfOk result (λ held. held ≡ held_by size blob.now last.now j) }
@@ -146,7 +150,7 @@ fn shared_held(blob: &Bytes, last: &Bytes, size: usize, j: usize) -> Result<Byte
     blob.slice(start..start + size)
 }
 
-/// The four parities of stripe `j`, of `w` bytes each.
+/// The four parities of stripe `j`, of `w` bytes each, one after the other.
 fn parities_in(parities: &[u8], w: usize, j: usize) -> &[u8]
     requires width { w ≤ 65536 }
     requires inside { 4 * w * j + 4 * w ≤ length parities.now }
@@ -155,7 +159,7 @@ fn parities_in(parities: &[u8], w: usize, j: usize) -> &[u8]
     &parities[4 * w * j..4 * w * j + 4 * w]
 }
 
-/// One more owner of them.
+/// One more owner of those bytes.
 fn shared_parities(parities: &Bytes, w: usize, j: usize) -> Result<Bytes, NoMemory>
     requires width { w ≤ 65536 }
     requires few { j < 4096 }
@@ -165,12 +169,13 @@ fn shared_parities(parities: &Bytes, w: usize, j: usize) -> Result<Bytes, NoMemo
     parities.slice(4 * w * j..4 * w * j + 4 * w)
 }
 
-/// The stripe that holds these bytes and has these parities, with a handle of each fragment.
+/// The stripe that holds these bytes and has these parities, with a handle for each fragment.
 fn handles(code: Code, w: usize, held: &Bytes, parities: &Bytes) -> Result<Stripe, NoMemory>
     requires width { w ≤ 65536 }
     requires long { length held.now ≡ stripe_size code w }
     requires parities { length parities.now ≡ 4 * w }
-    ensures { IfOk result (λ s. (f : ℕ) → slice_index_or s.fragments f None ≡ part_of code w held.now parities.now f) }
+    ensures { IfOk result (λ s. (f : ℕ) → slice_index_or s.fragments f None
+        ≡ part_of code w held.now parities.now f) }
 {
     let data = usize::from(code.data_fragments());
     let mut fragments: [Option<Bytes>; 16] = [

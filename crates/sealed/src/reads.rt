@@ -1,4 +1,4 @@
-//! What is read of a sealed blob.
+//! What a sealed blob has: fragments and losses.
 ghost use Rattle.std.specs.Prelude.{◌≡◌, ◌<◌, ◌≤◌, ◌&&◌, ℕ, false, nat_lt};
 ghost use Rattle.std.specs.Option.{option_map};
 ghost use Rattle.lrc_code.specs.Code.{fragment_count, is_lost};
@@ -10,7 +10,7 @@ use crate::Sealed;
 use lrc_code::{Code, LostSet};
 
 impl Sealed {
-    /// The same blob under another version.
+    /// The same blob with another version.
     pub fn with_version(self, version: u64) -> Sealed
         ensures { result ≡ record self { version = version } }
     {
@@ -30,7 +30,7 @@ impl Sealed {
         }
     }
 
-    /// The bytes of the fragment `f` of a stripe, or `None` where it is absent.
+    /// The bytes of the fragment `f` of a stripe, or `None` if it is lost.
     pub fn fragment(&self, stripe: u64, f: u8) -> Option<&[u8]>
         requires stripe_below { stripe < stripe_count self.now.code self.now.width self.now.len }
         requires f_below { f < 16 }
@@ -39,17 +39,18 @@ impl Sealed {
         self.stripes.fragment(stripe as usize, usize::from(f))
     }
 
-    /// The fragments that are absent in a stripe. The set has no number past those of the code.
+    /// The fragments of a stripe that are lost. The set has only fragments of the code.
     pub fn lost(&self, stripe: u64) -> LostSet
         requires { stripe < stripe_count self.now.code self.now.width self.now.len }
-        ensures absent { (f : ℕ) → f < fragment_count self.now.code → is_lost result f ≡ absent_in self.now stripe f }
+        ensures absent { (f : ℕ) → f < fragment_count self.now.code
+            → is_lost result f ≡ absent_in self.now stripe f }
         ensures inside { (f : ℕ) → fragment_count self.now.code ≤ f → is_lost result f ≡ false }
     {
         of_code(self.code, self.stripes.lost(stripe as usize))
     }
 }
 
-/// The numbers of a set of slots that are fragments of a code.
+/// The members of a set of slots that are fragments of the code.
 fn of_code(code: Code, slots: LostSet) -> LostSet
     requires { (i : ℕ) → 16 ≤ i → is_lost slots i ≡ false }
     ensures { (i : ℕ) → is_lost result i ≡ (nat_lt i (fragment_count code) && is_lost slots i) }

@@ -1,5 +1,6 @@
-//! Which fragments can be rebuilt from those left, and their bytes.
-ghost use Rattle.std.specs.Prelude.{◌≡◌, ◌↔◌, ◌+◌, ◌-◌, ◌<◌, ◌≤◌, false, length, slice_range, IsTrue, IfSome, IfOk, IfErr};
+//! Whether a lost fragment can be rebuilt from the remaining ones, and its bytes.
+ghost use Rattle.std.specs.Prelude.{◌≡◌, ◌↔◌, ◌+◌, ◌-◌, ◌<◌, ◌≤◌, false, length, slice_range};
+ghost use Rattle.std.specs.Prelude.{IsTrue, IfSome, IfOk, IfErr};
 ghost use Rattle.lrc_code.specs.Code.{fragment_count};
 ghost use Rattle.lrc_code.specs.Recipe.{IsRecipe};
 ghost use Rattle.sealed.specs.Layout.{HasFragment, stripe_count};
@@ -14,14 +15,16 @@ use lrc_code::{NoMemory, Plans, Recipe, combine, is_open_in, recipe_in};
 use std::alloc::Global;
 
 impl Sealed {
-    /// Whether the blob has this fragment of this stripe, lost or not. Both are counted from 0.
+    /// Whether the blob has this fragment of this stripe, lost or not. Both are numbered from 0.
     pub fn has_fragment(&self, stripe: u64, fragment: u64) -> bool
-        ensures { IsTrue result ↔ HasFragment self.now.code self.now.width self.now.len stripe fragment }
+        ensures { IsTrue result ↔ HasFragment self.now.code self.now.width self.now.len stripe
+            fragment }
     {
         has_fragment(self.code, self.width, self.len, stripe, fragment)
     }
 
-    /// Whether the blob has this fragment, the value lacks it, and it can be told from those left of its stripe.
+    /// Whether the blob has this fragment, the value lacks it, and the remaining fragments of its
+    /// stripe determine it.
     pub fn is_rebuildable(&self, stripe: u64, fragment: u64) -> bool
         ensures { IsTrue result ↔ IsRebuildable self.now stripe fragment }
     {
@@ -35,13 +38,14 @@ impl Sealed {
         !is_open_in(self.code, self.lost(stripe), f)
     }
 
-    /// The bytes `from..to` of a fragment that is there.
+    /// The bytes `from..to` of a fragment that is present.
     fn part(&self, stripe: u64, f: u8, from: usize, to: usize) -> &[u8]
         requires stripe_below { stripe < stripe_count self.now.code self.now.width self.now.len }
         requires f_below { f < fragment_count self.now.code }
         requires there { absent_in self.now stripe f ≡ false }
         requires range { (from ≤ to) × (to ≤ self.now.width) }
-        ensures bytes { IfSome (fragment_at self.now.stripes stripe f) (λ x. result.now ≡ slice_range x from to) }
+        ensures bytes { IfSome (fragment_at self.now.stripes stripe f)
+            (λ x. result.now ≡ slice_range x from to) }
         ensures long { length result.now ≡ to - from }
     {
         match self.fragment(stripe, f) {
@@ -50,7 +54,7 @@ impl Sealed {
         }
     }
 
-    /// The bytes `from..to` of a lost fragment, by a recipe of it.
+    /// The bytes `from..to` of a lost fragment, computed by a recipe for it.
     fn rebuild_by(
         &self,
         alloc: Global,
@@ -74,7 +78,8 @@ impl Sealed {
         combine(alloc, recipe, &sources[..terms.len()], to - from)
     }
 
-    /// The bytes `from..to` of a lost fragment, from those left of its stripe.
+    /// The bytes `from..to` of a lost fragment, rebuilt from the remaining ones of its stripe.
+    /// `from..to` lies inside the width. `NoMemory` if memory runs out.
     pub fn rebuild(
         &self,
         alloc: Global,
@@ -94,8 +99,9 @@ impl Sealed {
         }
     }
 
-    /// The same, by the recipe that `plans` keeps for it. A new one is kept, and none is taken out. Where only the memory to keep a recipe is refused, the
-    /// bytes are given all the same.
+    /// Does the same with the recipe that `plans` has, or with a new one. It adds a new recipe to
+    /// `plans` and removes none. If only the memory to add it runs out, the bytes are returned all
+    /// the same.
     pub fn rebuild_with(
         &self,
         alloc: Global,
@@ -126,7 +132,8 @@ impl Sealed {
         }
     }
 
-    /// The bytes of a lost fragment, as many as the width, from those left of its stripe. The only fault is `NoMemory`.
+    /// All bytes of a lost fragment, as many as the width, rebuilt from the remaining ones of its
+    /// stripe. The only error is `NoMemory`.
     pub fn rebuild_fragment(
         &self,
         alloc: Global,

@@ -25,7 +25,7 @@ pub record IsWalk (g : Grant) (first : Ahead) : Type 0 where
   pub parts_are : first.parts ≡ cut_of g
   pub bytes : (b : List ℕ) → length b ≡ g.sealed.value.len → bytes_ahead first b ≡ range_of g b
 
--- the target begins with the pieces that were given
+-- the target begins with the pieces copied so far
 pub record HasCopied (first w : Ahead) (target : List ℕ) (at lent built : ℕ) : Type 0 where
   pub inside : at ≤ length target
   pub pieces : List Piece
@@ -64,7 +64,7 @@ module _ (g : Grant) (first : Ahead) (walk : IsWalk g first) (w : Ahead) (target
   of_first : (b : List ℕ) (lost : Lost) → StandsFor g.sealed.value b lost → StandsFor first.sealed b lost
   of_first b lost stands = subst (λ (s : Sealed). StandsFor s b lost) (sym walk.sealed_is) stands
 
-  -- what was copied and what lies ahead make the range
+  -- the copied bytes and the bytes ahead make the range
   whole : (b : List ℕ) (lost : Lost) → StandsFor g.sealed.value b lost → joined copies.pieces ++ bytes_ahead w b ≡ range_of g b
   whole b lost stands = copies.collects.bytes b lost (of_first b lost stands) ∙ walk.bytes b (sym stands.length_is)
 
@@ -100,7 +100,7 @@ module _ (g : Grant) (first : Ahead) (walk : IsWalk g first) (w : Ahead) (target
         range_is = λ b' lost' stands'. is ∙ range b' lost' stands';
       }
 
-  -- where memory was refused
+  -- if memory runs out
   pub lacks : IsAbsent w.sealed w.parts → HasAbsent g.sealed.value (cut_of g)
   lacks absent = subst (HasAbsent g.sealed.value) walk.parts_are (subst (λ (s : Sealed). HasAbsent s first.parts) walk.sealed_is (absent_ahead first w copies.pieces copies.collects absent))
 

@@ -1,4 +1,4 @@
--- Pieces that are lent, and what is rebuilt for them.
+-- Pieces that are lent, and the rebuilt bytes for them.
 use Rattle.std.proofs.Common.{◌≡◌, ◌+◌, ◌-◌, ◌<◌, ◌≤◌, ℕ, min, List, [], ◌∷◌, ◌++◌, map, length, take, drop, set, get_or, Option, None, Some, refl, sym, ap, ◌∙◌, subst, arith}
 use Rattle.std.proofs.lemmas.List.{length-map, length-set, take_more_set, drop-set-lt, map-append, take_all, length-drop, drop-drop, at_drop_more, take_more}
 use Rattle.std.specs.List.{concat}
@@ -46,7 +46,7 @@ joined_is : (pieces : List Piece) → concat (map bytes_of pieces) ≡ joined pi
 joined_is [] = refl
 joined_is (piece ∷ pieces) = ap (λ xs. bytes_of piece ++ xs) (joined_is pieces)
 
--- a walk that began at `first` and stands at `now` has given these pieces, for which this was rebuilt
+-- a walk from `first` to `now` has returned these pieces, with these rebuilt bytes
 pub record IsRebuilding (first now : Ahead) (vs : List (Vec ℕ Global)) : Type 0 where
   pub pieces : List Piece
   pub collects : Collects first now pieces
@@ -113,7 +113,7 @@ dropped xs at = sym (drop-drop 1 at xs)
 abbrev pub bytes_in : LentSlice → List ℕ
 bytes_in s = s.bytes.now
 
--- so many pieces were lent to the target, and these spans are ahead
+-- this many pieces were lent to the target, and these spans are ahead
 pub record IsLending (pieces rebuilt : List (List ℕ)) (spans : List (Part × Option (List ℕ))) (at : ℕ) (before now : List LentSlice) : Type 0 where
   pub ahead : pieces_of spans (drop at rebuilt) ≡ drop at pieces
   pub left : at + length spans ≡ length rebuilt

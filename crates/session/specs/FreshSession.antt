@@ -1,4 +1,4 @@
--- Sessions: what opening, splitting and closing leave.
+-- Sessions: the result of opening, splitting and closing.
 use Rattle.std.specs.Prelude.{◌≡◌, ℕ, ◌+◌, ◌<◌, [], length}
 use Rattle.gate.specs.Places.{times}
 use Rattle.book.specs.Contents.{Contents}
@@ -11,11 +11,12 @@ pub record IsFresh (width limit : ℕ) (v : Shows) : Type 0 where
   pub limit_is : v.store.limit ≡ limit
   pub is : v ≡ record { store = v.store; who = 0; room = 64; seen = []; trimmed = 0; made = []; acts = []; did = [] }
 
--- a session with this label that has seen as much as v, and has made no call
+-- a session with this label that has seen the same as v, and has made no call
 pub record IsSplitOff (v : Shows) (who : ℕ) (w : Shows) : Type 0 where
   pub is : w ≡ record { store = v.store; who = who; room = 1; seen = v.seen; trimmed = v.trimmed; made = []; acts = v.acts; did = [] }
 
--- the book tells all that the session has seen, and each call and each trim of it was its own
+-- the book represents all that the session has seen, and each of its calls and trims was the
+-- session's own
 pub record IsClosing (v : Shows) (book : Contents) : Type 0 where
   pub room : v.room ≡ 64
   pub told : Tells book v.seen

@@ -1,4 +1,4 @@
--- A granted range that is lent: what lies in fragments, and what was rebuilt.
+-- A granted range that is lent: bytes in fragments, and rebuilt bytes.
 use Rattle.std.specs.Prelude.{◌≡◌, ℕ, List, [], ◌∷◌, map, Option, None, Some}
 use Rattle.std.specs.List.{concat}
 use Rattle.std.specs.declared.vec.Vec.{Vec}
@@ -16,31 +16,31 @@ use Rattle.lent.specs.Walk.{ArePieces}
 abbrev pub items_of : List (Vec ℕ Global) → List (List ℕ)
 items_of vs = map (λ v. v.items) vs
 
--- the bytes of a part: those of its fragment, or those that were rebuilt
+-- the bytes of a part: those of its fragment, or the rebuilt ones
 abbrev pub chosen : Part × Option (List ℕ) → List ℕ → List ℕ
 chosen (part, Some x) rebuilt = x
 chosen (part, None) rebuilt = rebuilt
 
--- of each part in turn
+-- those of each part, in order
 abbrev pub pieces_of : List (Part × Option (List ℕ)) → List (List ℕ) → List (List ℕ)
 pieces_of [] rebuilt = []
 pieces_of (span ∷ spans) [] = []
 pieces_of (span ∷ spans) (bytes ∷ rebuilt) = chosen span bytes ∷ pieces_of spans rebuilt
 
--- what has to be rebuilt for a piece
+-- the rebuilt bytes of a piece
 abbrev pub needed : Piece → List ℕ
 needed (Lent r) = []
 needed (Built v) = v.items
 
--- these are the bytes of the grant's pieces: each lies in a fragment that is there, or was rebuilt of an absent one. Joined they are the bytes of the range, in each blob that the
--- value stands for
+-- These are the bytes of the grant's pieces. Each piece lies in a present fragment, or was rebuilt.
+-- Joined they are the bytes of the range, in each blob that the value represents
 pub record IsLentFrom (g : Grant) (lent : List (List ℕ)) : Type 0 where
   pub pieces : List Piece
   pub are : ArePieces g.sealed.value (cut_of g) pieces
   pub lent_is : lent ≡ map bytes_of pieces
   pub range_is : (b : List ℕ) (lost : Lost) → StandsFor g.sealed.value b lost → concat lent ≡ range_of g b
 
--- this was rebuilt for the grant's pieces
+-- these are the rebuilt bytes of the grant's pieces
 pub record HasRebuilt (g : Grant) (rebuilt : List (List ℕ)) : Type 0 where
   pub pieces : List Piece
   pub are : ArePieces g.sealed.value (cut_of g) pieces

@@ -9,7 +9,7 @@ use Rattle.shared.specs.Passes.{Shows}
 use Rattle.shared.specs.Calls.{Called}
 use Rattle.shared.specs.Mends.{FoundBusy}
 
--- an item that was answered is done with, and one that was refused is still the next
+-- an item with an answer is removed, and one with an error stays the next
 abbrev pub items_after : Item → List Item → Result Answer Fault → List Item
 items_after item items (Ok a) = items
 items_after item items (Err e) = item ∷ items
@@ -20,7 +20,7 @@ pub record HasRepaired (item : Item) (v : Shows) (reply : Result Answer Fault) (
   pub busy : reply ≡ Err Busy → FoundBusy v item.name item.stripe item.f w
   pub lone : v.room ≡ 64 → reply ≢ Err Busy
 
--- the next item was repaired, or there is none, and then nothing was done
+-- the next item was repaired; or there is none, and nothing was done
 abbrev pub IsRepairStep : List Item → Shows → Option (Result Answer Fault) → List Item → Shows → Type 0
 IsRepairStep [] v None left w = (left ≡ []) × (w ≡ v)
 IsRepairStep (item ∷ items) v (Some reply) left w = HasRepaired item v reply w × (left ≡ items_after item items reply)

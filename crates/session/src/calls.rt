@@ -1,9 +1,11 @@
-//! The calls of a session. None of them waits: `Busy` means that another thread was in the critical
-//! section, and then the session is as it was; it never comes with a room of 64. After another fault the
-//! call is in no history, and the session may have seen more.
+//! The calls of a session. No call waits: it returns `Busy` if another thread is in the critical
+//! section, and the session is then unchanged. `Busy` never comes to a session with a room of 64.
+//! After any other error the history does not have the call, and the session may have seen further
+//! calls.
 ghost use Rattle.std.specs.Prelude.{◌≡◌, ◌≢◌, ◌⊎◌, ◌↔◌, ◌<◌, None, length, IfOk, IfErr};
 ghost use Rattle.sealed.specs.Layout.{stripe_count};
-ghost use Rattle.history.specs.Step.{put as put_of, read as read_of, lose as lose_of, repair as repair_of, delete as delete_of, stat as stat_of};
+ghost use Rattle.history.specs.Step.{put as put_of, read as read_of, lose as lose_of};
+ghost use Rattle.history.specs.Step.{repair as repair_of, delete as delete_of, stat as stat_of};
 ghost use Rattle.history.specs.History.{state_of};
 ghost use Rattle.book.specs.Plan.{plan_of};
 ghost use Rattle.shared.specs.Calls.{Called, CanGrant, GrantedIn, IfGranted};
@@ -15,7 +17,7 @@ use shared::{Answer, Bytes, Code, Fault, Name, Plan};
 use std::alloc::Global;
 
 impl Session {
-    /// Stores a blob in a code.
+    /// Stores a blob in a code. The answer is `Stored`.
     pub fn put_as(
         &mut self,
         alloc: Global,
@@ -24,7 +26,8 @@ impl Session {
         code: Code,
     ) -> Result<Answer, Fault>
         ensures called { Called self.old (put_of name code bytes) result self.new }
-        ensures too_long { (result ≡ Err Fault.TooLong) ↔ (4096 < stripe_count code self.old.store.width (length bytes)) }
+        ensures too_long { (result ≡ Err Fault.TooLong)
+            ↔ (4096 < stripe_count code self.old.store.width (length bytes)) }
         ensures busy { result ≡ Err Fault.Busy → self.new ≡ self.old }
         ensures lone { self.old.room ≡ 64 → result ≢ Err Fault.Busy }
     {
@@ -32,17 +35,18 @@ impl Session {
             .try_put_as(alloc, &mut self.pass, name, bytes, code)
     }
 
-    /// Asks for a range of a blob.
+    /// Asks for `len` bytes of a blob, from the byte `start` on.
     pub fn read(&mut self, name: Name, start: u64, len: u64) -> Result<Answer, Fault>
         ensures called { Called self.old (read_of name start len) result self.new }
-        ensures grant { IfOk result (λ a. IfGranted a (GrantedIn self.new.seen self.old.store.width name start len)) }
+        ensures grant { IfOk result (λ a. IfGranted a
+            (GrantedIn self.new.seen self.old.store.width name start len)) }
         ensures busy { result ≡ Err Fault.Busy → self.new ≡ self.old }
         ensures lone { self.old.room ≡ 64 → result ≢ Err Fault.Busy }
     {
         self.store.try_read(&mut self.pass, name, start, len)
     }
 
-    /// Loses a fragment of a stripe.
+    /// Loses a fragment of a stripe, as after a disk failure.
     pub fn lose(
         &mut self,
         alloc: Global,
@@ -58,7 +62,7 @@ impl Session {
             .try_lose(alloc, &mut self.pass, name, stripe, fragment)
     }
 
-    /// Repairs a lost fragment of a stripe.
+    /// Rebuilds a lost fragment of a stripe.
     pub fn repair(
         &mut self,
         alloc: Global,
@@ -74,7 +78,7 @@ impl Session {
             .try_repair(alloc, &mut self.pass, name, stripe, fragment)
     }
 
-    /// Deletes a blob.
+    /// Removes a name and its blob.
     pub fn delete(&mut self, name: Name) -> Result<Answer, Fault>
         ensures called { Called self.old (delete_of name) result self.new }
         ensures busy { result ≡ Err Fault.Busy → self.new ≡ self.old }
@@ -92,8 +96,8 @@ impl Session {
         self.store.try_stat(&mut self.pass, name)
     }
 
-    /// Discards all entries of the journal but the last `keep`, and answers how many these were. It is no
-    /// call of the history.
+    /// Discards all journal entries except the last `keep`, and returns how many it discarded. It
+    /// is no call of the history.
     pub fn trim(&mut self, alloc: Global, keep: u64) -> Result<u64, Fault>
         ensures takes { Takes self.old (trim_deed keep result) self.new }
         ensures faults { IfErr result (λ e. (e ≡ Fault.Busy) ⊎ (e ≡ Fault.NoMemory)) }

@@ -1,4 +1,4 @@
-//! A granted range, copied out.
+//! Copies of granted ranges.
 ghost use Rattle.std.specs.Prelude.{◌≡◌, ℕ, List, length, IfOk, OnErr};
 ghost use Rattle.sealed.specs.Blob.{Lost};
 ghost use Rattle.sealed.specs.Sealed.{StandsFor};
@@ -10,14 +10,15 @@ use lrc_code::NoMemory;
 use shared::{Grant, Piece};
 use std::alloc::Global;
 
-/// How many bytes were lent as they were, and how many were built.
+/// How many bytes were copied from present fragments, and how many were rebuilt.
 #[derive(Clone, Copy, Drop)]
 pub struct Copied {
     pub lent: u64,
     pub built: u64,
 }
 
-/// Writes the bytes of a grant, piece by piece. `NoMemory` only where the fragment of one is absent, and then any of the target may have been written.
+/// Copies the bytes of a grant to `target`, which is as long as the grant. `NoMemory` comes only if
+/// a fragment of the range is lost; any byte of `target` may then have been written.
 pub fn copy_out(alloc: Global, grant: &Grant, target: &mut [u8]) -> Result<Copied, NoMemory>
     requires length { length target.old ≡ grant.now.len }
     requires stands { (b : List ℕ) × (lost : Lost) × StandsFor grant.now.sealed.value b lost }

@@ -1,21 +1,21 @@
-//! What a slot can hold.
+//! The contents of a slot.
 
 use crate::{Lending, Repairs, Session};
 use shared::{Book, Bytes};
 
-/// What a slot can hold.
+/// The contents of a slot.
 #[derive(Drop)]
 pub enum Held {
-    /// A session of a store, with the number that its opener gave the store.
+    /// A session of a store, with the number that the program gave the store.
     Session { session: Session, number: u64 },
     /// A range that is lent.
     Lending(Lending),
-    /// What a plan has left.
+    /// The fragments of a plan that are still to be repaired.
     Repairs(Repairs),
-    /// Bytes that C fills, to be put as a blob.
+    /// Bytes that C fills, and then stores as a blob.
     Buffer(Vec<u8>),
-    /// Those of a buffer whose put was refused: they can be put again, and not be written.
+    /// The bytes of a buffer whose put was refused. They can be put again, and not be written.
     Refused(Bytes),
-    /// The journal of a store that was closed.
+    /// The journal of a closed store.
     Journal(Book),
 }

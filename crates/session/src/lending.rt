@@ -1,4 +1,4 @@
-//! A granted range that is lent from call to call.
+//! Granted ranges that stay lent from call to call.
 ghost use Rattle.std.specs.Prelude.{◌≡◌, ◌++◌, length, map, min, take, drop, IfOk};
 ghost use Rattle.session.specs.LentFrom.{IsLentFrom, HasRebuilt, items_of, needed, chosen};
 ghost use Rattle.lent.specs.Spans.{seen};
@@ -8,22 +8,22 @@ use lrc_code::NoMemory;
 use std::alloc::Global;
 use std::marker::Model;
 
-/// Bytes that are lent, as C has them: an address and a length.
+/// Lent bytes in C's layout: an address and a length.
 #[repr(C)]
 #[derive(Clone, Copy, Drop)]
 pub struct LentSlice<'a> {
     pub bytes: &'a [u8],
 }
 
-/// Bytes that are lent to be written, as C has them: an address and a length.
+/// Writable lent bytes in C's layout: an address and a length.
 #[repr(C)]
 #[derive(Drop)]
 pub struct LentBuffer<'a> {
     pub bytes: &'a mut [u8],
 }
 
-/// A granted range, with the bytes that were rebuilt for it: for each piece those that it needs, and none
-/// for a piece of a fragment that is there. A clause sees the bytes of each piece.
+/// A granted range, with the rebuilt bytes of each piece. A piece of a present fragment has none. A
+/// clause sees the bytes of each piece.
 #[derive(Drop)]
 pub struct Lending {
     grant: Grant,
@@ -38,14 +38,15 @@ impl Model for Lending {
 
     ghost Value = { List (List ℕ) };
 
-    ghost view = { λ l. pieces_of (spans_of l.grant.sealed.value (cut_of l.grant)) (items_of l.rebuilt.items) };
+    ghost view = { λ l. pieces_of (spans_of l.grant.sealed.value (cut_of l.grant))
+        (items_of l.rebuilt.items) };
 
     ghost invariant = { λ l. length l.rebuilt.items ≡ length (cut_of l.grant) };
 }
 
 impl Lending {
-    /// Lends the range of a grant. What is absent of it is rebuilt at once: `NoMemory` if there is no
-    /// memory for that.
+    /// Lends the range of a grant, and rebuilds its lost fragments at once. `NoMemory` if memory
+    /// runs out.
     pub fn of(alloc: Global, grant: Grant) -> Result<Lending, NoMemory>
         ensures { IfOk result (IsLentFrom grant) }
     {
@@ -53,15 +54,15 @@ impl Lending {
         Ok(Lending { grant, rebuilt })
     }
 
-    /// How many pieces the range has.
+    /// The number of pieces in the range.
     pub fn len(&self) -> u64
         ensures { result ≡ length self.now }
     {
         self.rebuilt.len() as u64
     }
 
-    /// Lends the pieces in order, as many as there are and the target takes, and answers how many these
-    /// are.
+    /// Lends the first pieces, in order, as many as there are and `target` takes. Returns their
+    /// number.
     pub fn lend<'a>(&'a self, target: &mut [LentSlice<'a>]) -> usize
         ensures count { result ≡ min (length target.old) (length self.now) }
         ensures bytes { map (λ s. s.bytes.now) (take result target.new) ≡ take result self.now }
@@ -82,7 +83,7 @@ impl Lending {
     }
 }
 
-/// For each piece of a granted range the bytes that have to be rebuilt.
+/// The rebuilt bytes of each piece of a granted range.
 fn rebuilt_of(alloc: Global, grant: &Grant) -> Result<Vec<Vec<u8>>, NoMemory>
     ensures { IfOk result (λ rebuilt. HasRebuilt grant.now (items_of rebuilt.items)) }
 {
@@ -94,7 +95,7 @@ fn rebuilt_of(alloc: Global, grant: &Grant) -> Result<Vec<Vec<u8>>, NoMemory>
     Ok(rebuilt)
 }
 
-/// What has to be rebuilt for a piece.
+/// The rebuilt bytes of a piece, none if its fragment is present.
 fn needed_of(alloc: Global, piece: Piece<'_>) -> Vec<u8>
     ensures { result.items ≡ needed piece.entry }
 {
@@ -104,7 +105,7 @@ fn needed_of(alloc: Global, piece: Piece<'_>) -> Vec<u8>
     }
 }
 
-/// The bytes of a span, or those that were rebuilt for it.
+/// The bytes of a span, or the ones rebuilt for it.
 fn choose<'a>(span: Span<'a>, rebuilt: &'a [u8]) -> &'a [u8]
     ensures { result.now ≡ chosen (seen span.entry) rebuilt.now }
 {

@@ -1,5 +1,5 @@
-//! What a program in C keeps of a store from call to call: a slot, which owns a session of the store, a
-//! range that is lent, what a plan has left, bytes to be put, or a journal.
+//! What a program in C owns between calls. A slot holds a session of a store, a lent range, the
+//! rest of a plan, bytes to put, or a journal.
 #![tactic(auto)]
 
 mod calls;

@@ -1,4 +1,4 @@
-//! The repairs of a plan, one after the other.
+//! The repairs of a plan, one by one.
 ghost use Rattle.std.specs.Prelude.{◌≡◌, length};
 ghost use Rattle.session.specs.RepairStep.{IsRepairStep};
 
@@ -33,15 +33,15 @@ impl Repairs {
         }
     }
 
-    /// How many items are left.
+    /// The number of remaining items.
     pub fn len(&self) -> u64
         ensures { result ≡ length self.now }
     {
         self.items.len() as u64
     }
 
-    /// Repairs the next item, or answers `None` if none is left. After a fault the item is still the
-    /// next one.
+    /// Repairs the next item, or returns `None` if there is none. After an error the item is still
+    /// the next one.
     pub fn step(&mut self, session: &mut Session, alloc: Global) -> Option<Result<Answer, Fault>>
         ensures { IsRepairStep self.old session.old result self.new session.new }
     {

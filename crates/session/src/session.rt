@@ -1,5 +1,6 @@
-//! A pass with its store.
-ghost use Rattle.std.specs.Prelude.{◌≡◌, ◌⊎◌, ◌↔◌, ◌≤◌, ◌+◌, ◌-◌, ◌++◌, ℕ, [], length, IfOk, IfErr, OnOk, OnErr};
+//! Sessions: a pass with its store.
+ghost use Rattle.std.specs.Prelude.{◌≡◌, ◌⊎◌, ◌↔◌, ◌≤◌, ◌+◌, ◌-◌, ◌++◌, ℕ, [], length, IfOk, IfErr};
+ghost use Rattle.std.specs.Prelude.{OnOk, OnErr};
 ghost use mathlib.Core.List.{IsPrefix};
 ghost use Rattle.gate.specs.Places.{AreApart, times};
 ghost use Rattle.book.specs.Tells.{Tells};
@@ -11,7 +12,7 @@ use std::alloc::Global;
 use std::marker::Model;
 use std::sync::Arc;
 
-/// A pass and the store that it is to. A clause sees what the pass shows.
+/// A pass with its store. A clause sees what the pass shows.
 #[derive(Drop)]
 pub struct Session {
     pub(crate) store: Arc<Store>,
@@ -30,7 +31,8 @@ impl Model for Session {
 }
 
 impl Session {
-    /// The one session of a new store, which has no blob.
+    /// Opens a store without blobs, and returns its only session. `BadWidth` if `width` is not in
+    /// 1..=65,536. `NoMemory` if memory runs out.
     pub fn open(alloc: Global, width: u32, limit: Limit) -> Result<Session, Fault>
         ensures opened { IfOk result (IsFresh width limit) }
         ensures bad_width { (result ≡ Err Fault.BadWidth) ↔ ((1 ≤ width) × (width ≤ 65536) → ⊥) }
@@ -45,7 +47,8 @@ impl Session {
         }
     }
 
-    /// A second session of the store, with a new pass that has this label and a room of 1.
+    /// Splits off a session of the same store, with this label and a room of 1. `NoPass` if the
+    /// session's own room is 1. `NoMemory` if memory runs out; the session is then unchanged.
     pub fn split(&mut self, who: u32) -> Result<Session, Fault>
         ensures kept { OnOk result (self.new ≡ record self.old { room = self.old.room - 1 }) }
         ensures given { IfOk result (IsSplitOff self.old who) }
@@ -65,11 +68,14 @@ impl Session {
         }
     }
 
-    /// Takes in another session of the same store.
+    /// Joins another session of the same store into this one, which then counts as the caller of
+    /// its calls.
     pub fn join(&mut self, other: Session)
         requires { other.store ≡ self.old.store }
-        ensures kept { (self.new.store ≡ self.old.store) × (self.new.who ≡ self.old.who) × (self.new.room ≡ self.old.room + other.room) }
-        ensures one { ((self.new.seen ≡ self.old.seen) × (self.new.trimmed ≡ self.old.trimmed)) ⊎ ((self.new.seen ≡ other.seen) × (self.new.trimmed ≡ other.trimmed)) }
+        ensures kept { (self.new.store ≡ self.old.store) × (self.new.who ≡ self.old.who)
+            × (self.new.room ≡ self.old.room + other.room) }
+        ensures one { ((self.new.seen ≡ self.old.seen) × (self.new.trimmed ≡ self.old.trimmed))
+            ⊎ ((self.new.seen ≡ other.seen) × (self.new.trimmed ≡ other.trimmed)) }
         ensures seen { IsPrefix self.old.seen self.new.seen × IsPrefix other.seen self.new.seen }
         ensures made { self.new.made ≡ self.old.made ++ other.made }
         ensures acts { IsPrefix self.old.acts self.new.acts × IsPrefix other.acts self.new.acts }
@@ -82,7 +88,8 @@ impl Session {
         drop(store);
     }
 
-    /// Gives the book, if all other sessions of the store were joined. Else the session as it was.
+    /// Closes the store and returns its book, if all other sessions were joined. Otherwise the
+    /// error returns the session unchanged.
     pub fn close(self) -> Result<Book, Session>
         ensures ok { IfOk result (IsClosing self) }
         ensures err { IfErr result (λ s. s ≡ self) }

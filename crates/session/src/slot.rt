@@ -1,4 +1,4 @@
-//! What C keeps from call to call.
+//! The memory that C owns between calls.
 ghost use Rattle.std.specs.Prelude.{◌≡◌, ◌≢◌, ◌↔◌, Option, None, MatchOption, IsTrue};
 ghost use Rattle.session.specs.Owned.{slot_owns};
 ghost use Rattle.session.specs.declared.held.Held.{Held};
@@ -12,8 +12,8 @@ use std::marker::{Model, Send};
 use std::mem;
 use std::ptr::null_mut;
 
-/// A place in C's memory for one thing or none: the address of a box that holds it, or null. C begins
-/// with null, and only ever passes the slot's own address on.
+/// A slot in C's memory: the address of a box, or null. C initialises it with null, and passes only
+/// the address of the slot itself.
 #[repr(C)]
 #[derive(Drop)]
 pub struct Slot {
@@ -26,14 +26,14 @@ impl Model for Slot {
 }
 
 impl Slot {
-    /// A slot with no box.
+    /// A slot without a box.
     pub(crate) fn empty() -> Slot
         ensures { result.held ≡ None }
     {
         Slot { at: null_mut() }
     }
 
-    /// A slot with what lies at the address.
+    /// A slot with the value at the address.
     fn of(loose: Loose<Option<Held>>) -> Slot
         ensures { result.held ≡ loose.value }
     {
@@ -41,7 +41,7 @@ impl Slot {
         Slot { at: at as *mut u8 }
     }
 
-    /// The address, with the type of what lies there, unless it is null.
+    /// The typed address, unless it is null.
     fn into_loose(self) -> Option<Loose<Option<Held>>>
         ensures { MatchOption result (self.held ≡ None) (λ l. self.held ≡ l.value) }
     {
@@ -66,7 +66,7 @@ impl Slot {
         }
     }
 
-    /// Whether it holds nothing.
+    /// Whether the slot holds nothing.
     pub fn is_vacant(&mut self, alloc: Global) -> bool
         ensures vacant { IsTrue result ↔ (self.old.held ≡ None) }
         ensures kept { self.new.held ≡ self.old.held }
@@ -81,7 +81,7 @@ impl Slot {
         }
     }
 
-    /// Puts a box in. A box that was there is leaked: take it out first.
+    /// Puts a box in. It leaks a box that was there, so take that out first.
     pub fn put(&mut self, held: Box<Option<Held>>)
         ensures { self.new.held ≡ held.value }
     {
@@ -89,5 +89,5 @@ impl Slot {
     }
 }
 
-// Its box is of the global allocator, which any thread may free it by.
+// Its box is from the global allocator, and any thread may free it.
 unsafe impl Send for Slot {}

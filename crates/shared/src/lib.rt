@@ -22,6 +22,3 @@ pub use lrc_code::{Code, Plans};
 pub use pass::Pass;
 pub use requests::{Ask, Cause, Job, Kept, Pace, Reply, RowReply, Stopped};
 pub use store::Store;
-
-#[cfg(test)]
-mod tests;

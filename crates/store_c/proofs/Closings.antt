@@ -6,7 +6,7 @@ use Rattle.session.specs.declared.held.Held.TheVariants.{Session}
 use Rattle.store_c.specs.Status.{done}
 use Rattle.store_c.specs.Journal.{IsClosedTo, IsCloseTo}
 
--- where the slot held the last session, and holds nothing now
+-- if the slot held the last session, and holds nothing now
 pub closed_to : (old new : Option Held) (v : Shows) (number status : ℕ) (before after : ℕ × ℕ × ℕ) (given : Option Held) → old ≡ Some (Session v number) → new ≡ None → status ≡ done
     → IsClosedTo v after.0 after.1 after.2 given → IsCloseTo old status before after new given
 closed_to old new v number status before after given was is done_is closed =

@@ -7,7 +7,7 @@ use Rattle.store_c.specs.Status.{empty}
 use Rattle.store_c.specs.OnSession.{IsPutCall}
 use Rattle.store_c.specs.Buffers.{bytes_in, IsSpent, IsPutFrom}
 
--- where the slot had bytes
+-- if the slot had bytes
 pub put_from : (v : Shows) (other : Option Held) (name : List ℕ) (data_fragments status : ℕ) (versions : ℕ × ℕ) (w : Shows) (given : Option Held) (bytes : List ℕ) → bytes_in other ≡ Some bytes
     → IsPutCall v name bytes data_fragments status versions.0 versions.1 w → IsSpent bytes status given → IsPutFrom v other name data_fragments status versions w given
 put_from v other name data_fragments status versions w given bytes had put spent =

@@ -1,4 +1,4 @@
--- What C gets of a call.
+-- What C gets of a reply.
 use Rattle.std.proofs.Common.{◌≡◌, ◌≢◌, ℕ, Option, Some, Result, Err, refl, sym, subst}
 use Rattle.sealed.specs.declared.fault.Fault.{Fault}
 use Rattle.sealed.specs.declared.fault.Fault.TheVariants.{Busy}
@@ -11,7 +11,7 @@ use Rattle.session.specs.declared.held.Held.TheVariants.{Session}
 use Rattle.store_c.specs.Status.{status_of, version_of}
 use Rattle.store_c.specs.OnSession.{IsAfterBusy, HasReply, IsOnSession}
 
--- where the slot held a session
+-- if the slot held a session
 pub on_session : (old new : Option Held) (v w : Shows) (number status : ℕ) (Kept : Type 0) (Did : Shows → Shows → Type 0) → old ≡ Some (Session v number) → new ≡ Some (Session w number) → Did v w
     → IsOnSession old status new Kept Did
 on_session old new v w number status Kept Did was is did =

@@ -1,4 +1,4 @@
--- Bytes that C fills, and that are put without a copy.
+-- Buffers: bytes that C fills, and that are put without a copy.
 use Rattle.std.specs.Prelude.{◌≡◌, ◌≢◌, ℕ, List, Option, Some, None, MatchOption, replicate}
 use Rattle.std.specs.declared.vec.Vec.{Vec}
 use Rattle.std.specs.declared.alloc.Global.{Global}
@@ -8,7 +8,7 @@ use Rattle.session.specs.declared.held.Held.TheVariants.{Buffer, Refused}
 use Rattle.store_c.specs.Status.{done, empty, no_memory, occupied}
 use Rattle.store_c.specs.OnSession.{IsPutCall}
 
--- with `done` the slot holds so many zero bytes, and else nothing
+-- with `done` the slot holds a buffer of this many zero bytes, and otherwise nothing
 pub data IsReserve (len status : ℕ) (new : Option Held) : Type 0 where
   reserved : (v : Vec ℕ Global) → status ≡ done → v.items ≡ replicate len 0 → new ≡ Some (Buffer v) → IsReserve len status new
   no_room_to_reserve : status ≡ no_memory → new ≡ None → IsReserve len status new
@@ -18,18 +18,18 @@ abbrev pub IsReserveCall : Option Held → ℕ → ℕ → Option Held → Type 
 IsReserveCall None len status new = IsReserve len status new
 IsReserveCall (Some held) len status new = (status ≡ occupied) × (new ≡ Some held)
 
--- a buffer that no put has taken is lent to be written; or nothing was done
+-- a buffer that no put has taken is lent for writing; or nothing was done
 abbrev pub IsBufferCall : Option Held → ℕ → List ℕ → List ℕ → Type 0
 IsBufferCall (Some (Buffer v)) status old new = (status ≡ done) × (new ≡ v.items)
 IsBufferCall held status old new = (status ≡ empty) × (new ≡ old)
 
--- the bytes that a slot has to be put
+-- the bytes of a slot that can be put
 abbrev pub bytes_in : Option Held → Option (List ℕ)
 bytes_in (Some (Buffer v)) = Some v.items
 bytes_in (Some (Refused bytes)) = Some bytes
 bytes_in held = None
 
--- they are gone if they were put, and else still there
+-- they are gone if they were put, and otherwise still there
 pub record IsSpent (bytes : List ℕ) (status : ℕ) (given : Option Held) : Type 0 where
   pub put : status ≡ done → given ≡ None
   pub kept : status ≢ done → bytes_in given ≡ Some bytes

@@ -1,4 +1,4 @@
--- The journal of a store that was closed, for C.
+-- The journal of a closed store, for C.
 use Rattle.std.specs.Prelude.{◌≡◌, ◌⊎◌, ℕ, List, slice_get, MatchOption, Option, Some, None}
 use Rattle.lrc_code.specs.declared.Code.{Code}
 use Rattle.lrc_code.specs.declared.Code.TheVariants.{Wide, Small}
@@ -69,7 +69,8 @@ pub record IsEntry (e : Entry) (r : JournalEntry) : Type 0 where
   pub version_is : r.version ≡ version_of_note e.note
   pub shape_is : (r.len, r.stripes, r.lost) ≡ shape_of_note e.note
 
--- The journal of the store that was closed is held. C gets how many entries were discarded and how many it has, and that these are lawful
+-- The slot holds the journal of the closed store. C gets the numbers of discarded and of remaining
+-- entries, and that these are lawful
 pub record IsClosedTo (v : Shows) (discarded entries lawful : ℕ) (given : Option Held) : Type 0 where
   pub report : IsReportOf v entries lawful
   pub given_is : given ≡ Some (Journal report.book)
@@ -81,7 +82,7 @@ IsCloseTo (Some (Session v number)) status before after None given = (status ≡
 IsCloseTo (Some (Session v number)) status before after new given = (status ≡ not_alone) × (after ≡ before) × (new ≡ Some (Session v number)) × (given ≡ None)
 IsCloseTo old status before after new given = (status ≡ empty) × (after ≡ before) × (new ≡ old) × (given ≡ None)
 
--- the other slot is empty before, and there is memory for what it is to hold; or nothing was done
+-- the other slot was empty, and there is memory for its new contents; or nothing was done
 abbrev pub IsCloseToCall : Option Held → Option Held → ℕ → ℕ × ℕ × ℕ → ℕ × ℕ × ℕ → Option Held → Option Held → Type 0
 IsCloseToCall old None status before after new given = IsCloseTo old status before after new given ⊎ ((status ≡ no_memory) × (after ≡ before) × (new ≡ old) × (given ≡ None))
 IsCloseToCall old (Some x) status before after new given = (status ≡ occupied) × (after ≡ before) × (new ≡ old) × (given ≡ Some x)

@@ -13,7 +13,8 @@ use Rattle.session.specs.LentFrom.{IsLentFrom}
 use Rattle.store_c.specs.Status.{bad_name, done, empty, no_memory, not_rebuilt, occupied}
 use Rattle.store_c.specs.OnSession.{HasReply, HasSomeReply, HasBytes}
 
--- With `done` the other slot holds the pieces of the range, and C gets how many they are. Else it holds nothing
+-- With `done` the other slot holds the pieces of the range, and C gets their number. Otherwise it
+-- holds nothing
 pub data IsLend (v : Shows) (name : List ℕ) (start len status before after : ℕ) (counts : ℕ × ℕ) (w : Shows) (given : Option Held) : Type 0 where
   unnamed_lend : (IsName name → ⊥) → status ≡ bad_name → after ≡ before → counts.1 ≡ counts.0 → w ≡ v → given ≡ None → IsLend v name start len status before after counts w given
   no_room_to_lend : status ≡ no_memory → after ≡ before → counts.1 ≡ counts.0 → w ≡ v → given ≡ None → IsLend v name start len status before after counts w given

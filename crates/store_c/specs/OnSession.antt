@@ -1,4 +1,4 @@
--- What a call from C does to the session in its slot, and what C gets.
+-- The effect of a call from C on the session in its slot, and what C gets.
 use Rattle.std.specs.Prelude.{◌≡◌, ◌≢◌, ◌+◌, ℕ, List, length, slice_range, Result, Ok, Err, Option, Some, None}
 use Rattle.std.specs.FinMap as finite
 use Rattle.lrc_code.specs.declared.Code.{Code}
@@ -22,12 +22,13 @@ use Rattle.session.specs.declared.held.Held.{Held}
 use Rattle.session.specs.declared.held.Held.TheVariants.{Session}
 use Rattle.store_c.specs.Status.{bad_argument, bad_name, done, empty, no_memory, not_rebuilt, status_of, status_of_count, version_of, shape_of, count_of, code_with}
 
--- what a call leaves that another thread kept out of the critical section
+-- the effect of a call that found another thread in the critical section
 abbrev pub IsAfterBusy : Shows → Operation → Shows → Type 0
 IsAfterBusy v (repair n j f) w = FoundBusy v n j f w
 IsAfterBusy v operation w = w ≡ v
 
--- The call has this reply. C gets its status, and its version if it has one. While the store has no other session, the call is never kept out
+-- The call has this reply. C gets its status, and its version if it has one. While the store has no
+-- other session, the call never finds another thread in the critical section
 pub record HasReply (v : Shows) (operation : Operation) (reply : Result Answer Fault) (status before after : ℕ) (w : Shows) : Type 0 where
   pub called : Called v operation reply w
   pub status_is : status ≡ status_of reply
@@ -51,7 +52,8 @@ pub data IsPutCall (v : Shows) (name bytes : List ℕ) (data_fragments status be
   uncopied_put : status ≡ no_memory → after ≡ before → w ≡ v → IsPutCall v name bytes data_fragments status before after w
   answered_put : (code : Code) → IsName name → code_with data_fragments ≡ Some code → HasSomeReply v (put name code bytes) status before after w → IsPutCall v name bytes data_fragments status before after w
 
--- after this history these are `len` bytes of the name's blob, from `start` on, which was put under this version
+-- after this history these are `len` bytes of the name's blob, from `start` on, which was put with
+-- this version
 pub record HasBytes (h : History) (n : List ℕ) (start len : ℕ) (bytes : List ℕ) (version : ℕ) : Type 0 where
   pub blob : Blob
   pub here : finite.get (state_of h).names n ≡ Some blob
@@ -59,8 +61,9 @@ pub record HasBytes (h : History) (n : List ℕ) (start len : ℕ) (bytes : List
   pub version_is : version ≡ blob.version
   pub put_is : HasPut h blob.version n blob.code blob.bytes
 
--- C passed a name. With DONE the target has the bytes that were named for, and C is told how many of them were lent and how many built. The call is in the history too where memory to
--- build some was refused: NOT_REBUILT, and then any of the target may have been written. Else the target is as it was
+-- C passed a name. With DONE the target has the bytes of the range, and C gets the numbers of lent
+-- and of rebuilt ones. With NOT_REBUILT, memory to rebuild some bytes ran out. The call is in the
+-- history too, and any byte of the target may have been written. Otherwise the target is unchanged
 pub data IsReadCall (v : Shows) (name : List ℕ) (start : ℕ) (old new : List ℕ) (status before after : ℕ) (counts_old counts_new : ℕ × ℕ) (w : Shows) : Type 0 where
   unnamed_read : (IsName name → ⊥) → status ≡ bad_name → after ≡ before → new ≡ old → counts_new ≡ counts_old → w ≡ v → IsReadCall v name start old new status before after counts_old counts_new w
   answered_read : IsName name → HasSomeReply v (read name start (length old)) status before after w → status ≢ done → new ≡ old → counts_new ≡ counts_old → IsReadCall v name start old new status before after counts_old counts_new w
@@ -74,7 +77,8 @@ pub data IsStatCall (v : Shows) (name : List ℕ) (status before after : ℕ) (o
   unnamed_stat : (IsName name → ⊥) → status ≡ bad_name → after ≡ before → new ≡ old → w ≡ v → IsStatCall v name status before after old new w
   answered_stat : IsName name → (reply : Result Answer Fault) → HasReply v (stat name) reply status before after w → new ≡ shape_of old reply → IsStatCall v name status before after old new w
 
--- The slot held a session, and has it again after this was done to it; or it held none, and nothing was done
+-- The slot held a session, and holds it again after this was done to it; or it held none, and
+-- nothing was done
 abbrev pub IsOnSession : Option Held → ℕ → Option Held → Type 0 → (Shows → Shows → Type 0) → Type 0
 IsOnSession (Some (Session v number)) status (Some (Session w same)) Kept Did = Did v w × (same ≡ number)
 IsOnSession (Some (Session v number)) status new Kept Did = ⊥

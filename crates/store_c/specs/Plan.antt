@@ -15,7 +15,8 @@ use Rattle.session.specs.RepairStep.{items_after}
 use Rattle.store_c.specs.Status.{done, empty, no_memory, nothing_left, occupied, status_of_fault}
 use Rattle.store_c.specs.OnSession.{HasReply}
 
--- With `done` the other slot holds the lost fragments of all blobs, and C gets how many they are. Else it holds nothing
+-- With `done` the other slot holds the lost fragments of all blobs, and C gets their number.
+-- Otherwise it holds nothing
 pub data IsPlan (v : Shows) (status : ℕ) (counts : ℕ × ℕ) (w : Shows) (given : Option Held) : Type 0 where
   planned : (items : List Item) → status ≡ done → Takes v None w → items ≡ plan_of (state_of w.seen) → counts.1 ≡ length items → given ≡ Some (Repairs items) → IsPlan v status counts w given
   no_room_for_plan : status ≡ no_memory → counts.1 ≡ counts.0 → w ≡ v → given ≡ None → IsPlan v status counts w given
@@ -38,7 +39,7 @@ abbrev pub IsMendStep : Shows → List Item → ℕ → ℕ → ℕ → Shows �
 IsMendStep v [] status before after w left = (status ≡ nothing_left) × (after ≡ before) × (w ≡ v) × (left ≡ [])
 IsMendStep v (item ∷ items) status before after w left = HasMended v item items status before after w left
 
--- the first slot holds a session, and the other what a plan has left; or nothing was done
+-- the first slot holds a session, and the other the rest of a plan; or nothing was done
 abbrev pub IsMendCall : Option Held → Option Held → ℕ → ℕ × ℕ → Option Held → Option Held → Type 0
 IsMendCall (Some (Session v number)) (Some (Repairs items)) status versions (Some (Session w same)) (Some (Repairs left)) =
     IsMendStep v items status versions.0 versions.1 w left × (same ≡ number)

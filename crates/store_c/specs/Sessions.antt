@@ -39,7 +39,7 @@ IsSplitCall (Some (Session v number)) other who status (Some (Session w same)) g
 IsSplitCall (Some (Session v number)) other who status new given = ⊥
 IsSplitCall old other who status new given = (status ≡ empty) × (new ≡ old) × (given ≡ other)
 
--- the session v has taken in x
+-- the session v has x joined into it
 pub record IsJoinOf (v x w : Shows) : Type 0 where
   pub store_is : w.store ≡ v.store
   pub who_is : w.who ≡ v.who
@@ -66,14 +66,15 @@ abbrev pub AreOfOneStore : Option Held → Option Held → Type 0
 AreOfOneStore (Some (Session v number)) (Some (Session x theirs)) = theirs ≡ number → x.store ≡ v.store
 AreOfOneStore old other = Unit {0}
 
--- The book that was closed. C gets how many entries it has, and that these are lawful: 1, or 2 if there was no memory to find out
+-- The book that was closed. C gets the number of its entries, and that these are lawful: 1, or 2 if
+-- there was no memory to check it
 pub record IsReportOf (v : Shows) (entries lawful : ℕ) : Type 0 where
   pub book : Contents
   pub closes : IsClosing v book
   pub entries_is : entries ≡ length book.entries
   pub lawful_is : (lawful ≡ 1) ⊎ (lawful ≡ 2)
 
--- the book tells some history
+-- the book represents some history
 abbrev pub HasHistory : Contents → Type 0
 HasHistory book = (h : History) × Tells book h
 

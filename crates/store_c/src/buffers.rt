@@ -1,4 +1,4 @@
-//! Bytes that C fills, and that are put without a copy.
+//! Buffers: bytes that C fills, and that are put without a copy.
 ghost use Rattle.std.specs.Prelude.{◌≡◌, ◌≢◌, None, Some};
 ghost use Rattle.store_c.specs.Status.{done};
 ghost use Rattle.store_c.specs.OnSession.{IsPutCall};
@@ -27,7 +27,8 @@ pub(crate) fn reserve(alloc: Global, len: usize, slot: &mut Slot) -> u32
     }
 }
 
-/// Puts the bytes of the other slot. It is empty afterwards, or still has them.
+/// Puts the bytes of the other slot. The slot is empty afterwards, or still has them if the put was
+/// refused.
 pub(crate) fn put_from(
     alloc: Global,
     session: &mut Session,
@@ -36,7 +37,8 @@ pub(crate) fn put_from(
     data_fragments: u32,
     version: &mut u64,
 ) -> u32
-    ensures { IsPutFrom session.old other.old.held name.now data_fragments result (version.old, version.new) session.new other.new.held }
+    ensures { IsPutFrom session.old other.old.held name.now data_fragments result
+        (version.old, version.new) session.new other.new.held }
 {
     let Some(mut given) = other.take(alloc) else {
         return EMPTY;
@@ -56,7 +58,8 @@ fn put_held(
     data_fragments: u32,
     version: &mut u64,
 ) -> u32
-    ensures { IsPutFrom session.old given.old name.now data_fragments result (version.old, version.new) session.new given.new }
+    ensures { IsPutFrom session.old given.old name.now data_fragments result
+        (version.old, version.new) session.new given.new }
 {
     match given.take() {
         Some(Held::Buffer(bytes)) => match Bytes::from_vec(bytes) {
@@ -76,7 +79,7 @@ fn put_held(
     }
 }
 
-/// Puts these bytes, and keeps them if that is refused.
+/// Puts these bytes, and keeps them if the put is refused.
 fn put_bytes(
     alloc: Global,
     session: &mut Session,
@@ -87,7 +90,8 @@ fn put_bytes(
     version: &mut u64,
 ) -> u32
     requires { given.old ≡ None }
-    ensures put { IsPutCall session.old name.now blob data_fragments result version.old version.new session.new }
+    ensures put { IsPutCall session.old name.now blob data_fragments result version.old version.new
+        session.new }
     ensures done { result ≡ done → given.new ≡ None }
     ensures refused { result ≢ done → given.new ≡ Some (Held.Refused blob) }
 {

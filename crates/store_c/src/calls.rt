@@ -1,7 +1,8 @@
 //! The calls on a session, with the arguments that C passed.
 ghost use Rattle.std.specs.Prelude.{◌≡◌};
 ghost use Rattle.history.specs.Step.{lose as lose_of, repair as repair_of, delete as delete_of};
-ghost use Rattle.store_c.specs.OnSession.{IsNamedCall, IsPutCall, IsReadCall, IsStatCall, IsTrimCall};
+ghost use Rattle.store_c.specs.OnSession.{IsNamedCall, IsPutCall, IsReadCall, IsStatCall};
+ghost use Rattle.store_c.specs.OnSession.{IsTrimCall};
 
 use crate::answers::{code_of, name_of, number_of, tell, tell_shape};
 use crate::status::{BAD_ARGUMENT, BAD_NAME, DONE, NO_MEMORY, NOT_REBUILT};
@@ -16,7 +17,8 @@ pub(crate) fn put(
     data_fragments: u32,
     version: &mut u64,
 ) -> u32
-    ensures { IsPutCall session.old name.now blob.now data_fragments result version.old version.new session.new }
+    ensures { IsPutCall session.old name.now blob.now data_fragments result version.old version.new
+        session.new }
 {
     let Ok(bytes) = Bytes::copy_from_slice(alloc, blob) else {
         return NO_MEMORY;
@@ -24,7 +26,7 @@ pub(crate) fn put(
     put_bytes(alloc, session, name, bytes, data_fragments, version)
 }
 
-/// The same without a copy.
+/// Does the same without a copy.
 pub(crate) fn put_bytes(
     alloc: Global,
     session: &mut Session,
@@ -33,7 +35,8 @@ pub(crate) fn put_bytes(
     data_fragments: u32,
     version: &mut u64,
 ) -> u32
-    ensures { IsPutCall session.old name.now blob data_fragments result version.old version.new session.new }
+    ensures { IsPutCall session.old name.now blob data_fragments result version.old version.new
+        session.new }
 {
     let Some(name) = name_of(name) else {
         return BAD_NAME;
@@ -55,7 +58,8 @@ pub(crate) fn read(
     lent: &mut u64,
     built: &mut u64,
 ) -> u32
-    ensures { IsReadCall session.old name.now start target.old target.new result version.old version.new (lent.old, built.old) (lent.new, built.new) session.new }
+    ensures { IsReadCall session.old name.now start target.old target.new result version.old
+        version.new (lent.old, built.old) (lent.new, built.new) session.new }
 {
     let Some(name) = name_of(name) else {
         return BAD_NAME;
@@ -83,7 +87,8 @@ pub(crate) fn lose(
     fragment: u64,
     version: &mut u64,
 ) -> u32
-    ensures { IsNamedCall session.old name.now (λ n. lose_of n stripe fragment) result version.old version.new session.new }
+    ensures { IsNamedCall session.old name.now (λ n. lose_of n stripe fragment) result version.old
+        version.new session.new }
 {
     let Some(name) = name_of(name) else {
         return BAD_NAME;
@@ -100,7 +105,8 @@ pub(crate) fn repair(
     fragment: u64,
     version: &mut u64,
 ) -> u32
-    ensures { IsNamedCall session.old name.now (λ n. repair_of n stripe fragment) result version.old version.new session.new }
+    ensures { IsNamedCall session.old name.now (λ n. repair_of n stripe fragment) result version.old
+        version.new session.new }
 {
     let Some(name) = name_of(name) else {
         return BAD_NAME;
@@ -110,7 +116,8 @@ pub(crate) fn repair(
 }
 
 pub(crate) fn delete(session: &mut Session, name: &[u8], version: &mut u64) -> u32
-    ensures { IsNamedCall session.old name.now (λ n. delete_of n) result version.old version.new session.new }
+    ensures { IsNamedCall session.old name.now (λ n. delete_of n) result version.old version.new
+        session.new }
 {
     let Some(name) = name_of(name) else {
         return BAD_NAME;
@@ -127,7 +134,8 @@ pub(crate) fn stat(
     stripes: &mut u64,
     lost: &mut u64,
 ) -> u32
-    ensures { IsStatCall session.old name.now result version.old version.new (len.old, stripes.old, lost.old) (len.new, stripes.new, lost.new) session.new }
+    ensures { IsStatCall session.old name.now result version.old version.new
+        (len.old, stripes.old, lost.old) (len.new, stripes.new, lost.new) session.new }
 {
     let Some(name) = name_of(name) else {
         return BAD_NAME;

@@ -1,16 +1,17 @@
 //! The entries of a journal, for C.
 ghost use Rattle.std.specs.Prelude.{◌≡◌};
 ghost use Rattle.history.specs.Parts.{name_of};
-ghost use Rattle.store_c.specs.Journal.{IsEntry, IsEntryAt, arguments_of, status_of_note, version_of_note, shape_of_note};
+ghost use Rattle.store_c.specs.Journal.{IsEntry, IsEntryAt, arguments_of, status_of_note};
+ghost use Rattle.store_c.specs.Journal.{version_of_note, shape_of_note};
 
 use crate::status::{
     ALREADY_LOST, DONE, NO_FRAGMENT, NO_NAME, NOT_LOST, NOTHING_LEFT, OUT_OF_RANGE, UNRECOVERABLE,
 };
 use session::{Book, Call, Code, Entry, Note};
 
-/// An entry of a journal, as C has it. `first` and `second` are the call's arguments after the name, and
-/// 0 if it has none: the number of data fragments and of bytes; start and length; stripe and fragment.
-/// `version` and the shape are those of the reply, and 0 if it has none.
+/// An entry of a journal in C's layout. `first` and `second` are the call's arguments after the
+/// name: data fragments and length in bytes, start and length, or stripe and fragment. `version`
+/// and the shape are those of the reply. A number that the call or the reply does not have is 0.
 #[repr(C)]
 #[derive(Clone, Copy, Drop)]
 pub struct JournalEntry<'a> {
@@ -104,7 +105,7 @@ fn version_of(note: &Note) -> u64
     }
 }
 
-/// The bytes, stripes and lost fragments of a shape, or zeros.
+/// The bytes, stripes and lost fragments of a shape, or zeros if the reply is another.
 fn shape_of(note: &Note) -> (u64, u64, u64)
     ensures { result ≡ shape_of_note note.now }
 {
@@ -139,7 +140,7 @@ fn entry_for(entry: &Entry) -> JournalEntry<'_>
     }
 }
 
-/// The entry of a journal at an index.
+/// Writes the entry of a journal at an index, from 0, and returns the status.
 pub(crate) fn entry_at<'a>(book: &'a Book, index: usize, target: &mut JournalEntry<'a>) -> u32
     ensures { IsEntryAt book.now.entries index result target.old target.new }
 {

@@ -1,4 +1,4 @@
-//! Ranges that are lent.
+//! Lent ranges.
 ghost use Rattle.std.specs.Prelude.{◌≡◌, None};
 ghost use Rattle.store_c.specs.Lend.{IsLend, IsLendTo};
 
@@ -19,7 +19,8 @@ fn lend(
     pieces: &mut u64,
 ) -> u32
     requires { other.old.held ≡ None }
-    ensures { IsLend session.old name.now start len result version.old version.new (pieces.old, pieces.new) session.new other.new.held }
+    ensures { IsLend session.old name.now start len result version.old version.new
+        (pieces.old, pieces.new) session.new other.new.held }
 {
     let Some(name) = name_of(name) else {
         return BAD_NAME;
@@ -43,7 +44,7 @@ fn lend(
     }
 }
 
-/// The same, if the other slot is empty.
+/// Does the same if the other slot is empty.
 pub(crate) fn lend_to(
     alloc: Global,
     session: &mut Session,
@@ -54,7 +55,8 @@ pub(crate) fn lend_to(
     version: &mut u64,
     pieces: &mut u64,
 ) -> u32
-    ensures { IsLendTo session.old other.old.held name.now start len result (version.old, version.new) (pieces.old, pieces.new) session.new other.new.held }
+    ensures { IsLendTo session.old other.old.held name.now start len result
+        (version.old, version.new) (pieces.old, pieces.new) session.new other.new.held }
 {
     if !other.is_vacant(alloc) {
         return OCCUPIED;

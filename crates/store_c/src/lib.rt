@@ -1,7 +1,7 @@
 //! The store for C: `include/lrc_store.h` declares these functions.
 //!
-//! C lends a slot to each call. A call tests each of its arguments, and answers a status; unless the
-//! status says that something was done, the slots and what else C passed are as they were.
+//! C lends a slot to each call. A call checks its arguments and returns a status. If the status
+//! does not say that something was done, the slots and all outputs are unchanged.
 #![tactic(auto)]
 
 mod answers;
@@ -16,21 +16,23 @@ mod status;
 
 ghost use Rattle.std.specs.Prelude.{◌≡◌, None};
 ghost use Rattle.history.specs.Step.{lose as lose_of, repair as repair_of, delete as delete_of};
-ghost use Rattle.store_c.specs.OnSession.{IsOnSession, IsNamedCall, IsPutCall, IsReadCall, IsStatCall, IsTrimCall};
+ghost use Rattle.store_c.specs.OnSession.{IsOnSession, IsNamedCall, IsPutCall, IsReadCall};
+ghost use Rattle.store_c.specs.OnSession.{IsStatCall, IsTrimCall};
 ghost use Rattle.store_c.specs.Buffers.{IsReserveCall, IsBufferCall, IsPutFrom};
 ghost use Rattle.store_c.specs.Journal.{IsCloseToCall, IsEntryCall};
 ghost use Rattle.store_c.specs.Lend.{IsLendTo, IsSlicesCall};
 ghost use Rattle.store_c.specs.Plan.{IsPlanTo, IsMendCall};
-ghost use Rattle.store_c.specs.Sessions.{IsOpenCall, IsSplitCall, IsJoinCall, AreOfOneStore, IsCloseCall};
+ghost use Rattle.store_c.specs.Sessions.{IsOpenCall, IsSplitCall, IsJoinCall, AreOfOneStore};
+ghost use Rattle.store_c.specs.Sessions.{IsCloseCall};
 
 use crate::journal::JournalEntry;
 use crate::status::{DONE, EMPTY, OCCUPIED};
 use session::{Held, LentBuffer, LentSlice, Slot};
 use std::alloc::Global;
 
-/// Opens a store whose fragments have `width` bytes and whose journal holds at most `limit` entries. Its
-/// first session is put into an empty slot. Stores with different `number`s are not mixed up by
-/// `lrc_store_join`.
+/// Opens a store whose fragments have `width` bytes and whose journal holds at most `limit`
+/// entries. It puts the first session into an empty slot. `lrc_store_join` tells stores apart by
+/// their `number`s.
 #[unsafe(no_mangle)]
 pub extern "C" fn lrc_store_open(
     alloc: Global,
@@ -47,7 +49,8 @@ pub extern "C" fn lrc_store_open(
     sessions::open(alloc, width, limit, number, slot)
 }
 
-/// Splits a session off the slot's, for calls with the label `who`, and puts it into an empty slot.
+/// Splits a session off the slot's, with the label `who` for its calls, and puts it into an empty
+/// slot.
 #[unsafe(no_mangle)]
 pub extern "C" fn lrc_store_split(alloc: Global, slot: &mut Slot, who: u32, other: &mut Slot) -> u32
     ensures { IsSplitCall slot.old.held other.old.held who result slot.new.held other.new.held }
@@ -60,8 +63,8 @@ pub extern "C" fn lrc_store_split(alloc: Global, slot: &mut Slot, who: u32, othe
     status
 }
 
-/// Joins the second slot's session into the first one's, which has made all its calls then. The second
-/// slot is empty afterwards.
+/// Joins the second slot's session into the first slot's, which then counts as the caller of its
+/// calls. The second slot is empty afterwards.
 #[unsafe(no_mangle)]
 pub extern "C" fn lrc_store_join(alloc: Global, slot: &mut Slot, other: &mut Slot) -> u32
     requires { AreOfOneStore slot.old.held other.old.held }
@@ -82,8 +85,8 @@ pub extern "C" fn lrc_store_join(alloc: Global, slot: &mut Slot, other: &mut Slo
     status
 }
 
-/// Closes the store of the slot's session, once all its sessions are joined into this one, and empties
-/// the slot: how many entries the journal has, and whether they are lawful.
+/// Closes the store of the slot's session, once all other sessions are joined, and empties the
+/// slot. It writes the number of journal entries and whether they are lawful.
 #[unsafe(no_mangle)]
 pub extern "C" fn lrc_store_close(
     alloc: Global,
@@ -91,7 +94,8 @@ pub extern "C" fn lrc_store_close(
     entries: &mut u64,
     lawful: &mut u32,
 ) -> u32
-    ensures { IsCloseCall slot.old.held result (entries.old, lawful.old) (entries.new, lawful.new) slot.new.held }
+    ensures { IsCloseCall slot.old.held result (entries.old, lawful.old) (entries.new, lawful.new)
+        slot.new.held }
 {
     let Some(mut held) = slot.take(alloc) else {
         return EMPTY;
@@ -103,8 +107,8 @@ pub extern "C" fn lrc_store_close(
     status
 }
 
-/// Closes the store, and puts its journal into an empty slot: how many of its entries were discarded, how
-/// many it has, and whether they are lawful.
+/// Closes the store and puts its journal into an empty slot. It writes the numbers of discarded and
+/// of remaining entries, and whether the entries are lawful.
 #[unsafe(no_mangle)]
 pub extern "C" fn lrc_store_close_to(
     alloc: Global,
@@ -114,7 +118,9 @@ pub extern "C" fn lrc_store_close_to(
     entries: &mut u64,
     lawful: &mut u32,
 ) -> u32
-    ensures { IsCloseToCall slot.old.held other.old.held result (discarded.old, entries.old, lawful.old) (discarded.new, entries.new, lawful.new) slot.new.held other.new.held }
+    ensures { IsCloseToCall slot.old.held other.old.held result
+        (discarded.old, entries.old, lawful.old) (discarded.new, entries.new, lawful.new)
+        slot.new.held other.new.held }
 {
     if !other.is_vacant(alloc) {
         return OCCUPIED;
@@ -122,7 +128,7 @@ pub extern "C" fn lrc_store_close_to(
     sessions::close_slot(alloc, slot, other, discarded, entries, lawful)
 }
 
-/// Gives the entry of a journal at an index.
+/// Writes the entry of a journal at an index, from 0.
 #[unsafe(no_mangle)]
 pub extern "C" fn lrc_slot_entry<'a>(
     alloc: Global,
@@ -142,7 +148,7 @@ pub extern "C" fn lrc_slot_entry<'a>(
     }
 }
 
-/// Puts so many zero bytes into an empty slot, to be filled and then put as a blob.
+/// Puts a buffer of `len` zero bytes into an empty slot. C fills it and then stores it as a blob.
 #[unsafe(no_mangle)]
 pub extern "C" fn lrc_slot_reserve(alloc: Global, len: usize, slot: &mut Slot) -> u32
     ensures { IsReserveCall slot.old.held len result slot.new.held }
@@ -153,8 +159,8 @@ pub extern "C" fn lrc_slot_reserve(alloc: Global, len: usize, slot: &mut Slot) -
     buffers::reserve(alloc, len, slot)
 }
 
-/// Lends the bytes that were reserved, to be written. They stay where they are until the slot is passed to
-/// another call.
+/// Lends the bytes of a buffer for writing. They stay in place until the slot is passed to another
+/// call.
 #[unsafe(no_mangle)]
 pub extern "C" fn lrc_slot_buffer<'a>(
     alloc: Global,
@@ -176,8 +182,8 @@ pub extern "C" fn lrc_slot_buffer<'a>(
     }
 }
 
-/// Stores the bytes of the other slot under a name, without a copy. That slot is empty afterwards, unless
-/// the put was refused.
+/// Stores the buffer of the other slot under a name, without a copy. The slot is empty afterwards,
+/// unless the put was refused.
 #[unsafe(no_mangle)]
 pub extern "C" fn lrc_store_put_from(
     alloc: Global,
@@ -187,8 +193,10 @@ pub extern "C" fn lrc_store_put_from(
     data_fragments: u32,
     version: &mut u64,
 ) -> u32
-    ensures { IsOnSession slot.old.held result slot.new.held ((version.new ≡ version.old) × (other.new.held ≡ other.old.held))
-        (λ v w. IsPutFrom v other.old.held name.now data_fragments result (version.old, version.new) w other.new.held) }
+    ensures { IsOnSession slot.old.held result slot.new.held
+        ((version.new ≡ version.old) × (other.new.held ≡ other.old.held))
+        (λ v w. IsPutFrom v other.old.held name.now data_fragments result (version.old, version.new)
+        w other.new.held) }
 {
     let Some(mut held) = slot.take(alloc) else {
         return EMPTY;
@@ -198,7 +206,7 @@ pub extern "C" fn lrc_store_put_from(
     status
 }
 
-/// Stores a copy of a blob under a name, in the code with so many data fragments.
+/// Stores a copy of a blob under a name, in the code with this many data fragments.
 #[unsafe(no_mangle)]
 pub extern "C" fn lrc_store_put(
     alloc: Global,
@@ -219,7 +227,8 @@ pub extern "C" fn lrc_store_put(
     status
 }
 
-/// Copies as many bytes of a name's blob as the target has, from `start` on. Absent fragments are rebuilt.
+/// Copies bytes of a name's blob to `target`, as many as it has, from the byte `start` on. It
+/// rebuilds the bytes of lost fragments.
 #[unsafe(no_mangle)]
 pub extern "C" fn lrc_store_read(
     alloc: Global,
@@ -231,8 +240,11 @@ pub extern "C" fn lrc_store_read(
     lent: &mut u64,
     built: &mut u64,
 ) -> u32
-    ensures { IsOnSession slot.old.held result slot.new.held ((version.new ≡ version.old) × (target.new ≡ target.old) × (lent.new ≡ lent.old) × (built.new ≡ built.old))
-        (λ v w. IsReadCall v name.now start target.old target.new result version.old version.new (lent.old, built.old) (lent.new, built.new) w) }
+    ensures { IsOnSession slot.old.held result slot.new.held
+        ((version.new ≡ version.old) × (target.new ≡ target.old) × (lent.new ≡ lent.old)
+        × (built.new ≡ built.old))
+        (λ v w. IsReadCall v name.now start target.old target.new result version.old version.new
+        (lent.old, built.old) (lent.new, built.new) w) }
 {
     let Some(mut held) = slot.take(alloc) else {
         return EMPTY;
@@ -258,7 +270,8 @@ pub extern "C" fn lrc_store_lose(
     version: &mut u64,
 ) -> u32
     ensures { IsOnSession slot.old.held result slot.new.held (version.new ≡ version.old)
-        (λ v w. IsNamedCall v name.now (λ n. lose_of n stripe fragment) result version.old version.new w) }
+        (λ v w. IsNamedCall v name.now (λ n. lose_of n stripe fragment) result version.old
+        version.new w) }
 {
     let Some(mut held) = slot.take(alloc) else {
         return EMPTY;
@@ -284,7 +297,8 @@ pub extern "C" fn lrc_store_repair(
     version: &mut u64,
 ) -> u32
     ensures { IsOnSession slot.old.held result slot.new.held (version.new ≡ version.old)
-        (λ v w. IsNamedCall v name.now (λ n. repair_of n stripe fragment) result version.old version.new w) }
+        (λ v w. IsNamedCall v name.now (λ n. repair_of n stripe fragment) result version.old
+        version.new w) }
 {
     let Some(mut held) = slot.take(alloc) else {
         return EMPTY;
@@ -321,7 +335,8 @@ pub extern "C" fn lrc_store_delete(
     status
 }
 
-/// Asks for the shape of a name's blob: how many bytes, stripes and lost fragments it has.
+/// Writes the shape of a name's blob: its length in bytes, and the numbers of stripes and lost
+/// fragments.
 #[unsafe(no_mangle)]
 pub extern "C" fn lrc_store_stat(
     alloc: Global,
@@ -332,8 +347,11 @@ pub extern "C" fn lrc_store_stat(
     stripes: &mut u64,
     lost: &mut u64,
 ) -> u32
-    ensures { IsOnSession slot.old.held result slot.new.held ((version.new ≡ version.old) × (len.new ≡ len.old) × (stripes.new ≡ stripes.old) × (lost.new ≡ lost.old))
-        (λ v w. IsStatCall v name.now result version.old version.new (len.old, stripes.old, lost.old) (len.new, stripes.new, lost.new) w) }
+    ensures { IsOnSession slot.old.held result slot.new.held
+        ((version.new ≡ version.old) × (len.new ≡ len.old) × (stripes.new ≡ stripes.old)
+        × (lost.new ≡ lost.old))
+        (λ v w. IsStatCall v name.now result version.old version.new
+        (len.old, stripes.old, lost.old) (len.new, stripes.new, lost.new) w) }
 {
     let Some(mut held) = slot.take(alloc) else {
         return EMPTY;
@@ -343,7 +361,7 @@ pub extern "C" fn lrc_store_stat(
     status
 }
 
-/// Discards all entries of the journal but the last `keep`: how many these were.
+/// Discards all journal entries except the last `keep`, and writes how many it discarded.
 #[unsafe(no_mangle)]
 pub extern "C" fn lrc_store_trim(
     alloc: Global,
@@ -365,8 +383,8 @@ pub extern "C" fn lrc_store_trim(
     status
 }
 
-/// Lends `len` bytes of a name's blob, from `start` on. They are put into an empty slot, as so many pieces.
-/// Absent fragments are rebuilt at once.
+/// Lends `len` bytes of a name's blob, from the byte `start` on. It puts the range into an empty
+/// slot, rebuilds lost fragments at once, and writes the number of pieces.
 #[unsafe(no_mangle)]
 pub extern "C" fn lrc_store_lend(
     alloc: Global,
@@ -378,8 +396,11 @@ pub extern "C" fn lrc_store_lend(
     version: &mut u64,
     pieces: &mut u64,
 ) -> u32
-    ensures { IsOnSession slot.old.held result slot.new.held ((version.new ≡ version.old) × (pieces.new ≡ pieces.old) × (other.new.held ≡ other.old.held))
-        (λ v w. IsLendTo v other.old.held name.now start len result (version.old, version.new) (pieces.old, pieces.new) w other.new.held) }
+    ensures { IsOnSession slot.old.held result slot.new.held
+        ((version.new ≡ version.old) × (pieces.new ≡ pieces.old)
+        × (other.new.held ≡ other.old.held))
+        (λ v w. IsLendTo v other.old.held name.now start len result (version.old, version.new)
+        (pieces.old, pieces.new) w other.new.held) }
 {
     let Some(mut held) = slot.take(alloc) else {
         return EMPTY;
@@ -389,8 +410,8 @@ pub extern "C" fn lrc_store_lend(
     status
 }
 
-/// Gives the pieces of a range that is lent, in order: as many as there are and the target takes. They
-/// stay where they are until the slot is passed to another call.
+/// Writes the pieces of a lent range to `target`, in order, as many as there are and `target`
+/// takes. They stay in place until the slot is passed to another call.
 #[unsafe(no_mangle)]
 pub extern "C" fn lrc_slot_slices<'a>(
     alloc: Global,
@@ -413,7 +434,7 @@ pub extern "C" fn lrc_slot_slices<'a>(
     }
 }
 
-/// Plans the repair of all lost fragments, and puts the plan into an empty slot.
+/// Puts a plan to repair all lost fragments into an empty slot, and writes their number.
 #[unsafe(no_mangle)]
 pub extern "C" fn lrc_store_plan(
     alloc: Global,
@@ -421,7 +442,8 @@ pub extern "C" fn lrc_store_plan(
     other: &mut Slot,
     items: &mut u64,
 ) -> u32
-    ensures { IsOnSession slot.old.held result slot.new.held ((items.new ≡ items.old) × (other.new.held ≡ other.old.held))
+    ensures { IsOnSession slot.old.held result slot.new.held
+        ((items.new ≡ items.old) × (other.new.held ≡ other.old.held))
         (λ v w. IsPlanTo v other.old.held result (items.old, items.new) w other.new.held) }
 {
     let Some(mut held) = slot.take(alloc) else {
@@ -432,8 +454,8 @@ pub extern "C" fn lrc_store_plan(
     status
 }
 
-/// Repairs the next fragment of a plan. An item that is answered leaves the plan, and one that is refused
-/// stays the next.
+/// Repairs the next fragment of a plan. A fragment with an answer leaves the plan, and one with an
+/// error stays the next.
 #[unsafe(no_mangle)]
 pub extern "C" fn lrc_store_mend_step(
     alloc: Global,
@@ -441,7 +463,8 @@ pub extern "C" fn lrc_store_mend_step(
     other: &mut Slot,
     version: &mut u64,
 ) -> u32
-    ensures { IsMendCall slot.old.held other.old.held result (version.old, version.new) slot.new.held other.new.held }
+    ensures { IsMendCall slot.old.held other.old.held result (version.old, version.new)
+        slot.new.held other.new.held }
 {
     let Some(mut held) = slot.take(alloc) else {
         return EMPTY;

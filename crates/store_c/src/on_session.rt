@@ -1,4 +1,4 @@
-//! The calls on what a slot holds, if that is a session.
+//! The calls on a slot's session.
 ghost use Rattle.std.specs.Prelude.{◌≡◌};
 ghost use Rattle.store_c.specs.OnSession.{IsOnSession, IsPutCall, IsReadCall, IsStatCall};
 ghost use Rattle.store_c.specs.Buffers.{IsPutFrom};
@@ -11,7 +11,8 @@ use crate::{buffers, calls, lending, repairs, sessions};
 use session::{Held, Slot};
 use std::alloc::Global;
 
-/// Does this to the session that is held, and answers its status; or `EMPTY`, if none is held.
+/// Runs an expression with the session in the slot, and returns its status. It returns `EMPTY` if
+/// the slot holds no session.
 macro_rules! on_session {
     ($held:ident, $session:ident, $number:ident => $status:expr) => {
         match $held.take() {
@@ -44,9 +45,11 @@ pub(crate) fn put(
     data_fragments: u32,
     version: &mut u64,
 ) -> u32
-    ensures { IsOnSession held.old result held.new (version.new ≡ version.old) (λ v w. IsPutCall v name.now blob.now data_fragments result version.old version.new w) }
+    ensures { IsOnSession held.old result held.new (version.new ≡ version.old)
+        (λ v w. IsPutCall v name.now blob.now data_fragments result version.old version.new w) }
 {
-    on_session!(held, session, number => calls::put(alloc, &mut session, name, blob, data_fragments, version))
+    on_session!(held, session, number =>
+        calls::put(alloc, &mut session, name, blob, data_fragments, version))
 }
 
 pub(crate) fn put_from(
@@ -57,10 +60,13 @@ pub(crate) fn put_from(
     data_fragments: u32,
     version: &mut u64,
 ) -> u32
-    ensures { IsOnSession held.old result held.new ((version.new ≡ version.old) × (other.new.held ≡ other.old.held))
-        (λ v w. IsPutFrom v other.old.held name.now data_fragments result (version.old, version.new) w other.new.held) }
+    ensures { IsOnSession held.old result held.new
+        ((version.new ≡ version.old) × (other.new.held ≡ other.old.held))
+        (λ v w. IsPutFrom v other.old.held name.now data_fragments result (version.old, version.new)
+        w other.new.held) }
 {
-    on_session!(held, session, number => buffers::put_from(alloc, &mut session, name, other, data_fragments, version))
+    on_session!(held, session, number =>
+        buffers::put_from(alloc, &mut session, name, other, data_fragments, version))
 }
 
 pub(crate) fn read(
@@ -73,10 +79,14 @@ pub(crate) fn read(
     lent: &mut u64,
     built: &mut u64,
 ) -> u32
-    ensures { IsOnSession held.old result held.new ((version.new ≡ version.old) × (target.new ≡ target.old) × (lent.new ≡ lent.old) × (built.new ≡ built.old))
-        (λ v w. IsReadCall v name.now start target.old target.new result version.old version.new (lent.old, built.old) (lent.new, built.new) w) }
+    ensures { IsOnSession held.old result held.new
+        ((version.new ≡ version.old) × (target.new ≡ target.old) × (lent.new ≡ lent.old)
+        × (built.new ≡ built.old))
+        (λ v w. IsReadCall v name.now start target.old target.new result version.old version.new
+        (lent.old, built.old) (lent.new, built.new) w) }
 {
-    on_session!(held, session, number => calls::read(alloc, &mut session, name, start, target, version, lent, built))
+    on_session!(held, session, number =>
+        calls::read(alloc, &mut session, name, start, target, version, lent, built))
 }
 
 pub(crate) fn stat(
@@ -87,10 +97,14 @@ pub(crate) fn stat(
     stripes: &mut u64,
     lost: &mut u64,
 ) -> u32
-    ensures { IsOnSession held.old result held.new ((version.new ≡ version.old) × (len.new ≡ len.old) × (stripes.new ≡ stripes.old) × (lost.new ≡ lost.old))
-        (λ v w. IsStatCall v name.now result version.old version.new (len.old, stripes.old, lost.old) (len.new, stripes.new, lost.new) w) }
+    ensures { IsOnSession held.old result held.new
+        ((version.new ≡ version.old) × (len.new ≡ len.old) × (stripes.new ≡ stripes.old)
+        × (lost.new ≡ lost.old))
+        (λ v w. IsStatCall v name.now result version.old version.new
+        (len.old, stripes.old, lost.old) (len.new, stripes.new, lost.new) w) }
 {
-    on_session!(held, session, number => calls::stat(&mut session, name, version, len, stripes, lost))
+    on_session!(held, session, number =>
+        calls::stat(&mut session, name, version, len, stripes, lost))
 }
 
 pub(crate) fn lend(
@@ -103,14 +117,19 @@ pub(crate) fn lend(
     version: &mut u64,
     pieces: &mut u64,
 ) -> u32
-    ensures { IsOnSession held.old result held.new ((version.new ≡ version.old) × (pieces.new ≡ pieces.old) × (other.new.held ≡ other.old.held))
-        (λ v w. IsLendTo v other.old.held name.now start len result (version.old, version.new) (pieces.old, pieces.new) w other.new.held) }
+    ensures { IsOnSession held.old result held.new
+        ((version.new ≡ version.old) × (pieces.new ≡ pieces.old)
+        × (other.new.held ≡ other.old.held))
+        (λ v w. IsLendTo v other.old.held name.now start len result (version.old, version.new)
+        (pieces.old, pieces.new) w other.new.held) }
 {
-    on_session!(held, session, number => lending::lend_to(alloc, &mut session, name, start, len, other, version, pieces))
+    on_session!(held, session, number =>
+        lending::lend_to(alloc, &mut session, name, start, len, other, version, pieces))
 }
 
 pub(crate) fn plan(alloc: Global, held: &mut Option<Held>, other: &mut Slot, items: &mut u64) -> u32
-    ensures { IsOnSession held.old result held.new ((items.new ≡ items.old) × (other.new.held ≡ other.old.held))
+    ensures { IsOnSession held.old result held.new
+        ((items.new ≡ items.old) × (other.new.held ≡ other.old.held))
         (λ v w. IsPlanTo v other.old.held result (items.old, items.new) w other.new.held) }
 {
     on_session!(held, session, number => repairs::plan_to(alloc, &mut session, other, items))
@@ -119,5 +138,6 @@ pub(crate) fn plan(alloc: Global, held: &mut Option<Held>, other: &mut Slot, ite
 pub(crate) fn split(alloc: Global, held: &mut Option<Held>, who: u32, other: &mut Slot) -> u32
     ensures { IsSplitCall held.old other.old.held who result held.new other.new.held }
 {
-    on_session!(held, session, number => sessions::split_to(alloc, &mut session, number, who, other))
+    on_session!(held, session, number =>
+        sessions::split_to(alloc, &mut session, number, who, other))
 }

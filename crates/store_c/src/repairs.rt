@@ -27,14 +27,15 @@ fn plan(alloc: Global, session: &mut Session, other: &mut Slot, items: &mut u64)
     }
 }
 
-/// The same, if the other slot is empty.
+/// Does the same if the other slot is empty.
 pub(crate) fn plan_to(
     alloc: Global,
     session: &mut Session,
     other: &mut Slot,
     items: &mut u64,
 ) -> u32
-    ensures { IsPlanTo session.old other.old.held result (items.old, items.new) session.new other.new.held }
+    ensures { IsPlanTo session.old other.old.held result (items.old, items.new) session.new
+        other.new.held }
 {
     if !other.is_vacant(alloc) {
         return OCCUPIED;
@@ -48,7 +49,8 @@ pub(crate) fn mend_step(
     repairs: &mut Repairs,
     version: &mut u64,
 ) -> u32
-    ensures { IsMendStep session.old repairs.old result version.old version.new session.new repairs.new }
+    ensures { IsMendStep session.old repairs.old result version.old version.new session.new
+        repairs.new }
 {
     match repairs.step(session, alloc) {
         Some(reply) => tell(&reply, version),

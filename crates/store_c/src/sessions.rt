@@ -1,7 +1,8 @@
 //! Opening, splitting, joining and closing.
 ghost use Rattle.std.specs.Prelude.{◌≡◌, ◌⊎◌, None, Some};
 ghost use Rattle.store_c.specs.Journal.{IsCloseTo, IsCloseToCall};
-ghost use Rattle.store_c.specs.Sessions.{IsOpening, IsSplitTo, IsJoinCall, AreOfOneStore, IsCloseCall, HasHistory};
+ghost use Rattle.store_c.specs.Sessions.{IsOpening, IsSplitTo, IsJoinCall, AreOfOneStore};
+ghost use Rattle.store_c.specs.Sessions.{IsCloseCall, HasHistory};
 
 use crate::answers::number_of;
 use crate::status::{BAD_ARGUMENT, DONE, EMPTY, NO_MEMORY, NOT_ALONE, OCCUPIED};
@@ -71,10 +72,11 @@ pub(crate) fn join(held: &mut Option<Held>, given: &mut Option<Held>) -> u32
     }
 }
 
-/// The same, with the first session at hand. It comes back.
+/// Does the same with the first session taken out of its slot, and puts it back.
 fn join_at(mut session: Session, number: u64, given: &mut Option<Held>) -> (u32, Session)
     requires { AreOfOneStore (Some (Held.Session session number)) given.old }
-    ensures { IsJoinCall (Some (Held.Session session number)) given.old result.0 (Some (Held.Session result.1 number)) given.new }
+    ensures { IsJoinCall (Some (Held.Session session number)) given.old result.0
+        (Some (Held.Session result.1 number)) given.new }
 {
     match given.take() {
         Some(
@@ -106,14 +108,15 @@ pub(crate) fn close(
     entries: &mut u64,
     lawful: &mut u32,
 ) -> u32
-    ensures { IsCloseCall held.old result (entries.old, lawful.old) (entries.new, lawful.new) held.new }
+    ensures { IsCloseCall held.old result (entries.old, lawful.old) (entries.new, lawful.new)
+        held.new }
 {
     let mut journal = None;
     let mut discarded = 0;
     close_to(alloc, held, &mut journal, &mut discarded, entries, lawful)
 }
 
-/// The same, and the journal is given.
+/// Does the same and returns the journal.
 pub(crate) fn close_to(
     alloc: Global,
     held: &mut Option<Held>,
@@ -123,7 +126,8 @@ pub(crate) fn close_to(
     lawful: &mut u32,
 ) -> u32
     requires { given.old ≡ None }
-    ensures { IsCloseTo held.old result (discarded.old, entries.old, lawful.old) (discarded.new, entries.new, lawful.new) held.new given.new }
+    ensures { IsCloseTo held.old result (discarded.old, entries.old, lawful.old)
+        (discarded.new, entries.new, lawful.new) held.new given.new }
 {
     match held.take() {
         Some(Held::Session { session, number }) => match session.close() {
@@ -156,7 +160,8 @@ pub(crate) fn close_slot(
     lawful: &mut u32,
 ) -> u32
     requires { other.old.held ≡ None }
-    ensures { IsCloseToCall slot.old.held None result (discarded.old, entries.old, lawful.old) (discarded.new, entries.new, lawful.new) slot.new.held other.new.held }
+    ensures { IsCloseToCall slot.old.held None result (discarded.old, entries.old, lawful.old)
+        (discarded.new, entries.new, lawful.new) slot.new.held other.new.held }
 {
     let Ok(mut given) = Box::new(alloc, None::<Held>) else {
         return NO_MEMORY;
@@ -174,7 +179,7 @@ pub(crate) fn close_slot(
     status
 }
 
-/// Whether the entries of a book are lawful: 1, or 2 if there was no memory to find out.
+/// Whether the entries of a book are lawful: 1, or 2 if there was no memory to check it.
 fn lawful_number(alloc: Global, book: &Book) -> u32
     requires { HasHistory book.now }
     ensures { (result ≡ 1) ⊎ (result ≡ 2) }

@@ -1,6 +1,6 @@
-//! The statuses that C gets. `include/lrc_store.h` has them with the same numbers.
+//! The statuses that C gets, with the same numbers as in `include/lrc_store.h`.
 
-/// The call did what it was named.
+/// The call did what its name says.
 pub(crate) const DONE: u32 = 0;
 
 /// Another thread is in the critical section: call again.
@@ -12,16 +12,16 @@ pub(crate) const NO_NAME: u32 = 2;
 /// The range does not lie inside the blob.
 pub(crate) const OUT_OF_RANGE: u32 = 3;
 
-/// The remaining fragments do not determine what was named.
+/// The remaining fragments do not determine what was asked for.
 pub(crate) const UNRECOVERABLE: u32 = 4;
 
-/// The blob has no such stripe, or its code no such fragment.
+/// The blob lacks this stripe, or the stripe this fragment.
 pub(crate) const NO_FRAGMENT: u32 = 5;
 
-/// The fragment was lost before.
+/// The fragment was lost already.
 pub(crate) const ALREADY_LOST: u32 = 6;
 
-/// The fragment is not lost.
+/// The fragment is present.
 pub(crate) const NOT_LOST: u32 = 7;
 
 /// Out of memory.
@@ -33,10 +33,10 @@ pub(crate) const JOURNAL_FULL: u32 = 9;
 /// The blob needs more than 4,096 stripes.
 pub(crate) const TOO_LONG: u32 = 10;
 
-/// The bytes are no name.
+/// The bytes are not a valid name.
 pub(crate) const BAD_NAME: u32 = 11;
 
-/// The number is no width.
+/// The number is not a valid width.
 pub(crate) const BAD_WIDTH: u32 = 12;
 
 /// No further session can be split off.
@@ -48,13 +48,13 @@ pub(crate) const EMPTY: u32 = 14;
 /// The slot that the call fills holds something.
 pub(crate) const OCCUPIED: u32 = 15;
 
-/// A limit or a number of data fragments that is none; or two sessions of different stores.
+/// An invalid limit or number of data fragments, or sessions of two stores.
 pub(crate) const BAD_ARGUMENT: u32 = 16;
 
 /// The store has other sessions.
 pub(crate) const NOT_ALONE: u32 = 17;
 
-/// The range was granted, and there was no memory to rebuild its absent fragments.
+/// The range was granted, and there was no memory to rebuild its lost fragments.
 pub(crate) const NOT_REBUILT: u32 = 18;
 
 /// The plan has no item left.

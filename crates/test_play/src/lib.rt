@@ -1,4 +1,4 @@
-//! Tests of `play`: from the bytes of a script to the bytes that are printed.
+//! Tests of `play`: from the bytes of a script to the printed bytes.
 #![tactic(auto)]
 
 #[cfg(test)]

@@ -1,11 +1,10 @@
-ghost use Rattle.std.specs.Prelude.{◌≡◌, IfOk};
-ghost use Rattle.command_line.specs.Ranges.{InRange};
+ghost use Rattle.std.specs.Prelude.{◌≡◌};
+ghost use Rattle.play.specs.Ranges.{InRange};
 
-use command_line::Options;
-use play::{Always, Fail as PlayFail, play};
+use play::{Always, Fail as PlayFail, Options, play};
 use script::{BadScript, Word};
 use shared::Pace;
-use std::alloc::{AllocError, Global};
+use std::alloc::Global;
 use std::io;
 use std::io::{Read, Write};
 use std::sync::Wait;
@@ -50,22 +49,21 @@ impl Write for Narrow {
 }
 
 /// The options of a run with two workers.
-fn options(alloc: Global, width: u32, limit: u32, history: bool) -> Result<Options, AllocError>
-    ensures { IfOk result (λ options. (options.workers ≡ 2) × (options.width ≡ width) × (options.limit ≡ limit)) }
+fn options(width: u32, limit: u32, history: bool) -> Options
+    ensures { (result.workers ≡ 2) × (result.width ≡ width) × (result.limit ≡ limit) }
 {
-    Ok(Options {
-        script: String::from_str(alloc, "script.csv")?,
+    Options {
         width,
         workers: 2,
         limit,
         history,
-    })
+    }
 }
 
-fn two_workers(alloc: Global) -> Result<Options, AllocError>
-    ensures { IfOk result (λ options. (options.workers ≡ 2) × (options.width ≡ 1) × (options.limit ≡ 4096)) }
+fn two_workers() -> Options
+    ensures { (result.workers ≡ 2) × (result.width ≡ 1) × (result.limit ≡ 4096) }
 {
-    options(alloc, 1, 4096, false)
+    options(1, 4096, false)
 }
 
 /// How a run of a script ends, and what it writes.
@@ -93,7 +91,7 @@ const FIRST_OUTPUT: &[u8] = b"1 stored 1\n2 granted 1 3 0 454c4c\ncalls 2\nlawfu
 #[test]
 fn scripts(rt: HostRuntime) -> Result<(), Fail> {
     let alloc = rt.alloc();
-    let options = two_workers(alloc)?;
+    let options = two_workers();
     let rows: [(&[u8], &[u8]); 5] = [
         (FIRST_PATH, FIRST_OUTPUT),
         (b"", b"calls 0\nlawful yes\n"),
@@ -122,7 +120,7 @@ fn scripts(rt: HostRuntime) -> Result<(), Fail> {
 #[test]
 fn a_row_is_cut(rt: HostRuntime) -> Result<(), Fail> {
     let alloc = rt.alloc();
-    let options = two_workers(alloc)?;
+    let options = two_workers();
     let text: &[u8] = b"1,1,put,a,text,AB\n1,1,read,a,0";
     let (ended, out) = run(&rt, alloc, &options, text, &Always);
     let refused = BadScript::Refused {
@@ -134,11 +132,12 @@ fn a_row_is_cut(rt: HostRuntime) -> Result<(), Fail> {
     Ok(())
 }
 
-/// A read that fails after any number of bytes is told, and nothing runs; a write that fails after any number of bytes is told.
+/// A read that fails after any number of bytes is reported, and nothing runs. A write that fails
+/// after any number of bytes is reported.
 #[test]
 fn broken_ends(rt: HostRuntime) -> Result<(), Fail> {
     let alloc = rt.alloc();
-    let options = two_workers(alloc)?;
+    let options = two_workers();
     for given in 0..FIRST_PATH.len() + 1 {
         let mut out: Vec<u8> = Vec::new(alloc);
         let input = Breaking {
@@ -163,4 +162,6 @@ fn broken_ends(rt: HostRuntime) -> Result<(), Fail> {
 mod bent;
 mod degraded;
 mod paced;
+mod script_rows;
+mod words;
 mod workers;

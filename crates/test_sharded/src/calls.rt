@@ -121,7 +121,7 @@ pub(crate) fn answer<R: Wait>(
     bail!("no call comes through")
 }
 
-/// Makes a call, and compares what is noted of its answer. A granted read has the blob's bytes.
+/// Makes a call, and compares the note of its answer. A granted read has the blob's bytes.
 pub(crate) fn expect<R: Wait>(
     rt: &R,
     alloc: Global,
@@ -143,7 +143,7 @@ pub(crate) fn expect<R: Wait>(
     }
 }
 
-/// Collects a grant, once more if out of memory.
+/// Collects a grant, again if out of memory.
 fn expect_blob(alloc: Global, grant: &Grant) -> Result<()> {
     let pieces = match grant.collect(alloc) {
         Err(_) => grant.collect(alloc)?,

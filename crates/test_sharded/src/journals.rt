@@ -10,7 +10,7 @@ use sharded::{Name, ShardedPass, ShardedStore};
 use std::alloc::Global;
 use std::sync::Wait;
 
-/// Trims the first and the last journal, once more if out of memory.
+/// Trims the first and the last journal, again if out of memory.
 fn trim_ends<R: Wait>(
     rt: &R,
     alloc: Global,
@@ -65,7 +65,7 @@ pub(crate) fn trim<R: Wait>(
     Ok(())
 }
 
-/// A second pass, made once more if out of memory.
+/// Splits off a second pass, again if out of memory.
 pub(crate) fn split(
     alloc: Global,
     store: &ShardedStore,
@@ -82,7 +82,7 @@ pub(crate) fn split(
     }
 }
 
-/// The books of a store whose passes are all joined, closed once more if out of memory.
+/// Closes a store whose passes are all joined, again if out of memory, and returns its books.
 pub(crate) fn close(alloc: Global, store: ShardedStore, pass: ShardedPass) -> Result<Vec<Book>>
     requires { stores_of pass ≡ store }
 {
@@ -96,7 +96,7 @@ pub(crate) fn close(alloc: Global, store: ShardedStore, pass: ShardedPass) -> Re
     }
 }
 
-/// How many entries lawful books have.
+/// The number of entries in lawful books.
 pub(crate) fn count_entries(alloc: Global, books: &[Book]) -> Result<u64> {
     let mut count = 0u64;
     for book in books {

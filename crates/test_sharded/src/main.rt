@@ -1,9 +1,9 @@
-//! Calls of a sharded store, each compared with its expected answer. Over 1, 4 and 64 shards one
-//! thread makes all calls in both forms; over 4 shards four threads make calls that do not wait.
+//! Calls of a sharded store, each compared with its expected answer. One thread makes all calls in
+//! both forms over 1, 4 and 64 shards. Four threads make calls that do not wait over 4 shards.
 //!
-//! A call that is out of memory is made again, so the program prints the same whichever request for
-//! memory is refused. With any word it starts no thread. It ends with status 1 at the first other
-//! answer.
+//! A call that is out of memory is repeated, so the program prints the same text whichever
+//! allocation is refused. With any word it starts no thread. It ends with status 1 at the first
+//! other answer.
 #![tactic(auto)]
 
 ghost use Rattle.std.specs.Prelude.{◌≡◌, ◌≤◌, IfOk};
@@ -21,7 +21,7 @@ use std::alloc::Global;
 use std::env;
 use std::sync::Wait;
 
-/// A store of width 1 in so many shards, opened once more if out of memory.
+/// Opens a store of width 1 with `count` shards, again if out of memory.
 fn open(alloc: Global, count: usize) -> Result<(ShardedStore, ShardedPass)>
     requires { (1 ≤ count) × (count ≤ 64) }
     ensures { IfOk result (λ r. stores_of r.1 ≡ r.0) }
@@ -33,7 +33,7 @@ fn open(alloc: Global, count: usize) -> Result<(ShardedStore, ShardedPass)>
     }
 }
 
-/// All calls over so many shards.
+/// Makes all calls over `count` shards.
 fn run<R: Wait>(rt: &R, alloc: Global, count: usize) -> Result<()>
     requires { (1 ≤ count) × (count ≤ 64) }
 {
@@ -45,7 +45,7 @@ fn run<R: Wait>(rt: &R, alloc: Global, count: usize) -> Result<()>
     journals::split_and_close(rt, alloc, store, pass)
 }
 
-/// Whether the program was started with a word, and is to start no thread.
+/// Whether the program was started with a word, and so starts no thread.
 fn has_word(rt: &HostRuntime) -> bool {
     match env::args(rt) {
         Ok(words) => words.skip(1).next().is_some(),

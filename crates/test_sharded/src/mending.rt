@@ -1,4 +1,4 @@
-//! A mend of what is lost at all shards.
+//! A mend over all shards.
 ghost use Rattle.std.specs.Prelude.{◌≡◌, IfOk};
 ghost use Rattle.sharded.specs.Passes.{stores_of};
 
@@ -9,7 +9,7 @@ use sharded_mender::{Done, Drawer, Gather, Report, Tickets, gather, scrub, work}
 use std::alloc::Global;
 use std::sync::Wait;
 
-/// A plan with its tickets and the one drawer of them, made once more if out of memory.
+/// A plan with its tickets and its only drawer, made again if out of memory.
 fn plan<R: Wait>(
     rt: &R,
     alloc: Global,
@@ -26,7 +26,8 @@ fn plan<R: Wait>(
     }
 }
 
-/// Gathers results that are not all of the plan's if memory to mark the tickets was refused before.
+/// Gathers the results. They may be fewer than the plan's if an earlier call ran out of memory to
+/// mark the tickets.
 fn count_repaired(alloc: Global, plan: &Plan, done: Vec<Done>) -> Result<u64> {
     let count = done.len() as u64;
     match gather(alloc, plan, done) {
@@ -46,7 +47,7 @@ fn count_repaired(alloc: Global, plan: &Plan, done: Vec<Done>) -> Result<u64> {
     }
 }
 
-/// One scrub, and the work of one worker. It answers how many fragments it repaired.
+/// Scrubs once and works as one worker. Returns the number of repaired fragments.
 fn mend_once<R: Wait>(
     rt: &R,
     alloc: Global,
@@ -63,7 +64,7 @@ fn mend_once<R: Wait>(
     }
 }
 
-/// Mends what is lost, with a second worker for what a first one left that was out of memory.
+/// Mends all lost fragments. A second worker repairs what a first one, out of memory, did not.
 pub(crate) fn mend<R: Wait>(
     rt: &R,
     alloc: Global,

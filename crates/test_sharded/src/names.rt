@@ -16,7 +16,7 @@ pub(crate) const CALLS: u64 = 16;
 /// How many of them are puts.
 const PUTS: u64 = 3;
 
-/// How many of the first names have this shard.
+/// How many of the first names belong to this shard.
 pub(crate) fn count_at(store: &ShardedStore, shard: usize, names: usize) -> Result<u64> {
     let mut count = 0u64;
     for text in NAMES.iter().take(names) {
@@ -27,7 +27,8 @@ pub(crate) fn count_at(store: &ShardedStore, shard: usize, names: usize) -> Resu
     Ok(count)
 }
 
-/// The calls on a name with no blob, whose shard has had so many puts, and what is noted of each.
+/// The calls on a name without a blob, whose shard has had this many puts, and the expected note of
+/// each.
 fn steps(puts: u64) -> [(Call, Note); 16] {
     let (one, two) = (puts.saturating_add(1), puts.saturating_add(2));
     let shape = |version, stripes| Note::Shape {
@@ -76,8 +77,8 @@ fn use_name<R: Wait>(
     Ok(())
 }
 
-/// All calls on each name, of every second one in the form that does not wait. At last each name
-/// has a blob with one lost fragment.
+/// All calls on each name, with every second one in the form that does not wait. In the end each
+/// name has a blob with one lost fragment.
 pub(crate) fn use_all<R: Wait>(
     rt: &R,
     alloc: Global,

@@ -51,7 +51,7 @@ fn use_names<R: Wait>(
     Ok(())
 }
 
-/// What a thread does. It gives its pass back.
+/// The work of a thread. It returns its pass.
 fn work<R: Wait>(
     rt: &R,
     alloc: Global,

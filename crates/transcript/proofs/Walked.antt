@@ -15,7 +15,7 @@ use Rattle.lent.specs.Walk.{Gives, Joins, bytes_ahead}
 use Rattle.transcript.specs.Lines.{is_lent, is_there, TakesIn}
 use Rattle.transcript.specs.declared.line.Reading.{Reading}
 
--- what is done and what lies ahead are the whole, for each blob that the value stands for
+-- what is done and the parts ahead are the whole, for each blob that the value represents
 abbrev pub IsSplit : Sealed → (List ℕ → List ℕ) → List ℕ → Ahead → Type 0
 IsSplit s whole done ahead =
     (ahead.sealed ≡ s) × ((b : List ℕ) (lost : Lost) → StandsFor s b lost → whole b ≡ done ++ bytes_ahead ahead b)
@@ -38,7 +38,7 @@ there_is s part None (Built v) is = refl
 there_is s part None (Lent r) is = absurd is
 there_is s part (Some x) (Built v) is = absurd is
 
--- a piece is given of the first part ahead
+-- the piece is that of the first part ahead
 pub record CountsOne (s : Sealed) (old new : Ahead) (piece : Piece) : Type 0 where
   pub lent : count_by (is_there s) old.parts ≡ cond (is_lent piece) 1 0 + count_by (is_there s) new.parts
   pub built : count_by (λ p. not (is_there s p)) old.parts ≡ cond (not (is_lent piece)) 1 0 + count_by (λ p. not (is_there s p)) new.parts
@@ -55,7 +55,7 @@ counts-one s old new piece same gives =
       all = let e : length old.parts ≡ length (gives.part ∷ new.parts) = ap length gives.next in omega arith;
     }
 
--- what is read so far: with what lies ahead it makes up the whole, and all of its parts
+-- the reading so far: with the parts ahead it makes up the whole, and all of its parts
 pub record IsReadSoFar (s : Sealed) (whole : List ℕ → List ℕ) (parts : List Part) (r : Reading) (ahead : Ahead) : Type 0 where
   pub version : r.version ≡ s.version
   pub split : IsSplit s whole r.bytes.items ahead

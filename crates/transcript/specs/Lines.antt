@@ -1,4 +1,4 @@
--- The lines of a run, as they are printed from its replies.
+-- The lines of a run, as the replies determine them.
 use Rattle.std.specs.Prelude.{◌≡◌, ℕ, ◌+◌, List, [], ◌∷◌, ◌++◌, Bool, true, false, cond, is_some, length, not, count_by, slice_range, codes, decimal}
 use Rattle.hex.specs.Hex.{encode_lower}
 use Rattle.sealed.specs.Blob.{Lost}
@@ -26,12 +26,12 @@ use Rattle.transcript.specs.declared.line.Reading.{Reading}
 use Rattle.transcript.specs.declared.line.Line.{Line}
 use Rattle.transcript.specs.declared.line.Line.TheVariants.{Noted, Granted, Trimmed, Mended, Full, TooLong}
 
--- two digits for each byte, or a dash where there is none
+-- two digits for each byte, or a dash if there is none
 abbrev pub hex_text : List ℕ → List ℕ
 hex_text [] = codes "-"
 hex_text (b ∷ bytes) = encode_lower (b ∷ bytes)
 
--- a reading: the version, how many pieces were lent and how many built, and the bytes
+-- a reading: the version, the numbers of lent and of built pieces, and the bytes
 abbrev pub reading_text : Reading → List ℕ
 reading_text r = codes "granted " ++ (decimal r.version ++ (codes " " ++ (decimal r.lent ++ (codes " " ++ (decimal r.built ++ (codes " " ++ hex_text r.bytes.items))))))
 
@@ -48,11 +48,12 @@ abbrev pub byte_count : Line → ℕ
 byte_count (Granted reading) = length reading.bytes.items
 byte_count line = 0
 
--- whether the part's fragment is there
+-- whether the part's fragment is present
 abbrev pub is_there : Sealed → Part → Bool
 is_there s part = is_some (fragment_at s.stripes part.stripe part.fragment)
 
--- what is read of a grant: its version, how many parts are there and how many are not, and the range of each blob that its value stands for
+-- the reading of a grant: its version, the numbers of its parts in present and in lost fragments,
+-- and the range of each blob that its value represents
 pub record IsReadingOf (g : Grant) (r : Reading) : Type 0 where
   pub version : r.version ≡ g.sealed.value.version
   pub lent : r.lent ≡ count_by (is_there g.sealed.value) (cut g.sealed.value.code g.sealed.value.width g.start g.len)
@@ -63,7 +64,7 @@ abbrev pub is_lent : Piece → Bool
 is_lent (Lent r) = true
 is_lent (Built v) = false
 
--- one more piece is counted, and its bytes stand behind the others
+-- one more piece is counted, and its bytes are appended
 pub record TakesIn (r : Reading) (piece : Piece) (more : Reading) : Type 0 where
   pub version : more.version ≡ r.version
   pub lent : more.lent ≡ r.lent + cond (is_lent piece) 1 0
@@ -79,7 +80,7 @@ abbrev pub IsAnswerLine : Answer → Line → Type 0
 IsAnswerLine (answer.Granted g) line = IsReadBy g line
 IsAnswerLine a line = line ≡ Noted (note_of a)
 
--- the line to what came of a row
+-- the line for the outcome of a row
 abbrev pub IsLineFor : RowOutcome → Line → Type 0
 IsLineFor (outcome.Replied (made.Made a)) line = IsAnswerLine a line
 IsLineFor (outcome.Replied (made.Trimmed n)) line = line ≡ Trimmed n

@@ -1,4 +1,5 @@
-//! What a run of a script prints: a line for each row, a line for each entry of the journal, and how many calls were made.
+//! The printed text of a script's run: a line for each row, a line for each journal entry, and the
+//! number of calls.
 #![tactic(auto)]
 
 mod line;

@@ -1,4 +1,4 @@
-//! What is printed of a row.
+//! The printed line of a row.
 ghost use Rattle.std.specs.Prelude.{◌≡◌, ◌≤◌, ◌<◌, ◌+◌, ◌*◌, ◌^◌, IfOk, OnOk, length};
 ghost use Rattle.hex.specs.Hex.{encode_lower};
 ghost use Rattle.transcript.specs.Lines.{IsReadingOf, IsLineFor, TakesIn, byte_count};
@@ -12,7 +12,7 @@ use requests::Reply;
 use std::alloc::{AllocError, Global};
 use std::fmt;
 
-/// The reply to a row: what the store noted, the bytes of a read, or why the call was refused.
+/// The reply to a row: the note of a call, the bytes of a read, or why the call was refused.
 #[derive(Drop)]
 pub enum Line {
     Noted(Note),
@@ -23,7 +23,8 @@ pub enum Line {
     TooLong,
 }
 
-/// What was read: the version, how many pieces were lent and how many built, and the bytes of the pieces, joined.
+/// A granted read: the version, the numbers of lent and of built pieces, and the bytes of all
+/// pieces, joined.
 #[derive(Drop)]
 pub struct Reading {
     pub version: u64,
@@ -32,10 +33,10 @@ pub struct Reading {
     pub bytes: Vec<u8>,
 }
 
-/// How many bytes are turned into digits at once.
+/// How many bytes are encoded at a time.
 const AT_ONCE: usize = 64;
 
-/// Bytes as two lower-case hexadecimal digits each, and as a dash where there are none.
+/// Bytes that print as two lower-case hexadecimal digits each, or as a dash if there are none.
 #[derive(Drop)]
 struct Hex<'a>(&'a [u8]);
 
@@ -60,7 +61,7 @@ impl fmt::Display for Hex<'_> {
     }
 }
 
-/// The digits of some bytes, in the room that is given.
+/// The hexadecimal digits of some bytes, written to `room`.
 fn digits_of<'a>(bytes: &[u8], room: &'a mut [u8; 2 * AT_ONCE]) -> &'a str
     requires { length bytes.now ≤ AT_ONCE }
     ensures { result.now ≡ encode_lower bytes.now }
@@ -76,7 +77,7 @@ fn digits_of<'a>(bytes: &[u8], room: &'a mut [u8; 2 * AT_ONCE]) -> &'a str
 }
 
 impl Line {
-    /// Room for the digits of its bytes and for what stands before them, so that it is asked for once.
+    /// An upper bound for the length of the printed line, so that one allocation suffices.
     pub(crate) fn room(&self) -> usize
         ensures digits { 2 * byte_count self.now ≤ result }
         ensures most { result ≤ 2 * byte_count self.now + 80 }
@@ -120,7 +121,7 @@ impl fmt::Display for Line {
 }
 
 impl Reading {
-    /// Takes in the next piece: it is counted, and its bytes stand behind the others.
+    /// Counts the next piece and appends its bytes. `AllocError` if memory runs out.
     fn take_in(&mut self, piece: Piece) -> Result<(), AllocError>
         requires { self.old.lent + self.old.built + 1 < 2 ^ 64 }
         ensures { OnOk result (TakesIn self.old piece.entry self.new) }
@@ -133,7 +134,7 @@ impl Reading {
     }
 }
 
-/// Walks a grant to its end, by the recipes that are kept in `plans`.
+/// Walks a grant to its end, with the recipes in `plans`. `AllocError` if memory runs out.
 fn walked(alloc: Global, grant: &Grant, plans: &mut Plans) -> Result<Reading, AllocError>
     ensures ok { IfOk result (IsReadingOf grant.now) }
     ensures more { plans.old ≤ plans.new }
@@ -151,7 +152,8 @@ fn walked(alloc: Global, grant: &Grant, plans: &mut Plans) -> Result<Reading, Al
     Ok(reading)
 }
 
-/// The reply to a row. A grant is walked here, by the recipes that are kept in `plans`.
+/// The line for the outcome of a row. It walks a grant, with the recipes in `plans`, and adds new
+/// ones. `AllocError` if memory runs out.
 pub fn line_for(alloc: Global, outcome: RowOutcome, plans: &mut Plans) -> Result<Line, AllocError>
     ensures ok { IfOk result (IsLineFor outcome) }
     ensures more { plans.old ≤ plans.new }

@@ -1,22 +1,22 @@
-//! What became of the rows.
+//! The outcomes of rows.
 
 use mender::Report;
 use requests::Reply;
 
-/// What became of one row: its number, from 1, and what came of it.
+/// The outcome of the row with this number, from 1.
 #[derive(Drop)]
 pub struct NumberedOutcome {
     pub number: u32,
     pub outcome: RowOutcome,
 }
 
-/// What came of a row.
+/// The outcome of a row.
 #[derive(Drop)]
 pub enum RowOutcome {
-    /// Its call was made, or was refused.
+    /// The reply to its call, or the refusal of it.
     Replied(Reply),
-    /// What was planned is mended.
+    /// The lost fragments of the plan are repaired.
     Mended(Report),
-    /// The journal was full while it mended.
+    /// A worker met a full journal during the mend.
     Full,
 }

@@ -1,5 +1,6 @@
 //! The printed text of a run.
-ghost use Rattle.std.specs.Prelude.{◌≡◌, ◌+◌, ◌<◌, ◌^◌, List, ℕ, ◌++◌, [], length, IfOk, if◌then◌else◌, codes, decimal, string_bytes};
+ghost use Rattle.std.specs.Prelude.{◌≡◌, ◌+◌, ◌<◌, ◌^◌, List, ℕ, ◌++◌, [], length, IfOk};
+ghost use Rattle.std.specs.Prelude.{if◌then◌else◌, codes, decimal, string_bytes};
 ghost use Rattle.history.specs.Lawful.{IsLawfulFrom};
 ghost use Rattle.transcript.specs.Lines.{AreLines, entry_lines};
 
@@ -9,9 +10,9 @@ use book::{Book, Entry, is_lawful_from};
 use lrc_code::Plans;
 use std::alloc::{AllocError, Global};
 
-/// A line for each row: its number, from 1, and its reply. Grants are walked here, with one
-/// table of recipes. Then a line for each entry: its number, which counts the calls that were
-/// given up before, its caller's label, its call and its note.
+/// A line for each row: its number, from 1, and its reply. It walks grants here, with one table of
+/// recipes. Then a line for each entry: its number, which also counts the discarded calls, the
+/// label of its caller, its call and its note.
 fn lines_of(
     alloc: Global,
     done: Vec<NumberedOutcome>,
@@ -19,7 +20,8 @@ fn lines_of(
     entries: &[Entry],
 ) -> Result<String, AllocError>
     requires { trimmed + length entries.now < 2 ^ 64 }
-    ensures { IfOk result (λ text. (lines : List ℕ) × AreLines done.items lines × (string_bytes text ≡ lines ++ entry_lines (trimmed + 1) entries.now)) }
+    ensures { IfOk result (λ text. (lines : List ℕ) × AreLines done.items lines
+        × (string_bytes text ≡ lines ++ entry_lines (trimmed + 1) entries.now)) }
 {
     let mut text = String::new(alloc);
     let mut plans = Plans::new(alloc);
@@ -37,7 +39,7 @@ fn lines_of(
     Ok(text)
 }
 
-/// Whether the journal's entries are lawful from its base, as it is printed: they are.
+/// The printed word for whether the journal's entries are lawful from its base. They always are.
 fn lawful_text(alloc: Global, book: &Book) -> Result<&'static str, AllocError>
     requires { IsLawfulFrom book.now.base book.now.width book.now.entries }
     ensures { IfOk result (λ text. text.now ≡ codes "yes") }
@@ -49,7 +51,9 @@ fn lawful_text(alloc: Global, book: &Book) -> Result<&'static str, AllocError>
     }
 }
 
-/// The printed text: a line for each row, where `history` is asked for one for each entry, then the number of calls that were made, and whether the journal is lawful.
+/// The printed text. It has a line for each row, and if `history` is set, a line for each entry.
+/// Then come the number of all calls, and whether the journal is lawful. `AllocError` if memory
+/// runs out.
 pub fn print(
     alloc: Global,
     done: Vec<NumberedOutcome>,
@@ -58,8 +62,10 @@ pub fn print(
 ) -> Result<String, AllocError>
     requires { IsLawfulFrom book.now.base book.now.width book.now.entries }
     ensures { IfOk result (λ text. (lines : List ℕ) × AreLines done.items lines × (string_bytes text
-        ≡ lines ++ ((if history then entry_lines (book.now.base.trimmed + 1) book.now.entries else [])
-        ++ (codes "calls " ++ (decimal (book.now.base.trimmed + length book.now.entries) ++ codes "\nlawful yes\n"))))) }
+        ≡ lines ++ ((if history then entry_lines (book.now.base.trimmed + 1) book.now.entries
+        else [])
+        ++ (codes "calls " ++ (decimal (book.now.base.trimmed + length book.now.entries)
+        ++ codes "\nlawful yes\n"))))) }
 {
     let entries = book.entries();
     let shown = if history { entries } else { &[] };

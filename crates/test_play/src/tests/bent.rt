@@ -22,7 +22,7 @@ fn ends<R: Threads + Wait + Sync>(
     text: &[u8],
     end: End,
 ) -> Result<bool, AllocError> {
-    let mut options = options(alloc, 1, 4096, false)?;
+    let mut options = options(1, 4096, false);
     options.workers = 1;
     let (ended, out) = run(rt, alloc, &options, text, &Always);
     Ok(match end {
@@ -90,7 +90,7 @@ fn bent_rows(rt: HostRuntime) -> Result<(), Fail> {
 #[test]
 fn too_many_rows(rt: HostRuntime) -> Result<(), Fail> {
     let alloc = rt.alloc();
-    let options = two_workers(alloc)?;
+    let options = two_workers();
     let mut text = "1,1,stat,a,,\n".repeat(alloc, 65536)?;
     let (most, out) = run(&rt, alloc, &options, text.as_bytes(), &Always);
     assert_eq!(rt; most, Ok(()));

@@ -1,4 +1,4 @@
-//! What a pace is told of the rows.
+//! Which rows a pace is asked about.
 ghost use Rattle.std.specs.Prelude.{◌≡◌, IfOk};
 
 use super::{options, run};
@@ -8,7 +8,8 @@ use std::alloc::Global;
 use std::sync::atomic::{AtomicU64, Ordering};
 use std::test::Fail;
 
-/// Writes down what it is told, a digit for each: `1` to `7` before the row of this number, `9` after it. It stops at one row.
+/// Writes down its calls, a digit for each: `1` to `7` before the row of this number, `9` after it.
+/// It stops at one row.
 #[derive(Drop)]
 struct Told {
     digits: AtomicU64,
@@ -38,11 +39,12 @@ impl Pace for Told {
 const FIVE_ROWS: &[u8] =
     b"1,1,put,a,text,ABCDEFGHIJKL\n1,1,lose,a,0,0\n1,1,read,b,0,6\n2,0,mend,,,\n3,1,stat,a,,\n";
 
-/// Each row is told of once before and once after, in order, a mend too; where it is stopped, nothing behind it.
+/// `before` and `after` are called once for each row, in order, also for a mend. After a stop
+/// nothing more is called.
 #[test]
 fn each_row_is_told_of_once(rt: HostRuntime) -> Result<(), Fail> {
     let alloc = rt.alloc();
-    let mut options = options(alloc, 1, 4096, false)?;
+    let mut options = options(1, 4096, false);
     options.workers = 1;
     let told: [(u32, u64); 6] = [
         (1, 1),

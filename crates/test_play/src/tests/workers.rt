@@ -1,10 +1,9 @@
 //! Workers on threads of their own, and mends by all of them.
 ghost use Rattle.std.specs.Prelude.{◌≡◌, IfOk};
-ghost use Rattle.command_line.specs.Ranges.{InRange};
+ghost use Rattle.play.specs.Ranges.{InRange};
 
 use super::{options, run};
-use command_line::Options;
-use play::{Always, Fail as PlayFail};
+use play::{Always, Fail as PlayFail, Options};
 use shared::Pace;
 use std::alloc::{AllocError, Global};
 use std::process::Abort;
@@ -15,12 +14,13 @@ use std::thread;
 use std::thread::Threads;
 
 /// The options of a run with so many workers.
-fn with_workers(alloc: Global, workers: u32, limit: u32) -> Result<Options, AllocError>
-    ensures { IfOk result (λ options. (options.workers ≡ workers) × (options.width ≡ 1) × (options.limit ≡ limit)) }
+fn with_workers(workers: u32, limit: u32) -> Options
+    ensures { (result.workers ≡ workers) × (result.width ≡ 1) × (result.limit ≡ limit) }
 {
-    let mut options = options(alloc, 1, limit, false)?;
-    options.workers = workers;
-    Ok(options)
+    Options {
+        workers,
+        ..options(1, limit, false)
+    }
 }
 
 /// A pace in which the first two rows wait for one another.
@@ -78,7 +78,8 @@ impl Pace for Gathering {
     fn after(&self, _row: u32) {}
 }
 
-/// 200 rows of one round: a put by each of two workers, under names of their own, and then reads of them.
+/// 200 rows of one round: a put by each of two workers, under names of their own, and then reads of
+/// them.
 fn two_names(alloc: Global) -> Result<String, AllocError> {
     let mut text = String::new(alloc);
     text.push_str("1,1,put,a,text,ABCDEFGHIJKL\n1,2,put,b,text,ABCDEFGHIJKL\n")?;
@@ -103,11 +104,12 @@ fn two_versions(alloc: Global, first: u32, second: u32) -> Result<String, AllocE
     Ok(text)
 }
 
-/// Two workers run at the same time: the first row of each waits for that of the other. On one thread the run is serial, and stops.
+/// Two workers run at the same time: the first row of each waits for that of the other. On one
+/// thread the run is serial, and stops.
 #[test]
 fn two_workers_meet(rt: HostRuntime) -> Result<(), Fail> {
     let alloc = rt.alloc();
-    let options = with_workers(alloc, 2, 4096)?;
+    let options = with_workers(2, 4096);
     let script = two_names(alloc)?;
     let pace = Meeting {
         first: AtomicBool::new(false),
@@ -131,7 +133,7 @@ const TWO_MENDED: &[u8] =
 #[test]
 fn two_menders_meet(rt: HostRuntime) -> Result<(), Fail> {
     let alloc = rt.alloc();
-    let options = with_workers(alloc, 2, 4096)?;
+    let options = with_workers(2, 4096);
     let pace = Gathering {
         came: AtomicU32::new(0),
     };
@@ -155,7 +157,7 @@ fn mends_by<R: Threads + Wait + Sync + Abort>(
     requires workers { InRange workers 16 }
     requires limit { InRange limit 1048576 }
 {
-    let options = with_workers(alloc, workers, limit)?;
+    let options = with_workers(workers, limit);
     let (ended, out) = run(rt, alloc, &options, TWO_LOST, &Always);
     assert_eq!(rt; ended, Ok(()));
     assert!(rt; out.as_slice() == wanted);
@@ -191,7 +193,7 @@ impl Pace for Until {
 #[test]
 fn pauses(rt: HostRuntime) -> Result<(), Fail> {
     let alloc = rt.alloc();
-    let options = with_workers(alloc, 2, 4096)?;
+    let options = with_workers(2, 4096);
     for row in 1..6 {
         let (ended, out) = run(&rt, alloc, &options, TWO_LOST, &Until(row));
         assert_eq!(rt; ended, Err(PlayFail::Paused));

@@ -8,7 +8,8 @@ use Rattle.sealed.proofs.Counting.{data_is_counted}
 use Rattle.lent.proofs.ask.has_open.Goals as goal
 use Rattle.lent.proofs.ask.has_open.Goals.{else-not-left-via-then-not-left+else-not-is_alone_in, else-not-left-via-else-not-left}
 
--- the fragment f is lost, and not alone in its group: the excess tells of it, and of all where it is small
+-- the fragment f is lost together with another of its group: the excess decides for it, and for all
+-- if it is small
 told : (code : Code) (lost absent : ℕ → Bool) (n from f to : ℕ) → ((i : ℕ) → i < fragment_count code → lost i ≡ absent i) → n ≡ excess_of code lost
     → from ≤ f → f < to → to ≤ data_count code → lost f ≡ true → is_alone code lost f ≡ false → (b : Bool) → nat_lt 2 n ≡ b
     → MatchBool b ((x : ℕ) × (from ≤ x) × (x < to) × Open code absent x) ((x : ℕ) → from ≤ x → x < to → Open code absent x → ⊥)

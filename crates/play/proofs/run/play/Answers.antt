@@ -31,3 +31,6 @@ returns-in-Err-run-clause-paused g c e =
     let may_answer = g.P.Pace.may_answer c.args.pace.now in
     of_each (λ text. AcceptedBefore c.args.options.now.workers (script_records text) (length (script_records text)) × (c.in-Ok.rows.items ≡ map row_of (script_records text))) (λ text. HoldsBack may_answer (length (script_records text)))
     (g.R.Read.remaining c.args.input) (λ text read. subst (HoldsBack may_answer) (ap length read.1 ∙ length-map (script_records text) row_of) (c.in-Err-run.ensures.paused e)) c.in-Ok.ensures.read
+
+pub returns-in-Err-run-clause-held_back : goal.returns-in-Err-run-clause-held_back
+returns-in-Err-run-clause-held_back g c e = let held = c.in-Err-run.ensures.paused e in (held.0, held.3)

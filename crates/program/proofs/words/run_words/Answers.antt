@@ -10,4 +10,4 @@ returns-in-Err-Clap-clause-usage g c e =
 
 pub returns-clause-cause : goal.returns-clause-cause
 returns-clause-cause g c =
-    rw (c.report-in-Err.ensures.ending) (inr (inr (c.in-Ok.options, c.in-Ok.ensures.said, c.in-Err.ensures.cause)))
+    rw (c.report-in-Err.ensures.ending) (inr (inr (c.in-Ok.line, c.in-Ok.ensures.said, c.in-Err.ensures.cause)))

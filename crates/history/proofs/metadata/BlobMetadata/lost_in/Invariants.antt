@@ -7,7 +7,8 @@ use Rattle.history.specs.Metadata.{lost_of}
 use Rattle.history.proofs.Keeping.{is_of}
 use Rattle.history.proofs.metadata.BlobMetadata.lost_in.Given as goal
 
--- a fragment is lost where it was seen, or is still ahead; what is ahead is of this stripe
+-- a fragment is lost if the loop has seen it or is still to see it, and the fragments ahead are of
+-- this stripe
 abbrev pub invariant-loop-f : goal.invariant-loop-f
 invariant-loop-f l = record {
   told : (g : ℕ) → g < 16 → (is_lost l.lost g || list_any (is_at (pair_cmp (l.stripe, g))) l.f-iterator) ≡ lost_of l.self l.stripe g;

@@ -4,7 +4,8 @@ use Rattle.history.specs.Metadata.{views_of}
 use Rattle.history.specs.Views.{AreNoted, all_next}
 use Rattle.history.proofs.replay.Replay.follow.Given as goal
 
--- all entries are noted rightly exactly where the rest is, from what is kept on, and then both leave the same
+-- all entries have the right notes if and only if the remaining ones have, and then both replays
+-- end in the same state
 abbrev pub invariant-loop-entry : goal.invariant-loop-entry
 invariant-loop-entry l = record {
   width : l.self.width ≡ l.fn.self.width;

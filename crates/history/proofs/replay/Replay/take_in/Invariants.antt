@@ -4,7 +4,8 @@ use Rattle.history.specs.Parts.{changes_of}
 use Rattle.history.specs.Views.{AreNoted, all_next}
 use Rattle.history.proofs.replay.Replay.take_in.Given as goal
 
--- where the changes are noted rightly, those that are left are, from what is kept on, and both leave the same
+-- if the changes have the right notes, so have the remaining ones, and both replays end in the same
+-- state
 abbrev pub invariant-loop-entry : goal.invariant-loop-entry
 invariant-loop-entry l = record {
   width : l.self.width ≡ l.fn.self.width;

@@ -1,4 +1,4 @@
--- `get_mut` lends what lies at the slot's address, and the slot follows it.
+-- `get_mut` lends the value at the slot's address, and the slot follows it.
 use Rattle.std.proofs.Common.{◌≡◌, ◌≢◌, ℕ, List, [], ◌∷◌, refl, sym, ap, ◌∙◌}
 use mir.Raw.{raw as bare}
 use mir.Syntax.{named}
@@ -34,7 +34,7 @@ use Rattle.session.specs.contracts.slot.Slot.get_mut as f
 use Rattle.session.proofs.slot.Slot.get_mut.Statement.{statement}
 use Rattle.session.proofs.slot.Slot.get_mut.Code as code
 
--- what stays of the slot while its box is lent: the right to free the box, and the slot's address
+-- what remains of the slot while its box is lent: the right to free the box, and the slot's address
 abbrev rest : (b o rb ro : ℕ) → Fml
 rest b o rb ro = fsep (ghosts.dealloc_token _ (bare (lone X.mir)) (block_ptr b o)) (cell_at full_share S.mir (word (block_ptr b o) ∷ []) rb ro)
 

@@ -1,7 +1,0 @@
-use Rattle.std.proofs.Common.{◌≡◌, false, ◌+◌, All}
-use Rattle.gate.proofs.tests.sixteen_seats.Given as goal
-
-abbrev pub invariant-loop : goal.invariant-loop
-invariant-loop l =
-    (l.first.gate ≡ l.gate) × (l.first.inside ≡ false) × (l.first.room + l.counter ≡ 64)
-    × All (λ seat. (seat.gate ≡ l.gate) × (seat.inside ≡ false)) l.seats.items

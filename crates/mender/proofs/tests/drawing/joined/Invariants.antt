@@ -1,5 +1,0 @@
-use Rattle.std.proofs.Common.{◌≡◌}
-use Rattle.mender.proofs.tests.drawing.joined.Given as goal
-
-abbrev pub invariant-loop-drawn : goal.invariant-loop-drawn
-invariant-loop-drawn l = l.first.tickets ≡ l.tickets

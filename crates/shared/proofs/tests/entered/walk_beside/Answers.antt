@@ -1,5 +1,0 @@
-use Rattle.shared.proofs.Steps.{unchanged}
-use Rattle.shared.proofs.tests.entered.walk_beside.Goals as goal
-
-pub leave-requires-clause-follows : goal.leave-requires-clause-follows
-leave-requires-clause-follows g c = unchanged _ c.in-Some.inside.value c.in-Some.ensures.found.1

@@ -1,5 +1,0 @@
-use Rattle.std.proofs.Common.{◌≡◌}
-use Rattle.shared.proofs.tests.grants.overwrite.Given as goal
-
-abbrev pub invariant-loop-fragment : goal.invariant-loop-fragment
-invariant-loop-fragment g l = l.pass.store ≡ l.store

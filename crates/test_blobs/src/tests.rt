@@ -1,0 +1,4 @@
+mod blobs;
+mod books;
+mod histories;
+mod ranges;

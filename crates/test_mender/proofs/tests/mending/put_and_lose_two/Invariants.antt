@@ -1,0 +1,5 @@
+use Rattle.std.proofs.Common.{◌≡◌}
+use Rattle.test_mender.proofs.tests.mending.put_and_lose_two.Given as goal
+
+abbrev pub invariant-loop-call : goal.invariant-loop-call
+invariant-loop-call g l = l.pass.store ≡ l.store

@@ -1,0 +1,114 @@
+//! What is shared by the tests.
+ghost use Rattle.std.specs.Prelude.{◌≡◌};
+
+mod entered;
+mod grants;
+mod passes;
+mod runs;
+mod threads;
+
+use book::{Answer, Fault, Limit, Name, Note};
+use bytes::Bytes;
+use lent::{Grant, Piece};
+use shared::{Pass, Store};
+use std::alloc::Global;
+use std::process::Abort;
+use std::sync::Wait;
+
+/// A store of width 1, its first pass, and the name `a`.
+fn beginning(rt: &impl Abort, alloc: Global, entries: u32) -> (Store, Pass, Name)
+    ensures { (result.1.store ≡ result.0) × (result.1.room ≡ 64) }
+{
+    let limit = Limit::new(entries).expect(rt, "a limit");
+    let (store, pass) = Store::open(alloc, 1, limit).expect(rt, "memory");
+    (store, pass, Name::new("a").expect(rt, "a name"))
+}
+
+/// Twelve letters, one in each data fragment of a stripe.
+fn letters() -> Bytes {
+    Bytes::from_static(b"ABCDEFGHIJKL")
+}
+
+/// Twelve others.
+fn other_letters() -> Bytes {
+    Bytes::from_static(b"MNOPQRSTUVWX")
+}
+
+/// That a call was made, and what is noted of its answer.
+fn answers(rt: &impl Abort, called: Result<Answer, Fault>, note: Note) {
+    let answer = called.expect(rt, "an answer");
+    assert_eq!(rt; answer.note(), note);
+}
+
+/// Puts these bytes under a name: this is the put with this number.
+fn put<R: Wait + Abort>(
+    rt: &R,
+    alloc: Global,
+    store: &Store,
+    pass: &mut Pass,
+    name: &Name,
+    bytes: Bytes,
+    number: u64,
+)
+    requires { pass.old.store ≡ store.now }
+    ensures { pass.new.store ≡ store.now }
+{
+    let stored = store.put(rt, alloc, pass, name.duplicate(), bytes);
+    answers(rt, stored, Note::Stored(number));
+}
+
+/// Loses a fragment of the first stripe of a name's first version.
+fn lose<R: Wait + Abort>(
+    rt: &R,
+    alloc: Global,
+    store: &Store,
+    pass: &mut Pass,
+    name: &Name,
+    fragment: u64,
+)
+    requires { pass.old.store ≡ store.now }
+    ensures { pass.new.store ≡ store.now }
+{
+    let lost = store.lose(rt, alloc, pass, name.duplicate(), 0, fragment);
+    answers(rt, lost, Note::Lost(1));
+}
+
+/// A grant of the twelve bytes of a name.
+fn read<R: Wait + Abort>(rt: &R, store: &Store, pass: &mut Pass, name: &Name) -> Grant
+    requires { pass.old.store ≡ store.now }
+    ensures { pass.new.store ≡ store.now }
+{
+    granted(rt, store.read(rt, pass, name.duplicate(), 0, 12))
+}
+
+/// The grant that was answered.
+fn granted(rt: &impl Abort, called: Result<Answer, Fault>) -> Grant {
+    match called {
+        Ok(Answer::Granted(grant)) => grant,
+        _ => panic!(rt; "not granted"),
+    }
+}
+
+/// That a walk gives these bytes, one in each piece, of which the first are built.
+fn gives(rt: &impl Abort, alloc: Global, grant: &Grant, bytes: &[u8], built: usize) {
+    let mut walk = grant.walk();
+    for (place, byte) in bytes.iter().enumerate() {
+        let piece = walk
+            .next_piece(alloc)
+            .expect(rt, "memory")
+            .expect(rt, "a piece");
+        assert_eq!(rt; piece.bytes().first().copied(), Some(*byte));
+        assert_eq!(rt; matches!(piece, Piece::Built(_)), place < built);
+    }
+    assert!(rt; walk.next_piece(alloc).expect(rt, "memory").is_none());
+}
+
+/// The shape of a blob of twelve bytes in one stripe.
+fn shape(version: u64, lost: u64) -> Note {
+    Note::Shape {
+        version,
+        len: 12,
+        stripes: 1,
+        lost,
+    }
+}
