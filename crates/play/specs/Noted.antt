@@ -23,4 +23,5 @@ noted replies = map outcome_for replies
 abbrev pub AreNoted : List Outcome → List NumberedOutcome → List NumberedOutcome → Type 0
 AreNoted [] old new = new ≡ old
 AreNoted (o ∷ outcomes) old new =
-    (replies : List RowReply) × AreRepliesOf o replies × AreNoted outcomes (old ++ noted replies) new
+    (replies : List RowReply) × AreRepliesOf o replies
+    × AreNoted outcomes (old ++ noted replies) new

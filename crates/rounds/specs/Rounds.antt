@@ -35,8 +35,8 @@ AreOf store [] = Unit {0}
 AreOf store (w ∷ ws) = IsOf store w × AreOf store ws
 
 -- ---- what came of an errand, with the pass before and after it
--- each reply is to the next job's row, and is that of the sequential specification at its place, and
--- nothing else was done; if the run did not stop, each job has a reply
+-- each reply is to the next job's row, and is that of the sequential specification at its place,
+-- and nothing else was done; if the run did not stop, each job has a reply
 abbrev pub DidCalls : Shows → Errand → Outcome → Shows → Type 0
 DidCalls v (Calls jobs) (Called (Ok replies)) w =
     (length replies.items ≡ length jobs.items)
