@@ -116,6 +116,13 @@ errand-back : (plan : List Item) (tickets : TableId) (v : Shows) (e : Errand) (o
 errand-back plan tickets v (Calls jobs) o w did is = absurd is
 errand-back plan tickets v (Mend m) o w did is = part-back plan tickets v m o w did is
 
+-- each worker gives back one outcome
+pub did-many : (works : List Work) (rans : List Ran) → DidAll works rans → length works ≡ length rans
+did-many [] [] did = refl
+did-many [] (r ∷ rans) did = absurd did
+did-many (w ∷ works) [] did = absurd did
+did-many (w ∷ works) (r ∷ rans) did = let rest = did-many works rans did.1 in omega arith
+
 -- all are, with what they were given
 pub menders-back : (plan : List Item) (tickets : TableId) (works : List Work) (rans : List Ran) → AreMenders plan tickets works → DidAll works rans
     → AreBack plan tickets (outcomes_of rans) × (given_before (outcomes_of rans) ≡ given_to_all works)

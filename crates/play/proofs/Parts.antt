@@ -8,7 +8,7 @@ use Rattle.shared.specs.Serving.{Turn, act_in, deed_told, IsServed, AreServed, p
 use Rattle.script.specs.declared.rows.Row.{Row}
 use Rattle.play.specs.Runs.{IsAsked, round_in}
 use Rattle.play.specs.Accounts.{Placed, Stands, own_places, Account, dones_in, numbers_in, steps_in, Settles, IsAccount, IsCallOf, RiseFrom, IsBefore, IsOf}
-use Rattle.play.specs.Noted.{noted}
+use Rattle.play.proofs.Noting.{number_replies}
 use Rattle.play.specs.declared.calls.RowCall.{RowCall}
 use Rattle.transcript.specs.declared.outcome.NumberedOutcome.{NumberedOutcome}
 use Rattle.transcript.specs.declared.outcome.RowOutcome.TheVariants.{Replied}
@@ -25,7 +25,7 @@ pub record IsCallPast (base top : ℕ) (a : Account) : Type 0 where
 -- what one worker did in a round
 pub record Part (w l workers : ℕ) (rows : List Row) (round top : ℕ) (acts : List Act) (who base low : ℕ) (mine : List RowCall) (turns : List Turn) : Type 0 where
   pub accounts : List Account
-  pub dones : dones_in accounts ≡ noted (map (λ (c : RowCall). c.number) mine) (map (λ (t : Turn). t.reply) turns)
+  pub dones : dones_in accounts ≡ number_replies (map (λ (c : RowCall). c.number) mine) (map (λ (t : Turn). t.reply) turns)
   pub numbers : numbers_in (dones_in accounts) ≡ map (λ (c : RowCall). c.number) mine
   pub right : Each (IsAccount w workers rows) accounts
   pub are_calls : Each (IsCallPast base top) accounts

@@ -67,6 +67,15 @@ pub enum Reply {
     Trimmed(u64),
 }
 
+/// The reply to a job, and the job's row.
+#[derive(Debug, Drop)]
+pub struct RowReply {
+    /// The row.
+    pub row: u32,
+    /// The reply to it.
+    pub reply: Reply,
+}
+
 /// Why a run stopped.
 #[derive(Clone, Copy, Debug, Drop, PartialEq, Eq, Error)]
 pub enum Cause {
@@ -81,8 +90,8 @@ pub enum Cause {
 /// A run that stopped.
 #[derive(Debug, Drop)]
 pub struct Stopped {
-    /// The replies so far.
-    pub done: Vec<Reply>,
+    /// The replies so far, each with its row.
+    pub done: Vec<RowReply>,
     /// Why it stopped.
     pub cause: Cause,
 }

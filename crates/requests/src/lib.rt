@@ -8,6 +8,6 @@ mod kept;
 mod request;
 
 pub use inspection::{Inspection, inspect};
-pub use jobs::{Ask, Cause, Job, Pace, Reply, Stopped};
+pub use jobs::{Ask, Cause, Job, Pace, Reply, RowReply, Stopped};
 pub use kept::Kept;
 pub use request::Request;

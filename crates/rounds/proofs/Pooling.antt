@@ -49,7 +49,7 @@ stays-mend v m (Mended drawer (Worked (Err stop))) w did = did.1.stays
 
 stays : (v : Shows) (e : Errand) (o : Outcome) (w : Shows) → DidErrand v e o w → Stays v w
 stays v (Calls jobs) (Called (Ok replies)) w did = did.1.stays
-stays v (Calls jobs) (Called (Err stopped)) w did = did.stays
+stays v (Calls jobs) (Called (Err stopped)) w did = did.0.stays
 stays v (Calls jobs) (Mended drawer m) w did = absurd did
 stays v (Mend m) o w did = stays-mend v m o w did
 

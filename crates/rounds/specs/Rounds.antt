@@ -1,10 +1,11 @@
 -- The effect of a round's workers.
 use Rattle.std.specs.Prelude.{◌≡◌, ◌⊎◌, ◌≤◌, ℕ, Bool, true, false, List, [], ◌∷◌, ◌++◌, length, Ok, Err}
+use mathlib.Core.List.{IsPrefix}
 use Rattle.sealed.specs.declared.fault.Fault.{Fault}
 use Rattle.book.specs.Tells.{IsCallFault}
 use Rattle.shared.specs.Paced.{AreLetThrough, HasNotBegun, StoppedAt}
 use Rattle.shared.specs.Passes.{Shows, Which}
-use Rattle.shared.specs.Serving.{asks_of, Serves}
+use Rattle.shared.specs.Serving.{asks_of, replies_in, rows_asked, rows_replied, Serves}
 use Rattle.mender.specs.Worked.{Finished, AreMended, StoppedFull, IfFull}
 use Rattle.mender.specs.Worked as worked
 use Rattle.rounds.specs.declared.work.Errand.{Errand}
@@ -34,11 +35,16 @@ AreOf store [] = Unit {0}
 AreOf store (w ∷ ws) = IsOf store w × AreOf store ws
 
 -- ---- what came of an errand, with the pass before and after it
--- each reply is that of the sequential specification at its place, and nothing else was done; if
--- the run did not stop, each job has a reply
+-- each reply is to the next job's row, and is that of the sequential specification at its place,
+-- and nothing else was done; if the run did not stop, each job has a reply
 abbrev pub DidCalls : Shows → Errand → Outcome → Shows → Type 0
-DidCalls v (Calls jobs) (Called (Ok replies)) w = (length replies.items ≡ length jobs.items) × Serves v (asks_of jobs.items) replies.items w
-DidCalls v (Calls jobs) (Called (Err stopped)) w = Serves v (asks_of jobs.items) stopped.done.items w
+DidCalls v (Calls jobs) (Called (Ok replies)) w =
+    (length replies.items ≡ length jobs.items)
+    × Serves v (asks_of jobs.items) (replies_in replies.items) w
+    × (rows_replied replies.items ≡ rows_asked jobs.items)
+DidCalls v (Calls jobs) (Called (Err stopped)) w =
+    Serves v (asks_of jobs.items) (replies_in stopped.done.items) w
+    × IsPrefix (rows_replied stopped.done.items) (rows_asked jobs.items)
 DidCalls v errand outcome w = ⊥
 
 -- a worker stops if memory runs out, or at a full journal: then it has seen as many calls as the

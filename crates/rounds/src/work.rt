@@ -2,7 +2,7 @@
 
 use book::Plan;
 use mender::{Done, Drawer, Tickets, WorkFault};
-use shared::{Job, Pace, Pass, Reply, Stopped};
+use shared::{Job, Pace, Pass, RowReply, Stopped};
 use std::snapshot::Snapshot;
 use std::sync::Arc;
 use std::thread::{Promise, PromisedHandle};
@@ -61,7 +61,7 @@ pub struct Ran {
 #[derive(Drop)]
 pub enum Outcome {
     /// Of calls: their replies, or why the worker stopped.
-    Called(Result<Vec<Reply>, Stopped>),
+    Called(Result<Vec<RowReply>, Stopped>),
     /// Of a mend, with the worker's drawer.
     Mended(Drawer, Mended),
 }

@@ -16,6 +16,7 @@ use Rattle.requests.specs.declared.jobs.Ask.TheVariants as ask
 use Rattle.requests.specs.declared.jobs.Job.{Job}
 use Rattle.requests.specs.declared.jobs.Reply.{Reply}
 use Rattle.requests.specs.declared.jobs.Reply.TheVariants.{Made, Refused, Trimmed}
+use Rattle.requests.specs.declared.jobs.RowReply.{RowReply}
 use Rattle.shared.specs.Passes.{Shows, Stays}
 use Rattle.shared.specs.Deeds.{act_if}
 use Rattle.shared.specs.Calls.{GrantedIn}
@@ -23,6 +24,17 @@ use Rattle.shared.specs.Runs.{operation_asked}
 
 abbrev pub asks_of : List Job → List Ask
 asks_of jobs = map (λ job. job.ask) jobs
+
+-- the rows of the jobs, and those of the replies
+abbrev pub rows_asked : List Job → List ℕ
+rows_asked jobs = map (λ job. job.row) jobs
+
+abbrev pub rows_replied : List RowReply → List ℕ
+rows_replied replies = map (λ r. r.row) replies
+
+-- the replies without their rows
+abbrev pub replies_in : List RowReply → List Reply
+replies_in replies = map (λ r. r.reply) replies
 
 -- how many entries a trim is asked to keep
 abbrev pub keep_asked : Ask → Option ℕ

@@ -1,19 +1,20 @@
 //! Running jobs in order.
 ghost use Rattle.std.specs.Prelude.{◌≡◌, ◌⊎◌, ◌<◌, List, [], ◌∷◌, length, IfOk, IfErr, OnErr};
+ghost use mathlib.Core.List.{IsPrefix};
 ghost use Rattle.requests.specs.declared.jobs.Ask.{Ask};
 ghost use Rattle.shared.specs.Paced.{AreLetThrough, AsksMemory, HasNotBegun, StoppedAt};
 ghost use Rattle.shared.specs.Runs.{reply_for};
-ghost use Rattle.shared.specs.Serving.{asks_of, Serves};
+ghost use Rattle.shared.specs.Serving.{asks_of, replies_in, rows_asked, rows_replied, Serves};
 
-use crate::{Ask, Cause, Job, Pace, Pass, Reply, Stopped, Store};
+use crate::{Ask, Cause, Job, Pace, Pass, Reply, RowReply, Stopped, Store};
 use book::{Answer, Fault};
 use std::alloc::Global;
 use std::sync::Wait;
 
 impl Store {
-    /// Runs the jobs row by row, each between its `before` and its `after`, and gives the replies.
-    /// If a call finds the journal full, or its blob is too long, the run goes on. Room for all
-    /// replies is allocated first.
+    /// Runs the jobs row by row, each between its `before` and its `after`, and gives the replies, each
+    /// with its row. If a call finds the journal full, or its blob is too long, the run goes on. Room
+    /// for all replies is allocated first.
     ///
     /// `Stopped`, with the replies so far, if that room or a call was refused memory, or if a
     /// `before` answered false.
@@ -24,15 +25,18 @@ impl Store {
         pass: &mut Pass,
         jobs: Vec<Job>,
         pace: &P,
-    ) -> Result<Vec<Reply>, Stopped>
+    ) -> Result<Vec<RowReply>, Stopped>
         requires { pass.old.store ≡ self.now }
         ensures all { IfOk result (λ replies. length replies.items ≡ length jobs.items) }
         ensures unfinished { IfErr result (λ stopped. (stopped.done.items ≡ [])
             ⊎ (length stopped.done.items < length jobs.items)) }
-        ensures serves { IfOk result
-            (λ replies. Serves pass.old (asks_of jobs.items) replies.items pass.new) }
-        ensures serves_by_then { IfErr result
-            (λ stopped. Serves pass.old (asks_of jobs.items) stopped.done.items pass.new) }
+        ensures rows { IfOk result (λ replies. rows_replied replies.items ≡ rows_asked jobs.items) }
+        ensures rows_by_then { IfErr result (λ stopped.
+            IsPrefix (rows_replied stopped.done.items) (rows_asked jobs.items)) }
+        ensures serves { IfOk result (λ replies.
+            Serves pass.old (asks_of jobs.items) (replies_in replies.items) pass.new) }
+        ensures serves_by_then { IfErr result (λ stopped.
+            Serves pass.old (asks_of jobs.items) (replies_in stopped.done.items) pass.new) }
         ensures paced { IfOk result (λ _. AreLetThrough (P.may_answer pace.now) jobs.items) }
         ensures cause { IfErr result (λ stopped. HasNotBegun pass.old stopped pass.new
             ⊎ StoppedAt (P.may_answer pace.now) jobs.items stopped) }
@@ -59,7 +63,7 @@ impl Store {
                     cause: Cause::NoMemory,
                 });
             };
-            done.push_reserved(reply);
+            done.push_reserved(RowReply { row, reply });
         }
         Ok(done)
     }

@@ -1,5 +1,4 @@
-use Rattle.std.proofs.Common.{◌≡◌, List, map, length}
-use Rattle.std.specs.Prelude.{vec_items}
+use Rattle.std.proofs.Common.{List}
 use Rattle.std.specs.Vec.Iter.{into_iter_items}
 use Rattle.rounds.specs.Halts.{GoesOn}
 use Rattle.play.specs.Lists.{Each}
@@ -9,8 +8,7 @@ use Rattle.play.proofs.calls.note.Given as goal
 
 abbrev pub invariant-loop-outcome : goal.invariant-loop-outcome
 invariant-loop-outcome l = record {
-  many : length (into_iter_items l.numbers) ≡ length (into_iter_items l.outcome-iterator);
   going : Each GoesOn (into_iter_items l.outcome-iterator);
-  back : (new : List NumberedOutcome) → AreNoted (map vec_items (into_iter_items l.numbers)) (into_iter_items l.outcome-iterator) l.done.items new
-      → AreNoted (map vec_items l.fn.numbers.items) l.fn.outcomes.items l.initial.done.items new;
+  back : (new : List NumberedOutcome) → AreNoted (into_iter_items l.outcome-iterator) l.done.items new
+      → AreNoted l.fn.outcomes.items l.initial.done.items new;
 }

@@ -3,5 +3,5 @@ use Rattle.std.specs.Vec.Iter.{into_iter_items}
 use Rattle.play.specs.Noted.{noted}
 use Rattle.play.proofs.calls.note_replies.Given as goal
 
-abbrev pub invariant-loop-reply : goal.invariant-loop-reply
-invariant-loop-reply l = l.done.items ++ noted (into_iter_items l.numbers) (into_iter_items l.reply-iterator) ≡ l.initial.done.items ++ noted l.fn.numbers.items l.fn.replies.items
+abbrev pub invariant-loop-one : goal.invariant-loop-one
+invariant-loop-one l = l.done.items ++ noted (into_iter_items l.one-iterator) ≡ l.initial.done.items ++ noted l.fn.replies.items

@@ -3,7 +3,7 @@ use super::{answers, beginning, letters, lose, put, shape};
 use book::{Fault, Name, Note, is_lawful_from};
 use bytes::Bytes;
 use lrc_code::Code;
-use shared::{Ask, Cause, Job, Pace, Reply};
+use shared::{Ask, Cause, Job, Pace, Reply, RowReply};
 use std::alloc::Global;
 use std::process::Abort;
 use std::sync::atomic::{AtomicU64, Ordering};
@@ -50,10 +50,10 @@ fn note_reply(reply: &Reply) -> Noted {
 }
 
 /// That these replies came.
-fn come(rt: &impl Abort, replies: &[Reply], wanted: &[Noted]) {
+fn come(rt: &impl Abort, replies: &[RowReply], wanted: &[Noted]) {
     assert_eq!(rt; replies.len(), wanted.len());
     for (reply, want) in replies.iter().zip(wanted) {
-        assert_eq!(rt; note_reply(reply), *want);
+        assert_eq!(rt; note_reply(&reply.reply), *want);
     }
 }
 
