@@ -20,5 +20,5 @@ pub use bytes::Bytes;
 pub use lent::{Asked, Grant, Piece, PlannedWalk, Span, Spans, Walk};
 pub use lrc_code::{Code, Plans};
 pub use pass::Pass;
-pub use requests::{Ask, Cause, Job, Kept, Pace, Reply, RowReply, Stopped};
+pub use requests::{Ask, Cause, Job, Pace, Reply, RowReply, Stopped};
 pub use store::Store;

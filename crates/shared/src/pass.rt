@@ -6,9 +6,10 @@ ghost use Rattle.gate.specs.Places.{AreApart};
 ghost use Rattle.history.specs.History.{IsLegal};
 ghost use Rattle.shared.specs.Passes.{Agrees, IsWhole};
 
-use crate::{Kept, Store};
+use crate::Store;
 use book::{Answer, Fault};
 use gate::Seat;
+use requests::Kept;
 use std::marker::Model;
 
 /// A caller's pass to a store. Dropping a pass drops its room, and then no other pass comes to a

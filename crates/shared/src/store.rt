@@ -4,9 +4,10 @@ ghost use Rattle.gate.specs.Places.{times};
 ghost use Rattle.book.specs.Tells.{Tells};
 ghost use Rattle.shared.specs.Passes.{Agrees};
 
-use crate::{Kept, Pass};
+use crate::Pass;
 use book::{Book, Fault, Limit};
 use gate::Gate;
+use requests::Kept;
 use sealed::Width;
 use std::alloc::Global;
 use std::marker::Model;
