@@ -1,5 +1,5 @@
 -- Each step keeps the rule of a gate.
-use Rattle.std.proofs.Common.{◌≡◌, ◌≢◌, ◌⊎◌, ℕ, zero, suc, ◌+◌, ◌<◌, ◌==◌, ne_eqb, cond, Bool, true, false, List, [], ◌∷◌, ◌++◌, length, set, get_or, Option, Some, None, IfSome, sum_by, refl, ap, sym, subst, ◌∙◌, inl, inr, ⊎_elim, arith, length-append, length-set, le_refl, get_or-set_same, true≢false}
+use Rattle.std.proofs.Common.{◌≡◌, ◌≢◌, ◌⊎◌, ℕ, zero, suc, ◌+◌, ◌<◌, ◌≤◌, ◌==◌, ne_eqb, cond, Bool, true, false, List, [], ◌∷◌, ◌++◌, length, set, get_or, Option, Some, None, IfSome, sum_by, refl, ap, sym, subst, ◌∙◌, inl, inr, ⊎_elim, arith, length-append, length-set, le_refl, get_or-set_same, true≢false}
 use mathlib.Core.List.{IsPrefix}
 use mathlib.Core.Option.{none, some, some-injective, some-ne-none}
 use Rattle.std.proofs.lemmas.Bool.Decides.{nat_tests}
@@ -9,7 +9,7 @@ use Rattle.atomic_table.specs.Table.{State, Me, step, keeps, takes, gives, put_b
 use mathlib.Core.Logic.{dite}
 use native.Mathlib.Decide.{ℕ_discrete, dec_le}
 use lib.Seq.{set-get_or}
-use Rattle.atomic_table.proofs.Lists.{at_set, at_snoc, set_again, set_here, set_else, at_longer}
+use Rattle.atomic_table.proofs.Lists.{at_set, at_snoc, set_here, set_else, at_longer}
 use Rattle.gate.specs.declared.view.Shown.{Shown}
 use Rattle.gate.specs.declared.view.View.{View}
 use Rattle.gate.specs.Places.{last_of, times, once_later, IsWithin, HasAll}
@@ -41,6 +41,14 @@ module _ {T : Type 0} (follows : T → T → Type 0) where
   fits_set longest views id w others mine j v e =
       ⊎_elim
       (λ (t : (j ≡ id) × (w ≡ v)). subst (Fits longest) t.1 mine)
+      (λ (t : (j ≢ id) × (get_elem? views j ≡ some v)). others j v t.0 t.1)
+      (at_set views id j w v e)
+
+  expectations_set : (n : ℕ) (views : List (View T)) (id : ℕ) (w : View T) → ((j : ℕ) (v : View T) → j ≢ id → get_elem? views j ≡ some v → v.expected_length ≤ n) → w.expected_length ≤ n
+      → (j : ℕ) (v : View T) → get_elem? (set views id w) j ≡ some v → v.expected_length ≤ n
+  expectations_set n views id w others mine j v e =
+      ⊎_elim
+      (λ (t : (j ≡ id) × (w ≡ v)). subst (λ (u : View T). u.expected_length ≤ n) t.1 mine)
       (λ (t : (j ≢ id) × (get_elem? views j ≡ some v)). others j v t.0 t.1)
       (at_set views id j w v e)
 
@@ -77,10 +85,10 @@ module _ {T : Type 0} (follows : T → T → Type 0) where
   )
 
   enters_free : (s : St) (k : Kept follows s) (f : IsFree k.longest s) (id : ℕ) (me : M) → get_elem? s.views id ≡ some me.0 → me.0.heard ≡ nothing → 0 < me.0.room
-      → Kept follows (stepped s 0 (either (get_or s.words 0 0 == 0) 1 (get_or s.words 0 0)) id me.1 (settled (shown k.longest me.0.shown.own) me.0.room true) (takes 0 (Some f.last)))
+      → Kept follows (stepped s 0 (either (get_or s.words 0 0 == 0) 1 (get_or s.words 0 0)) id me.1 (settled (shown k.longest me.0.shown.own) me.0.room true me.0.expected_length) (takes 0 (Some f.last)))
   enters_free s k f id me at quiet some_room =
       let n : ℕ = get_or s.words 0 0 in
-      let w : View T = settled (shown k.longest me.0.shown.own) me.0.room true in
+      let w : View T = settled (shown k.longest me.0.shown.own) me.0.room true me.0.expected_length in
       let one_word = k.one_word in
       let mine = k.each id me.0 at in
       let sums = same_sums s k id me.0 w at (sym quiet) refl refl in record {
@@ -105,13 +113,12 @@ module _ {T : Type 0} (follows : T → T → Type 0) where
         once = sums.0;
         count = sums.1;
         rooms = sums.2;
+        expectations = λ j v e.
+            let word : get_or (set s.words 0 (either (n == 0) 1 n)) 0 0 ≡ 1 = get_or-set_same s.words 0 (either (n == 0) 1 n) 0 (omega arith) ∙ ap (λ (x : ℕ). either (x == 0) 1 x) f.word in
+            let before = f.word in
+            let least : v.expected_length ≤ length k.longest = expectations_set (length k.longest) s.views id w (λ i u _ there. let was = k.expectations i u there in omega arith) (let was = k.expectations id me.0 at in omega arith) j v e in
+            omega arith;
       }
-
-  unmoved : (s : St) (k : Kept follows s) (id n : ℕ) (me : M) → get_elem? s.views id ≡ some me.0 → n ≡ get_or s.words 0 0 → Kept follows (stepped s 0 n id me.1 me.0 keeps)
-  unmoved s k id n me at same =
-      let words : set s.words 0 n ≡ s.words = ap (set s.words 0) same ∙ set-get_or s.words 0 0 in
-      let views : set s.views id me.0 ≡ s.views = set_again s.views id me.0 at in
-      subst (λ (x : List ℕ × List (View T)). Kept follows record { words = x.0; homes = s.homes; views = x.1 }) (λ i. (sym words i, sym views i)) k
 
   -- at a room of 64 nobody else is inside
   free_alone : (s : St) (k : Kept follows s) (id : ℕ) (v : View T) → get_elem? s.views id ≡ some v → v.inside ≡ false → v.room ≡ 64 → IsEntered k.longest s → ⊥
@@ -119,28 +126,89 @@ module _ {T : Type 0} (follows : T → T → Type 0) where
       (λ same. true≢false (sym e.inside ∙ (ap (λ (u : View T). u.inside) (at_same s.views id e.me v (subst (λ (j : ℕ). get_elem? s.views j ≡ some e.me) same e.here) at) ∙ outside)))
       (λ other. true≢false (sym e.inside ∙ ap (λ (u : View T). u.inside) (others_spent s k id v at all e.by e.me other e.here)))
 
+  -- a change of views that touches nobody who is inside
+  same_lock : (longest : List T) (s : St) (views : List (View T)) → ((j : ℕ) (v : View T) → get_elem? s.views j ≡ some v → v.inside ≡ true → get_elem? views j ≡ some v)
+      → ((j : ℕ) (v : View T) → get_elem? views j ≡ some v → v.inside ≡ true → get_elem? s.views j ≡ some v)
+      → IsFree longest s ⊎ IsEntered longest s → IsFree longest record { words = s.words; homes = s.homes; views = views } ⊎ IsEntered longest record { words = s.words; homes = s.homes; views = views }
+  same_lock longest s views stays comes lock = ⊎_elim
+      (λ (f : IsFree longest s). inl record {
+        last = f.last;
+        word = f.word;
+        ends = f.ends;
+        home = f.home;
+        outside = λ j v at. not_true v.inside (λ entered. true≢false (sym entered ∙ f.outside j v (comes j v at entered)));
+      })
+      (λ (e : IsEntered longest s). inr record {
+        by = e.by;
+        me = e.me;
+        word = e.word;
+        away = e.away;
+        here = stays e.by e.me e.here e.inside;
+        inside = e.inside;
+        whole = e.whole;
+        alone = λ j v at entered. e.alone j v (comes j v at entered) entered;
+      })
+      lock
+
+  set_stays : (views : List (View T)) (id : ℕ) (v w : View T) → get_elem? views id ≡ some v → v.inside ≡ false
+      → (j : ℕ) (u : View T) → get_elem? views j ≡ some u → u.inside ≡ true → get_elem? (set views id w) j ≡ some u
+  set_stays views id v w at outside j u there entered = dite (ℕ_discrete j id)
+      (λ same. absurd (true≢false (sym entered ∙ (ap (λ (x : View T). x.inside) (at_same views id u v (subst (λ (i : ℕ). get_elem? views i ≡ some u) same there) at) ∙ outside))))
+      (λ other. set_else views id j w other ∙ there)
+
+  set_comes : (views : List (View T)) (id : ℕ) (w : View T) → w.inside ≡ false
+      → (j : ℕ) (u : View T) → get_elem? (set views id w) j ≡ some u → u.inside ≡ true → get_elem? views j ≡ some u
+  set_comes views id w outside j u there entered = ⊎_elim
+      (λ (t : (j ≡ id) × (w ≡ u)). absurd (true≢false (sym entered ∙ (sym (ap (λ (x : View T). x.inside) t.1) ∙ outside))))
+      (λ (t : (j ≢ id) × (get_elem? views j ≡ some u)). t.1)
+      (at_set views id j w u there)
+
+  -- a view that found another seat inside
+  abbrev expecting : View T → ℕ → View T
+  expecting v n = record v { expected_length = n }
+
+  -- the word stays, and the seat learns that one value more is to come
+  expects : (s : St) (k : Kept follows s) (e : IsEntered k.longest s) (id n : ℕ) (me : M) → get_elem? s.views id ≡ some me.0 → me.0.inside ≡ false → 0 < me.0.room → n ≡ get_or s.words 0 0
+      → Kept follows (stepped s 0 n id me.1 (expecting me.0 (length k.longest + 1)) keeps)
+  expects s k e id n me at outside some_room same =
+      let w : View T = expecting me.0 (length k.longest + 1) in
+      let mine = k.each id me.0 at in
+      let sums = same_sums s k id me.0 w at refl refl refl in
+      let now : Kept follows record { words = s.words; homes = s.homes; views = set s.views id w } = record {
+        longest = k.longest;
+        one_word = k.one_word;
+        chain = k.chain;
+        lock = same_lock k.longest s (set s.views id w) (λ j u h entered. set_stays s.views id me.0 w at outside j u h entered) (λ j u h entered. set_comes s.views id w outside j u h entered) k.lock;
+        each = fits_set k.longest s.views id w (λ j u _ h. k.each j u h) record { shows = mine.shows; hears = mine.hears; idle = λ none_left. absurd (omega arith) };
+        once = sums.0;
+        count = sums.1;
+        rooms = sums.2;
+        expectations = expectations_set (length k.longest + get_or s.words 0 0) s.views id w (λ j u _ h. k.expectations j u h) (let word = e.word in omega arith);
+      } in
+      subst (λ (words : List ℕ). Kept follows record { words = words; homes = s.homes; views = set s.views id w }) (sym (ap (set s.words 0) same ∙ set-get_or s.words 0 0)) now
+
   pub enters : (slots id : ℕ) (me : M) → me.0.heard ≡ nothing → me.0.inside ≡ false → 0 < me.0.room
       → Allows (Kept follows) slots id me 0 (λ n. either (n == 0) 1 n) (Entered follows (step slots 0 0 1 none) me)
   enters slots id me quiet outside some_room s k long at small =
       ⊎_elim
       (λ (f : IsFree k.longest s). (
-        settled (shown k.longest me.0.shown.own) me.0.room true,
+        settled (shown k.longest me.0.shown.own) me.0.room true me.0.expected_length,
         takes 0 (Some f.last),
         ap (λ (h : List (mathlib.Core.Option.Option (Option T))). get_elem? h 0) f.home,
         enters_free s k f id me at quiet some_room,
         (
           (λ taken. absurd (taken f.word)),
-          (λ _. (k.longest, f.last, (k.each id me.0 at).shows.0, k.chain, f.ends, (λ all. has_all s k id me.0 at quiet all), refl)),
+          (λ _. (k.longest, f.last, (k.each id me.0 at).shows.0, k.chain, f.ends, (λ all. has_all s k id me.0 at quiet all), (let was = k.expectations id me.0 at in let free = f.word in omega arith), refl)),
           (λ _. f.word),
         ),
       ))
       (λ (e : IsEntered k.longest s). (
-        me.0,
+        expecting me.0 (length k.longest + 1),
         keeps,
         tt,
-        unmoved s k id (either (get_or s.words 0 0 == 0) 1 (get_or s.words 0 0)) me at (ap (λ (x : ℕ). either (x == 0) 1 x) e.word ∙ sym e.word),
+        expects s k e id (either (get_or s.words 0 0 == 0) 1 (get_or s.words 0 0)) me at outside some_room (ap (λ (x : ℕ). either (x == 0) 1 x) e.word ∙ sym e.word),
         (
-          (λ _. refl),
+          (λ _. (length k.longest + 1, (let le = prefix_length me.0.shown.list k.longest (k.each id me.0 at).shows.0 in omega arith), refl)),
           (λ free. absurd (let w = e.word in omega arith)),
           (λ all. absurd (free_alone s k id me.0 at outside all e)),
         ),
@@ -166,10 +234,10 @@ module _ {T : Type 0} (follows : T → T → Type 0) where
 
   leaves_entered : (s : St) (k : Kept follows s) (e : IsEntered k.longest s) (id : ℕ) (me : M) (x : T) → get_elem? s.views id ≡ some me.0 → me.0.heard ≡ nothing → me.0.inside ≡ true → 0 < me.0.room
       → me.1 ≡ (0, Some x) ∷ [] → ((y : T) → last_of me.0.shown.list ≡ Some y → follows y x)
-      → Kept follows (stepped s 0 0 id me.1 (settled (shown (me.0.shown.list ++ x ∷ []) (me.0.shown.own ++ length me.0.shown.list ∷ [])) me.0.room false) gives)
+      → Kept follows (stepped s 0 0 id me.1 (settled (shown (me.0.shown.list ++ x ∷ []) (me.0.shown.own ++ length me.0.shown.list ∷ [])) me.0.room false me.0.expected_length) gives)
   leaves_entered s k e id me x at quiet entered some_room slots next =
       let list : List T = me.0.shown.list in
-      let w : View T = settled (shown (list ++ x ∷ []) (me.0.shown.own ++ length list ∷ [])) me.0.room false in
+      let w : View T = settled (shown (list ++ x ∷ []) (me.0.shown.own ++ length list ∷ [])) me.0.room false me.0.expected_length in
       let one_word = k.one_word in
       let count = k.count in
       let mine = k.each id me.0 at in
@@ -212,6 +280,11 @@ module _ {T : Type 0} (follows : T → T → Type 0) where
             let more = length-append me.0.shown.own (length list ∷ []) in
             omega arith;
         rooms = sum_same room_of s.views id me.0 w at refl ∙ k.rooms;
+        expectations = λ j v there.
+            let word = e.word in
+            let after : get_or (set s.words 0 0) 0 0 ≡ 0 = get_or-set_same s.words 0 0 0 (omega arith) in
+            let least : v.expected_length ≤ length k.longest + 1 = expectations_set (length k.longest + 1) s.views id w (λ i u _ there'. let was = k.expectations i u there' in omega arith) (let was = k.expectations id me.0 at in omega arith) j v there in
+            omega arith;
       }
 
   pub leaves : (slots id : ℕ) (me : M) (x : T) → me.0.heard ≡ nothing → me.0.inside ≡ true → 0 < me.0.room → me.1 ≡ (0, Some x) ∷ []
@@ -220,7 +293,7 @@ module _ {T : Type 0} (follows : T → T → Type 0) where
       ⊎_elim
       (λ (f : IsFree k.longest s). absurd (true≢false (sym entered ∙ f.outside id me.0 at)))
       (λ (e : IsEntered k.longest s). (
-        settled (shown (me.0.shown.list ++ x ∷ []) (me.0.shown.own ++ length me.0.shown.list ∷ [])) me.0.room false,
+        settled (shown (me.0.shown.list ++ x ∷ []) (me.0.shown.own ++ length me.0.shown.list ∷ [])) me.0.room false me.0.expected_length,
         gives,
         tt,
         leaves_entered s k e id me x at quiet entered some_room slot next,
@@ -228,7 +301,7 @@ module _ {T : Type 0} (follows : T → T → Type 0) where
             let some_same : Some x ≡ Some y = ap held (sym slot ∙ slot') in
             let same : x ≡ y = cc (some_same) in
             let bare : rest me.1 ≡ [] = ap rest slot in
-            λ i. (settled (shown (me.0.shown.list ++ same i ∷ []) (me.0.shown.own ++ length me.0.shown.list ∷ [])) me.0.room false, bare i)),
+            λ i. (settled (shown (me.0.shown.list ++ same i ∷ []) (me.0.shown.own ++ length me.0.shown.list ∷ [])) me.0.room false me.0.expected_length, bare i)),
       ))
       k.lock
 
@@ -240,7 +313,7 @@ module _ {T : Type 0} (follows : T → T → Type 0) where
 
   -- the seat after
   pub seat_left : (v : View T) (x : T) (me : M) (room : ℕ) → IsSeat follows (v, (0, None) ∷ []) room → ((y : T) → last_of v.shown.list ≡ Some y → follows y x)
-      → me ≡ (settled (shown (v.shown.list ++ x ∷ []) (v.shown.own ++ length v.shown.list ∷ [])) v.room false, []) → IsSeat follows me room
+      → me ≡ (settled (shown (v.shown.list ++ x ∷ []) (v.shown.own ++ length v.shown.list ∷ [])) v.room false v.expected_length, []) → IsSeat follows me room
   seat_left v x me room seat next is = subst (λ (m : M). IsSeat follows m room) (sym is) record {
     heard = refl;
     slots = refl;
@@ -252,7 +325,7 @@ module _ {T : Type 0} (follows : T → T → Type 0) where
   }
 
   pub left_as : (n m : ℕ) (me me' : M) (v : View T) (x : T) → me ≡ (v, (0, Some x) ∷ []) → Left (step n 0 0 0 none) me m me'
-      → me' ≡ (settled (shown (v.shown.list ++ x ∷ []) (v.shown.own ++ length v.shown.list ∷ [])) v.room false, [])
+      → me' ≡ (settled (shown (v.shown.list ++ x ∷ []) (v.shown.own ++ length v.shown.list ∷ [])) v.room false v.expected_length, [])
   left_as n m me me' v x is left = (subst (λ (u : M). Left (step n 0 0 0 none) u m me') is left) x refl
 
   -- the rule at the start
@@ -270,6 +343,7 @@ module _ {T : Type 0} (follows : T → T → Type 0) where
     once = λ p. none_later p;
     count = refl;
     rooms = refl;
+    expectations = λ j v at. subst (λ (u : View T). u.expected_length ≤ 1 + 0) (only j v at) (omega arith);
   }
     where
       only : (j : ℕ) (v : View T) → get_elem? (opening x ∷ []) j ≡ some v → opening x ≡ v
@@ -283,43 +357,6 @@ module _ {T : Type 0} (follows : T → T → Type 0) where
   fits_snoc : (longest : List T) (views : List (View T)) (w : View T) → ((j : ℕ) (v : View T) → get_elem? views j ≡ some v → Fits longest v) → Fits longest w
       → (j : ℕ) (v : View T) → get_elem? (views ++ w ∷ []) j ≡ some v → Fits longest v
   fits_snoc longest views w others mine j v e = ⊎_elim (others j v) (λ (t : w ≡ v). subst (Fits longest) t mine) (at_snoc views w v j e)
-
-  -- a change of views that touches nobody who is inside
-  same_lock : (longest : List T) (s : St) (views : List (View T)) → ((j : ℕ) (v : View T) → get_elem? s.views j ≡ some v → v.inside ≡ true → get_elem? views j ≡ some v)
-      → ((j : ℕ) (v : View T) → get_elem? views j ≡ some v → v.inside ≡ true → get_elem? s.views j ≡ some v)
-      → IsFree longest s ⊎ IsEntered longest s → IsFree longest record { words = s.words; homes = s.homes; views = views } ⊎ IsEntered longest record { words = s.words; homes = s.homes; views = views }
-  same_lock longest s views stays comes lock = ⊎_elim
-      (λ (f : IsFree longest s). inl record {
-        last = f.last;
-        word = f.word;
-        ends = f.ends;
-        home = f.home;
-        outside = λ j v at. not_true v.inside (λ entered. true≢false (sym entered ∙ f.outside j v (comes j v at entered)));
-      })
-      (λ (e : IsEntered longest s). inr record {
-        by = e.by;
-        me = e.me;
-        word = e.word;
-        away = e.away;
-        here = stays e.by e.me e.here e.inside;
-        inside = e.inside;
-        whole = e.whole;
-        alone = λ j v at entered. e.alone j v (comes j v at entered) entered;
-      })
-      lock
-
-  set_stays : (views : List (View T)) (id : ℕ) (v w : View T) → get_elem? views id ≡ some v → v.inside ≡ false
-      → (j : ℕ) (u : View T) → get_elem? views j ≡ some u → u.inside ≡ true → get_elem? (set views id w) j ≡ some u
-  set_stays views id v w at outside j u there entered = dite (ℕ_discrete j id)
-      (λ same. absurd (true≢false (sym entered ∙ (ap (λ (x : View T). x.inside) (at_same views id u v (subst (λ (i : ℕ). get_elem? views i ≡ some u) same there) at) ∙ outside))))
-      (λ other. set_else views id j w other ∙ there)
-
-  set_comes : (views : List (View T)) (id : ℕ) (w : View T) → w.inside ≡ false
-      → (j : ℕ) (u : View T) → get_elem? (set views id w) j ≡ some u → u.inside ≡ true → get_elem? views j ≡ some u
-  set_comes views id w outside j u there entered = ⊎_elim
-      (λ (t : (j ≡ id) × (w ≡ u)). absurd (true≢false (sym entered ∙ (sym (ap (λ (x : View T). x.inside) t.1) ∙ outside))))
-      (λ (t : (j ≢ id) × (get_elem? views j ≡ some u)). t.1)
-      (at_set views id j w u there)
 
   pub splits : (id : ℕ) (v : View T) → v.heard ≡ nothing → v.inside ≡ false → 1 < v.room → Splits (Kept follows) id v (kept_part v) (given_part v)
   splits id v quiet outside room s k at =
@@ -357,6 +394,10 @@ module _ {T : Type 0} (follows : T → T → Type 0) where
             let more = sum-snoc room_of views right in
             let rooms = k.rooms in
             omega arith;
+        expectations = λ j u there. ⊎_elim
+            (λ (e : get_elem? views j ≡ some u). expectations_set (length k.longest + get_or s.words 0 0) s.views id left (λ i x _ h. k.expectations i x h) (k.expectations id v at) j u e)
+            (λ (e : right ≡ u). subst (λ (x : View T). x.expected_length ≤ length k.longest + get_or s.words 0 0) e (omega arith))
+            (at_snoc views right u j there);
       }
 
   pub joins : (id : ℕ) (v : View T) (other : ℕ) (w : View T) → v.heard ≡ nothing → v.inside ≡ false → 0 < v.room → w.heard ≡ nothing → w.inside ≡ false
@@ -396,6 +437,9 @@ module _ {T : Type 0} (follows : T → T → Type 0) where
             let more = sum_at room_of views other w spent there in
             let rooms = k.rooms in
             omega arith;
+        expectations = expectations_set (length k.longest + get_or s.words 0 0) views other spent
+            (λ j u _ e. expectations_set (length k.longest + get_or s.words 0 0) s.views id both (λ i x _ h. k.expectations i x h) (k.expectations id v at) j u e)
+            (omega arith);
       }
 
   -- at a room of 64 all places but the opening one are own, and all that was left was seen
@@ -426,7 +470,7 @@ module _ {T : Type 0} (follows : T → T → Type 0) where
       → (w : View T) × (a : Act (Option T)) × Valid s.homes me.1 a × Kept follows (stepped s 0 (get_or s.words 0 0) id me.1 w a) × Settled (step 0 0 0 0 none) me 0 (w, carried_after me.1 a)
   settles_at s k id me list at outside some_room one shows hears below some_list =
       let v : View T = me.0 in
-      let w : View T = settled (shown list (v.shown.own ++ v.heard.own)) v.room v.inside in
+      let w : View T = settled (shown list (v.shown.own ++ v.heard.own)) v.room v.inside v.expected_length in
       let mine = k.each id v at in
       let some_seat = one_le room_of s.views id v at in
       let rooms = k.rooms in
@@ -450,6 +494,7 @@ module _ {T : Type 0} (follows : T → T → Type 0) where
         once = λ p. sum_same (times_in p) s.views id v w at (let more = times-append p v.shown.own v.heard.own in omega arith) ∙ k.once p;
         count = let same = sum_same places_in s.views id v w at (let more = length-append v.shown.own v.heard.own in omega arith) in let count = k.count in omega arith;
         rooms = sum_same room_of s.views id v w at refl ∙ k.rooms;
+        expectations = expectations_set (length k.longest + get_or s.words 0 0) s.views id w (λ j u _ e. k.expectations j u e) (k.expectations id v at);
       } in (
         w,
         keeps,

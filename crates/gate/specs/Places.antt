@@ -2,13 +2,15 @@
 use Rattle.std.specs.Prelude.{◌≡◌, ℕ, ◌+◌, ◌≤◌, ◌==◌, ◌&&◌, nat_lt, Bool, cond, List, [], ◌∷◌, length, Option, Some, None, count_by}
 pub use Rattle.atomic_table.specs.Seated.{TableId}
 
--- what a seat shows: the values that were left, as far as it saw them, and the places in this list that it left itself
+-- what a seat shows: the values that were left, as far as it saw them, and the places in this list that it left itself.
+-- The list of all values has at least `expected_length` entries, or will have once the thread that was found inside has left
 pub record SeatState (T : Type 0) : Type 0 where
   pub gate : TableId
   pub list : List T
   pub own : List ℕ
   pub room : ℕ
   pub inside : Bool
+  pub expected_length : ℕ
 
 -- the last value
 abbrev pub last_of : {T : Type 0} → List T → Option T

@@ -16,16 +16,16 @@ module _ {T : Type 0} where
   abbrev pub nothing : Shown T
   nothing = shown [] []
 
-  abbrev pub settled : Shown T → ℕ → Bool → View T
-  settled s room inside = record { shown = s; heard = nothing; room = room; inside = inside }
+  abbrev pub settled : Shown T → ℕ → Bool → ℕ → View T
+  settled s room inside expected_length = record { shown = s; heard = nothing; room = room; inside = inside; expected_length = expected_length }
 
   -- the first seat has seen the opening value, which nobody left
   abbrev pub opening : T → View T
-  opening x = settled (shown (x ∷ []) []) 64 false
+  opening x = settled (shown (x ∷ []) []) 64 false 0
 
   -- what a join leaves
   abbrev pub spent : View T
-  spent = settled nothing 0 false
+  spent = settled nothing 0 false 0
 
   -- a beginning of what was left, and places in it
   abbrev pub IsBeginning : List T → Shown T → Type 0
@@ -74,24 +74,26 @@ module _ {T : Type 0} where
     pub once : (p : ℕ) → sum_by (times_in p) s.views ≡ once_later (length longest) p
     pub count : sum_by places_in s.views + 1 ≡ length longest
     pub rooms : sum_by room_of s.views ≡ 64
+    pub expectations : (j : ℕ) (v : View T) → get_elem? s.views j ≡ some v → v.expected_length ≤ length longest + slice_index s.words 0
 
   -- the list of all that was left is seen, and its last value taken; or somebody else is inside
   abbrev pub Entered : (T → T → Type 0) → Step (Option T) → Me (Option T) (View T) → ℕ → Me (Option T) (View T) → Type 0
   Entered follows st m found m' =
-      (found ≢ 0 → m' ≡ m)
+      (found ≢ 0 → (n : ℕ) × (length m.0.shown.list < n) × (m' ≡ (record m.0 { expected_length = n }, m.1)))
       × (found ≡ 0 → (list : List T) × (x : T) × IsPrefix m.0.shown.list list × IsChain follows list × (last_of list ≡ Some x)
       × (m.0.room ≡ 64 → HasAll list m.0.shown.own)
-      × (m' ≡ (settled (shown list m.0.shown.own) m.0.room true, (0, Some x) ∷ m.1)))
+      × (m.0.expected_length ≤ length list)
+      × (m' ≡ (settled (shown list m.0.shown.own) m.0.room true m.0.expected_length, (0, Some x) ∷ m.1)))
       × (m.0.room ≡ 64 → found ≡ 0)
 
   -- the value is added to what was left, as one own place
   abbrev pub Left : Step (Option T) → Me (Option T) (View T) → ℕ → Me (Option T) (View T) → Type 0
   Left st m found m' =
-      (x : T) → m.1 ≡ (0, Some x) ∷ [] → m' ≡ (settled (shown (m.0.shown.list ++ x ∷ []) (m.0.shown.own ++ length m.0.shown.list ∷ [])) m.0.room false, [])
+      (x : T) → m.1 ≡ (0, Some x) ∷ [] → m' ≡ (settled (shown (m.0.shown.list ++ x ∷ []) (m.0.shown.own ++ length m.0.shown.list ∷ [])) m.0.room false m.0.expected_length, [])
 
   -- what a clause sees of a seat
   abbrev pub state_of : Seat (Option T) (View T) → SeatState T
-  state_of s = record { gate = s.table_id; list = s.me.0.shown.list; own = s.me.0.shown.own; room = s.me.0.room; inside = s.me.0.inside }
+  state_of s = record { gate = s.table_id; list = s.me.0.shown.list; own = s.me.0.shown.own; room = s.me.0.room; inside = s.me.0.inside; expected_length = s.me.0.expected_length }
 
   -- the slot is out with who is inside
   abbrev pub slots_of : Bool → List (ℕ × Option T)
@@ -110,20 +112,20 @@ module _ {T : Type 0} where
 
   -- how a view is cut in two
   abbrev pub kept_part : View T → View T
-  kept_part v = settled v.shown (v.room - 1) v.inside
+  kept_part v = settled v.shown (v.room - 1) v.inside v.expected_length
 
   abbrev pub given_part : View T → View T
-  given_part v = settled (shown v.shown.list []) 1 false
+  given_part v = settled (shown v.shown.list []) 1 false 0
 
   -- how two views are put together: the second is heard
   abbrev pub heard_by : View T → View T → View T
-  heard_by v w = record { shown = v.shown; heard = w.shown; room = v.room + w.room; inside = v.inside }
+  heard_by v w = record { shown = v.shown; heard = w.shown; room = v.room + w.room; inside = v.inside; expected_length = v.expected_length }
 
   -- what was heard is put together with what was shown: of the two lists the one that begins with both, and the places of both, which have none in common
   abbrev pub Settled : Step (Option T) → Me (Option T) (View T) → ℕ → Me (Option T) (View T) → Type 0
   Settled st m found m' =
       (list : List T)
-      × (m' ≡ (settled (shown list (m.0.shown.own ++ m.0.heard.own)) m.0.room m.0.inside, m.1))
+      × (m' ≡ (settled (shown list (m.0.shown.own ++ m.0.heard.own)) m.0.room m.0.inside m.0.expected_length, m.1))
       × ((list ≡ m.0.shown.list) ⊎ (list ≡ m.0.heard.list))
       × IsPrefix m.0.shown.list list × IsPrefix m.0.heard.list list
       × AreApart m.0.shown.own m.0.heard.own

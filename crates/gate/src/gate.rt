@@ -87,11 +87,12 @@ pub struct Inside<T> {
 }
 
 impl<T: Follows> Gate<T> {
-    /// Enters, if no other thread is in the critical section. `None` if and only if the word said
-    /// entered, which it never does with a room of 64. Then the seat is unchanged.
+    /// Enters, if no other thread is in the critical section. Else `None`, which never comes with a
+    /// room of 64.
     ///
     /// The seat then shows the whole list of the values that were left. The value found is its
-    /// last.
+    /// last. After `None` the seat shows a least length of that list, above the length that it
+    /// saw: another thread has left a value since, or will leave one when it leaves.
     pub fn try_enter(&self, seat: &mut Seat<T>) -> Option<Inside<T>>
         requires gate { seat.old.gate ≡ self.now }
         requires outside { seat.old.inside ≡ false }
@@ -100,7 +101,11 @@ impl<T: Follows> Gate<T> {
         ensures seen { IsPrefix seat.old.list seat.new.list × IsChain T.follows seat.new.list }
         ensures found { IfSome result
             (λ r. (seat.new.inside ≡ true) × (last_of seat.new.list ≡ Some r.value)) }
-        ensures none { IfNone result (seat.new ≡ seat.old) }
+        ensures none { IfNone result ((length seat.old.list < seat.new.expected_length)
+            × (seat.new ≡ record seat.old { expected_length = seat.new.expected_length })) }
+        ensures expected { IfSome result
+            (λ r. (seat.new.expected_length ≡ seat.old.expected_length)
+            × (seat.old.expected_length ≤ length seat.new.list)) }
         ensures lone { seat.old.room ≡ 64 → IsSome result × HasAll seat.new.list seat.new.own }
     {
         // Enter: the word goes from 0 to 1. The thread that did it knows that no other is inside,
@@ -126,7 +131,7 @@ impl<T: Follows> Gate<T> {
         requires inside { seat.old.inside ≡ true }
         requires follows { IfSome (last_of seat.old.list) (λ found. T.follows found inside.value) }
         ensures kept { (seat.new.gate ≡ seat.old.gate) × (seat.new.room ≡ seat.old.room)
-            × (seat.new.inside ≡ false) }
+            × (seat.new.inside ≡ false) × (seat.new.expected_length ≡ seat.old.expected_length) }
         ensures list { seat.new.list ≡ seat.old.list ++ inside.value ∷ [] }
         ensures own { seat.new.own ≡ seat.old.own ++ length seat.old.list ∷ [] }
     {
@@ -152,6 +157,7 @@ impl<T: Follows> Gate<T> {
             × (seat.new.own ≡ seat.old.own) × (seat.new.inside ≡ true) }
         ensures seen { IsPrefix seat.old.list seat.new.list × IsChain T.follows seat.new.list }
         ensures found { last_of seat.new.list ≡ Some result.value }
+        ensures expected { seat.new.expected_length ≤ length seat.new.list }
         ensures lone { seat.old.room ≡ 64 → HasAll seat.new.list seat.new.own }
     {
         let mut turns: u32 = 0;
@@ -211,7 +217,14 @@ impl<T: Follows + Drop> Gate<T> {
     /// and has a room of 64. `AllocError` if out of memory.
     pub fn new(alloc: Global, first: T) -> Result<(Gate<T>, Seat<T>), NoMemory>
         ensures { IfOk result (λ r.
-            r.1 ≡ record { gate = r.0; list = first ∷ []; own = []; room = 64; inside = false }) }
+            r.1 ≡ record {
+              gate = r.0;
+              list = first ∷ [];
+              own = [];
+              room = 64;
+              inside = false;
+              expected_length = 0;
+            }) }
     {
         let opening = Snapshot::of(&first);
         let Ok(mut slots) = Vec::with_capacity(alloc, 1) else {
@@ -255,6 +268,7 @@ impl<T: Follows> Seat<T> {
           own = [];
           room = 1;
           inside = false;
+          expected_length = 0;
         }) }
         ensures err { OnErr result (self.new ≡ self.old) }
     {
@@ -275,7 +289,8 @@ impl<T: Follows> Seat<T> {
         requires gate { (self.old.gate ≡ gate.now) × (other.gate ≡ gate.now) }
         requires outside { (self.old.inside ≡ false) × (other.inside ≡ false) }
         ensures kept { (self.new.gate ≡ self.old.gate) × (self.new.inside ≡ false)
-            × (self.new.room ≡ self.old.room + other.room) }
+            × (self.new.room ≡ self.old.room + other.room)
+            × (self.new.expected_length ≡ self.old.expected_length) }
         ensures one { (self.new.list ≡ self.old.list) ⊎ (self.new.list ≡ other.list) }
         ensures seen { IsPrefix self.old.list self.new.list × IsPrefix other.list self.new.list }
         ensures own { self.new.own ≡ self.old.own ++ other.own }

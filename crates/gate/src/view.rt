@@ -23,6 +23,9 @@ pub struct View<T> {
     pub heard: Shown<T>,
     pub room: u64,
     pub inside: bool,
+    /// A least length of the list of all values, once the thread that was found inside has left. It
+    /// is 0 if none was found yet.
+    pub expected_length: usize,
 }
 
 /// The rule that a gate's table keeps at every moment.

@@ -9,11 +9,26 @@ use Rattle.shared.specs.Passes.{Shows, Agrees}
 pub record IsFresh (width limit : ℕ) (v : Shows) : Type 0 where
   pub width_is : v.store.width ≡ width
   pub limit_is : v.store.limit ≡ limit
-  pub is : v ≡ record { store = v.store; who = 0; room = 64; seen = []; trimmed = 0; made = []; acts = []; did = []; visits = 0 }
+  pub is : v ≡ record { store = v.store; who = 0; room = 64; seen = []; trimmed = 0; made = []; acts = []; did = []; visits = 0; seen_visits = 1; expected_visits = 0 }
 
 -- a session with this label that has seen as much as v, and has made no call
+abbrev pub split_from : Shows → ℕ → Shows
+split_from v who = record {
+  store = v.store;
+  who = who;
+  room = 1;
+  seen = v.seen;
+  trimmed = v.trimmed;
+  made = [];
+  acts = v.acts;
+  did = [];
+  visits = 0;
+  seen_visits = v.seen_visits;
+  expected_visits = 0;
+}
+
 pub record IsSplitOff (v : Shows) (who : ℕ) (w : Shows) : Type 0 where
-  pub is : w ≡ record { store = v.store; who = who; room = 1; seen = v.seen; trimmed = v.trimmed; made = []; acts = v.acts; did = []; visits = 0 }
+  pub is : w ≡ split_from v who
 
 -- the book tells all that the session has seen, and each call and each trim of it was its own
 pub record IsClosing (v : Shows) (book : Contents) : Type 0 where

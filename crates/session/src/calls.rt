@@ -1,6 +1,6 @@
 //! The calls of a session. None of them waits: `Busy` means that another thread was in the critical
-//! section, and then the session is as it was; it never comes with a room of 64. After another fault the
-//! call is in no history, and the session may have seen more.
+//! section, and then the session has seen no more of the history; it never comes with a room of 64.
+//! After another fault the call is in no history, and the session may have seen more.
 ghost use Rattle.std.specs.Prelude.{◌≡◌, ◌≢◌, ◌⊎◌, ◌↔◌, ◌<◌, None, length, IfOk, IfErr};
 ghost use Rattle.sealed.specs.Layout.{stripe_count};
 ghost use Rattle.history.specs.Step.{put as put_of, read as read_of, lose as lose_of, repair as repair_of, delete as delete_of, stat as stat_of};
@@ -9,6 +9,7 @@ ghost use Rattle.book.specs.Plan.{plan_of};
 ghost use Rattle.shared.specs.Calls.{Called, CanGrant, GrantedIn, IfGranted};
 ghost use Rattle.shared.specs.Deeds.{Takes, trim_deed};
 ghost use Rattle.shared.specs.Mends.{FoundBusy};
+ghost use Rattle.shared.specs.Passes.{FindsBusy};
 
 use crate::Session;
 use shared::{Answer, Bytes, Code, Fault, Name, Plan};
@@ -25,7 +26,7 @@ impl Session {
     ) -> Result<Answer, Fault>
         ensures called { Called self.old (put_of name code bytes) result self.new }
         ensures too_long { (result ≡ Err Fault.TooLong) ↔ (4096 < stripe_count code self.old.store.width (length bytes)) }
-        ensures busy { result ≡ Err Fault.Busy → self.new ≡ self.old }
+        ensures busy { result ≡ Err Fault.Busy → FindsBusy self.old self.new }
         ensures lone { self.old.room ≡ 64 → result ≢ Err Fault.Busy }
     {
         self.store
@@ -36,7 +37,7 @@ impl Session {
     pub fn read(&mut self, name: Name, start: u64, len: u64) -> Result<Answer, Fault>
         ensures called { Called self.old (read_of name start len) result self.new }
         ensures grant { IfOk result (λ a. IfGranted a (GrantedIn self.new.seen self.old.store.width name start len)) }
-        ensures busy { result ≡ Err Fault.Busy → self.new ≡ self.old }
+        ensures busy { result ≡ Err Fault.Busy → FindsBusy self.old self.new }
         ensures lone { self.old.room ≡ 64 → result ≢ Err Fault.Busy }
     {
         self.store.try_read(&mut self.pass, name, start, len)
@@ -51,7 +52,7 @@ impl Session {
         fragment: u64,
     ) -> Result<Answer, Fault>
         ensures called { Called self.old (lose_of name stripe fragment) result self.new }
-        ensures busy { result ≡ Err Fault.Busy → self.new ≡ self.old }
+        ensures busy { result ≡ Err Fault.Busy → FindsBusy self.old self.new }
         ensures lone { self.old.room ≡ 64 → result ≢ Err Fault.Busy }
     {
         self.store
@@ -77,7 +78,7 @@ impl Session {
     /// Deletes a blob.
     pub fn delete(&mut self, name: Name) -> Result<Answer, Fault>
         ensures called { Called self.old (delete_of name) result self.new }
-        ensures busy { result ≡ Err Fault.Busy → self.new ≡ self.old }
+        ensures busy { result ≡ Err Fault.Busy → FindsBusy self.old self.new }
         ensures lone { self.old.room ≡ 64 → result ≢ Err Fault.Busy }
     {
         self.store.try_delete(&mut self.pass, name)
@@ -86,7 +87,7 @@ impl Session {
     /// Asks for the shape of a blob.
     pub fn stat(&mut self, name: Name) -> Result<Answer, Fault>
         ensures called { Called self.old (stat_of name) result self.new }
-        ensures busy { result ≡ Err Fault.Busy → self.new ≡ self.old }
+        ensures busy { result ≡ Err Fault.Busy → FindsBusy self.old self.new }
         ensures lone { self.old.room ≡ 64 → result ≢ Err Fault.Busy }
     {
         self.store.try_stat(&mut self.pass, name)
@@ -97,7 +98,7 @@ impl Session {
     pub fn trim(&mut self, alloc: Global, keep: u64) -> Result<u64, Fault>
         ensures takes { Takes self.old (trim_deed keep result) self.new }
         ensures faults { IfErr result (λ e. (e ≡ Fault.Busy) ⊎ (e ≡ Fault.NoMemory)) }
-        ensures busy { result ≡ Err Fault.Busy → self.new ≡ self.old }
+        ensures busy { result ≡ Err Fault.Busy → FindsBusy self.old self.new }
         ensures lone { self.old.room ≡ 64 → result ≢ Err Fault.Busy }
     {
         self.store.try_trim(alloc, &mut self.pass, keep)
@@ -108,7 +109,7 @@ impl Session {
         ensures takes { Takes self.old None self.new }
         ensures ok { IfOk result (λ p. p.items.items ≡ plan_of (state_of self.new.seen)) }
         ensures faults { IfErr result (λ e. (e ≡ Fault.Busy) ⊎ (e ≡ Fault.NoMemory)) }
-        ensures busy { result ≡ Err Fault.Busy → self.new ≡ self.old }
+        ensures busy { result ≡ Err Fault.Busy → FindsBusy self.old self.new }
         ensures lone { self.old.room ≡ 64 → result ≢ Err Fault.Busy }
     {
         self.store.try_plan(alloc, &mut self.pass)

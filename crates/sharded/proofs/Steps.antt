@@ -11,14 +11,14 @@ use Rattle.sealed.specs.declared.fault.Fault.TheVariants.{NoMemory, JournalFull,
 use Rattle.history.specs.Step.{Operation, repair}
 use Rattle.book.specs.Serial.{Deed, called, full, too_long, trimmed, Act, call, trim}
 use Rattle.book.specs.declared.answer.Answer.{Answer}
-use Rattle.shared.specs.Passes.{Which, Shows}
+use Rattle.shared.specs.Passes.{Which, Shows, FindsBusy}
 use Rattle.shared.specs.Deeds.{deed_of, trim_deed, act_if, Takes}
 use Rattle.shared.specs.Calls.{Called}
 use Rattle.shared.specs.Mends.{FoundBusy}
 use Rattle.sharded.specs.Hash.{shard_of}
 use Rattle.sharded.specs.OneMap.{name_of, operation_shard}
 use Rattle.sharded.specs.Passes.{stores_of, IsActOfShard, HasActsOfShard, HaveActsOfShards}
-use Rattle.sharded.specs.Steps.{IsStepAt, IsCallAt, IsBusyRepairAt, width_at, width_for, seen_at, seen_for}
+use Rattle.sharded.specs.Steps.{IsStepAt, IsCallAt, IsBusyAt, IsBusyRepairAt, width_at, width_for, seen_at, seen_for}
 
 -- ---- lists
 pub set_here : {X : Type 0} (xs : List X) (k : ℕ) (y : X) → k < length xs → slice_get (slice_set xs k y) k ≡ Some y
@@ -180,6 +180,9 @@ module _ {vs args : List Shows} {ss : List Which} {k : ℕ} {own : Shows} (h : H
 
     pub call_step : {o : Operation} {r : Result Answer Fault} {new : Shows} → Called own o r new → name_of o ≡ n → IsCallAt args o r (slice_set vs k new)
     call_step {o} {r} {new} made e = step_at_name (λ v w. Called v o r w) o new made e
+
+    pub finds_step : (o : Operation) (new : Shows) → FindsBusy own new → name_of o ≡ n → IsBusyAt args o (slice_set vs k new)
+    finds_step o new found e = step_at_name FindsBusy o new found e
 
     pub busy_step : (j f : ℕ) (new : Shows) → FoundBusy own n j f new → IsBusyRepairAt args n j f (slice_set vs k new)
     busy_step j f new found = step_at_name (λ v w. FoundBusy v n j f w) (repair n j f) new found refl

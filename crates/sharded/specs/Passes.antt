@@ -37,6 +37,8 @@ fresh_pass s = record {
   acts = [];
   did = [];
   visits = 0;
+  seen_visits = 1;
+  expected_visits = 0;
 }
 
 -- ---- split
@@ -56,6 +58,8 @@ given_in_split who v = record {
   acts = v.acts;
   did = [];
   visits = 0;
+  seen_visits = v.seen_visits;
+  expected_visits = 0;
 }
 
 abbrev pub HaveRoom : List Shows → Type 0

@@ -7,7 +7,7 @@ use Rattle.history.specs.History.{History, state_of}
 use Rattle.book.specs.Plan.{plan_of}
 use Rattle.book.specs.declared.plan.Plan.{Plan}
 use Rattle.book.specs.declared.answer.Answer.{Answer}
-use Rattle.shared.specs.Passes.{Which, Shows}
+use Rattle.shared.specs.Passes.{Which, Shows, FindsBusy}
 use Rattle.shared.specs.Deeds.{Takes}
 use Rattle.shared.specs.Calls.{Called}
 use Rattle.shared.specs.Mends.{FoundBusy}
@@ -25,6 +25,10 @@ pub record IsStepAt (k : ℕ) (P : Shows → Shows → Type 0) (vs ws : List Sho
 -- a call with this result, at the shard of its name
 abbrev pub IsCallAt : List Shows → Operation → Result Answer Fault → List Shows → Type 0
 IsCallAt vs o r ws = IsStepAt (operation_shard (length vs) o) (λ v w. Called v o r w) vs ws
+
+-- a call that does not wait found another caller inside, at the shard of its name
+abbrev pub IsBusyAt : List Shows → Operation → List Shows → Type 0
+IsBusyAt vs o ws = IsStepAt (operation_shard (length vs) o) FindsBusy vs ws
 
 -- a repair that does not wait found another caller inside, at the shard of its name
 abbrev pub IsBusyRepairAt : List Shows → List ℕ → ℕ → ℕ → List Shows → Type 0

@@ -6,7 +6,7 @@ use Rattle.book.specs.Serial.{trimmed}
 use Rattle.book.specs.Plan.{plan_of}
 use Rattle.book.specs.declared.plan.Item.{Item}
 use Rattle.shared.specs.Deeds.{Takes}
-use Rattle.shared.specs.Passes.{Shows}
+use Rattle.shared.specs.Passes.{Shows, FindsBusy}
 use Rattle.sharded.specs.Steps.{IsStepAt}
 
 module _ (P : Shows → Shows → Type 0) where
@@ -38,6 +38,12 @@ abbrev pub AreTrimmedInPart : ℕ → List Shows → List Shows → Type 0
 AreTrimmedInPart keep vs ws =
     (n : ℕ) × (us : List Shows)
     × AreStepsTo (IsTrimmed keep) n vs us × IsStepAt n HasLooked us ws
+
+-- the first journals were trimmed, and the pass to the next shard found another caller inside
+abbrev pub AreTrimmedToBusy : ℕ → List Shows → List Shows → Type 0
+AreTrimmedToBusy keep vs ws =
+    (n : ℕ) × (us : List Shows)
+    × AreStepsTo (IsTrimmed keep) n vs us × IsStepAt n FindsBusy us ws
 
 -- what is lost at each shard, by the histories that the passes have seen
 abbrev pub lost_in_all : List Shows → List Item

@@ -4,7 +4,8 @@ ghost use Rattle.shared.specs.Deeds.{Takes, trim_deed};
 ghost use Rattle.sharded.specs.Passes.{stores_of, AreLone};
 ghost use Rattle.sharded.specs.Steps.{IsStepAt, IsPlanAt};
 ghost use Rattle.sharded.specs.StepsTo.{AreSteps, AreFirstSteps, HasLooked, lost_in_all};
-ghost use Rattle.sharded.specs.StepsTo.{IsTrimmed, AreTrimmedInPart};
+ghost use Rattle.sharded.specs.StepsTo.{IsTrimmed, AreTrimmedInPart, AreTrimmedToBusy};
+ghost use Rattle.shared.specs.Passes.{FindsBusy};
 
 use crate::{ShardedPass, ShardedStore};
 use book::{Fault, Plan};
@@ -39,15 +40,15 @@ impl ShardedStore {
         Ok(())
     }
 
-    /// As `trim`, but `Busy` at the first shard at which another caller is inside. The pass to this
-    /// shard, and those behind it, are then as they were.
+    /// As `trim`, but `Busy` at the first shard whose critical section another caller is in. The
+    /// journals of the shards before it were then trimmed, and those behind it are unchanged.
     pub fn try_trim(&self, alloc: Global, pass: &mut ShardedPass, keep: u64) -> Result<(), Fault>
         requires { stores_of pass.old ≡ self.now }
         ensures ok { OnOk result (AreSteps (IsTrimmed keep) pass.old pass.new) }
         ensures err { OnErr result (AreTrimmedInPart keep pass.old pass.new) }
         ensures same { stores_of pass.new ≡ self.now }
         ensures faults { IfErr result (λ e. (e ≡ Fault.Busy) ⊎ (e ≡ Fault.NoMemory)) }
-        ensures busy { result ≡ Err Fault.Busy → AreFirstSteps (IsTrimmed keep) pass.old pass.new }
+        ensures busy { result ≡ Err Fault.Busy → AreTrimmedToBusy keep pass.old pass.new }
         ensures lone { AreLone pass.old → result ≢ Err Fault.Busy }
     {
         for shard in 0..self.count_shards() {
@@ -83,8 +84,8 @@ impl ShardedStore {
         store.trim(rt, alloc, own, keep)
     }
 
-    /// As `trim_shard`, but `Busy` if another caller is inside that shard. The pass is then as it
-    /// was.
+    /// As `trim_shard`, but `Busy` if another caller is in the critical section of that shard. Then
+    /// no entry was discarded.
     pub fn try_trim_shard(
         &self,
         alloc: Global,
@@ -98,7 +99,7 @@ impl ShardedStore {
             (λ v w. Takes v (trim_deed keep result) w) pass.old pass.new }
         ensures same { stores_of pass.new ≡ self.now }
         ensures faults { IfErr result (λ e. (e ≡ Fault.Busy) ⊎ (e ≡ Fault.NoMemory)) }
-        ensures busy { result ≡ Err Fault.Busy → pass.new ≡ pass.old }
+        ensures busy { result ≡ Err Fault.Busy → IsStepAt shard FindsBusy pass.old pass.new }
         ensures lone { AreLone pass.old → result ≢ Err Fault.Busy }
     {
         let store = &self.shards[shard];

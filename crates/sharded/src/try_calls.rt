@@ -7,7 +7,7 @@ ghost use Rattle.history.specs.Step.{repair as repair_of, delete as delete_of, s
 ghost use Rattle.book.specs.Tells.{IsCallFault};
 ghost use Rattle.shared.specs.Calls.{CanGrant, GrantedIn, IfGranted};
 ghost use Rattle.sharded.specs.Passes.{stores_of, AreLone};
-ghost use Rattle.sharded.specs.Steps.{seen_for, width_for, IsCallAt, IsBusyRepairAt};
+ghost use Rattle.sharded.specs.Steps.{seen_for, width_for, IsCallAt, IsBusyAt, IsBusyRepairAt};
 
 use crate::{ShardedPass, ShardedStore};
 use book::{Answer, Fault, Name};
@@ -33,7 +33,8 @@ impl ShardedStore {
             ↔ (4096 < stripe_count Code.Wide (width_for self.now name) (length bytes)) }
         ensures faults { IfErr result
             (λ e. (e ≡ Fault.Busy) ⊎ IsCallFault e ⊎ (e ≡ Fault.TooLong)) }
-        ensures busy { result ≡ Err Fault.Busy → pass.new ≡ pass.old }
+        ensures busy { result ≡ Err Fault.Busy
+            → IsBusyAt pass.old (put_of name Code.Wide bytes) pass.new }
         ensures lone { AreLone pass.old → result ≢ Err Fault.Busy }
     {
         let shard = self.find_shard(&name);
@@ -60,7 +61,8 @@ impl ShardedStore {
             ↔ (4096 < stripe_count code (width_for self.now name) (length bytes)) }
         ensures faults { IfErr result
             (λ e. (e ≡ Fault.Busy) ⊎ IsCallFault e ⊎ (e ≡ Fault.TooLong)) }
-        ensures busy { result ≡ Err Fault.Busy → pass.new ≡ pass.old }
+        ensures busy { result ≡ Err Fault.Busy
+            → IsBusyAt pass.old (put_of name code bytes) pass.new }
         ensures lone { AreLone pass.old → result ≢ Err Fault.Busy }
     {
         let shard = self.find_shard(&name);
@@ -88,7 +90,8 @@ impl ShardedStore {
         ensures no_memory { result ≡ Err Fault.NoMemory
             → CanGrant (seen_for pass.new name) (width_for self.now name) name start len }
         ensures faults { IfErr result (λ e. (e ≡ Fault.Busy) ⊎ IsCallFault e) }
-        ensures busy { result ≡ Err Fault.Busy → pass.new ≡ pass.old }
+        ensures busy { result ≡ Err Fault.Busy
+            → IsBusyAt pass.old (read_of name start len) pass.new }
         ensures lone { AreLone pass.old → result ≢ Err Fault.Busy }
     {
         let shard = self.find_shard(&name);
@@ -110,7 +113,8 @@ impl ShardedStore {
         ensures called { IsCallAt pass.old (lose_of name stripe fragment) result pass.new }
         ensures same { stores_of pass.new ≡ self.now }
         ensures faults { IfErr result (λ e. (e ≡ Fault.Busy) ⊎ IsCallFault e) }
-        ensures busy { result ≡ Err Fault.Busy → pass.new ≡ pass.old }
+        ensures busy { result ≡ Err Fault.Busy
+            → IsBusyAt pass.old (lose_of name stripe fragment) pass.new }
         ensures lone { AreLone pass.old → result ≢ Err Fault.Busy }
     {
         let shard = self.find_shard(&name);
@@ -148,7 +152,7 @@ impl ShardedStore {
         ensures called { IsCallAt pass.old (delete_of name) result pass.new }
         ensures same { stores_of pass.new ≡ self.now }
         ensures faults { IfErr result (λ e. (e ≡ Fault.Busy) ⊎ (e ≡ Fault.JournalFull)) }
-        ensures busy { result ≡ Err Fault.Busy → pass.new ≡ pass.old }
+        ensures busy { result ≡ Err Fault.Busy → IsBusyAt pass.old (delete_of name) pass.new }
         ensures lone { AreLone pass.old → result ≢ Err Fault.Busy }
     {
         let shard = self.find_shard(&name);
@@ -164,7 +168,7 @@ impl ShardedStore {
         ensures called { IsCallAt pass.old (stat_of name) result pass.new }
         ensures same { stores_of pass.new ≡ self.now }
         ensures faults { IfErr result (λ e. (e ≡ Fault.Busy) ⊎ (e ≡ Fault.JournalFull)) }
-        ensures busy { result ≡ Err Fault.Busy → pass.new ≡ pass.old }
+        ensures busy { result ≡ Err Fault.Busy → IsBusyAt pass.old (stat_of name) pass.new }
         ensures lone { AreLone pass.old → result ≢ Err Fault.Busy }
     {
         let shard = self.find_shard(&name);

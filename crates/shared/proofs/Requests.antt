@@ -1,5 +1,5 @@
 -- What a pass may ask, and what is refused it.
-use Rattle.std.proofs.Common.{◌≡◌, ◌⊎◌, ℕ, ◌<◌, List, ◌++◌, length, None, Err, refl, ap, sym, subst, ◌∙◌, ⊎_elim, append_assoc}
+use Rattle.std.proofs.Common.{◌≡◌, ◌⊎◌, ℕ, ◌+◌, ◌<◌, ◌≤◌, List, [], ◌∷◌, ◌++◌, length, None, Err, refl, ap, sym, subst, ◌∙◌, ⊎_elim, arith, append_assoc, length-append}
 use mathlib.Core.List.{IsPrefix}
 use Rattle.gate.specs.Places.{SeatState}
 use Rattle.sealed.specs.declared.fault.Fault.{Fault}
@@ -14,10 +14,10 @@ use Rattle.requests.specs.declared.request.Request.TheVariants.{Put, Read, Lose,
 use Rattle.lrc_code.specs.declared.Code.{Code}
 use Rattle.shared.specs.Deeds.{Takes}
 use Rattle.shared.specs.Calls.{Called}
-use Rattle.shared.specs.Passes.{Shows, IsPass, Agrees, seen_of, width_of, shows}
+use Rattle.shared.specs.Passes.{Shows, IsPass, Agrees, FindsBusy, VisitsOnce, seen_of, width_of, shows}
 use Rattle.requests.specs.Requests.{CanMake}
 use Rattle.shared.specs.Requests.{CanAsk}
-use Rattle.shared.proofs.Passes.{agreed}
+use Rattle.shared.proofs.Passes.{agreed, pass_again}
 use Rattle.shared.proofs.Steps.{Enters, Found, found, found_before, takes_nothing, refused}
 
 -- what is known of a put stays known
@@ -60,14 +60,48 @@ refused_put v n code b w f agrees width is long =
     refused v (put n code b) f agrees (λ full. ⊎_elim (λ (m : f ≡ NoMemory). cc (m, full)) (λ (t : f ≡ TooLong). cc (t, full)) is) (λ _. refl)
     (λ there. subst (λ (u : ℕ). 4096 < stripe_count code u (length b)) width (long there))
 
--- a pass that found somebody inside
-pub was_busy : (p q : SeatState Kept) (who : ℕ) (v : Shows) (o : Operation) → IsPass p → q ≡ p → shows p who ≡ v → Called v o (Err Busy) (shows q who)
-was_busy p q who v o pass same is =
-    let now : shows q who ≡ v = ap (λ (s : SeatState Kept). shows s who) same ∙ is in
-    subst (Called v o (Err Busy)) (sym now)
-    (refused v o Busy (subst Agrees is (agreed p who pass)) (λ e. cc (e)) (λ e. absurd (cc (e))) (λ e. absurd (cc (e))))
+-- a seat found another inside, and is else as it was
+abbrev pub FoundInside : SeatState Kept → SeatState Kept → Type 0
+FoundInside p q = (length p.list < q.expected_length) × (q ≡ record p { expected_length = q.expected_length })
 
-pub did_nothing : (p q : SeatState Kept) (who : ℕ) (v : Shows) → IsPass p → q ≡ p → shows p who ≡ v → Takes v None (shows q who)
-did_nothing p q who v pass same is =
-    let now : shows q who ≡ v = ap (λ (s : SeatState Kept). shows s who) same ∙ is in
-    subst (Takes v None) (sym now) (takes_nothing v None (subst Agrees is (agreed p who pass)) refl tt)
+pub busy_pass : (p q : SeatState Kept) → IsPass p → FoundInside p q → IsPass q
+busy_pass p q pass found =
+    pass_again p q pass (ap (λ (s : SeatState Kept). s.list) found.1) (ap (λ (s : SeatState Kept). s.own) found.1) (ap (λ (s : SeatState Kept). s.inside) found.1 ∙ pass.outside)
+
+nothing_done : (p q : SeatState Kept) (who : ℕ) → IsPass p → q ≡ record p { expected_length = q.expected_length } → Takes (shows p who) None (shows q who)
+nothing_done p q who pass same =
+    let v : Shows = shows p who in
+    let agrees = agreed p who pass in
+    let none = takes_nothing v None agrees refl tt in
+    let now : Takes v None (shows (record p { expected_length = q.expected_length }) who) = record {
+      stays = none.stays;
+      others = none.others;
+      does = none.does;
+      acts = none.acts;
+      did = none.did;
+      agrees = record { seen_is = agrees.seen_is; trimmed_is = agrees.trimmed_is; made_is = agrees.made_is; room = agrees.room };
+      lone = none.lone;
+    } in
+    subst (λ (s : SeatState Kept). Takes v None (shows s who)) (sym same) now
+
+pub did_nothing : (p q : SeatState Kept) (who : ℕ) (v : Shows) → IsPass p → FoundInside p q → shows p who ≡ v → Takes v None (shows q who)
+did_nothing p q who v pass found is = subst (λ (u : Shows). Takes u None (shows q who)) is (nothing_done p q who pass found.1)
+
+pub finds_busy : (p q : SeatState Kept) (who : ℕ) (v : Shows) → FoundInside p q → shows p who ≡ v → FindsBusy v (shows q who)
+finds_busy p q who v found is = subst (λ (u : Shows). FindsBusy u (shows q who)) is (found.0, ap (λ (s : SeatState Kept). shows s who) found.1)
+
+-- a pass that was let in
+pub visits_once : (p m q : SeatState Kept) (who : ℕ) (v : Shows) (y : Kept) → (m.expected_length ≡ p.expected_length) × (p.expected_length ≤ length m.list) → q.list ≡ m.list ++ y ∷ [] → length q.own ≡ length p.own + 1
+    → shows p who ≡ v → VisitsOnce v (shows q who)
+visits_once p m q who v y expected list own is =
+    let more : length q.list ≡ length m.list + 1 = ap length list ∙ length-append m.list (y ∷ []) in
+    let least = expected.1 in
+    subst (λ (u : Shows). VisitsOnce u (shows q who)) is (own, omega arith)
+
+-- a pass that found another inside
+pub was_busy : (p q : SeatState Kept) (who : ℕ) (v : Shows) (o : Operation) → IsPass p → FoundInside p q → shows p who ≡ v → Called v o (Err Busy) (shows q who)
+was_busy p q who v o pass found is = record {
+  takes = did_nothing p q who v pass found is;
+  no_memory = λ e. absurd (cc e);
+  outside = λ e. absurd (cc e);
+}

@@ -8,7 +8,7 @@ use Rattle.history.specs.History.{History, HasPut}
 use Rattle.book.specs.Tells.{Represents}
 use Rattle.requests.specs.declared.inspection.Inspection.{Inspection}
 use Rattle.requests.specs.declared.inspection.Inspection.TheVariants.{Done, Refused, Rebuildable}
-use Rattle.shared.specs.Passes.{Shows}
+use Rattle.shared.specs.Passes.{Shows, FindsBusy}
 use Rattle.shared.specs.Deeds.{Takes}
 use Rattle.shared.specs.Calls.{Called, HasRoom}
 
@@ -30,7 +30,7 @@ pub record CanMend (v : Shows) (n : List ℕ) (j f : ℕ) (s : Sealed) (w : Show
 -- a pass that does not wait found somebody inside: it is as it was, or has looked before that and
 -- found a value to rebuild from
 abbrev pub FoundBusy : Shows → List ℕ → ℕ → ℕ → Shows → Type 0
-FoundBusy v n j f w = (w ≡ v) ⊎ ((s : Sealed) × CanMend v n j f s w)
+FoundBusy v n j f w = FindsBusy v w ⊎ ((s : Sealed) × (u : Shows) × CanMend v n j f s u × FindsBusy u w)
 
 -- what a pass found
 abbrev pub Found : Shows → List ℕ → ℕ → ℕ → Inspection → Shows → Type 0

@@ -17,7 +17,9 @@ pub record Which : Type 0 where
 -- What a clause sees of a pass. Of the calls that it has seen, so many were discarded when it was
 -- last in the critical section. `made` are the places in `seen` of the calls that it made, and
 -- `did` those in `acts` of the calls and the trims. It has left the critical section `visits`
--- times, with those of the passes that it joined
+-- times, with those of the passes that it joined. All passes together have left it `seen_visits`
+-- times, with the opening, as far as the pass saw them, and at least `expected_visits` times once
+-- the thread that it found there has left
 pub record Shows : Type 0 where
   pub store : Which
   pub who : ℕ
@@ -28,6 +30,8 @@ pub record Shows : Type 0 where
   pub acts : List Act
   pub did : List ℕ
   pub visits : ℕ
+  pub seen_visits : ℕ
+  pub expected_visits : ℕ
 
 abbrev pub between_kept : Kept → Kept → History
 between_kept a b = between a.0.value b.0.value
@@ -73,6 +77,8 @@ shows p who = record {
   acts = acts_of p.list;
   did = did_of p.list p.own;
   visits = length p.own;
+  seen_visits = length p.list;
+  expected_visits = p.expected_length;
 }
 
 -- the book has this width and limit, and tells these acts
@@ -106,6 +112,15 @@ pub record Agrees (v : Shows) : Type 0 where
 pub record IsWhole (v : Shows) : Type 0 where
   pub calls : (k : ℕ) → k < length v.seen → times k v.made ≡ 1
   pub all : (k : ℕ) → k < length v.acts → times k v.did ≡ 1
+
+-- The pass found another thread in the critical section, of whose visit it had not seen the end.
+-- Nothing else changed
+abbrev pub FindsBusy : Shows → Shows → Type 0
+FindsBusy v w = (v.seen_visits < w.expected_visits) × (w ≡ record v { expected_visits = w.expected_visits })
+
+-- the pass was in the critical section once, and has seen the end of all visits that it expected
+abbrev pub VisitsOnce : Shows → Shows → Type 0
+VisitsOnce v w = (w.visits ≡ v.visits + 1) × (v.expected_visits ≤ w.seen_visits)
 
 -- the same pass
 abbrev pub Stays : Shows → Shows → Type 0

@@ -1,6 +1,7 @@
 //! One call in the critical section.
 ghost use Rattle.std.specs.Prelude.{◌≡◌, ◌≢◌, ◌⊎◌, ◌+◌, IfOk, IfErr};
 ghost use Rattle.shared.specs.Calls.{Called};
+ghost use Rattle.shared.specs.Passes.{FindsBusy, VisitsOnce};
 ghost use Rattle.requests.specs.Requests.{operation_of, IsFaultOf};
 ghost use Rattle.shared.specs.Requests.{CanAsk, IsGrantedTo, WantedFor};
 
@@ -31,7 +32,7 @@ impl Store {
         result
     }
 
-    /// As `make`, if no thread is in the critical section. Else `Busy`, and the pass is unchanged.
+    /// As `make`, if no other thread is in the critical section. Else `Busy`.
     pub(crate) fn try_make(&self, pass: &mut Pass, request: Request) -> Result<Answer, Fault>
         requires store { pass.old.store ≡ self.now }
         requires can { CanAsk pass.old request }
@@ -40,8 +41,8 @@ impl Store {
         ensures no_memory { result ≡ Err Fault.NoMemory
             → WantedFor pass.new.seen self.now.width request }
         ensures faults { IfErr result (λ e. (e ≡ Fault.Busy) ⊎ IsFaultOf request e) }
-        ensures busy { result ≡ Err Fault.Busy → pass.new ≡ pass.old }
-        ensures entered { result ≢ Err Fault.Busy → pass.new.visits ≡ pass.old.visits + 1 }
+        ensures busy { result ≡ Err Fault.Busy → FindsBusy pass.old pass.new }
+        ensures entered { result ≢ Err Fault.Busy → VisitsOnce pass.old pass.new }
         ensures lone { pass.old.room ≡ 64 → result ≢ Err Fault.Busy }
     {
         let Some(mut inside) = self.gate.try_enter(&mut pass.seat) else {

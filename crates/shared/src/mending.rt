@@ -3,6 +3,7 @@ ghost use Rattle.std.specs.Prelude.{◌≡◌, ◌≢◌, ◌⊎◌, ◌+◌, If
 ghost use Rattle.history.specs.Step.{repair as repair_of};
 ghost use Rattle.book.specs.Tells.{IsCallFault};
 ghost use Rattle.shared.specs.Calls.{Called};
+ghost use Rattle.shared.specs.Passes.{FindsBusy, VisitsOnce};
 ghost use Rattle.requests.specs.Inspections.{IfRefused};
 ghost use Rattle.shared.specs.Mends.{Found, FoundBusy};
 
@@ -61,9 +62,9 @@ impl Store {
         )
     }
 
-    /// As `repair`, if no thread is in the critical section at either time. Else `Busy`, which
-    /// never comes with a room of 64. If the second time is `Busy`, the pass may have seen more; at
-    /// the first the pass is unchanged. Every other answer is given after one or two visits.
+    /// As `repair`, if no other thread is in the critical section at either time. Else `Busy`,
+    /// which never comes with a room of 64. If the second time is `Busy`, the pass may have seen
+    /// more. Every other answer is given after one visit or two.
     pub fn try_repair(
         &self,
         alloc: Global,
@@ -124,8 +125,7 @@ impl Store {
         inspection
     }
 
-    /// As `inspect`, if no thread is in the critical section. Else `Busy`, and the pass is
-    /// unchanged.
+    /// As `inspect`, if no other thread is in the critical section. Else `Busy`.
     fn try_inspect(
         &self,
         alloc: Global,
@@ -137,9 +137,8 @@ impl Store {
         requires { pass.old.store ≡ self.now }
         ensures found { Found pass.old name.now stripe fragment result pass.new }
         ensures faults { IfRefused result (λ e. (e ≡ Fault.Busy) ⊎ IsCallFault e) }
-        ensures busy { result ≡ Inspection.Refused Fault.Busy → pass.new ≡ pass.old }
-        ensures entered { result ≢ Inspection.Refused Fault.Busy
-            → pass.new.visits ≡ pass.old.visits + 1 }
+        ensures busy { result ≡ Inspection.Refused Fault.Busy → FindsBusy pass.old pass.new }
+        ensures entered { result ≢ Inspection.Refused Fault.Busy → VisitsOnce pass.old pass.new }
         ensures lone { pass.old.room ≡ 64 → result ≢ Inspection.Refused Fault.Busy }
     {
         let Some(mut inside) = self.gate.try_enter(&mut pass.seat) else {

@@ -17,7 +17,8 @@ use std::marker::Model;
 /// A clause sees which store it is, the label of its calls, how many passes can be made of it, and
 /// the legal history that it has seen. It sees the indices in that history of the calls that the
 /// pass made, with those of the passes that it joined; and the same with the trims among the calls.
-/// It sees how often the pass visited the critical section.
+/// It sees how often the pass visited the critical section, how many visits of all passes it has
+/// seen, and how many it expects once the thread that it found there has left.
 #[derive(Drop)]
 pub struct Pass {
     pub(crate) seat: Seat<Kept>,
@@ -72,6 +73,8 @@ impl Pass {
               acts = self.old.acts;
               did = [];
               visits = 0;
+              seen_visits = self.old.seen_visits;
+              expected_visits = 0;
             }) }
         ensures no_pass { (result ≡ Err Fault.NoPass) ↔ (self.old.room ≡ 1) }
         ensures faults { IfErr result (λ e. (e ≡ Fault.NoMemory) ⊎ (e ≡ Fault.NoPass)) }
@@ -100,6 +103,9 @@ impl Pass {
         ensures acts { IsPrefix self.old.acts self.new.acts × IsPrefix other.acts self.new.acts }
         ensures did { self.new.did ≡ self.old.did ++ other.did }
         ensures visits { self.new.visits ≡ self.old.visits + other.visits }
+        ensures expected { self.new.expected_visits ≡ self.old.expected_visits }
+        ensures seen_visits { (self.new.seen_visits ≡ self.old.seen_visits)
+            ⊎ (self.new.seen_visits ≡ other.seen_visits) }
         ensures whole { self.new.room ≡ 64 → IsWhole self.new }
         ensures apart { AreApart self.old.made other.made }
     {

@@ -3,6 +3,7 @@ ghost use Rattle.std.specs.Prelude.{◌≡◌, ◌≢◌, ◌⊎◌, ◌+◌, No
 ghost use Rattle.history.specs.History.{state_of};
 ghost use Rattle.book.specs.Plan.{plan_of};
 ghost use Rattle.shared.specs.Deeds.{Takes};
+ghost use Rattle.shared.specs.Passes.{FindsBusy, VisitsOnce};
 
 use crate::{Pass, Store};
 use book::{Fault, Plan};
@@ -26,16 +27,16 @@ impl Store {
         plan
     }
 
-    /// As `plan`, if no thread is in the critical section. Else `Busy`, which never comes with a
-    /// room of 64, and the pass is unchanged. Every other answer is given from the critical
-    /// section.
+    /// As `plan`, if no other thread is in the critical section. Else `Busy`, which never comes
+    /// with a room of 64: another thread has been in the critical section since the pass was, or is
+    /// there now. Every other answer is given from the critical section.
     pub fn try_plan(&self, alloc: Global, pass: &mut Pass) -> Result<Plan, Fault>
         requires { pass.old.store ≡ self.now }
         ensures takes { Takes pass.old None pass.new }
         ensures ok { IfOk result (λ p. p.items.items ≡ plan_of (state_of pass.new.seen)) }
         ensures faults { IfErr result (λ e. (e ≡ Fault.Busy) ⊎ (e ≡ Fault.NoMemory)) }
-        ensures busy { result ≡ Err Fault.Busy → pass.new ≡ pass.old }
-        ensures entered { result ≢ Err Fault.Busy → pass.new.visits ≡ pass.old.visits + 1 }
+        ensures busy { result ≡ Err Fault.Busy → FindsBusy pass.old pass.new }
+        ensures entered { result ≢ Err Fault.Busy → VisitsOnce pass.old pass.new }
         ensures lone { pass.old.room ≡ 64 → result ≢ Err Fault.Busy }
     {
         let Some(inside) = self.gate.try_enter(&mut pass.seat) else {

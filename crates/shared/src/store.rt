@@ -45,6 +45,8 @@ impl Store {
           acts = [];
           did = [];
           visits = 0;
+          seen_visits = 1;
+          expected_visits = 0;
         }) }
         ensures bad_width { (result ≡ Err Fault.BadWidth) ↔ ((1 ≤ width) × (width ≤ 65536) → ⊥) }
         ensures faults { IfErr result (λ e. (e ≡ Fault.NoMemory) ⊎ (e ≡ Fault.BadWidth)) }

@@ -1,6 +1,7 @@
 //! Discarding the beginning of the journal.
 ghost use Rattle.std.specs.Prelude.{◌≡◌, ◌≢◌, ◌⊎◌, ◌+◌, IfErr};
 ghost use Rattle.shared.specs.Deeds.{Takes, trim_deed};
+ghost use Rattle.shared.specs.Passes.{FindsBusy, VisitsOnce};
 
 use crate::{Pass, Store};
 use book::Fault;
@@ -32,15 +33,15 @@ impl Store {
         result
     }
 
-    /// As `trim`, if no thread is in the critical section. Else `Busy`, which never comes with a
-    /// room of 64, and the pass is unchanged. Every other answer is given from the critical
-    /// section.
+    /// As `trim`, if no other thread is in the critical section. Else `Busy`, which never comes
+    /// with a room of 64: another thread has been in the critical section since the pass was, or is
+    /// there now. Every other answer is given from the critical section.
     pub fn try_trim(&self, alloc: Global, pass: &mut Pass, keep: u64) -> Result<u64, Fault>
         requires { pass.old.store ≡ self.now }
         ensures takes { Takes pass.old (trim_deed keep result) pass.new }
         ensures faults { IfErr result (λ e. (e ≡ Fault.Busy) ⊎ (e ≡ Fault.NoMemory)) }
-        ensures busy { result ≡ Err Fault.Busy → pass.new ≡ pass.old }
-        ensures entered { result ≢ Err Fault.Busy → pass.new.visits ≡ pass.old.visits + 1 }
+        ensures busy { result ≡ Err Fault.Busy → FindsBusy pass.old pass.new }
+        ensures entered { result ≢ Err Fault.Busy → VisitsOnce pass.old pass.new }
         ensures lone { pass.old.room ≡ 64 → result ≢ Err Fault.Busy }
     {
         let Some(mut inside) = self.gate.try_enter(&mut pass.seat) else {

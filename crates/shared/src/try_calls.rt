@@ -1,13 +1,15 @@
-//! The calls that do not wait. They answer `Busy` if another thread is in the critical section.
-//! `Busy` never comes with a room of 64, and it leaves the pass unchanged. Every other answer is
-//! given from the critical section, except if a put could not be sealed. After another fault the
-//! call is in no history, and the pass may have seen more.
+//! The calls that do not wait. They answer `Busy` if another thread is in the critical section,
+//! which never comes with a room of 64. What they show after it: another thread has been there
+//! since the pass was, or is there now. Every other answer is given from the critical section,
+//! except if a put could not be sealed. After another fault the call is in no history, and the pass
+//! may have seen more.
 ghost use Rattle.std.specs.Prelude.{◌≡◌, ◌≢◌, ◌⊎◌, ◌↔◌, ◌+◌, ◌<◌, length, IfOk, IfErr};
 ghost use Rattle.sealed.specs.Layout.{stripe_count};
 ghost use Rattle.history.specs.Step.{put as put_of, read as read_of, lose as lose_of};
 ghost use Rattle.history.specs.Step.{delete as delete_of, stat as stat_of};
 ghost use Rattle.book.specs.Tells.{IsCallFault};
 ghost use Rattle.shared.specs.Calls.{Called, CanGrant, GrantedIn, IfGranted, IsRefusedOutside};
+ghost use Rattle.shared.specs.Passes.{FindsBusy, VisitsOnce};
 
 use crate::{Pass, Store};
 use book::{Answer, Fault, Name};
@@ -32,9 +34,9 @@ impl Store {
             ↔ (4096 < stripe_count Code.Wide self.now.width (length bytes)) }
         ensures faults { IfErr result
             (λ e. (e ≡ Fault.Busy) ⊎ IsCallFault e ⊎ (e ≡ Fault.TooLong)) }
-        ensures busy { result ≡ Err Fault.Busy → pass.new ≡ pass.old }
+        ensures busy { result ≡ Err Fault.Busy → FindsBusy pass.old pass.new }
         ensures entered { result ≢ Err Fault.Busy
-            → (pass.new.visits ≡ pass.old.visits + 1) ⊎ IsRefusedOutside pass.old result pass.new }
+            → VisitsOnce pass.old pass.new ⊎ IsRefusedOutside pass.old result pass.new }
         ensures lone { pass.old.room ≡ 64 → result ≢ Err Fault.Busy }
     {
         self.try_put_as(alloc, pass, name, bytes, Code::Wide)
@@ -55,9 +57,9 @@ impl Store {
             ↔ (4096 < stripe_count code self.now.width (length bytes)) }
         ensures faults { IfErr result
             (λ e. (e ≡ Fault.Busy) ⊎ IsCallFault e ⊎ (e ≡ Fault.TooLong)) }
-        ensures busy { result ≡ Err Fault.Busy → pass.new ≡ pass.old }
+        ensures busy { result ≡ Err Fault.Busy → FindsBusy pass.old pass.new }
         ensures entered { result ≢ Err Fault.Busy
-            → (pass.new.visits ≡ pass.old.visits + 1) ⊎ IsRefusedOutside pass.old result pass.new }
+            → VisitsOnce pass.old pass.new ⊎ IsRefusedOutside pass.old result pass.new }
         ensures lone { pass.old.room ≡ 64 → result ≢ Err Fault.Busy }
     {
         match seal_as(alloc, bytes, self.width, code) {
@@ -88,8 +90,8 @@ impl Store {
         ensures no_memory { result ≡ Err Fault.NoMemory
             → CanGrant pass.new.seen self.now.width name start len }
         ensures faults { IfErr result (λ e. (e ≡ Fault.Busy) ⊎ IsCallFault e) }
-        ensures busy { result ≡ Err Fault.Busy → pass.new ≡ pass.old }
-        ensures entered { result ≢ Err Fault.Busy → pass.new.visits ≡ pass.old.visits + 1 }
+        ensures busy { result ≡ Err Fault.Busy → FindsBusy pass.old pass.new }
+        ensures entered { result ≢ Err Fault.Busy → VisitsOnce pass.old pass.new }
         ensures lone { pass.old.room ≡ 64 → result ≢ Err Fault.Busy }
     {
         self.try_make(pass, Request::Read { name, start, len })
@@ -107,8 +109,8 @@ impl Store {
         requires { pass.old.store ≡ self.now }
         ensures called { Called pass.old (lose_of name stripe fragment) result pass.new }
         ensures faults { IfErr result (λ e. (e ≡ Fault.Busy) ⊎ IsCallFault e) }
-        ensures busy { result ≡ Err Fault.Busy → pass.new ≡ pass.old }
-        ensures entered { result ≢ Err Fault.Busy → pass.new.visits ≡ pass.old.visits + 1 }
+        ensures busy { result ≡ Err Fault.Busy → FindsBusy pass.old pass.new }
+        ensures entered { result ≢ Err Fault.Busy → VisitsOnce pass.old pass.new }
         ensures lone { pass.old.room ≡ 64 → result ≢ Err Fault.Busy }
     {
         self.try_make(
@@ -127,8 +129,8 @@ impl Store {
         requires { pass.old.store ≡ self.now }
         ensures called { Called pass.old (delete_of name) result pass.new }
         ensures faults { IfErr result (λ e. (e ≡ Fault.Busy) ⊎ (e ≡ Fault.JournalFull)) }
-        ensures busy { result ≡ Err Fault.Busy → pass.new ≡ pass.old }
-        ensures entered { result ≢ Err Fault.Busy → pass.new.visits ≡ pass.old.visits + 1 }
+        ensures busy { result ≡ Err Fault.Busy → FindsBusy pass.old pass.new }
+        ensures entered { result ≢ Err Fault.Busy → VisitsOnce pass.old pass.new }
         ensures lone { pass.old.room ≡ 64 → result ≢ Err Fault.Busy }
     {
         self.try_make(pass, Request::Delete { name })
@@ -139,8 +141,8 @@ impl Store {
         requires { pass.old.store ≡ self.now }
         ensures called { Called pass.old (stat_of name) result pass.new }
         ensures faults { IfErr result (λ e. (e ≡ Fault.Busy) ⊎ (e ≡ Fault.JournalFull)) }
-        ensures busy { result ≡ Err Fault.Busy → pass.new ≡ pass.old }
-        ensures entered { result ≢ Err Fault.Busy → pass.new.visits ≡ pass.old.visits + 1 }
+        ensures busy { result ≡ Err Fault.Busy → FindsBusy pass.old pass.new }
+        ensures entered { result ≢ Err Fault.Busy → VisitsOnce pass.old pass.new }
         ensures lone { pass.old.room ≡ 64 → result ≢ Err Fault.Busy }
     {
         self.try_make(pass, Request::Stat { name })

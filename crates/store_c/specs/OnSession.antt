@@ -13,7 +13,7 @@ use Rattle.lent.specs.Granted.{cut_of}
 use Rattle.lent.specs.Walk.{HasAbsent}
 use Rattle.book.specs.declared.answer.Answer.{Answer}
 use Rattle.book.specs.declared.answer.Answer.TheVariants.{Granted}
-use Rattle.shared.specs.Passes.{Shows}
+use Rattle.shared.specs.Passes.{Shows, FindsBusy}
 use Rattle.shared.specs.Calls.{Called}
 use Rattle.shared.specs.Deeds.{Takes, trim_deed}
 use Rattle.shared.specs.Mends.{FoundBusy}
@@ -25,7 +25,7 @@ use Rattle.store_c.specs.Status.{bad_argument, bad_name, done, empty, no_memory,
 -- what a call leaves that another thread kept out of the critical section
 abbrev pub IsAfterBusy : Shows → Operation → Shows → Type 0
 IsAfterBusy v (repair n j f) w = FoundBusy v n j f w
-IsAfterBusy v operation w = w ≡ v
+IsAfterBusy v operation w = FindsBusy v w
 
 -- The call has this reply. C gets its status, and its version if it has one. While the store has no other session, the call is never kept out
 pub record HasReply (v : Shows) (operation : Operation) (reply : Result Answer Fault) (status before after : ℕ) (w : Shows) : Type 0 where
@@ -86,5 +86,5 @@ pub record IsTrimCall (v : Shows) (keep status before after : ℕ) (w : Shows) :
   pub takes : Takes v (trim_deed keep reply) w
   pub status_is : status ≡ status_of_count reply
   pub count_is : after ≡ count_of before reply
-  pub busy : reply ≡ Err Busy → w ≡ v
+  pub busy : reply ≡ Err Busy → FindsBusy v w
   pub lone : v.room ≡ 64 → reply ≢ Err Busy

@@ -7,7 +7,7 @@ use Rattle.history.specs.History.{state_of}
 use Rattle.book.specs.declared.answer.Answer.{Answer}
 use Rattle.book.specs.declared.plan.Item.{Item}
 use Rattle.book.specs.Plan.{plan_of}
-use Rattle.shared.specs.Passes.{Shows}
+use Rattle.shared.specs.Passes.{Shows, FindsBusy}
 use Rattle.shared.specs.Deeds.{Takes}
 use Rattle.session.specs.declared.held.Held.{Held}
 use Rattle.session.specs.declared.held.Held.TheVariants.{Session, Repairs}
@@ -19,7 +19,7 @@ use Rattle.store_c.specs.OnSession.{HasReply}
 pub data IsPlan (v : Shows) (status : ℕ) (counts : ℕ × ℕ) (w : Shows) (given : Option Held) : Type 0 where
   planned : (items : List Item) → status ≡ done → Takes v None w → items ≡ plan_of (state_of w.seen) → counts.1 ≡ length items → given ≡ Some (Repairs items) → IsPlan v status counts w given
   no_room_for_plan : status ≡ no_memory → counts.1 ≡ counts.0 → w ≡ v → given ≡ None → IsPlan v status counts w given
-  plan_refused : (fault : Fault) → status ≡ status_of_fault fault → Takes v None w → (fault ≡ Busy → w ≡ v) → (v.room ≡ 64 → fault ≢ Busy) → counts.1 ≡ counts.0 → given ≡ None
+  plan_refused : (fault : Fault) → status ≡ status_of_fault fault → Takes v None w → (fault ≡ Busy → FindsBusy v w) → (v.room ≡ 64 → fault ≢ Busy) → counts.1 ≡ counts.0 → given ≡ None
       → IsPlan v status counts w given
 
 -- the other slot is empty before; or nothing was done

@@ -34,7 +34,7 @@ returns-clause-kept g c =
     let slots : me.1 ≡ (0, None) ∷ [] = c.seat.invariant.slots ∙ ap slots_of inside in
     let now : c.exchange-before.new.seat.me ≡ (me.0, (0, Some c.args.inside.value) ∷ []) = c.exchange-before.ensures.3 ∙ (λ i. (me.0, (0, Some c.args.inside.value) ∷ rest (slots i))) in
     let after = left_as g.T.Follows.follows 0 0 _ c.store.new.seat.me me.0 c.args.inside.value now c.store.ensures.2 in
-    (cc, ap (λ m. m.0.room) after ∙ ap (λ p. p.room) c.seat.view_is, ap (λ m. m.0.inside) after)
+    (cc, ap (λ m. m.0.room) after ∙ ap (λ p. p.room) c.seat.view_is, ap (λ m. m.0.inside) after, ap (λ m. m.0.expected_length) after ∙ ap (λ p. p.expected_length) c.seat.view_is)
 
 pub returns-clause-own : goal.returns-clause-own
 returns-clause-own g c =

@@ -2,7 +2,8 @@ use Rattle.std.proofs.Common.{◌≡◌, refl, ap, subst, ◌∙◌, ◌<◌, sl
 use Rattle.std.specs.Prelude.{◌↔◌}
 use Rattle.sealed.specs.Layout.{stripe_count}
 use Rattle.sealed.specs.declared.fault.Fault.TheVariants.{TooLong}
-use Rattle.sharded.proofs.Steps.{held, held_stores, call_of_shards, call_step, width_is, held_there}
+use Rattle.history.specs.Step.{put}
+use Rattle.sharded.proofs.Steps.{held, held_stores, call_of_shards, call_step, width_is, held_there, finds_step}
 use Rattle.sharded.proofs.store.ShardedStore.try_put_as.Goals as goal
 
 pub invariant_of-pass : goal.invariant_of-pass
@@ -21,3 +22,6 @@ returns-clause-too_long c =
 
 pub returns-clause-lone : goal.returns-clause-lone
 returns-clause-lone c lone = c.try_put_as.ensures.lone (lone c.find_shard-shard.result c.index_mut-own.result.now (held_there (held c.pass.view_is c.requires c.find_shard-shard.ensures.below c.index_mut-own.ensures.value)))
+
+pub returns-clause-busy : goal.returns-clause-busy
+returns-clause-busy c busy = finds_step (held c.pass.view_is c.requires c.find_shard-shard.ensures.below c.index_mut-own.ensures.value) c.args.name c.find_shard-shard.ensures.value (put c.args.name c.args.code c.args.bytes) c.try_put_as.new.pass (c.try_put_as.ensures.busy busy) refl

@@ -1,7 +1,8 @@
 use Rattle.std.proofs.Common.{refl, ap, subst, ◌∙◌, slice_index_or, IfOk}
 use Rattle.shared.specs.Calls.{GrantedIn, CanGrant, IfGranted}
 use Rattle.sharded.specs.Steps.{width_for}
-use Rattle.sharded.proofs.Steps.{held, held_stores, call_of_shards, call_step, width_is, seen_is, held_there}
+use Rattle.history.specs.Step.{read}
+use Rattle.sharded.proofs.Steps.{held, held_stores, call_of_shards, call_step, width_is, seen_is, held_there, finds_step}
 use Rattle.sharded.proofs.store.ShardedStore.try_read.Goals as goal
 
 pub invariant_of-pass : goal.invariant_of-pass
@@ -25,3 +26,6 @@ returns-clause-no_memory c refused =
 
 pub returns-clause-lone : goal.returns-clause-lone
 returns-clause-lone c lone = c.try_read.ensures.lone (lone c.find_shard-shard.result c.index_mut-own.result.now (held_there (held c.pass.view_is c.requires c.find_shard-shard.ensures.below c.index_mut-own.ensures.value)))
+
+pub returns-clause-busy : goal.returns-clause-busy
+returns-clause-busy c busy = finds_step (held c.pass.view_is c.requires c.find_shard-shard.ensures.below c.index_mut-own.ensures.value) c.args.name c.find_shard-shard.ensures.value (read c.args.name c.args.start c.args.len) c.try_read.new.pass (c.try_read.ensures.busy busy) refl

@@ -1,5 +1,6 @@
 use Rattle.std.proofs.Common.{length}
 use Rattle.shared.specs.Deeds.{Takes, trim_deed}
+use Rattle.shared.specs.Passes.{FindsBusy}
 use Rattle.sharded.proofs.Steps.{held, held_of_shards, held_step, held_stores, held_there, trim_of}
 use Rattle.sharded.proofs.store.ShardedStore.try_trim_shard.Goals as goal
 
@@ -14,3 +15,6 @@ returns-clause-same c = held_stores (held c.pass.view_is c.requires.store c.requ
 
 pub returns-clause-lone : goal.returns-clause-lone
 returns-clause-lone c lone = c.try_trim.ensures.lone (lone c.args.shard c.index_mut-own.result.now (held_there (held c.pass.view_is c.requires.store c.requires.shard c.index_mut-own.ensures.value)))
+
+pub returns-clause-busy : goal.returns-clause-busy
+returns-clause-busy c busy = held_step (held c.pass.view_is c.requires.store c.requires.shard c.index_mut-own.ensures.value) FindsBusy c.try_trim.new.pass (c.try_trim.ensures.busy busy)

@@ -23,7 +23,7 @@ steps g c =
     let l = c.leave.ensures in
     stepped c.pass.inside.seat c.enter-inside.new.seat c.leave.new.seat c.enter-inside.result.value _ _ 0 c.pass.invariant
     (record { same = (e.kept.0, e.kept.1, e.kept.2); seen = e.seen; found = e.found; lone = e.lone })
-    (record { same = l.kept; list = l.list; own = l.own })
+    (record { same = (l.kept.0, l.kept.1, l.kept.2); list = l.list; own = l.own })
     (inspection_goes_on c.inspect-inspection.result c.enter-inside.result.value.0.value c.inspect-inspection.new.kept.0.value c.pass.inside.who c.args.name.now c.args.stripe c.args.fragment m.kept m.found)
 
 pub invariant_of-pass : goal.invariant_of-pass
@@ -33,4 +33,4 @@ pub returns-clause-found : goal.returns-clause-found
 returns-clause-found g c =
     subst (λ v. Found v c.args.name.now c.args.stripe c.args.fragment c.inspect-inspection.result (shows c.leave.new.seat c.pass.inside.who)) c.pass.view_is
     (inspection_found c.pass.inside.seat c.leave.new.seat c.enter-inside.result.value c.inspect-inspection.new.kept c.pass.inside.who c.args.name.now c.args.stripe c.args.fragment c.inspect-inspection.result (steps g c)
-    (left_base c.enter-inside.new.seat c.leave.new.seat c.enter-inside.result.value c.inspect-inspection.new.kept (record { same = c.leave.ensures.kept; list = c.leave.ensures.list; own = c.leave.ensures.own }) c.inspect-inspection.ensures.kept.2) c.inspect-inspection.ensures.found)
+    (left_base c.enter-inside.new.seat c.leave.new.seat c.enter-inside.result.value c.inspect-inspection.new.kept (record { same = (c.leave.ensures.kept.0, c.leave.ensures.kept.1, c.leave.ensures.kept.2); list = c.leave.ensures.list; own = c.leave.ensures.own }) c.inspect-inspection.ensures.kept.2) c.inspect-inspection.ensures.found)

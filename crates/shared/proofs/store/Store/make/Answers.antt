@@ -31,7 +31,7 @@ steps g c =
     let l = c.leave.ensures in
     stepped c.pass.inside.seat c.enter-inside.new.seat c.leave.new.seat c.enter-inside.result.value _ _ 0 c.pass.invariant
     (record { same = (e.kept.0, e.kept.1, e.kept.2); seen = e.seen; found = e.found; lone = e.lone })
-    (record { same = l.kept; list = l.list; own = l.own })
+    (record { same = (l.kept.0, l.kept.1, l.kept.2); list = l.list; own = l.own })
     (call_goes_on c.make_on-result.result c.enter-inside.result.value.0.value c.make_on-result.new.kept.0.value c.pass.inside.who (operation_of c.args.request) m.kept (answered c.make_on-result.result c.enter-inside.result.value.0.value c.make_on-result.new.kept.0.value c.pass.inside.who (operation_of c.args.request) m.ok m.full) m.err)
 
 can : (g : given.Over) (c : goal.After-leave g) → CanMake c.enter-inside.result.value.0.value c.args.request
@@ -48,7 +48,7 @@ returns-clause-called g c =
     let m = c.make_on-result.ensures in
     subst (λ v. Called v (operation_of c.args.request) c.make_on-result.result (shows c.leave.new.seat c.pass.inside.who)) c.pass.view_is
     (called c.pass.inside.seat c.leave.new.seat c.enter-inside.result.value c.pass.inside.who (operation_of c.args.request) c.make_on-result.result (steps g c)
-    (left_base c.enter-inside.new.seat c.leave.new.seat c.enter-inside.result.value _ (record { same = c.leave.ensures.kept; list = c.leave.ensures.list; own = c.leave.ensures.own }) m.kept.2) m.full
+    (left_base c.enter-inside.new.seat c.leave.new.seat c.enter-inside.result.value _ (record { same = (c.leave.ensures.kept.0, c.leave.ensures.kept.1, c.leave.ensures.kept.2); list = c.leave.ensures.list; own = c.leave.ensures.own }) m.kept.2) m.full
     (λ _. request_fits c.enter-inside.result.value.0.value c.args.request (can g c))
     (never_too_long c.make_on-result.result c.args.request m.faults))
 

@@ -21,7 +21,7 @@ steps g c =
     let l = c.leave.ensures in
     stepped c.pass.inside.seat c.enter-inside.new.seat c.leave.new.seat c.enter-inside.result.value _ [] (given_by c.trim-result.result) c.pass.invariant
     (record { same = (e.kept.0, e.kept.1, e.kept.2); seen = e.seen; found = e.found; lone = e.lone })
-    (record { same = l.kept; list = l.list; own = l.own })
+    (record { same = (l.kept.0, l.kept.1, l.kept.2); list = l.list; own = l.own })
     (trim_goes_on c.trim-result.result c.enter-inside.result.value.0.value c.trim-result.new.self.0.value t.kept.0 t.kept.1 t.told t.trimmed t.err)
 
 pub invariant_of-pass : goal.invariant_of-pass

@@ -1,4 +1,4 @@
-use Rattle.std.proofs.Common.{◌+◌, IfSome, ap, sym, subst, ◌∙◌}
+use Rattle.std.proofs.Common.{IfSome, ap, sym, subst, ◌∙◌}
 use Rattle.requests.specs.Between.{MayFollow}
 use Rattle.shared.specs.Passes.{Which, Shows, shows}
 use Rattle.shared.specs.Calls.{Called}
@@ -6,7 +6,7 @@ use Rattle.requests.specs.Requests.{operation_of, CanMake}
 use Rattle.requests.proofs.Between.{goes_follows}
 use Rattle.shared.proofs.Steps.{made_by, Stepped, left_base, stepped, answered, call_goes_on, called}
 use Rattle.requests.proofs.Requests.{request_fits, never_too_long}
-use Rattle.shared.proofs.Requests.{was_busy, can_make_inside}
+use Rattle.shared.proofs.Requests.{was_busy, can_make_inside, busy_pass, finds_busy, visits_once}
 use Rattle.shared.proofs.Grants.{all_granted, wanted_for}
 use Rattle.shared.proofs.store.Store.try_make.Goals as goal
 
@@ -30,7 +30,7 @@ steps c =
     let l = c.leave.ensures in
     stepped c.pass.inside.seat c.try_enter.new.seat c.leave.new.seat c.in-Some.inside.value _ _ 0 c.pass.invariant
     (record { same = (e.kept.0, e.kept.1, e.kept.2); seen = e.seen; found = c.in-Some.ensures.found.1; lone = λ all. (e.lone all).1 })
-    (record { same = l.kept; list = l.list; own = l.own })
+    (record { same = (l.kept.0, l.kept.1, l.kept.2); list = l.list; own = l.own })
     (call_goes_on c.make_on-result.result c.in-Some.inside.value.0.value c.make_on-result.new.kept.0.value c.pass.inside.who (operation_of c.args.request) m.kept (answered c.make_on-result.result c.in-Some.inside.value.0.value c.make_on-result.new.kept.0.value c.pass.inside.who (operation_of c.args.request) m.ok m.full) m.err)
 
 can : (c : goal.After-leave) → CanMake c.in-Some.inside.value.0.value c.args.request
@@ -47,7 +47,7 @@ returns-clause-called c =
     let m = c.make_on-result.ensures in
     subst (λ v. Called v (operation_of c.args.request) c.make_on-result.result (shows c.leave.new.seat c.pass.inside.who)) c.pass.view_is
     (called c.pass.inside.seat c.leave.new.seat c.in-Some.inside.value c.pass.inside.who (operation_of c.args.request) c.make_on-result.result (steps c)
-    (left_base c.try_enter.new.seat c.leave.new.seat c.in-Some.inside.value _ (record { same = c.leave.ensures.kept; list = c.leave.ensures.list; own = c.leave.ensures.own }) m.kept.2) m.full
+    (left_base c.try_enter.new.seat c.leave.new.seat c.in-Some.inside.value _ (record { same = (c.leave.ensures.kept.0, c.leave.ensures.kept.1, c.leave.ensures.kept.2); list = c.leave.ensures.list; own = c.leave.ensures.own }) m.kept.2) m.full
     (λ _. request_fits c.in-Some.inside.value.0.value c.args.request (can c))
     (never_too_long c.make_on-result.result c.args.request m.faults))
 
@@ -68,4 +68,11 @@ returns-in_default-clause-called c =
     was_busy c.pass.inside.seat c.try_enter.new.seat c.pass.inside.who c.args.pass.now (operation_of c.args.request) c.pass.invariant c.in_default.ensures.none c.pass.view_is
 
 pub returns-clause-entered : goal.returns-clause-entered
-returns-clause-entered c = λ _. (steps c).visits ∙ ap (λ (v : Shows). v.visits + 1) c.pass.view_is
+returns-clause-entered c = λ _.
+    visits_once c.pass.inside.seat c.try_enter.new.seat c.leave.new.seat c.pass.inside.who c.args.pass.now _ c.in-Some.ensures.expected c.leave.ensures.list (steps c).visits c.pass.view_is
+
+pub returns-in_default-clause-busy : goal.returns-in_default-clause-busy
+returns-in_default-clause-busy c = λ _. finds_busy c.pass.inside.seat c.try_enter.new.seat c.pass.inside.who c.args.pass.now c.in_default.ensures.none c.pass.view_is
+
+pub invariant_of-pass : goal.invariant_of-pass
+invariant_of-pass c = busy_pass c.pass.inside.seat c.try_enter.new.seat c.pass.invariant c.in_default.ensures.none

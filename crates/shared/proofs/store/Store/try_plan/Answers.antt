@@ -1,7 +1,7 @@
-use Rattle.std.proofs.Common.{◌+◌, [], None, refl, ap, subst, ◌∙◌}
-use Rattle.shared.specs.Passes.{Shows, shows}
+use Rattle.std.proofs.Common.{[], None, refl, subst}
+use Rattle.shared.specs.Passes.{shows}
 use Rattle.shared.specs.Deeds.{Takes}
-use Rattle.shared.proofs.Requests.{did_nothing}
+use Rattle.shared.proofs.Requests.{did_nothing, busy_pass, finds_busy, visits_once}
 use Rattle.shared.proofs.Steps.{Stepped, stepped, same_goes_on, takes, unchanged}
 use Rattle.shared.proofs.Looks.{planned}
 use Rattle.shared.proofs.store.Store.try_plan.Goals as goal
@@ -12,7 +12,7 @@ steps c =
     let l = c.leave.ensures in
     stepped c.pass.inside.seat c.try_enter.new.seat c.leave.new.seat c.in-Some.inside.value c.in-Some.inside.value [] 0 c.pass.invariant
     (record { same = (e.kept.0, e.kept.1, e.kept.2); seen = e.seen; found = c.in-Some.ensures.found.1; lone = λ all. (e.lone all).1 })
-    (record { same = l.kept; list = l.list; own = l.own })
+    (record { same = (l.kept.0, l.kept.1, l.kept.2); list = l.list; own = l.own })
     (same_goes_on c.in-Some.inside.value.0.value c.in-Some.inside.value.0.value refl)
 
 pub leave-requires-clause-follows : goal.leave-requires-clause-follows
@@ -35,4 +35,11 @@ returns-in_default-clause-takes c =
     did_nothing c.pass.inside.seat c.try_enter.new.seat c.pass.inside.who c.args.pass.now c.pass.invariant c.in_default.ensures.none c.pass.view_is
 
 pub returns-clause-entered : goal.returns-clause-entered
-returns-clause-entered c = λ _. (steps c).visits ∙ ap (λ (v : Shows). v.visits + 1) c.pass.view_is
+returns-clause-entered c = λ _.
+    visits_once c.pass.inside.seat c.try_enter.new.seat c.leave.new.seat c.pass.inside.who c.args.pass.now _ c.in-Some.ensures.expected c.leave.ensures.list (steps c).visits c.pass.view_is
+
+pub returns-in_default-clause-busy : goal.returns-in_default-clause-busy
+returns-in_default-clause-busy c = λ _. finds_busy c.pass.inside.seat c.try_enter.new.seat c.pass.inside.who c.args.pass.now c.in_default.ensures.none c.pass.view_is
+
+pub invariant_of-pass : goal.invariant_of-pass
+invariant_of-pass c = busy_pass c.pass.inside.seat c.try_enter.new.seat c.pass.invariant c.in_default.ensures.none

@@ -2,8 +2,7 @@ use Rattle.std.proofs.Common.{ℕ, inr, ap, sym, subst, ◌∙◌}
 use Rattle.sealed.specs.declared.value.Sealed.{Sealed}
 use Rattle.sealed.specs.Rebuilding.{IsRebuildable}
 use Rattle.book.specs.Known.{IsFragmentIn}
-use Rattle.shared.specs.Passes.{Shows}
-use Rattle.shared.specs.Mends.{IsKnown, CanMend}
+use Rattle.shared.specs.Mends.{IsKnown}
 use Rattle.shared.proofs.Mends.{known_fragment, looks_then_called}
 use Rattle.shared.proofs.store.Store.try_repair.Goals as goal
 
@@ -24,4 +23,4 @@ returns-clause-called c =
 
 pub returns-clause-busy : goal.returns-clause-busy
 returns-clause-busy c = λ busy.
-    inr (c.in-Rebuildable.sealed.value, subst (λ (w : Shows). CanMend c.args.pass.now c.args.name c.args.stripe c.args.fragment c.in-Rebuildable.sealed.value w) (sym (c.try_make.ensures.busy busy)) c.in-Rebuildable.ensures.found)
+    inr (c.in-Rebuildable.sealed.value, c.try_inspect.new.pass, c.in-Rebuildable.ensures.found, c.try_make.ensures.busy busy)
