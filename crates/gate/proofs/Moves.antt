@@ -9,7 +9,7 @@ use Rattle.atomic_table.specs.Table.{State, Me, step, keeps, takes, gives, put_b
 use mathlib.Core.Logic.{dite}
 use native.Mathlib.Decide.{ℕ_discrete, dec_le}
 use lib.Seq.{set-get_or}
-use Rattle.atomic_table.proofs.Lists.{at_set, at_snoc, set_again, set_here, set_else, at_longer}
+use Rattle.atomic_table.proofs.Lists.{at_set, at_snoc, set_here, set_else, at_longer}
 use Rattle.gate.specs.declared.view.Shown.{Shown}
 use Rattle.gate.specs.declared.view.View.{View}
 use Rattle.gate.specs.Places.{last_of, times, once_later, IsWithin, HasAll}

@@ -40,8 +40,8 @@ impl ShardedStore {
         Ok(())
     }
 
-    /// As `trim`, but `Busy` at the first shard at which another caller is inside. The pass to this
-    /// shard, and those behind it, are then as they were.
+    /// As `trim`, but `Busy` at the first shard whose critical section another caller is in. The
+    /// journals of the shards before it were then trimmed, and those behind it are unchanged.
     pub fn try_trim(&self, alloc: Global, pass: &mut ShardedPass, keep: u64) -> Result<(), Fault>
         requires { stores_of pass.old ≡ self.now }
         ensures ok { OnOk result (AreSteps (IsTrimmed keep) pass.old pass.new) }
@@ -84,8 +84,8 @@ impl ShardedStore {
         store.trim(rt, alloc, own, keep)
     }
 
-    /// As `trim_shard`, but `Busy` if another caller is inside that shard. The pass is then as it
-    /// was.
+    /// As `trim_shard`, but `Busy` if another caller is in the critical section of that shard. Then
+    /// no entry was discarded.
     pub fn try_trim_shard(
         &self,
         alloc: Global,

@@ -1,7 +1,7 @@
-use Rattle.std.proofs.Common.{◌+◌, IfSome, ap, sym, subst, ◌∙◌}
+use Rattle.std.proofs.Common.{IfSome, sym, subst}
 use Rattle.history.specs.Step.{repair}
 use Rattle.requests.specs.Between.{MayFollow}
-use Rattle.shared.specs.Passes.{Shows, shows}
+use Rattle.shared.specs.Passes.{shows}
 use Rattle.shared.specs.Mends.{Found}
 use Rattle.requests.proofs.Between.{goes_follows}
 use Rattle.shared.proofs.Requests.{was_busy, busy_pass, finds_busy, visits_once}

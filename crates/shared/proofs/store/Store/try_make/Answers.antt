@@ -1,4 +1,4 @@
-use Rattle.std.proofs.Common.{◌+◌, IfSome, ap, sym, subst, ◌∙◌}
+use Rattle.std.proofs.Common.{IfSome, ap, sym, subst, ◌∙◌}
 use Rattle.requests.specs.Between.{MayFollow}
 use Rattle.shared.specs.Passes.{Which, Shows, shows}
 use Rattle.shared.specs.Calls.{Called}

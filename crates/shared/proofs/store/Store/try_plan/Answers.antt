@@ -1,5 +1,5 @@
-use Rattle.std.proofs.Common.{◌+◌, [], None, refl, ap, subst, ◌∙◌}
-use Rattle.shared.specs.Passes.{Shows, shows}
+use Rattle.std.proofs.Common.{[], None, refl, subst}
+use Rattle.shared.specs.Passes.{shows}
 use Rattle.shared.specs.Deeds.{Takes}
 use Rattle.shared.proofs.Requests.{did_nothing, busy_pass, finds_busy, visits_once}
 use Rattle.shared.proofs.Steps.{Stepped, stepped, same_goes_on, takes, unchanged}

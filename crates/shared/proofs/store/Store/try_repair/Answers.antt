@@ -2,8 +2,7 @@ use Rattle.std.proofs.Common.{ℕ, inr, ap, sym, subst, ◌∙◌}
 use Rattle.sealed.specs.declared.value.Sealed.{Sealed}
 use Rattle.sealed.specs.Rebuilding.{IsRebuildable}
 use Rattle.book.specs.Known.{IsFragmentIn}
-use Rattle.shared.specs.Passes.{Shows}
-use Rattle.shared.specs.Mends.{IsKnown, CanMend}
+use Rattle.shared.specs.Mends.{IsKnown}
 use Rattle.shared.proofs.Mends.{known_fragment, looks_then_called}
 use Rattle.shared.proofs.store.Store.try_repair.Goals as goal
 

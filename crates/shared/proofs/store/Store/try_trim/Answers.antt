@@ -1,6 +1,6 @@
-use Rattle.std.proofs.Common.{◌+◌, [], IfSome, ap, sym, subst, ◌∙◌}
+use Rattle.std.proofs.Common.{[], IfSome, sym, subst}
 use Rattle.requests.specs.Between.{MayFollow}
-use Rattle.shared.specs.Passes.{Shows, shows}
+use Rattle.shared.specs.Passes.{shows}
 use Rattle.shared.specs.Deeds.{trim_deed, Takes}
 use Rattle.requests.proofs.Between.{goes_follows}
 use Rattle.shared.proofs.Requests.{did_nothing, busy_pass, finds_busy, visits_once}
