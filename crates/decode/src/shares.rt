@@ -197,8 +197,8 @@ fn shares_by_recipe(code: Code, lost: LostSet, f: u8) -> Option<[u8; 4]>
 }
 
 /// The shares of a lost fragment: in every column it is the sum of the four syndromes of the
-/// remaining fragments, each times its share. They depend on the lost set alone. Returns None if and
-/// only if the fragment is open.
+/// remaining fragments, each times its share. They depend on the lost set alone. Returns None if
+/// and only if the fragment is open.
 pub fn shares_of(code: Code, lost: LostSet, f: u8) -> Option<[u8; 4]>
     requires f_below { f < fragment_count code }
     requires f_lost { is_lost lost f ≡ true }

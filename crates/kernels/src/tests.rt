@@ -25,7 +25,8 @@ fn combined_lists(rt: HostRuntime) -> Result<(), Fail> {
     Ok(())
 }
 
-/// Whether the parities of twelve lists, of which one has 1 at each of `w` places and the others 0, are these.
+/// Whether the parities of twelve lists, of which one has 1 at each of `w` places and the others 0,
+/// are these.
 fn has_parities(
     alloc: Global,
     w: usize,

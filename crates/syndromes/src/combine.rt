@@ -9,9 +9,9 @@ ghost use Rattle.syndromes.specs.Plans.{IsPlan, AreWeightsFor, AreSyndromes};
 
 use crate::blocks::{BLOCK, part_or_zeros, write_syndromes};
 use crate::formulas::{Formula, formulas_for};
-use crate::lanes::LANES;
 use crate::pass::{Plan, add_list, plain_of, plan_for, weigh, write_sum, write_taken};
 use crate::weights::Weights;
+use kernels::LANES;
 
 /// Adds the places `at..end` of a target that was made before, where it is to be added.
 fn add_made(part: &mut [u8], shares: Option<[u8; 4]>, made: &[u8], at: usize, end: usize)
@@ -168,7 +168,7 @@ fn make_target(
     }
 }
 
-/// Writes the syndromes of the places `at..end`; the third and the fourth only where they are taken.
+/// Writes the syndromes of the places `at..end`; the third and the fourth only if they are taken.
 fn write_block(
     lists: &[Option<&[u8]>; 16],
     at: usize,

@@ -9,8 +9,8 @@ ghost use Rattle.syndromes.specs.Plans.{IsPlan};
 use crate::blocks::combine_four;
 use crate::columns::{Columns, columns_at};
 use crate::formulas::{Formula, Formulas};
-use crate::lanes::{LANES, load, store, sum_2};
 use crate::weights::Weights;
+use kernels::{LANES, load, store, sum_2};
 use std::simd::prelude::*;
 
 /// The formulas of four targets, what they multiply by, and which syndromes they take.
