@@ -5,7 +5,7 @@ ghost use Rattle.kernels.specs.Doublings.{third_apart, fourth_apart};
 ghost use Rattle.kernels.specs.Lists.{bytes_at, list_at};
 ghost use Rattle.syndromes.specs.Syndromes.{syndrome};
 
-use kernels::{LANES, GroupSums, fourth_each, load_from, sum_2, sums_of, third_each};
+use kernels::{GroupSums, LANES, fourth_each, load_from, sum_2, sums_of, third_each};
 use std::simd::prelude::*;
 
 /// The four syndromes at thirty-two places.

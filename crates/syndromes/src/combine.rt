@@ -123,44 +123,52 @@ fn make_part(
     add_made(part, formula.first, first, at, end);
 }
 
-/// Where a formula is given, makes the places `at..end` of its target, which has those before
-/// already.
-fn make_target(
-    lists: &[Option<&[u8]>; 16],
-    target: &mut [u8],
+/// Some places of the lists with their syndromes.
+#[derive(Clone, Copy, Drop)]
+struct Block<'a, 'b, 'c> {
+    lists: &'a [Option<&'b [u8]>; 16],
     at: usize,
     end: usize,
-    formula: &Option<Formula>,
-    weights: &Weights,
+    syndromes: [&'c [u8]; 4],
     has_third: bool,
     has_fourth: bool,
-    syndromes: &[&[u8]; 4],
+}
+
+/// Where a formula is given, makes the places of a block of its target, which has those before
+/// already.
+fn make_target(
+    block: &Block,
+    target: &mut [u8],
+    formula: &Option<Formula>,
+    weights: &Weights,
     first: &[u8],
     second: &[u8],
     third: &[u8],
 )
-    requires formula { IfSome formula.now (λ f. IsFormula f × HasRoom f.first end first.now
-        × HasRoom f.second end second.now × HasRoom f.third end third.now
-        × HasSums lists.now f.first end first.now × HasSums lists.now f.second end second.now
-        × HasSums lists.now f.third end third.now) }
-    requires order { at ≤ end }
-    requires room { HasRoom (shares_for formula.now) end target.old }
-    requires before { HasSums lists.now (shares_for formula.now) at target.old }
-    requires same { All (λ s. length s.now ≡ end - at) syndromes.now }
-    requires weights { AreWeightsFor formula.now weights.now has_third has_fourth }
-    requires are { AreSyndromes lists.now at end has_third has_fourth
-        (map (λ s. s.now) syndromes.now) }
-    ensures made { HasSums lists.now (shares_for formula.now) end target.new }
+    requires formula { IfSome formula.now (λ f. IsFormula f × HasRoom f.first block.now.end first.now
+        × HasRoom f.second block.now.end second.now × HasRoom f.third block.now.end third.now
+        × HasSums block.now.lists.now f.first block.now.end first.now
+        × HasSums block.now.lists.now f.second block.now.end second.now
+        × HasSums block.now.lists.now f.third block.now.end third.now) }
+    requires order { block.now.at ≤ block.now.end }
+    requires room { HasRoom (shares_for formula.now) block.now.end target.old }
+    requires before { HasSums block.now.lists.now (shares_for formula.now) block.now.at target.old }
+    requires same { All (λ s. length s.now ≡ block.now.end - block.now.at) block.now.syndromes }
+    requires weights { AreWeightsFor formula.now weights.now block.now.has_third
+        block.now.has_fourth }
+    requires are { AreSyndromes block.now.lists.now block.now.at block.now.end block.now.has_third
+        block.now.has_fourth (map (λ s. s.now) block.now.syndromes) }
+    ensures made { HasSums block.now.lists.now (shares_for formula.now) block.now.end target.new }
     ensures kept { formula.now ≡ None → target.new ≡ target.old }
 {
     if let Some(formula) = formula {
         make_part(
-            &mut target[at..end],
-            at,
-            end,
+            &mut target[block.at..block.end],
+            block.at,
+            block.end,
             formula,
             weights,
-            syndromes,
+            &block.syndromes,
             first,
             second,
             third,
@@ -245,63 +253,27 @@ fn make_block(
     ensures third_kept { plan.now.formulas.third ≡ None → third.new ≡ third.old }
     ensures fourth_kept { plan.now.formulas.fourth ≡ None → fourth.new ≡ fourth.old }
 {
-    let f = &plan.formulas;
     let t = plan.takes_third;
     let u = plan.takes_fourth;
     write_block(lists, at, end, t, u, one, two, three, four);
-    let s: [&[u8]; 4] = [one, two, three, four];
-    make_target(
+    let syndromes: [&[u8]; 4] = [one, two, three, four];
+    let block = Block {
         lists,
-        first,
         at,
         end,
-        &f.first,
-        &plan.first,
-        t,
-        u,
-        &s,
-        &[],
-        &[],
-        &[],
-    );
+        syndromes,
+        has_third: t,
+        has_fourth: u,
+    };
+    let f = &plan.formulas;
+    make_target(&block, first, &f.first, &plan.first, &[], &[], &[]);
+    make_target(&block, second, &f.second, &plan.second, first, &[], &[]);
+    make_target(&block, third, &f.third, &plan.third, first, second, &[]);
     make_target(
-        lists,
-        second,
-        at,
-        end,
-        &f.second,
-        &plan.second,
-        t,
-        u,
-        &s,
-        first,
-        &[],
-        &[],
-    );
-    make_target(
-        lists,
-        third,
-        at,
-        end,
-        &f.third,
-        &plan.third,
-        t,
-        u,
-        &s,
-        first,
-        second,
-        &[],
-    );
-    make_target(
-        lists,
+        &block,
         fourth,
-        at,
-        end,
         &f.fourth,
         &plan.fourth,
-        t,
-        u,
-        &s,
         first,
         second,
         third,
