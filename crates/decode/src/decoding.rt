@@ -176,9 +176,10 @@ fn are_syndromes_faster(code: Code, lost: LostSet, far: u32, width: usize) -> bo
     let are_globals_lost = !lost.left(last) && !lost.left(last - 1);
     match far {
         0 => false,
-        1 => width >= 1,
-        _ if are_globals_lost => width >= 1,
-        _ => width >= 1,
+        1 => width >= 4096,
+        2 if are_globals_lost => width >= 1024,
+        2 => width >= 256,
+        _ => width >= 128,
     }
 }
 

@@ -4,13 +4,11 @@ ghost use Rattle.std.specs.Prelude.{IfSome, length, map, slice_index, bit_xor};
 ghost use Rattle.kernels.specs.Lists.{combined, bytes_at, list_at};
 ghost use Rattle.syndromes.specs.Syndromes.{syndrome, column_at, HaveBytes, HasSums, HasRoom};
 ghost use Rattle.syndromes.specs.Formulas.{IsFormula, AreFormulas, addend, shares_for};
-ghost use Rattle.syndromes.specs.Weights.{AreWeights};
-ghost use Rattle.syndromes.specs.Plans.{IsPlan, AreWeightsFor, AreSyndromes};
+ghost use Rattle.syndromes.specs.Plans.{IsPlan, TakesOnly, AreSyndromes};
 
 use crate::blocks::{BLOCK, part_or_zeros, write_syndromes};
 use crate::formulas::{Formula, formulas_for};
 use crate::pass::{Plan, add_list, plain_of, plan_for, weigh, write_sum, write_taken};
-use crate::weights::Weights;
 use kernels::LANES;
 
 /// Adds the places `at..end` of a target that was made before, where it is to be added.
@@ -93,7 +91,6 @@ fn make_part(
     at: usize,
     end: usize,
     formula: &Formula,
-    weights: &Weights,
     syndromes: &[&[u8]; 4],
     first: &[u8],
     second: &[u8],
@@ -102,7 +99,6 @@ fn make_part(
     requires order { at ≤ end }
     requires long { length part.old ≡ end - at }
     requires same { All (λ s. length s.now ≡ end - at) syndromes.now }
-    requires weights { AreWeights weights.now formula.now.factors }
     requires first_room { HasRoom formula.now.first end first.now }
     requires second_room { HasRoom formula.now.second end second.now }
     requires third_room { HasRoom formula.now.third end third.now }
@@ -117,7 +113,7 @@ fn make_part(
         make_plainly(part, at, end, formula, syndromes[e], first, second, third);
         return;
     }
-    weigh(part, weights, &formula.factors, syndromes);
+    weigh(part, &formula.factors, syndromes);
     add_made(part, formula.third, third, at, end);
     add_made(part, formula.second, second, at, end);
     add_made(part, formula.first, first, at, end);
@@ -140,7 +136,6 @@ fn make_target(
     block: &Block,
     target: &mut [u8],
     formula: &Option<Formula>,
-    weights: &Weights,
     first: &[u8],
     second: &[u8],
     third: &[u8],
@@ -154,8 +149,7 @@ fn make_target(
     requires room { HasRoom (shares_for formula.now) block.now.end target.old }
     requires before { HasSums block.now.lists.now (shares_for formula.now) block.now.at target.old }
     requires same { All (λ s. length s.now ≡ block.now.end - block.now.at) block.now.syndromes }
-    requires weights { AreWeightsFor formula.now weights.now block.now.has_third
-        block.now.has_fourth }
+    requires takes { TakesOnly formula.now block.now.has_third block.now.has_fourth }
     requires are { AreSyndromes block.now.lists.now block.now.at block.now.end block.now.has_third
         block.now.has_fourth (map (λ s. s.now) block.now.syndromes) }
     ensures made { HasSums block.now.lists.now (shares_for formula.now) block.now.end target.new }
@@ -167,7 +161,6 @@ fn make_target(
             block.at,
             block.end,
             formula,
-            weights,
             &block.syndromes,
             first,
             second,
@@ -266,18 +259,10 @@ fn make_block(
         has_fourth: u,
     };
     let f = &plan.formulas;
-    make_target(&block, first, &f.first, &plan.first, &[], &[], &[]);
-    make_target(&block, second, &f.second, &plan.second, first, &[], &[]);
-    make_target(&block, third, &f.third, &plan.third, first, second, &[]);
-    make_target(
-        &block,
-        fourth,
-        &f.fourth,
-        &plan.fourth,
-        first,
-        second,
-        third,
-    );
+    make_target(&block, first, &f.first, &[], &[], &[]);
+    make_target(&block, second, &f.second, first, &[], &[]);
+    make_target(&block, third, &f.third, first, second, &[]);
+    make_target(&block, fourth, &f.fourth, first, second, third);
 }
 
 /// Makes each of four targets the sum of the four syndromes of the lists, each times its share, at
