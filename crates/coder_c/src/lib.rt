@@ -1,17 +1,24 @@
 //! The coder for C: `include/lrc_coder.h` declares these functions.
 //!
-//! A slice is passed as an address and a length, and an array of slices as an array of such pairs. What a call needs of
-//! its arguments it tests, and answers `BAD_ARGUMENT` where one is none that it takes. No call asks for memory or keeps
-//! anything, so any number of threads may call them; and each leaves its targets as they were, unless it is `DONE`.
+//! A slice is passed as an address and a length, and an array of slices as an array of such pairs.
+//! What a call needs of its arguments it tests, and answers `BAD_ARGUMENT` where one is none that
+//! it takes. No call allocates or keeps anything, so any number of threads may call them; and
+//! each leaves its targets as they were, unless it is `DONE`.
 #![tactic(auto)]
 
-ghost use Rattle.std.specs.Prelude.{◌≡◌, ◌≢◌, ℕ, ◌+◌, ◌-◌, ◌<◌, ◌≤◌, ◌^◌, ◌↔◌, ◌⊎◌, IsTrue, All, IfSome, IsSomeAnd, MatchOption, EachIndex, length, map, slice_index, slice_index_or, bit_xor, None, true, false, [], ◌∷◌, ◌==◌, if◌then◌else◌};
+ghost use Rattle.std.specs.Prelude.{◌≡◌, ◌≢◌, ℕ, ◌+◌, ◌-◌, ◌<◌, ◌≤◌, ◌^◌, ◌↔◌, ◌⊎◌, IsTrue, All};
+ghost use Rattle.std.specs.Prelude.{IfSome, IsSomeAnd, MatchOption, EachIndex, length, map};
+ghost use Rattle.std.specs.Prelude.{slice_index, slice_index_or, bit_xor, None, true, false, []};
+ghost use Rattle.std.specs.Prelude.{◌∷◌, ◌==◌, if◌then◌else◌};
 ghost use Rattle.gf256.specs.Field.{product};
-ghost use Rattle.lrc_code.specs.Code.{fragment_count, data_count, weight, is_lost, is_alone, is_only_lost_of, first_group, second_group, Open};
+ghost use Rattle.lrc_code.specs.Code.{fragment_count, data_count, weight, is_lost, is_alone};
+ghost use Rattle.lrc_code.specs.Code.{is_only_lost_of, first_group, second_group, Open};
 ghost use Rattle.lrc_code.specs.Stripe.{IsStripe, list_at, is_absent, slot, bytes_of};
 ghost use Rattle.lrc_code.specs.Recipe.{IsRecipe, IsLeast, local_recipe};
 ghost use Rattle.decode.specs.Decoding.{HasOpen};
-ghost use Rattle.coder_c.specs.Call.{code_with, with_parities, FourHave, AddsData, IsLostIn, LeftReach, RebuildsLost, AreLostIn, HasRoomFor, HaveRoomFor, DecodesLost, chosen_by, chosen_of, terms_of};
+ghost use Rattle.coder_c.specs.Call.{code_with, with_parities, FourHave, AddsData, IsLostIn};
+ghost use Rattle.coder_c.specs.Call.{LeftReach, RebuildsLost, AreLostIn, HasRoomFor, HaveRoomFor};
+ghost use Rattle.coder_c.specs.Call.{DecodesLost, chosen_by, chosen_of, terms_of};
 
 use decode::decode_to;
 use gf256::add_scaled;
@@ -20,7 +27,7 @@ use lrc_code::{Code, Left, LostSet, Term, encode_to, is_open_in, rebuild_to, rec
 /// What was asked was done; or the answer is no.
 const DONE: u32 = 0;
 
-/// Nothing that is left tells the fragment; or the answer is yes.
+/// The fragment is unrecoverable; or the answer is yes.
 const OPEN: u32 = 1;
 
 /// An argument is none that the call takes.
@@ -41,9 +48,11 @@ fn four_have(w: usize, first: &[u8], second: &[u8], third: &[u8], fourth: &[u8])
     first.len() == w && second.len() == w && third.len() == w && fourth.len() == w
 }
 
-/// Writes the four parities of the data fragments: together they are a stripe of the code with so many data fragments.
+/// Writes the four parities of the data fragments: together they are a stripe of the code with so
+/// many data fragments.
 ///
-/// `BAD_ARGUMENT` comes exactly where no code has so many, or the data and the parities have not all the same length.
+/// Returns `BAD_ARGUMENT` if and only if no code has so many, or the data and the parities have not
+/// all the same length.
 #[unsafe(no_mangle)]
 pub extern "C" fn lrc_encode(
     sources: &[&[u8]],
@@ -53,11 +62,14 @@ pub extern "C" fn lrc_encode(
     fourth: &mut [u8],
 ) -> u32
     ensures stripe { result ≡ DONE → IfSome (code_with (length sources.now)) (λ code.
-        IsStripe code (length first.new) (with_parities (map (λ s. s.now) sources.now) first.new second.new third.new fourth.new)) }
+        IsStripe code (length first.new) (with_parities (map
+        (λ s. s.now) sources.now) first.new second.new third.new fourth.new)) }
     ensures taken { (result ≢ BAD_ARGUMENT) ↔ IsSomeAnd (code_with (length sources.now)) (λ _.
-        All (λ s. length s.now ≡ length first.old) sources.now × FourHave (length first.old) first.old second.old third.old fourth.old) }
+        All (λ s. length s.now ≡ length first.old) sources.now
+        × FourHave (length first.old) first.old second.old third.old fourth.old) }
     ensures answers { (result ≡ DONE) ⊎ (result ≡ BAD_ARGUMENT) }
-    ensures kept { result ≢ DONE → (first.new ≡ first.old) × (second.new ≡ second.old) × (third.new ≡ third.old) × (fourth.new ≡ fourth.old) }
+    ensures kept { result ≢ DONE → (first.new ≡ first.old) × (second.new ≡ second.old)
+        × (third.new ≡ third.old) × (fourth.new ≡ fourth.old) }
 {
     let w = first.len();
     let Some(code) = code_of(sources.len()) else {
@@ -82,14 +94,16 @@ const ONE: &[u8] = &[1];
 fn unit_data(fragment: usize) -> [&'static [u8]; 12]
     requires { fragment < 12 }
     ensures count { length result ≡ 12 }
-    ensures at { (i : ℕ) → i < 12 → list_at (map (λ s. s.now) result) i ≡ (if i == fragment then 1 else 0) ∷ [] }
+    ensures at { (i : ℕ) → i < 12 → list_at (map (λ s. s.now) result) i
+        ≡ (if i == fragment then 1 else 0) ∷ [] }
 {
     let mut data = [ZERO; 12];
     data[fragment] = ONE;
     data
 }
 
-/// What a data fragment weighs in the four equations: the parities of data that are 1 there, and 0 elsewhere.
+/// What a data fragment weighs in the four equations: the parities of data that are 1 there, and 0
+/// elsewhere.
 fn weights_of(code: Code, fragment: usize) -> [u8; 4]
     requires { fragment < data_count code }
     ensures { (e : ℕ) → e < 4 → slice_index result e ≡ weight code e fragment }
@@ -110,11 +124,13 @@ fn weights_of(code: Code, fragment: usize) -> [u8; 4]
     [first[0], second[0], third[0], fourth[0]]
 }
 
-/// Adds one data fragment into the four parities: each has the fragment's bytes added, times what the fragment weighs in its
-/// equation. So parities of zeros to which every data fragment was added, in any order, are those of `lrc_encode`; and to write
-/// over a data fragment, add the sum of its old and new bytes.
+/// Adds one data fragment into the four parities: each has the fragment's bytes added, times what
+/// the fragment weighs in its equation. So parities of zeros to which every data fragment was
+/// added, in any order, are those of `lrc_encode`; and to write over a data fragment, add the sum
+/// of its old and new bytes.
 ///
-/// `BAD_ARGUMENT` comes exactly where there is no such code, the fragment is none of its data, or the lengths differ.
+/// Returns `BAD_ARGUMENT` if and only if there is no such code, the fragment is none of its data,
+/// or the lengths differ.
 #[unsafe(no_mangle)]
 pub extern "C" fn lrc_encode_add(
     data_fragments: usize,
@@ -125,14 +141,20 @@ pub extern "C" fn lrc_encode_add(
     third: &mut [u8],
     fourth: &mut [u8],
 ) -> u32
-    ensures first { result ≡ DONE → IfSome (code_with data_fragments) (λ code. AddsData code 0 fragment source.now first.old first.new) }
-    ensures second { result ≡ DONE → IfSome (code_with data_fragments) (λ code. AddsData code 1 fragment source.now second.old second.new) }
-    ensures third { result ≡ DONE → IfSome (code_with data_fragments) (λ code. AddsData code 2 fragment source.now third.old third.new) }
-    ensures fourth { result ≡ DONE → IfSome (code_with data_fragments) (λ code. AddsData code 3 fragment source.now fourth.old fourth.new) }
+    ensures first { result ≡ DONE → IfSome (code_with data_fragments)
+        (λ code. AddsData code 0 fragment source.now first.old first.new) }
+    ensures second { result ≡ DONE → IfSome (code_with data_fragments)
+        (λ code. AddsData code 1 fragment source.now second.old second.new) }
+    ensures third { result ≡ DONE → IfSome (code_with data_fragments)
+        (λ code. AddsData code 2 fragment source.now third.old third.new) }
+    ensures fourth { result ≡ DONE → IfSome (code_with data_fragments)
+        (λ code. AddsData code 3 fragment source.now fourth.old fourth.new) }
     ensures taken { (result ≢ BAD_ARGUMENT) ↔ IsSomeAnd (code_with data_fragments) (λ code.
-        (fragment < data_count code) × FourHave (length source.now) first.old second.old third.old fourth.old) }
+        (fragment < data_count code) × FourHave (length source.now) first.old second.old third.old
+        fourth.old) }
     ensures answers { (result ≡ DONE) ⊎ (result ≡ BAD_ARGUMENT) }
-    ensures kept { result ≢ DONE → (first.new ≡ first.old) × (second.new ≡ second.old) × (third.new ≡ third.old) × (fourth.new ≡ fourth.old) }
+    ensures kept { result ≢ DONE → (first.new ≡ first.old) × (second.new ≡ second.old)
+        × (third.new ≡ third.old) × (fourth.new ≡ fourth.old) }
 {
     let Some(code) = code_of(data_fragments) else {
         return BAD_ARGUMENT;
@@ -148,14 +170,16 @@ pub extern "C" fn lrc_encode_add(
     DONE
 }
 
-/// Whether a fragment is open, where the fragments of the bits of `lost` are lost: `OPEN`, or `DONE` where it is left or can be
-/// rebuilt.
+/// Whether a fragment is open, where the fragments of the bits of `lost` are lost: `OPEN`, or
+/// `DONE` if it remains or can be rebuilt.
 ///
-/// `BAD_ARGUMENT` comes exactly where there is no such code or fragment.
+/// Returns `BAD_ARGUMENT` if and only if there is no such code or fragment.
 #[unsafe(no_mangle)]
 pub extern "C" fn lrc_is_open(data_fragments: usize, lost: u16, fragment: u8) -> u32
-    ensures open { (result ≡ OPEN) ↔ IsSomeAnd (code_with data_fragments) (λ code. Open code (is_lost lost) fragment) }
-    ensures taken { (result ≢ BAD_ARGUMENT) ↔ IsSomeAnd (code_with data_fragments) (λ code. fragment < fragment_count code) }
+    ensures open { (result ≡ OPEN) ↔ IsSomeAnd (code_with data_fragments)
+        (λ code. Open code (is_lost lost) fragment) }
+    ensures taken { (result ≢ BAD_ARGUMENT) ↔ IsSomeAnd (code_with data_fragments)
+        (λ code. fragment < fragment_count code) }
     ensures answers { (result ≡ DONE) ⊎ (result ≡ OPEN) ⊎ (result ≡ BAD_ARGUMENT) }
 {
     let Some(code) = code_of(data_fragments) else {
@@ -185,7 +209,8 @@ struct LostFragment {
 fn lost_fragment(data_fragments: usize, lost: u16, number: u8) -> Option<LostFragment>
     ensures { MatchOption result
         (IsSomeAnd (code_with data_fragments) (λ code. IsLostIn code lost number) → ⊥)
-        (λ found. (code_with data_fragments ≡ Some found.code) × ((i : ℕ) → is_lost found.lost i ≡ is_lost lost i) × (found.number ≡ number)) }
+        (λ found. (code_with data_fragments ≡ Some found.code)
+        × ((i : ℕ) → is_lost found.lost i ≡ is_lost lost i) × (found.number ≡ number)) }
 {
     let code = code_of(data_fragments)?;
     let lost = LostSet::of_bits(lost);
@@ -195,11 +220,12 @@ fn lost_fragment(data_fragments: usize, lost: u16, number: u8) -> Option<LostFra
     Some(LostFragment { code, lost, number })
 }
 
-/// What is left of a stripe of which these fragments are lost.
+/// The remaining fragments of a stripe of which these are lost.
 fn left_of<'a>(code: Code, fragments: &[&'a [u8]; 16], lost: LostSet) -> Left<'a>
     ensures code { result.code ≡ code }
     ensures absent { (i : ℕ) → i < 16 → is_absent result.fragments i ≡ is_lost lost i }
-    ensures bytes { (i : ℕ) → i < 16 → is_lost lost i ≡ false → bytes_of (slot result.fragments i) ≡ list_at (map (λ f. f.now) fragments.now) i }
+    ensures bytes { (i : ℕ) → i < 16 → is_lost lost i ≡ false → bytes_of (slot result.fragments i)
+        ≡ list_at (map (λ f. f.now) fragments.now) i }
 {
     let mut slots: [Option<&'a [u8]>; 16] = [None; 16];
     for i in 0..16 {
@@ -213,12 +239,13 @@ fn left_of<'a>(code: Code, fragments: &[&'a [u8]; 16], lost: LostSet) -> Left<'a
     }
 }
 
-/// Writes the bytes of a lost fragment from `from` on, as many as `target` has: those that every stripe has there which agrees with
-/// the fragments left. What is passed for a lost fragment is never read.
+/// Writes the bytes of a lost fragment from `from` on, as many as `target` has: those that every
+/// stripe has there which agrees with the fragments left. What is passed for a lost fragment is
+/// never read.
 ///
-/// `OPEN` comes exactly where nothing that is left tells the fragment, and no argument is refused. `BAD_ARGUMENT` comes exactly
-/// where there is no such code or fragment, the fragment is not lost, one that is left is too short, or the last place is more
-/// than 2^64 - 1.
+/// Returns `OPEN` if and only if the fragment is unrecoverable, and no argument is refused. Returns
+/// `BAD_ARGUMENT` if and only if there is no such code or fragment, the fragment is not lost, a
+/// remaining one is too short, or the last place is more than 2^64 - 1.
 #[unsafe(no_mangle)]
 pub extern "C" fn lrc_rebuild(
     data_fragments: usize,
@@ -229,10 +256,14 @@ pub extern "C" fn lrc_rebuild(
     target: &mut [u8],
 ) -> u32
     ensures rebuilt { result ≡ DONE → IfSome (code_with data_fragments) (λ code.
-        RebuildsLost code (map (λ f. f.now) fragments.now) lost fragment from (from + length target.new) target.new) }
-    ensures open { (result ≡ OPEN) ↔ ((result ≢ BAD_ARGUMENT) × IsSomeAnd (code_with data_fragments) (λ code. Open code (is_lost lost) fragment)) }
-    ensures taken { (result ≢ BAD_ARGUMENT) ↔ IsSomeAnd (code_with data_fragments) (λ code. IsLostIn code lost fragment
-        × LeftReach code (map (λ f. f.now) fragments.now) lost (from + length target.old) × (from + length target.old < 2 ^ 64)) }
+        RebuildsLost code (map (λ f. f.now) fragments.now) lost fragment from
+        (from + length target.new) target.new) }
+    ensures open { (result ≡ OPEN) ↔ ((result ≢ BAD_ARGUMENT) × IsSomeAnd (code_with data_fragments)
+        (λ code. Open code (is_lost lost) fragment)) }
+    ensures taken { (result ≢ BAD_ARGUMENT) ↔ IsSomeAnd (code_with data_fragments)
+        (λ code. IsLostIn code lost fragment
+        × LeftReach code (map (λ f. f.now) fragments.now) lost (from + length target.old)
+        × (from + length target.old < 2 ^ 64)) }
     ensures answers { (result ≡ DONE) ⊎ (result ≡ OPEN) ⊎ (result ≡ BAD_ARGUMENT) }
     ensures kept { result ≢ DONE → target.new ≡ target.old }
 {
@@ -296,7 +327,8 @@ fn has_room(chosen: Option<u8>, w: usize, target: &[u8]) -> bool
     chosen.is_none() || target.len() == w
 }
 
-/// Whether each fragment that is chosen is one of the code's, and lost, and its target has `w` bytes.
+/// Whether each fragment that is chosen is one of the code's, and lost, and its target has `w`
+/// bytes.
 fn are_taken(
     code: Code,
     lost: LostSet,
@@ -307,7 +339,8 @@ fn are_taken(
     third: &[u8],
     fourth: &[u8],
 ) -> bool
-    ensures { IsTrue result ↔ (AreLostIn code lost chosen.now × HaveRoomFor chosen.now w first.now second.now third.now fourth.now) }
+    ensures { IsTrue result ↔ (AreLostIn code lost chosen.now
+        × HaveRoomFor chosen.now w first.now second.now third.now fourth.now) }
 {
     are_lost(code, lost, chosen)
         && has_room(chosen[0], w, first)
@@ -332,14 +365,23 @@ fn decode_left(
     requires are_lost { AreLostIn code lost chosen }
     requires range { from ≤ end }
     requires room { HaveRoomFor chosen (end - from) first.old second.old third.old fourth.old }
-    ensures first { result ≡ DONE → DecodesLost code (map (λ f. f.now) fragments.now) lost (slice_index_or chosen 0 None) from end first.old first.new }
-    ensures second { result ≡ DONE → DecodesLost code (map (λ f. f.now) fragments.now) lost (slice_index_or chosen 1 None) from end second.old second.new }
-    ensures third { result ≡ DONE → DecodesLost code (map (λ f. f.now) fragments.now) lost (slice_index_or chosen 2 None) from end third.old third.new }
-    ensures fourth { result ≡ DONE → DecodesLost code (map (λ f. f.now) fragments.now) lost (slice_index_or chosen 3 None) from end fourth.old fourth.new }
-    ensures open { (result ≡ OPEN) ↔ ((result ≢ BAD_ARGUMENT) × HasOpen code (is_lost lost) chosen) }
-    ensures taken { (result ≢ BAD_ARGUMENT) ↔ LeftReach code (map (λ f. f.now) fragments.now) lost end }
+    ensures first { result ≡ DONE → DecodesLost code (map
+        (λ f. f.now) fragments.now) lost (slice_index_or chosen 0 None) from end first.old first.new }
+    ensures second { result ≡ DONE → DecodesLost code (map
+        (λ f. f.now) fragments.now) lost (slice_index_or chosen 1 None) from end second.old
+        second.new }
+    ensures third { result ≡ DONE → DecodesLost code (map
+        (λ f. f.now) fragments.now) lost (slice_index_or chosen 2 None) from end third.old third.new }
+    ensures fourth { result ≡ DONE → DecodesLost code (map
+        (λ f. f.now) fragments.now) lost (slice_index_or chosen 3 None) from end fourth.old
+        fourth.new }
+    ensures open { (result ≡ OPEN) ↔ ((result ≢ BAD_ARGUMENT)
+        × HasOpen code (is_lost lost) chosen) }
+    ensures taken { (result ≢ BAD_ARGUMENT)
+        ↔ LeftReach code (map (λ f. f.now) fragments.now) lost end }
     ensures answers { (result ≡ DONE) ⊎ (result ≡ OPEN) ⊎ (result ≡ BAD_ARGUMENT) }
-    ensures kept { result ≢ DONE → (first.new ≡ first.old) × (second.new ≡ second.old) × (third.new ≡ third.old) × (fourth.new ≡ fourth.old) }
+    ensures kept { result ≢ DONE → (first.new ≡ first.old) × (second.new ≡ second.old)
+        × (third.new ≡ third.old) × (fourth.new ≡ fourth.old) }
 {
     let left = left_of(code, fragments, lost);
     if !left.reaches(end) {
@@ -351,13 +393,14 @@ fn decode_left(
     }
 }
 
-/// Writes the bytes `from..from + w` of up to four lost fragments: those that every stripe has there which agrees with the fragments
-/// left. `numbers` chooses the fragment for each of the four targets; for 255 the target is not looked at. What is passed for a
-/// lost fragment is never read.
+/// Writes the bytes `from..from + w` of up to four lost fragments: those that every stripe has
+/// there which agrees with the fragments left. `numbers` chooses the fragment for each of the four
+/// targets; for 255 the target is not looked at. What is passed for a lost fragment is never read.
 ///
-/// `OPEN` comes exactly where nothing that is left tells one of the fragments that are chosen, and no argument is refused.
-/// `BAD_ARGUMENT` comes exactly where there is no such code, a fragment that is chosen is not one of the code's or not lost, its
-/// target has not `w` bytes, a fragment left is too short, or the last place is more than 2^64 - 1.
+/// Returns `OPEN` if and only if a chosen fragment is unrecoverable, and no argument is refused.
+/// Returns `BAD_ARGUMENT` if and only if there is no such code, a fragment that is chosen is not
+/// one of the code's or not lost, its target has not `w` bytes, a fragment left is too short, or
+/// the last place is more than 2^64 - 1.
 #[unsafe(no_mangle)]
 pub extern "C" fn lrc_decode(
     data_fragments: usize,
@@ -371,15 +414,27 @@ pub extern "C" fn lrc_decode(
     third: &mut [u8],
     fourth: &mut [u8],
 ) -> u32
-    ensures first { result ≡ DONE → IfSome (code_with data_fragments) (λ code. DecodesLost code (map (λ f. f.now) fragments.now) lost (chosen_by (slice_index numbers.now 0)) from (from + w) first.old first.new) }
-    ensures second { result ≡ DONE → IfSome (code_with data_fragments) (λ code. DecodesLost code (map (λ f. f.now) fragments.now) lost (chosen_by (slice_index numbers.now 1)) from (from + w) second.old second.new) }
-    ensures third { result ≡ DONE → IfSome (code_with data_fragments) (λ code. DecodesLost code (map (λ f. f.now) fragments.now) lost (chosen_by (slice_index numbers.now 2)) from (from + w) third.old third.new) }
-    ensures fourth { result ≡ DONE → IfSome (code_with data_fragments) (λ code. DecodesLost code (map (λ f. f.now) fragments.now) lost (chosen_by (slice_index numbers.now 3)) from (from + w) fourth.old fourth.new) }
-    ensures open { (result ≡ OPEN) ↔ ((result ≢ BAD_ARGUMENT) × IsSomeAnd (code_with data_fragments) (λ code. HasOpen code (is_lost lost) (chosen_of numbers.now))) }
-    ensures taken { (result ≢ BAD_ARGUMENT) ↔ IsSomeAnd (code_with data_fragments) (λ code. AreLostIn code lost (chosen_of numbers.now)
-        × HaveRoomFor (chosen_of numbers.now) w first.old second.old third.old fourth.old × LeftReach code (map (λ f. f.now) fragments.now) lost (from + w) × (from + w < 2 ^ 64)) }
+    ensures first { result ≡ DONE → IfSome (code_with data_fragments)
+        (λ code. DecodesLost code (map (λ f. f.now) fragments.now) lost
+        (chosen_by (slice_index numbers.now 0)) from (from + w) first.old first.new) }
+    ensures second { result ≡ DONE → IfSome (code_with data_fragments)
+        (λ code. DecodesLost code (map (λ f. f.now) fragments.now) lost
+        (chosen_by (slice_index numbers.now 1)) from (from + w) second.old second.new) }
+    ensures third { result ≡ DONE → IfSome (code_with data_fragments)
+        (λ code. DecodesLost code (map (λ f. f.now) fragments.now) lost
+        (chosen_by (slice_index numbers.now 2)) from (from + w) third.old third.new) }
+    ensures fourth { result ≡ DONE → IfSome (code_with data_fragments)
+        (λ code. DecodesLost code (map (λ f. f.now) fragments.now) lost
+        (chosen_by (slice_index numbers.now 3)) from (from + w) fourth.old fourth.new) }
+    ensures open { (result ≡ OPEN) ↔ ((result ≢ BAD_ARGUMENT) × IsSomeAnd (code_with data_fragments)
+        (λ code. HasOpen code (is_lost lost) (chosen_of numbers.now))) }
+    ensures taken { (result ≢ BAD_ARGUMENT) ↔ IsSomeAnd (code_with data_fragments)
+        (λ code. AreLostIn code lost (chosen_of numbers.now)
+        × HaveRoomFor (chosen_of numbers.now) w first.old second.old third.old fourth.old
+        × LeftReach code (map (λ f. f.now) fragments.now) lost (from + w) × (from + w < 2 ^ 64)) }
     ensures answers { (result ≡ DONE) ⊎ (result ≡ OPEN) ⊎ (result ≡ BAD_ARGUMENT) }
-    ensures kept { result ≢ DONE → (first.new ≡ first.old) × (second.new ≡ second.old) × (third.new ≡ third.old) × (fourth.new ≡ fourth.old) }
+    ensures kept { result ≢ DONE → (first.new ≡ first.old) × (second.new ≡ second.old)
+        × (third.new ≡ third.old) × (fourth.new ≡ fourth.old) }
 {
     let Some(code) = code_of(data_fragments) else {
         return BAD_ARGUMENT;
@@ -408,12 +463,14 @@ fn write_terms(terms: &[Term], fragments: &mut [u8; 16], coefficients: &mut [u8;
     }
 }
 
-/// How a lost fragment comes from those that are left: writes which of them, each with a coefficient, and their `count`, 15 at
-/// most. At each place of every stripe the fragment is their sum, each times its coefficient. Where it is alone lost in its
-/// group, they are the others of that group, each times 1, and no recipe has fewer.
+/// How a lost fragment comes from the remaining ones: writes which of them, each with a
+/// coefficient, and their `count`, 15 at most. At each place of every stripe the fragment is their
+/// sum, each times its coefficient. Where it is alone lost in its group, they are the others of
+/// that group, each times 1, and no recipe has fewer.
 ///
-/// `OPEN` comes exactly where nothing that is left tells the fragment, and no argument is refused. `BAD_ARGUMENT` comes exactly
-/// where there is no such code or fragment, or the fragment is not lost.
+/// Returns `OPEN` if and only if the fragment is unrecoverable, and no argument is refused.
+/// Returns `BAD_ARGUMENT` if and only if there is no such code or fragment, or the fragment is not
+/// lost.
 #[unsafe(no_mangle)]
 pub extern "C" fn lrc_recipe(
     data_fragments: usize,
@@ -425,17 +482,25 @@ pub extern "C" fn lrc_recipe(
 ) -> u32
     ensures recipe { result ≡ DONE → IfSome (code_with data_fragments) (λ code.
         IsRecipe code (is_lost lost) fragment (terms_of fragments.new coefficients.new count.new)) }
-    ensures first { result ≡ DONE → IfSome (code_with data_fragments) (λ code. is_only_lost_of (is_lost lost) (first_group code) fragment ≡ true
-        → terms_of fragments.new coefficients.new count.new ≡ local_recipe (first_group code) fragment) }
-    ensures second { result ≡ DONE → IfSome (code_with data_fragments) (λ code. is_only_lost_of (is_lost lost) (second_group code) fragment ≡ true
-        → terms_of fragments.new coefficients.new count.new ≡ local_recipe (second_group code) fragment) }
+    ensures first { result ≡ DONE → IfSome (code_with data_fragments)
+        (λ code. is_only_lost_of (is_lost lost) (first_group code) fragment ≡ true
+        → terms_of fragments.new coefficients.new count.new
+        ≡ local_recipe (first_group code) fragment) }
+    ensures second { result ≡ DONE → IfSome (code_with data_fragments)
+        (λ code. is_only_lost_of (is_lost lost) (second_group code) fragment ≡ true
+        → terms_of fragments.new coefficients.new count.new
+        ≡ local_recipe (second_group code) fragment) }
     ensures least { result ≡ DONE → IfSome (code_with data_fragments) (λ code.
-        is_alone code (is_lost lost) fragment ≡ true → IsLeast code fragment (terms_of fragments.new coefficients.new count.new)) }
+        is_alone code (is_lost lost) fragment ≡ true
+        → IsLeast code fragment (terms_of fragments.new coefficients.new count.new)) }
     ensures few { result ≡ DONE → count.new ≤ 15 }
-    ensures open { (result ≡ OPEN) ↔ ((result ≢ BAD_ARGUMENT) × IsSomeAnd (code_with data_fragments) (λ code. Open code (is_lost lost) fragment)) }
-    ensures taken { (result ≢ BAD_ARGUMENT) ↔ IsSomeAnd (code_with data_fragments) (λ code. IsLostIn code lost fragment) }
+    ensures open { (result ≡ OPEN) ↔ ((result ≢ BAD_ARGUMENT) × IsSomeAnd (code_with data_fragments)
+        (λ code. Open code (is_lost lost) fragment)) }
+    ensures taken { (result ≢ BAD_ARGUMENT) ↔ IsSomeAnd (code_with data_fragments)
+        (λ code. IsLostIn code lost fragment) }
     ensures answers { (result ≡ DONE) ⊎ (result ≡ OPEN) ⊎ (result ≡ BAD_ARGUMENT) }
-    ensures kept { result ≢ DONE → (fragments.new ≡ fragments.old) × (coefficients.new ≡ coefficients.old) × (count.new ≡ count.old) }
+    ensures kept { result ≢ DONE → (fragments.new ≡ fragments.old)
+        × (coefficients.new ≡ coefficients.old) × (count.new ≡ count.old) }
 {
     let Some(asked) = lost_fragment(data_fragments, lost, fragment) else {
         return BAD_ARGUMENT;
@@ -448,14 +513,15 @@ pub extern "C" fn lrc_recipe(
     DONE
 }
 
-/// Adds a source times a coefficient to the target, place by place: the terms of a recipe, one call each, in any order and any cut
-/// of the bytes, make a lost fragment of zeros.
+/// Adds a source times a coefficient to the target, place by place: the terms of a recipe, one call
+/// each, in any order and any cut of the bytes, make a lost fragment of zeros.
 ///
-/// `BAD_ARGUMENT` comes exactly where the lengths differ.
+/// Returns `BAD_ARGUMENT` if and only if the lengths differ.
 #[unsafe(no_mangle)]
 pub extern "C" fn lrc_add(target: &mut [u8], coefficient: u8, source: &[u8]) -> u32
     ensures added { result ≡ DONE → EachIndex target.new (λ k.
-        slice_index target.new k ≡ bit_xor (slice_index target.old k) (product coefficient (slice_index source.now k))) }
+        slice_index target.new k ≡ bit_xor (slice_index target.old k)
+        (product coefficient (slice_index source.now k))) }
     ensures taken { (result ≢ BAD_ARGUMENT) ↔ (length source.now ≡ length target.old) }
     ensures answers { (result ≡ DONE) ⊎ (result ≡ BAD_ARGUMENT) }
     ensures kept { result ≢ DONE → target.new ≡ target.old }

@@ -74,8 +74,8 @@ fn factors_for(code: Code, others: &Others, f: usize, other: usize) -> (u8, u8)
 {
     let third = reduced(code, others, 3, other);
     let fourth = reduced(code, others, 2, other);
-    let determinant =
-        mul(third, reduced(code, others, 2, f)) ^ mul(fourth, reduced(code, others, 3, f));
+    let determinant = mul(third, reduced(code, others, 2, f))
+        ^ mul(fourth, reduced(code, others, 3, f));
     match NonZero::<u8>::new(determinant) {
         None => (0, 0),
         Some(determinant) => {

@@ -1,12 +1,15 @@
-//! For who plans what may be lost: of all sets of lost fragments of a code, by how many are lost, the number of those that
-//! can be rebuilt whole, and how many fragments are read to make one. Beside it stands a Reed-Solomon code of the same
-//! size, which rebuilds any four fragments, and reads as many as a stripe has data to make one.
+//! For who plans what may be lost: of all sets of lost fragments of a code, by how many are lost,
+//! the number of those that can be rebuilt whole, and how many fragments are read to make one.
+//! Beside it stands a Reed-Solomon code of the same size, which rebuilds any four fragments, and
+//! reads as many as a stripe has data to make one.
 #![tactic(auto)]
 
-ghost use Rattle.std.specs.Prelude.{◌≡◌, ℕ, ◌+◌, ◌*◌, ◌/◌, ◌<◌, ◌≤◌, ◌↔◌, ◌^◌, IsTrue, SomeIff, true, length, List, count_by};
+ghost use Rattle.std.specs.Prelude.{◌≡◌, ℕ, ◌+◌, ◌*◌, ◌/◌, ◌<◌, ◌≤◌, ◌↔◌, ◌^◌, IsTrue, SomeIff};
+ghost use Rattle.std.specs.Prelude.{true, length, List, count_by};
 ghost use Rattle.lrc_code.specs.Code.{fragment_count, is_lost, Open};
 ghost use Rattle.lrc_code.specs.declared.recipes.Term.{Term};
-ghost use Rattle.survey.specs.Survey.{lost_sets, has_size, is_whole, is_counted, IsRead, ReadsFor, ReadsForAll, is_counted_by_any_four};
+ghost use Rattle.survey.specs.Survey.{lost_sets, has_size, is_whole, is_counted, IsRead, ReadsFor};
+ghost use Rattle.survey.specs.Survey.{ReadsForAll, is_counted_by_any_four};
 
 use anyhow::Result;
 use lrc_code::{Code, LostSet, recipe_in};
@@ -26,7 +29,8 @@ fn set_count(code: Code) -> u32
 /// Whether each lost fragment can be rebuilt.
 fn is_whole(code: Code, set: u16) -> bool
     ensures value { result ≡ is_whole code set }
-    ensures unique { IsTrue result ↔ ((f : ℕ) → f < fragment_count code → Open code (is_lost set) f → ⊥) }
+    ensures unique { IsTrue result ↔ ((f : ℕ) → f < fragment_count code → Open code (is_lost set) f
+        → ⊥) }
 {
     LostSet::of_bits(set).excess_in(code) <= 2
 }
@@ -42,7 +46,8 @@ fn has_size(size: u32, set: u32) -> bool
 fn is_counted(code: Code, size: u32, set: u32) -> bool
     requires { set < 65536 }
     ensures value { result ≡ is_counted code size set }
-    ensures told { IsTrue result → (f : ℕ) → f < fragment_count code → Open code (is_lost set) f → ⊥ }
+    ensures told { IsTrue result → (f : ℕ) → f < fragment_count code → Open code (is_lost set) f
+        → ⊥ }
 {
     has_size(size, set) && is_whole(code, set as u16)
 }
@@ -87,7 +92,8 @@ fn whole_sets_by_any_four(code: Code, size: u32) -> u32
     count
 }
 
-/// What is read to make lost fragments, each by itself: so many fragments in all, and so many at most for one.
+/// What is read to make lost fragments, each by itself: so many fragments in all, and so many at
+/// most for one.
 #[derive(Clone, Copy, Drop)]
 struct ReadCount {
     total: u32,
@@ -99,7 +105,8 @@ fn read_for(code: Code, set: u16, f: u8) -> u32
     requires inside { f < fragment_count code }
     requires is_lost { is_lost set f ≡ true }
     requires told { Open code (is_lost set) f → ⊥ }
-    ensures read { (terms : List Term) × IsRead code (is_lost set) f terms × (result ≡ length terms) }
+    ensures read { (terms : List Term) × IsRead code (is_lost set) f terms
+        × (result ≡ length terms) }
     ensures few { result ≤ 15 }
 {
     let recipe = recipe_in(code, LostSet::of_bits(set), f).unwrap();
@@ -169,10 +176,13 @@ fn row_for(code: Code, size: u32) -> Row
     ensures size { result.size ≡ size }
     ensures sets { result.sets ≡ count_by (has_size size) (lost_sets code) }
     ensures whole { result.whole ≡ count_by (is_counted code size) (lost_sets code) }
-    ensures by_any_four { result.whole_by_any_four ≡ count_by (is_counted_by_any_four size) (lost_sets code) }
+    ensures by_any_four { result.whole_by_any_four
+        ≡ count_by (is_counted_by_any_four size) (lost_sets code) }
     ensures reads { ReadsForAll code size result.reads.total result.reads.most }
-    ensures share { SomeIff result.share (0 < result.sets) (1000 * (100 * result.whole) / result.sets) }
-    ensures mean { SomeIff result.mean (0 < size * result.whole) (1000 * result.reads.total / (size * result.whole)) }
+    ensures share { SomeIff result.share (0 < result.sets)
+        (1000 * (100 * result.whole) / result.sets) }
+    ensures mean { SomeIff result.mean (0 < size * result.whole)
+        (1000 * result.reads.total / (size * result.whole)) }
 {
     let sets = sets(code, size);
     let whole = whole_sets(code, size);
@@ -231,7 +241,8 @@ fn main(rt: HostRuntime) -> Result<()> {
     for code in [Code::Wide, Code::Small] {
         let k = code.data_fragments();
         println!(rt;
-            "LRC({k},2,2), beside Reed-Solomon of {k} data fragments and 4 parities, which reads {k} to make one"
+            "LRC({k},2,2), beside Reed-Solomon of {k} data fragments and 4 parities, which reads {k}
+        to make one"
         )?;
         println!(rt; "lost   sets  whole percent    mean  most  RS whole")?;
         for size in 1..=5 {

@@ -27,7 +27,7 @@ impl Weights {
         }
     }
 
-    /// The sums. The second and the fourth factor are left out where they are 0 and not taken.
+    /// The sums. The second and the fourth factor are left out if they are not taken.
     #[inline(always)]
     pub(crate) fn sums_at(&self, s: Columns, takes_second: bool, takes_fourth: bool) -> u8x32
         requires second { takes_second ≡ false → self.now.second.scale ≡ 0 }

@@ -1,16 +1,19 @@
 //! The coder's calls, each made `reps` times, for the harness to time.
 //!
-//! A slice is passed as an address and a length, and a slice of slices as an array of such pairs and their number.
+//! A slice is passed as an address and a length, and a slice of slices as an array of such pairs
+//! and their number.
 #![tactic(auto)]
 
-ghost use Rattle.std.specs.Prelude.{◌≡◌, ◌<◌, ◌≤◌, ◌↔◌, true, false, Err, All, IfOk, IfSome, IsTrue, EachIndex, length, map, slice_index};
+ghost use Rattle.std.specs.Prelude.{◌≡◌, ◌<◌, ◌≤◌, ◌↔◌, true, false, Err, All, IfOk, IfSome};
+ghost use Rattle.std.specs.Prelude.{IsTrue, EachIndex, length, map, slice_index};
 ghost use Rattle.kernels.specs.Lists.{combined, bytes_at};
 ghost use Rattle.lrc_code.specs.Code.{Open};
 ghost use Rattle.lrc_code.specs.Stripe.{Rebuilds, is_absent};
 ghost use Rattle.sealed.specs.Blob.{fragment, nothing};
 ghost use Rattle.sealed.specs.Layout.{HasFragment};
 ghost use Rattle.sealed.specs.Sealed.{StandsFor};
-ghost use Rattle.timed_coder.specs.Timed.{HaveRoom, AreStripe, fragment_left, IsLeft, IsAsked, ComesOf};
+ghost use Rattle.timed_coder.specs.Timed.{HaveRoom, AreStripe, fragment_left, IsLeft, IsAsked};
+ghost use Rattle.timed_coder.specs.Timed.{ComesOf};
 
 use bytes::Bytes;
 use kernels::combine_lists;
@@ -39,8 +42,8 @@ pub extern "C" fn timed_encode_to(
     encode_to(Code::Wide, sources, first, second, third, fourth);
 }
 
-/// `encode_in` of twelve data fragments, each turn's parities into memory of their own; the lists have those of the last one. Whether there was memory
-/// for all; else the lists are as they were.
+/// `encode_in` of twelve data fragments, each turn's parities into memory of their own; the lists
+/// have those of the last one. Whether there was memory for all; else the lists are as they were.
 #[unsafe(no_mangle)]
 #[tactic(auto, using(crate::proofs::Made::parity_length))]
 pub extern "C" fn timed_encode(
@@ -53,8 +56,10 @@ pub extern "C" fn timed_encode(
     reps: u32,
 ) -> bool
     requires { HaveRoom sources.now first.old second.old third.old fourth.old }
-    ensures stripe { result ≡ true → AreStripe sources.now first.new second.new third.new fourth.new }
-    ensures kept { result ≡ false → (first.new ≡ first.old) × (second.new ≡ second.old) × (third.new ≡ third.old) × (fourth.new ≡ fourth.old) }
+    ensures stripe { result ≡ true
+        → AreStripe sources.now first.new second.new third.new fourth.new }
+    ensures kept { result ≡ false → (first.new ≡ first.old) × (second.new ≡ second.old)
+        × (third.new ≡ third.old) × (fourth.new ≡ fourth.old) }
 {
     let w = first.len();
     for _ in 1..reps {
@@ -72,8 +77,9 @@ pub extern "C" fn timed_encode(
     true
 }
 
-/// `encode_joined` of twelve data fragments, each turn's parities into memory of their own; the lists have those of the last one. Whether there was memory
-/// for all; else the lists are as they were.
+/// `encode_joined` of twelve data fragments, each turn's parities into memory of their own; the
+/// lists have those of the last one. Whether there was memory for all; else the lists are as they
+/// were.
 #[unsafe(no_mangle)]
 pub extern "C" fn timed_encode_joined(
     alloc: Global,
@@ -85,8 +91,10 @@ pub extern "C" fn timed_encode_joined(
     reps: u32,
 ) -> bool
     requires { HaveRoom sources.now first.old second.old third.old fourth.old }
-    ensures stripe { result ≡ true → AreStripe sources.now first.new second.new third.new fourth.new }
-    ensures kept { result ≡ false → (first.new ≡ first.old) × (second.new ≡ second.old) × (third.new ≡ third.old) × (fourth.new ≡ fourth.old) }
+    ensures stripe { result ≡ true
+        → AreStripe sources.now first.new second.new third.new fourth.new }
+    ensures kept { result ≡ false → (first.new ≡ first.old) × (second.new ≡ second.old)
+        × (third.new ≡ third.old) × (fourth.new ≡ fourth.old) }
 {
     let w = first.len();
     for _ in 1..reps {
@@ -115,7 +123,8 @@ pub extern "C" fn timed_combine(
     requires count { length sources.now ≡ length coefficients.now }
     requires few { length coefficients.now ≤ 15 }
     requires same { All (λ s. length s.now ≡ length target.old) sources.now }
-    ensures { EachIndex target.new (λ k. slice_index target.new k ≡ combined coefficients.now (bytes_at (map (λ s. s.now) sources.now) k)) }
+    ensures { EachIndex target.new (λ k. slice_index target.new k
+        ≡ combined coefficients.now (bytes_at (map (λ s. s.now) sources.now) k)) }
 {
     for _ in 1..reps {
         combine_lists(target, coefficients, sources);
@@ -135,7 +144,7 @@ fn left_at<'a>(fragments: &[&'a [u8]], lost: LostSet, i: u8) -> Option<&'a [u8]>
     }
 }
 
-/// What is left of a stripe of the wide code.
+/// The remaining fragments of a stripe of the wide code.
 fn left_of<'a>(fragments: &[&'a [u8]], lost: LostSet) -> Left<'a>
     ensures { IsLeft fragments.now lost result }
 {
@@ -149,15 +158,17 @@ fn left_of<'a>(fragments: &[&'a [u8]], lost: LostSet) -> Left<'a>
     left
 }
 
-/// Whether a fragment can be asked for: it is absent, and those that are present have `w` bytes or more.
+/// Whether a fragment can be asked for: it is absent, and those that are present have `w` bytes or
+/// more.
 fn is_asked(left: &Left, f: usize, w: usize) -> bool
     ensures { IsTrue result ↔ IsAsked left.now f w }
 {
     f < usize::from(left.code.fragments()) && left.fragments[f].is_none() && left.reaches(w)
 }
 
-/// `rebuild_to` of fragment `f`, where the fragments whose bits are set are lost. Whether the fragment is absent, the others are as long as `bytes`, and it isn't
-/// open; else `bytes` are as they were.
+/// `rebuild_to` of fragment `f`, where the fragments whose bits are set are lost. Whether the
+/// fragment is absent, the others are as long as `bytes`, and it isn't open; else `bytes` are as
+/// they were.
 #[unsafe(no_mangle)]
 pub extern "C" fn timed_rebuild_to(
     bytes: &mut [u8],
@@ -167,7 +178,8 @@ pub extern "C" fn timed_rebuild_to(
     reps: u32,
 ) -> bool
     ensures long { length bytes.new ≡ length bytes.old }
-    ensures rebuilt { (left : Left) × IsLeft fragments.now lost left × ComesOf left f (length bytes.old) result bytes.old bytes.new }
+    ensures rebuilt { (left : Left) × IsLeft fragments.now lost left
+        × ComesOf left f (length bytes.old) result bytes.old bytes.new }
 {
     let left = left_of(fragments, LostSet::of_bits(lost));
     let w = bytes.len();
@@ -182,8 +194,9 @@ pub extern "C" fn timed_rebuild_to(
     rebuild_to(&left, f, 0, w, bytes)
 }
 
-/// `rebuild` of fragment `f`, or `Plans::rebuild` of plans that are kept, each turn into memory of its own; `bytes` has what the last one made. Whether
-/// `timed_rebuild_to` could do it and there was memory for all; else `bytes` are as they were.
+/// `rebuild` of fragment `f`, or `Plans::rebuild` of plans that are kept, each turn into memory of
+/// its own; `bytes` has what the last one made. Whether `timed_rebuild_to` could do it and there
+/// was memory for all; else `bytes` are as they were.
 #[unsafe(no_mangle)]
 pub extern "C" fn timed_rebuild(
     alloc: Global,
@@ -195,7 +208,8 @@ pub extern "C" fn timed_rebuild(
     reps: u32,
 ) -> bool
     ensures long { length bytes.new ≡ length bytes.old }
-    ensures rebuilt { result ≡ true → (left : Left) × IsLeft fragments.now lost left × ComesOf left f (length bytes.old) true bytes.old bytes.new }
+    ensures rebuilt { result ≡ true → (left : Left) × IsLeft fragments.now lost left
+        × ComesOf left f (length bytes.old) true bytes.old bytes.new }
     ensures kept { result ≡ false → bytes.new ≡ bytes.old }
 {
     let left = left_of(fragments, LostSet::of_bits(lost));
@@ -226,7 +240,8 @@ fn rebuild_in(
     are_kept: bool,
 ) -> Result<Vec<u8>, Rebuild>
     requires { IsAsked left.now f w }
-    ensures open { (result ≡ Err Rebuild.Open) ↔ Open left.now.code (is_absent left.now.fragments) f }
+    ensures open { (result ≡ Err Rebuild.Open)
+        ↔ Open left.now.code (is_absent left.now.fragments) f }
     ensures long { IfOk result (λ v. length v.items ≡ w) }
     ensures built { IfOk result (λ v. Rebuilds left.now.code left.now.fragments f 0 w v.items) }
 {
@@ -244,7 +259,8 @@ fn width_of(bytes: usize) -> Option<Width>
     Width::new(u32::try_from(bytes).ok()?)
 }
 
-/// `seal` of the blob, whose bytes the value shares, or None where it is too long or memory is wanted.
+/// `seal` of the blob, whose bytes the value shares, or None where it is too long or memory is
+/// wanted.
 fn seal_again(alloc: Global, blob: &Bytes, width: Width) -> Option<Sealed>
     ensures stands { IfSome result (λ s. StandsFor s blob.now nothing) }
     ensures shape { IfSome result (λ s. (s.width ≡ width) × (s.code ≡ Code.Wide)) }
@@ -256,8 +272,9 @@ fn seal_again(alloc: Global, blob: &Bytes, width: Width) -> Option<Sealed>
     }
 }
 
-/// `seal` of a copy of the blob, in stripes of fragments as long as `bytes`, which has a fragment of the last turn's value. Whether that is a width, the
-/// blob has at most 4,096 stripes and this fragment, and there was memory for all; else `bytes` are as they were.
+/// `seal` of a copy of the blob, in stripes of fragments as long as `bytes`, which has a fragment
+/// of the last turn's value. Whether that is a width, the blob has at most 4,096 stripes and this
+/// fragment, and there was memory for all; else `bytes` are as they were.
 #[unsafe(no_mangle)]
 #[tactic(auto, using(crate::proofs::Made::all_there))]
 pub extern "C" fn timed_seal(
@@ -269,7 +286,8 @@ pub extern "C" fn timed_seal(
     reps: u32,
 ) -> bool
     ensures long { length bytes.new ≡ length bytes.old }
-    ensures sealed { result ≡ true → HasFragment Code.Wide (length bytes.old) (length blob.now) stripe f × (bytes.new ≡ fragment Code.Wide (length bytes.old) blob.now stripe f) }
+    ensures sealed { result ≡ true → HasFragment Code.Wide (length bytes.old) (length blob.now)
+        stripe f × (bytes.new ≡ fragment Code.Wide (length bytes.old) blob.now stripe f) }
     ensures kept { result ≡ false → bytes.new ≡ bytes.old }
 {
     let Some(width) = width_of(bytes.len()) else {

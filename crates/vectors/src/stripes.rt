@@ -36,14 +36,15 @@ fn are_long(slices: &[&[u8]], width: usize) -> bool
     slices.iter().all(|slice| slice.len() == width)
 }
 
-/// The bytes of a lost fragment by `decode_to`, at two targets, so that it is not rebuilt alone. None
-/// if it is unrecoverable.
-fn decoded(
+/// Whether `decode_to` writes these bytes of a lost fragment, at two targets, so that it is not
+/// rebuilt alone. It writes none if the fragment is unrecoverable.
+fn is_decoded(
     alloc: Global,
     left: &Left,
     f: u8,
     width: usize,
-) -> Result<Option<[Vec<u8>; 2]>, NoMemory>
+    wanted: &[u8],
+) -> Result<bool, NoMemory>
     requires inside { f < fragment_count left.now.code }
     requires absent { is_absent left.now.fragments f ≡ true }
     requires reach { (i : ℕ) → i < fragment_count left.now.code
@@ -52,17 +53,8 @@ fn decoded(
     let mut one = vec![in alloc; 0; width]?;
     let mut two = vec![in alloc; 0; width]?;
     let chosen = [Some(f), Some(f), None, None];
-    let did = decode_to(
-        left,
-        chosen,
-        0,
-        width,
-        &mut one,
-        &mut two,
-        &mut [],
-        &mut [],
-    );
-    Ok(if did { Some([one, two]) } else { None })
+    let did = decode_to(left, chosen, 0, width, &mut one, &mut two, &mut [], &mut []);
+    Ok(did && one.as_slice() == wanted && two.as_slice() == wanted)
 }
 
 impl Comparison {
@@ -79,7 +71,7 @@ impl Comparison {
         }
     }
 
-    /// Reads a line, and compares what it says with what the code gives.
+    /// Reads a line, and compares it with what the code gives.
     pub fn take_line(&mut self, alloc: Global, line: &str) -> Result<()> {
         let mut words = line.split(' ');
         let kind = words.next().unwrap_or("");
@@ -143,25 +135,25 @@ impl Comparison {
             slot.is_none() && left.reaches(self.width),
             "present, or too short"
         );
-        let decoded = decoded(alloc, &left, f, self.width)?;
         match rebuild(alloc, &left, usize::from(f), 0, self.width) {
             Ok(rebuilt) => {
                 ensure!(!is_open_in(left.code, self.lost, f), "expected to be open");
                 let wanted = bytes_of(alloc, bytes)?;
                 ensure!(rebuilt.as_slice() == wanted.as_slice(), "other bytes");
-                let Some([one, two]) = decoded else {
-                    bail!("not decoded");
-                };
                 ensure!(
-                    one.as_slice() == wanted.as_slice() && two.as_slice() == wanted.as_slice(),
+                    is_decoded(alloc, &left, f, self.width, wanted.as_slice())?,
                     "other bytes by decoding"
                 );
                 self.rebuilt = self.rebuilt.saturating_add(1);
             }
             Err(Rebuild::Open) => {
                 ensure!(
-                    bytes == "open" && is_open_in(left.code, self.lost, f) && decoded.is_none(),
+                    bytes == "open" && is_open_in(left.code, self.lost, f),
                     "not open"
+                );
+                ensure!(
+                    !is_decoded(alloc, &left, f, self.width, &[])?,
+                    "decoded although it is open"
                 );
                 self.open = self.open.saturating_add(1);
             }
