@@ -1,4 +1,4 @@
-use Rattle.std.proofs.Common.{◌≡◌, ℕ, ◌<◌, [], ◌∷◌, List, length, get_or, bit_xor, refl, ap, ◌∙◌, arith, w8, Fits}
+use Rattle.std.proofs.Common.{◌≡◌, ℕ, ◌<◌, List, length, get_or, bit_xor, ap, ◌∙◌, arith, w8, Fits}
 use Rattle.std.proofs.lemmas.Simd.{Each1-get_or, below_from_Fits}
 use lib.Lanes.{Each1}
 use Rattle.gf256.specs.Field.{product}
