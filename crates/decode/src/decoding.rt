@@ -169,17 +169,34 @@ fn is_far(code: Code, lost: LostSet, chosen: Option<u8>) -> u32
     }
 }
 
-/// Whether the syndromes are faster than recipes, for so many fragments that are not alone lost in
-/// their groups.
-fn are_syndromes_faster(code: Code, lost: LostSet, far: u32, width: usize) -> bool {
+/// How many fragments are chosen that are not alone lost in their groups.
+fn far_count(code: Code, lost: LostSet, chosen: &[Option<u8>; 4]) -> u32
+    requires { (i : ℕ) → i < 4 → IfSome (slice_index_or chosen.now i None)
+        (λ f. f < fragment_count code) }
+{
+    is_far(code, lost, chosen[0])
+        + is_far(code, lost, chosen[1])
+        + is_far(code, lost, chosen[2])
+        + is_far(code, lost, chosen[3])
+}
+
+/// Whether the syndromes are faster than recipes, as measured: the wider the fragments, and the more
+/// of them are not alone lost in their groups.
+fn are_syndromes_faster(code: Code, lost: LostSet, chosen: &[Option<u8>; 4], width: usize) -> bool
+    requires { (i : ℕ) → i < 4 → IfSome (slice_index_or chosen.now i None)
+        (λ f. f < fragment_count code) }
+{
+    if width < 128 {
+        return false;
+    }
     let last = code.fragments() - 1;
     let are_globals_lost = !lost.left(last) && !lost.left(last - 1);
-    match far {
+    match far_count(code, lost, chosen) {
         0 => false,
         1 => width >= 4096,
         2 if are_globals_lost => width >= 1024,
         2 => width >= 256,
-        _ => width >= 128,
+        _ => true,
     }
 }
 
@@ -229,11 +246,7 @@ pub fn decode_to(
     if has_open(left, lost, &chosen) {
         return false;
     }
-    let far = is_far(left.code, lost, chosen[0])
-        + is_far(left.code, lost, chosen[1])
-        + is_far(left.code, lost, chosen[2])
-        + is_far(left.code, lost, chosen[3]);
-    if are_syndromes_faster(left.code, lost, far, to - from) {
+    if are_syndromes_faster(left.code, lost, &chosen, to - from) {
         decode_by_syndromes(left, lost, chosen, from, to, first, second, third, fourth);
     } else {
         rebuild_chosen(left, chosen[0], from, to, first);
