@@ -1,6 +1,6 @@
 -- Shares by which, of the lost fragments, one weighs 1 in the equations and the others nothing.
 use Rattle.lrc_code.specs.declared.Code.{Code}
-use Rattle.std.proofs.Common.{◌≡◌, ◌≢◌, ℕ, ◌<◌, Bool, true, cond, eqb, bit_xor, List, get_or, refl, sym, ap, ap₂, ◌∙◌, subst, arith, inl, inr}
+use Rattle.std.proofs.Common.{◌≡◌, ◌≢◌, ℕ, ◌<◌, Bool, true, cond, bit_xor, List, get_or, refl, sym, ap, ◌∙◌, arith, inl, inr}
 use Rattle.std.proofs.lemmas.Bool.{cases_Bool, eq-eqb, ne_eqb}
 use Rattle.std.proofs.lemmas.Nat.{xor_of_8}
 use lib.Bits.{xor_self, xor_zero_r}

@@ -3,5 +3,4 @@ pub mod Law
 mod Equations
 pub mod Places
 pub mod Chosen
-pub mod Parts
 pub mod Least

@@ -9,7 +9,6 @@ ghost use Rattle.decode.specs.Syndrome.{AreShares};
 ghost use Rattle.decode.specs.Decoding.{AreAbsent, HasOpen, IsDecodable, IsDecoded, fragment_at};
 ghost use Rattle.decode.specs.Decoding.{byte_of};
 
-use crate::known::{known_at_first, known_with, rebuild_next};
 use crate::shares::shares_of;
 use lrc_code::{Code, Left, LostSet, is_alone_in, is_open_in, rebuild_to};
 use syndromes::combine_syndromes;
@@ -158,49 +157,6 @@ fn rebuild_chosen(left: &Left, chosen: Option<u8>, from: usize, to: usize, targe
     }
 }
 
-/// Writes the bytes of the fragments that are chosen, one after the other: a fragment that was made
-/// helps to make the next.
-fn decode_in_turn(
-    left: &Left,
-    chosen: [Option<u8>; 4],
-    from: usize,
-    to: usize,
-    first: &mut [u8],
-    second: &mut [u8],
-    third: &mut [u8],
-    fourth: &mut [u8],
-)
-    requires decodable { (i : ℕ) → i < 4 → IsDecodable left.now.code left.now.fragments
-        (slice_index_or chosen i None) }
-    requires reach { (i : ℕ) → i < fragment_count left.now.code
-        → is_absent left.now.fragments i ≡ false → Reaches left.now.fragments to i }
-    requires range { from ≤ to }
-    requires room { IfSome (slice_index_or chosen 0 None) (λ _. length first.old ≡ to - from) }
-    requires room_second { IfSome (slice_index_or chosen 1 None)
-        (λ _. length second.old ≡ to - from) }
-    requires room_third { IfSome (slice_index_or chosen 2 None)
-        (λ _. length third.old ≡ to - from) }
-    requires room_fourth { IfSome (slice_index_or chosen 3 None)
-        (λ _. length fourth.old ≡ to - from) }
-    ensures first { IsDecoded left.now.code left.now.fragments (slice_index_or chosen 0 None) from
-        to first.old first.new }
-    ensures second { IsDecoded left.now.code left.now.fragments (slice_index_or chosen 1 None) from
-        to second.old second.new }
-    ensures third { IsDecoded left.now.code left.now.fragments (slice_index_or chosen 2 None) from
-        to third.old third.new }
-    ensures fourth { IsDecoded left.now.code left.now.fragments (slice_index_or chosen 3 None) from
-        to fourth.old fourth.new }
-{
-    let known = known_at_first(left, from, to);
-    rebuild_next(left, &known, chosen[0], from, to, first);
-    let known = known_with(left, &known, chosen[0], from, to, first);
-    rebuild_next(left, &known, chosen[1], from, to, second);
-    let known = known_with(left, &known, chosen[1], from, to, second);
-    rebuild_next(left, &known, chosen[2], from, to, third);
-    let known = known_with(left, &known, chosen[2], from, to, third);
-    rebuild_next(left, &known, chosen[3], from, to, fourth);
-}
-
 /// 1 if a fragment is chosen that is not alone lost in its group, so that its recipe has up to
 /// twelve terms.
 fn is_far(code: Code, lost: LostSet, chosen: Option<u8>) -> u32
@@ -213,25 +169,35 @@ fn is_far(code: Code, lost: LostSet, chosen: Option<u8>) -> u32
     }
 }
 
-/// From which width on the syndromes are faster than several recipes.
-const WIDE: usize = 1;
-
-/// Up to which width it takes longer to keep what was made than it saves.
-const NARROW: usize = 0;
-
-/// Whether the syndromes are the faster way to make several fragments that are not alone lost in
-/// their groups. Where the excess is 1, one of them comes by its recipe, and its group then has the
-/// other.
-fn are_syndromes_faster(code: Code, lost: LostSet, width: usize) -> bool {
-    lost.excess_in(code) > 0 && width >= WIDE
+/// How many fragments are chosen that are not alone lost in their groups.
+fn far_count(code: Code, lost: LostSet, chosen: &[Option<u8>; 4]) -> u32
+    requires { (i : ℕ) → i < 4 → IfSome (slice_index_or chosen.now i None)
+        (λ f. f < fragment_count code) }
+{
+    is_far(code, lost, chosen[0])
+        + is_far(code, lost, chosen[1])
+        + is_far(code, lost, chosen[2])
+        + is_far(code, lost, chosen[3])
 }
 
-/// Whether each fragment is made by itself: where a fragment that was made does not help to make
-/// another, since both global parities are lost, or saves too little.
-fn is_each_by_itself(code: Code, lost: LostSet, width: usize) -> bool {
+/// Whether the syndromes are faster than recipes, as measured: the wider the fragments, and the more
+/// of them are not alone lost in their groups.
+fn are_syndromes_faster(code: Code, lost: LostSet, chosen: &[Option<u8>; 4], width: usize) -> bool
+    requires { (i : ℕ) → i < 4 → IfSome (slice_index_or chosen.now i None)
+        (λ f. f < fragment_count code) }
+{
+    if width < 128 {
+        return false;
+    }
     let last = code.fragments() - 1;
     let are_globals_lost = !lost.left(last) && !lost.left(last - 1);
-    width <= NARROW || (width < WIDE && are_globals_lost)
+    match far_count(code, lost, chosen) {
+        0 => false,
+        1 => width >= 4096,
+        2 if are_globals_lost => width >= 1024,
+        2 => width >= 256,
+        _ => true,
+    }
 }
 
 /// Writes the bytes `from..to` of up to four absent fragments, as every stripe has them that agrees
@@ -240,9 +206,8 @@ fn is_each_by_itself(code: Code, lost: LostSet, width: usize) -> bool {
 ///
 /// Returns false if and only if a chosen fragment is open; then every target is unchanged.
 ///
-/// A fragment that is alone lost in its group is made from that group. Several others are made one
-/// after the other, each with those made before it where that helps, or in one pass over the
-/// fragments that are present, whichever is faster. Does not allocate.
+/// The fragments are made in one pass over those that are present, or each by its recipe, whichever
+/// is faster. Does not allocate.
 pub fn decode_to(
     left: &Left,
     chosen: [Option<u8>; 4],
@@ -281,24 +246,13 @@ pub fn decode_to(
     if has_open(left, lost, &chosen) {
         return false;
     }
-    let several = is_far(left.code, lost, chosen[0])
-        + is_far(left.code, lost, chosen[1])
-        + is_far(left.code, lost, chosen[2])
-        + is_far(left.code, lost, chosen[3]);
-    let far = if is_each_by_itself(left.code, lost, to - from) {
-        0
+    if are_syndromes_faster(left.code, lost, &chosen, to - from) {
+        decode_by_syndromes(left, lost, chosen, from, to, first, second, third, fourth);
     } else {
-        several
-    };
-    if far <= 1 {
         rebuild_chosen(left, chosen[0], from, to, first);
         rebuild_chosen(left, chosen[1], from, to, second);
         rebuild_chosen(left, chosen[2], from, to, third);
         rebuild_chosen(left, chosen[3], from, to, fourth);
-    } else if are_syndromes_faster(left.code, lost, to - from) {
-        decode_by_syndromes(left, lost, chosen, from, to, first, second, third, fourth);
-    } else {
-        decode_in_turn(left, chosen, from, to, first, second, third, fourth);
     }
     true
 }

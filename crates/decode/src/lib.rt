@@ -8,7 +8,6 @@
 #![tactic(auto)]
 
 mod decoding;
-mod known;
 mod reads;
 mod shares;
 

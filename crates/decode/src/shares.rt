@@ -74,8 +74,8 @@ fn factors_for(code: Code, others: &Others, f: usize, other: usize) -> (u8, u8)
 {
     let third = reduced(code, others, 3, other);
     let fourth = reduced(code, others, 2, other);
-    let determinant =
-        mul(third, reduced(code, others, 2, f)) ^ mul(fourth, reduced(code, others, 3, f));
+    let determinant = mul(third, reduced(code, others, 2, f))
+        ^ mul(fourth, reduced(code, others, 3, f));
     match NonZero::<u8>::new(determinant) {
         None => (0, 0),
         Some(determinant) => {
@@ -197,8 +197,8 @@ fn shares_by_recipe(code: Code, lost: LostSet, f: u8) -> Option<[u8; 4]>
 }
 
 /// The shares of a lost fragment: in every column it is the sum of the four syndromes of the
-/// remaining fragments, each times its share. They depend on the lost set alone. Returns None if and
-/// only if the fragment is open.
+/// remaining fragments, each times its share. They depend on the lost set alone. Returns None if
+/// and only if the fragment is open.
 pub fn shares_of(code: Code, lost: LostSet, f: u8) -> Option<[u8; 4]>
     requires f_below { f < fragment_count code }
     requires f_lost { is_lost lost f ≡ true }

@@ -12,9 +12,9 @@ use decode::decode_to;
 use lrc_code::{Code, Left, LostSet, encode_in};
 use std::alloc::Global;
 
-/// Bytes of a fragment: each on its own, in turn, and twice by the syndromes, of which the last leaves
-/// one byte after whole blocks.
-const WIDTHS: [usize; 4] = [1, 129, 1024, 2049];
+/// Bytes of a fragment: at 1 each is made by its recipe, then more and more sets are made by the
+/// syndromes. The last width leaves one byte after whole blocks.
+const WIDTHS: [usize; 4] = [1, 129, 1024, 4097];
 
 /// The fragments of a stripe.
 fn stripe_of(alloc: Global, code: Code, width: usize) -> Result<Vec<Vec<u8>>> {
@@ -61,7 +61,7 @@ fn are_long(slices: &[&[u8]], width: usize) -> bool
     slices.iter().all(|slice| slice.len() == width)
 }
 
-/// What is left of a stripe.
+/// The remaining fragments of a stripe.
 fn left_of(code: Code, stripe: &[Vec<u8>], lost: LostSet) -> Left<'_> {
     let mut fragments = [None; 16];
     for (f, bytes) in stripe.iter().enumerate().take(16) {
@@ -74,7 +74,8 @@ fn left_of(code: Code, stripe: &[Vec<u8>], lost: LostSet) -> Left<'_> {
 
 /// The lost fragment at a place of the list, or None past its end.
 fn chosen_at(left: &Left, lost: &[u8], i: usize) -> Option<u8>
-    ensures { IfSome result (λ f. (f < fragment_count left.now.code) × (is_absent left.now.fragments f ≡ true)) }
+    ensures { IfSome result (λ f. (f < fragment_count left.now.code)
+        × (is_absent left.now.fragments f ≡ true)) }
 {
     let f = *lost.get(i)?;
     if f < left.code.fragments() && left.fragments[usize::from(f)].is_none() {
@@ -84,7 +85,7 @@ fn chosen_at(left: &Left, lost: &[u8], i: usize) -> Option<u8>
     }
 }
 
-/// The bytes of the lost fragments, or None where one of them is open.
+/// The bytes of the lost fragments, or None if one of them is unrecoverable.
 fn decoded(alloc: Global, left: &Left, lost: &[u8], width: usize) -> Result<Option<[Vec<u8>; 4]>> {
     ensure!(left.reaches(width), "a fragment is too short");
     let chosen = [
@@ -114,7 +115,7 @@ fn decoded(alloc: Global, left: &Left, lost: &[u8], width: usize) -> Result<Opti
     })
 }
 
-/// Whether the set is decoded whole; an error where it should or should not be, or differs.
+/// Whether the set is decoded whole. An error if that is wrong, or the bytes differ.
 fn is_whole(
     alloc: Global,
     code: Code,

@@ -1,6 +1,7 @@
-//! The sum of lists, each times its coefficient, thirty-two places at a time, by tables that are made once. Each list is
-//! read once.
-ghost use Rattle.std.specs.Prelude.{◌≡◌, ℕ, ◌<◌, ◌≤◌, ◌+◌, IsTrue, map, length, slice_index, bit_xor, All, EachIndex};
+//! The sum of lists, each times its coefficient, thirty-two places at a time, by tables that are
+//! made once. Each list is read once.
+ghost use Rattle.std.specs.Prelude.{◌≡◌, ℕ, ◌<◌, ◌≤◌, ◌+◌, IsTrue, map, length, slice_index};
+ghost use Rattle.std.specs.Prelude.{bit_xor, All, EachIndex};
 ghost use Rattle.kernels.specs.Lists.{combined, bytes_at};
 ghost use Rattle.kernels.specs.Tables.{AreLow, AreHigh};
 
@@ -9,7 +10,8 @@ use crate::factor::{Factor, look_up};
 use gf256::add_scaled;
 use std::simd::prelude::*;
 
-/// The sum at thirty-two places from `at` on: the products with coefficient `i` stand in the tables `i`.
+/// The sum at thirty-two places from `at` on: the products with coefficient `i` stand in the tables
+/// `i`.
 #[inline(always)]
 fn sum_block(
     coefficients: &[u8],
@@ -24,7 +26,8 @@ fn sum_block(
     requires count_low { length lows.now ≡ length coefficients.now }
     requires count_high { length highs.now ≡ length coefficients.now }
     requires inside { All (λ s. at + LANES ≤ length s.now) sources.now }
-    ensures { (k : ℕ) → k < LANES → slice_index result k ≡ combined coefficients.now (bytes_at (map (λ s. s.now) sources.now) (at + k)) }
+    ensures { (k : ℕ) → k < LANES → slice_index result k
+        ≡ combined coefficients.now (bytes_at (map (λ s. s.now) sources.now) (at + k)) }
 {
     let mut sum = u8x32::splat(0);
     for i in 0..coefficients.len() {
@@ -57,8 +60,10 @@ fn sum_two(
     requires count_high { length highs.now ≡ length coefficients.now }
     requires inside { All (λ s. at + LANES + LANES ≤ length s.now) sources.now }
     requires next { next ≡ at + LANES }
-    ensures first { (k : ℕ) → k < LANES → slice_index result.first k ≡ combined coefficients.now (bytes_at (map (λ s. s.now) sources.now) (at + k)) }
-    ensures second { (k : ℕ) → k < LANES → slice_index result.second k ≡ combined coefficients.now (bytes_at (map (λ s. s.now) sources.now) (next + k)) }
+    ensures first { (k : ℕ) → k < LANES → slice_index result.first k
+        ≡ combined coefficients.now (bytes_at (map (λ s. s.now) sources.now) (at + k)) }
+    ensures second { (k : ℕ) → k < LANES → slice_index result.second k
+        ≡ combined coefficients.now (bytes_at (map (λ s. s.now) sources.now) (next + k)) }
 {
     let mut first = u8x32::splat(0);
     let mut second = u8x32::splat(0);
@@ -70,6 +75,45 @@ fn sum_two(
         second = sum_2(second, look_up(low, high, load(source, next)));
     }
     Two { first, second }
+}
+
+/// The sums at thirty-two places from `at` on, and from `next` on. The tables of a coefficient are
+/// made where they are used, and not kept.
+#[inline(always)]
+fn sum_once(coefficients: &[u8], sources: &[&[u8]], at: usize, next: usize) -> Two
+    requires count { length sources.now ≡ length coefficients.now }
+    requires inside { All (λ s. at + LANES ≤ length s.now) sources.now }
+    requires next_inside { All (λ s. next + LANES ≤ length s.now) sources.now }
+    ensures first { (k : ℕ) → k < LANES → slice_index result.first k
+        ≡ combined coefficients.now (bytes_at (map (λ s. s.now) sources.now) (at + k)) }
+    ensures second { (k : ℕ) → k < LANES → slice_index result.second k
+        ≡ combined coefficients.now (bytes_at (map (λ s. s.now) sources.now) (next + k)) }
+{
+    let mut first = u8x32::splat(0);
+    let mut second = u8x32::splat(0);
+    for i in 0..coefficients.len() {
+        let factor = Factor::new(coefficients[i]);
+        let source = sources[i];
+        first = factor.plus_times(first, load(source, at));
+        second = factor.plus_times(second, load(source, next));
+    }
+    Two { first, second }
+}
+
+/// Makes the target the sum at each place, where it has at most sixty-four.
+fn sum_few(target: &mut [u8], coefficients: &[u8], sources: &[&[u8]])
+    requires count { length sources.now ≡ length coefficients.now }
+    requires wide { LANES ≤ length target.old }
+    requires few { length target.old ≤ LANES + LANES }
+    requires same { All (λ s. length s.now ≡ length target.old) sources.now }
+    ensures { EachIndex target.new (λ k. slice_index target.new k
+        ≡ combined coefficients.now (bytes_at (map (λ s. s.now) sources.now) k)) }
+{
+    // the second block ends with the lists, and may overlap the first
+    let last = target.len() - LANES;
+    let sums = sum_once(coefficients, sources, 0, last);
+    store(sums.first, target, 0);
+    store(sums.second, target, last);
 }
 
 /// Makes the target the sum at each place.
@@ -88,7 +132,8 @@ fn sum_blocks(
     requires count_high { length highs.now ≡ length coefficients.now }
     requires wide { LANES ≤ length target.old }
     requires same { All (λ s. length s.now ≡ length target.old) sources.now }
-    ensures { EachIndex target.new (λ k. slice_index target.new k ≡ combined coefficients.now (bytes_at (map (λ s. s.now) sources.now) k)) }
+    ensures { EachIndex target.new (λ k. slice_index target.new k
+        ≡ combined coefficients.now (bytes_at (map (λ s. s.now) sources.now) k)) }
 {
     let width = target.len();
     let mut at = 0;
@@ -121,7 +166,8 @@ fn plain_block(coefficients: &[u8], sources: &[&[u8]], at: usize) -> u8x32
     requires ones { All (λ c. c ≡ 1) coefficients.now }
     requires count { length sources.now ≡ length coefficients.now }
     requires inside { All (λ s. at + LANES ≤ length s.now) sources.now }
-    ensures { (k : ℕ) → k < LANES → slice_index result k ≡ combined coefficients.now (bytes_at (map (λ s. s.now) sources.now) (at + k)) }
+    ensures { (k : ℕ) → k < LANES → slice_index result k
+        ≡ combined coefficients.now (bytes_at (map (λ s. s.now) sources.now) (at + k)) }
 {
     let mut sum = u8x32::splat(0);
     for i in 0..coefficients.len() {
@@ -137,7 +183,8 @@ fn plain_blocks(target: &mut [u8], coefficients: &[u8], sources: &[&[u8]])
     requires count { length sources.now ≡ length coefficients.now }
     requires wide { LANES ≤ length target.old }
     requires same { All (λ s. length s.now ≡ length target.old) sources.now }
-    ensures { EachIndex target.new (λ k. slice_index target.new k ≡ combined coefficients.now (bytes_at (map (λ s. s.now) sources.now) k)) }
+    ensures { EachIndex target.new (λ k. slice_index target.new k
+        ≡ combined coefficients.now (bytes_at (map (λ s. s.now) sources.now) k)) }
 {
     let width = target.len();
     let mut at = 0;
@@ -164,10 +211,11 @@ fn sum_plainly(target: &mut [u8], coefficients: &[u8], sources: &[&[u8]])
     requires count { length sources.now ≡ length coefficients.now }
     requires wide { LANES ≤ length target.old }
     requires same { All (λ s. length s.now ≡ length target.old) sources.now }
-    ensures { EachIndex target.new (λ k. slice_index target.new k ≡ combined coefficients.now (bytes_at (map (λ s. s.now) sources.now) k)) }
+    ensures { EachIndex target.new (λ k. slice_index target.new k
+        ≡ combined coefficients.now (bytes_at (map (λ s. s.now) sources.now) k)) }
 {
-    // the same call twice: where there are six lists, as in a group, the code for a block has no loop, and keeps copies of the
-    // slices in registers, which a store to the target cannot change
+    // the same call twice: where there are six lists, as in a group, the code for a block has no
+    // loop, and keeps copies of the slices in registers, which a store to the target cannot change
     if coefficients.len() == 6 {
         let six = [
             sources[0], sources[1], sources[2], sources[3], sources[4], sources[5],
@@ -200,7 +248,8 @@ fn sum_by_tables(target: &mut [u8], coefficients: &[u8], sources: &[&[u8]])
     requires few { length coefficients.now ≤ 15 }
     requires wide { LANES ≤ length target.old }
     requires same { All (λ s. length s.now ≡ length target.old) sources.now }
-    ensures { EachIndex target.new (λ k. slice_index target.new k ≡ combined coefficients.now (bytes_at (map (λ s. s.now) sources.now) k)) }
+    ensures { EachIndex target.new (λ k. slice_index target.new k
+        ≡ combined coefficients.now (bytes_at (map (λ s. s.now) sources.now) k)) }
 {
     let mut lows = [u8x32::splat(0); 15];
     let mut highs = [u8x32::splat(0); 15];
@@ -221,7 +270,8 @@ fn add_each(target: &mut [u8], coefficients: &[u8], sources: &[&[u8]])
     requires count { length sources.now ≡ length coefficients.now }
     requires same { All (λ s. length s.now ≡ length target.old) sources.now }
     ensures { EachIndex target.new (λ k. slice_index target.new k
-        ≡ bit_xor (slice_index target.old k) (combined coefficients.now (bytes_at (map (λ s. s.now) sources.now) k))) }
+        ≡ bit_xor (slice_index target.old k) (combined coefficients.now (bytes_at (map
+        (λ s. s.now) sources.now) k))) }
 {
     for i in 0..coefficients.len() {
         add_scaled(target, coefficients[i], sources[i]);
@@ -244,18 +294,22 @@ fn are_ones(coefficients: &[u8]) -> bool
     coefficients.iter().all(|c| *c == 1)
 }
 
-/// Makes the target the sum of at most fifteen lists of its length, each times its coefficient, place by place.
+/// Makes the target the sum of at most fifteen lists of its length, each times its coefficient,
+/// place by place.
 pub fn combine_lists(target: &mut [u8], coefficients: &[u8], sources: &[&[u8]])
     requires count { length sources.now ≡ length coefficients.now }
     requires few { length coefficients.now ≤ 15 }
     requires same { All (λ s. length s.now ≡ length target.old) sources.now }
-    ensures { EachIndex target.new (λ k. slice_index target.new k ≡ combined coefficients.now (bytes_at (map (λ s. s.now) sources.now) k)) }
+    ensures { EachIndex target.new (λ k. slice_index target.new k
+        ≡ combined coefficients.now (bytes_at (map (λ s. s.now) sources.now) k)) }
 {
     if target.len() < LANES {
         clear(target);
         add_each(target, coefficients, sources);
     } else if are_ones(coefficients) {
         sum_plainly(target, coefficients, sources);
+    } else if target.len() <= LANES + LANES {
+        sum_few(target, coefficients, sources);
     } else {
         sum_by_tables(target, coefficients, sources);
     }

@@ -13,14 +13,15 @@ use std::simd::prelude::*;
 pub fn load_from(sources: &[&[u8]], f: usize, at: usize) -> u8x32
     requires f_below { f < length sources.now }
     requires inside { All (λ s. at + LANES ≤ length s.now) sources.now }
-    ensures lanes { (k : ℕ) → k < LANES → slice_index result k ≡ slice_index (list_at (map (λ s. s.now) sources.now) f) (at + k) }
+    ensures lanes { (k : ℕ) → k < LANES → slice_index result k
+        ≡ slice_index (list_at (map (λ s. s.now) sources.now) f) (at + k) }
     ensures bytes { (k : ℕ) → k < LANES → slice_index result k < 256 }
 {
     load(sources[f], at)
 }
 
-/// The sums of thirty-two places of a group: of all six fragments, and of those whose number in the group, counted from 1,
-/// has bit 0, bit 1 or bit 2.
+/// The sums of thirty-two places of a group: of all six fragments, and of those whose number in the
+/// group, counted from 1, has bit 0, bit 1 or bit 2.
 #[derive(Clone, Copy, Drop)]
 pub struct GroupSums {
     /// The sum of all six lists.
@@ -38,11 +39,16 @@ pub struct GroupSums {
 pub fn sums_of(sources: &[&[u8]], first: usize, at: usize) -> GroupSums
     requires first_below { first + 6 ≤ length sources.now }
     requires inside { All (λ s. at + LANES ≤ length s.now) sources.now }
-    ensures bytes { (i k : ℕ) → i < 6 → k < LANES → bytes_at (map (λ s. s.now) sources.now) (at + k) (first + i) < 256 }
-    ensures whole { (k : ℕ) → k < LANES → slice_index result.whole k ≡ sum_of_6 (λ i. bytes_at (map (λ s. s.now) sources.now) (at + k) (first + i)) }
-    ensures bit_0 { (k : ℕ) → k < LANES → slice_index result.bit_0 k ≡ with_bit_0 (λ i. bytes_at (map (λ s. s.now) sources.now) (at + k) (first + i)) }
-    ensures bit_1 { (k : ℕ) → k < LANES → slice_index result.bit_1 k ≡ with_bit_1 (λ i. bytes_at (map (λ s. s.now) sources.now) (at + k) (first + i)) }
-    ensures bit_2 { (k : ℕ) → k < LANES → slice_index result.bit_2 k ≡ with_bit_2 (λ i. bytes_at (map (λ s. s.now) sources.now) (at + k) (first + i)) }
+    ensures bytes { (i k : ℕ) → i < 6 → k < LANES
+        → bytes_at (map (λ s. s.now) sources.now) (at + k) (first + i) < 256 }
+    ensures whole { (k : ℕ) → k < LANES → slice_index result.whole k ≡ sum_of_6
+        (λ i. bytes_at (map (λ s. s.now) sources.now) (at + k) (first + i)) }
+    ensures bit_0 { (k : ℕ) → k < LANES → slice_index result.bit_0 k ≡ with_bit_0
+        (λ i. bytes_at (map (λ s. s.now) sources.now) (at + k) (first + i)) }
+    ensures bit_1 { (k : ℕ) → k < LANES → slice_index result.bit_1 k ≡ with_bit_1
+        (λ i. bytes_at (map (λ s. s.now) sources.now) (at + k) (first + i)) }
+    ensures bit_2 { (k : ℕ) → k < LANES → slice_index result.bit_2 k ≡ with_bit_2
+        (λ i. bytes_at (map (λ s. s.now) sources.now) (at + k) (first + i)) }
 {
     let x0 = load_from(sources, first, at);
     let x1 = load_from(sources, first + 1, at);
@@ -76,7 +82,8 @@ fn encode_block(
     requires third_inside { at + LANES ≤ length third.old }
     requires fourth_inside { at + LANES ≤ length fourth.old }
     ensures parities { (k : ℕ) → k < LANES →
-        AreParities (map (λ s. s.now) sources.now) (first.new ∷ second.new ∷ third.new ∷ fourth.new ∷ []) (at + k) }
+        AreParities (map (λ s. s.now) sources.now)
+        (first.new ∷ second.new ∷ third.new ∷ fourth.new ∷ []) (at + k) }
     ensures first_before { (k : ℕ) → k < at → slice_index first.new k ≡ slice_index first.old k }
     ensures second_before { (k : ℕ) → k < at → slice_index second.new k ≡ slice_index second.old k }
     ensures third_before { (k : ℕ) → k < at → slice_index third.new k ≡ slice_index third.old k }
@@ -96,7 +103,8 @@ fn encode_block(
 fn bytes_of(sources: &[&[u8]], at: usize) -> [u8; 12]
     requires count { length sources.now ≡ 12 }
     requires inside { All (λ s. at < length s.now) sources.now }
-    ensures { (i : ℕ) → i < 12 → slice_index result i ≡ bytes_at (map (λ s. s.now) sources.now) at i }
+    ensures { (i : ℕ) → i < 12 → slice_index result i
+        ≡ bytes_at (map (λ s. s.now) sources.now) at i }
 {
     let mut bytes = [0; 12];
     for i in 0..12 {
@@ -120,7 +128,8 @@ fn encode_place(
     requires second_inside { at < length second.old }
     requires third_inside { at < length third.old }
     requires fourth_inside { at < length fourth.old }
-    ensures parities { AreParities (map (λ s. s.now) sources.now) (first.new ∷ second.new ∷ third.new ∷ fourth.new ∷ []) at }
+    ensures parities { AreParities (map (λ s. s.now) sources.now)
+        (first.new ∷ second.new ∷ third.new ∷ fourth.new ∷ []) at }
     ensures first_before { (k : ℕ) → k < at → slice_index first.new k ≡ slice_index first.old k }
     ensures second_before { (k : ℕ) → k < at → slice_index second.new k ≡ slice_index second.old k }
     ensures third_before { (k : ℕ) → k < at → slice_index third.new k ≡ slice_index third.old k }
@@ -149,7 +158,8 @@ fn encode_lists(
     requires same_third { length third.old ≡ length first.old }
     requires same_fourth { length fourth.old ≡ length first.old }
     ensures { (k : ℕ) → k < length first.new →
-        AreParities (map (λ s. s.now) sources.now) (first.new ∷ second.new ∷ third.new ∷ fourth.new ∷ []) k }
+        AreParities (map (λ s. s.now) sources.now)
+        (first.new ∷ second.new ∷ third.new ∷ fourth.new ∷ []) k }
 {
     let width = first.len();
     if width < LANES {
@@ -181,9 +191,11 @@ pub fn write_parities(
     requires same_third { length third.old ≡ length first.old }
     requires same_fourth { length fourth.old ≡ length first.old }
     ensures { (k : ℕ) → k < length first.new →
-        AreParities (map (λ s. s.now) sources.now) (first.new ∷ second.new ∷ third.new ∷ fourth.new ∷ []) k }
+        AreParities (map (λ s. s.now) sources.now)
+        (first.new ∷ second.new ∷ third.new ∷ fourth.new ∷ []) k }
 {
-    // copies, which a store to a parity cannot change: so the code for a block keeps them in registers
+    // copies, which a store to a parity cannot change: so the code for a block keeps them in
+    // registers
     let lists = [
         sources[0],
         sources[1],

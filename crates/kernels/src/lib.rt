@@ -1,7 +1,7 @@
-//! Sums of lists of bytes over GF(2^8), many places at once: of any lists with any coefficients, and the four parities of
-//! twelve lists.
+//! Sums of lists of bytes over GF(2^8), many places at once: of any lists with any coefficients,
+//! and the four parities of twelve lists.
 //!
-//! No call asks for memory, and none refuses.
+//! No call allocates, and none refuses.
 #![tactic(auto)]
 
 mod blocks;

@@ -17,8 +17,9 @@ fn times_4(x: u8) -> u8
     twice(twice(x))
 }
 
-/// The four parities of twelve bytes. The coefficients of the first group are 1 to 6, those of the second
-/// are sixteen times 1 to 6; so the sum over a group is made of the sums of the bytes whose number has bit 0, 1 or 2.
+/// The four parities of twelve bytes. The coefficients of the first group are 1 to 6, those of the
+/// second are sixteen times 1 to 6; so the sum over a group is made of the sums of the bytes whose
+/// number has bit 0, 1 or 2.
 pub(crate) fn parities(bytes: &[u8; 12]) -> [u8; 4]
     ensures { (e : ℕ) → e < 4 → slice_index result e ≡ parity e (λ i. slice_index bytes.now i) }
 {

@@ -11,7 +11,10 @@ use Rattle.lrc_code.specs.Code.{fragment_count, weight, weights, excess_of, is_a
 use Rattle.gf256.specs.Field.{product}
 use Rattle.gf256.proofs.Laws.{product_assoc}
 use Rattle.gf256.proofs.Linear.{product-xor_right}
-use Rattle.lrc_code.specs.ParityCheck.{place_of, FirstOf, other_of, reduced_weight, determinant}
+use Rattle.gf256.proofs.Ring.{Term, var, plus, times, same_by_ring}
+use Rattle.lrc_code.specs.declared.recipes.ParityCheck.TheVariants.{Global}
+use Rattle.lrc_code.specs.ParityCheck.{place_of, FirstOf, other_of, reduced_weight, determinant, AreFactors}
+use Rattle.lrc_code.proofs.Witness.{weight-lt}
 use Rattle.lrc_code.proofs.Opening.{reduced_weight-lt}
 use Rattle.lrc_code.proofs.Computed.{test_below, passes_below}
 use Rattle.lrc_code.proofs.Count.{without}
@@ -127,3 +130,25 @@ scaled_determinant code p q g i scale third fourth r2 r3 small pl ql gl l2 l3 e3
     (ap (λ x. product x r3) e4 ∙ product_assoc scale b r3 small (reduced_weight-lt code p q 2 g (omega arith) pl ql gl) l3)
     ∙ sym (product-xor_right scale (product a r2) (product b r3))
     ∙ ap₂ (λ x y. product scale (bit_xor (product a x) (product b y))) is2 is3
+
+-- the sum of the four equations, each times its factor
+abbrev by_equations : Term
+by_equations =
+    plus (plus (plus (times (plus (times (var 0) (var 6)) (times (var 1) (var 7))) (var 2)) (times (plus (times (var 0) (var 8)) (times (var 1) (var 9))) (var 3))) (times (var 0) (var 4))) (times (var 1) (var 5))
+
+abbrev by_reduced : Term
+by_reduced =
+    plus (times (var 0) (plus (plus (var 4) (times (var 6) (var 2))) (times (var 8) (var 3)))) (times (var 1) (plus (plus (var 5) (times (var 7) (var 2))) (times (var 9) (var 3))))
+
+pub check_by_weights : (code : Code) (p q g i scale first second third fourth : ℕ) → p ≤ fragment_count code → q ≤ fragment_count code → g < fragment_count code → i < fragment_count code → third < 256 → fourth < 256
+    → AreFactors code (Global p q g scale) first second third fourth
+    → bit_xor (bit_xor (bit_xor (product first (weight code 0 i)) (product second (weight code 1 i))) (product third (weight code 2 i))) (product fourth (weight code 3 i)) ≡ product scale (determinant code p q g i)
+check_by_weights code p q g i scale first second third fourth pl ql gl il l3 l4 are =
+    let w = λ (e : ℕ). weight code e i in
+    let small : (e : ℕ) → e < 4 → w e < 256 = λ e l. weight-lt code e i l (omega arith) in
+    ap₂ (λ x y. bit_xor (bit_xor (bit_xor (product x (w 0)) (product y (w 1))) (product third (w 2))) (product fourth (w 3))) are.3 are.4
+    ∙ same_by_ring (third ∷ fourth ∷ w 0 ∷ w 1 ∷ w 2 ∷ w 3 ∷ weight code 2 p ∷ weight code 3 p ∷ weight code 2 q ∷ weight code 3 q ∷ [])
+    (l3, (l4, (small 0 (omega arith), (small 1 (omega arith), (small 2 (omega arith), (small 3 (omega arith), (weight-lt code 2 p (omega arith) pl, (weight-lt code 3 p (omega arith) pl, (weight-lt code 2 q (omega arith) ql, (weight-lt code 3 q (omega arith) ql, (tt {0})))))))))))
+    by_equations by_reduced refl
+    ∙ scaled_determinant code p q g i scale third fourth (reduced_weight code p q 2 i) (reduced_weight code p q 3 i) are.0 pl ql gl
+    (reduced_weight-lt code p q 2 i (omega arith) pl ql il) (reduced_weight-lt code p q 3 i (omega arith) pl ql il) are.1 are.2 refl refl

@@ -21,11 +21,15 @@ check_weight code First i = weight code 0 i
 check_weight code Second i = weight code 1 i
 check_weight code (Global p q g scale) i = product scale (determinant code p q g i)
 
--- what a global check multiplies the reduced weights of a fragment by
-abbrev pub AreFactors : Code → ParityCheck → ℕ → ℕ → Type 0
-AreFactors code First third fourth = Unit {0}
-AreFactors code Second third fourth = Unit {0}
-AreFactors code (Global p q g scale) third fourth = (scale < 256) × (third ≡ product scale (reduced_weight code p q 3 g)) × (fourth ≡ product scale (reduced_weight code p q 2 g))
+-- what a global check multiplies the weights of a fragment in the four equations by
+abbrev pub AreFactors : Code → ParityCheck → ℕ → ℕ → ℕ → ℕ → Type 0
+AreFactors code First first second third fourth = Unit {0}
+AreFactors code Second first second third fourth = Unit {0}
+AreFactors code (Global p q g scale) first second third fourth = (scale < 256)
+    × (third ≡ product scale (reduced_weight code p q 3 g))
+    × (fourth ≡ product scale (reduced_weight code p q 2 g))
+    × (first ≡ bit_xor (product third (weight code 2 p)) (product fourth (weight code 3 p)))
+    × (second ≡ bit_xor (product third (weight code 2 q)) (product fourth (weight code 3 q)))
 
 abbrev pub IsParityCheck : Code → ParityCheck → Type 0
 IsParityCheck code First = Unit {0}

@@ -1,5 +1,6 @@
 //! Sets of lost fragments.
-ghost use Rattle.std.specs.Prelude.{◌≡◌, ℕ, ◌<◌, ◌≤◌, ◌↔◌, IsTrue, All, MatchOption, count_by, length, false, not, ◌&&◌, ◌||◌, ◌==◌};
+ghost use Rattle.std.specs.Prelude.{◌≡◌, ℕ, ◌<◌, ◌≤◌, ◌↔◌, IsTrue, All, MatchOption, count_by};
+ghost use Rattle.std.specs.Prelude.{length, false, not, ◌&&◌, ◌||◌, ◌==◌};
 ghost use Rattle.std.specs.List.{filter};
 ghost use Rattle.lrc_code.specs.Code.{fragment_count, all_fragments, is_lost, excess_of, Open};
 ghost use Rattle.lrc_code.specs.Form.{IsOfForm, LeavesTwo};
@@ -9,8 +10,8 @@ use crate::Code;
 use arrayvec::ArrayVec;
 use std::marker::Model;
 
-/// A set of lost fragments: numbers below 16. A fragment that is not lost is left. The calls for LRC(6,2,2) never look
-/// at the numbers above 9.
+/// A set of lost fragments: numbers below 16. A fragment that is not lost remains. The calls for
+/// LRC(6,2,2) never read the numbers above 9.
 #[derive(Clone, Copy, Debug, PartialEq, Eq, PartialOrd, Ord, Hash, Drop)]
 pub struct LostSet {
     bits: u16,
@@ -59,7 +60,7 @@ impl LostSet {
         }
     }
 
-    /// Whether `f` is left: it is not in the set.
+    /// Whether `f` remains: it is not in the set.
     pub fn left(&self, f: u8) -> bool
         requires { f < 16 }
         ensures { IsTrue result ↔ (is_lost self.now f ≡ false) }
@@ -79,7 +80,8 @@ impl LostSet {
     /// The set with `found` taken out, where something was found.
     pub(crate) fn without_found(self, found: Option<u8>) -> LostSet
         requires { MatchOption found (Unit {0}) (λ i. i < 16) }
-        ensures { (code : Code) (i : ℕ) → i < fragment_count code → is_lost result i ≡ (not (i == place_of code found) && is_lost self i) }
+        ensures { (code : Code) (i : ℕ) → i < fragment_count code → is_lost result i
+            ≡ (not (i == place_of code found) && is_lost self i) }
     {
         match found {
             None => self,
@@ -116,13 +118,15 @@ impl LostSet {
         lost
     }
 
-    /// How many lost fragments of a code the two global parities have to make up for: each group makes up for one of its
-    /// own by its local parity. Up to 2 every lost fragment can be rebuilt. Above 2 some fragment can't, whatever the
-    /// coefficients of a code of this form are.
+    /// How many lost fragments of a code the two global parities have to make up for: each group
+    /// makes up for one of its own by its local parity. Up to 2 every lost fragment can be rebuilt.
+    /// Above 2 some fragment can't, whatever the coefficients of a code of this form are.
     pub fn excess_in(&self, code: Code) -> u8
         ensures value { result ≡ excess_of code (is_lost self.now) }
-        ensures unique { (result ≤ 2) ↔ ((f : ℕ) → f < fragment_count code → Open code (is_lost self.now) f → ⊥) }
-        ensures maximal { 2 < result → (w : ℕ → ℕ → ℕ) → IsOfForm code w → LeavesTwo code w (is_lost self.now) }
+        ensures unique { (result ≤ 2) ↔ ((f : ℕ) → f < fragment_count code
+            → Open code (is_lost self.now) f → ⊥) }
+        ensures maximal { 2 < result → (w : ℕ → ℕ → ℕ) → IsOfForm code w
+            → LeavesTwo code w (is_lost self.now) }
     {
         let first = self.count(code.first_group()).saturating_sub(1);
         let second = self.count(code.second_group()).saturating_sub(1);
@@ -132,8 +136,10 @@ impl LostSet {
     /// The excess in LRC(12,2,2), as `excess_in` says it.
     pub fn excess(&self) -> u8
         ensures value { result ≡ excess_of Code.Wide (is_lost self.now) }
-        ensures unique { (result ≤ 2) ↔ ((f : ℕ) → f < 16 → Open Code.Wide (is_lost self.now) f → ⊥) }
-        ensures maximal { 2 < result → (w : ℕ → ℕ → ℕ) → IsOfForm Code.Wide w → LeavesTwo Code.Wide w (is_lost self.now) }
+        ensures unique { (result ≤ 2) ↔ ((f : ℕ) → f < 16 → Open Code.Wide (is_lost self.now) f
+            → ⊥) }
+        ensures maximal { 2 < result → (w : ℕ → ℕ → ℕ) → IsOfForm Code.Wide w
+            → LeavesTwo Code.Wide w (is_lost self.now) }
     {
         self.excess_in(Code::Wide)
     }

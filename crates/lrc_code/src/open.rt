@@ -1,6 +1,7 @@
-//! Which fragments can't be told from those that are left.
+//! Which fragments are unrecoverable.
 ghost use Rattle.std.specs.Prelude.{◌≡◌, ◌<◌, ◌↔◌, IsTrue, All};
-ghost use Rattle.lrc_code.specs.Code.{fragment_count, first_group, second_group, is_lost, is_alone, is_only_lost_of, Open};
+ghost use Rattle.lrc_code.specs.Code.{fragment_count, first_group, second_group, is_lost, is_alone};
+ghost use Rattle.lrc_code.specs.Code.{is_only_lost_of, Open};
 
 use crate::{Code, LostSet};
 
@@ -30,8 +31,9 @@ pub(crate) fn is_only_lost_of_second(code: Code, lost: LostSet, f: u8) -> bool
     is_only_lost(lost, code.second_group(), f)
 }
 
-/// Whether `f` is alone lost in its group, so that it is the sum of the others of the group: what `rebuild_local` asks for. Where nothing else is lost, it is
-/// told without counting: each fragment but the two global parities is in a group.
+/// Whether `f` is alone lost in its group, so that it is the sum of the others of the group: what
+/// `rebuild_local` requires. If nothing else is lost, nothing is counted: each fragment except the
+/// two global parities is in a group.
 #[tactic(auto, unfolding(crate::specs::Code::is_alone))]
 pub fn is_alone_in(code: Code, lost: LostSet, f: u8) -> bool
     requires { f < 16 }
@@ -43,8 +45,8 @@ pub fn is_alone_in(code: Code, lost: LostSet, f: u8) -> bool
     is_only_lost_of_first(code, lost, f) || is_only_lost_of_second(code, lost, f)
 }
 
-/// Whether the fragment `f` of a code is open: two stripes agree on every fragment that is left, and differ at `f`, so
-/// that nothing can rebuild it. A fragment that is left is never open.
+/// Whether the fragment `f` of a code is open, which means unrecoverable: two stripes agree on
+/// every remaining fragment, and differ at `f`. A remaining fragment is never open.
 pub fn is_open_in(code: Code, lost: LostSet, f: u8) -> bool
     requires { f < fragment_count code }
     ensures { IsTrue result ↔ Open code (is_lost lost) f }
@@ -55,7 +57,7 @@ pub fn is_open_in(code: Code, lost: LostSet, f: u8) -> bool
     lost.excess_in(code) > 2
 }
 
-/// Whether the fragment `f` is open in LRC(12,2,2), as `is_open_in` says it.
+/// Whether the fragment `f` is open in LRC(12,2,2), as `is_open_in` defines it.
 pub fn is_open(lost: LostSet, f: u8) -> bool
     requires { f < 16 }
     ensures { IsTrue result ↔ Open Code.Wide (is_lost lost) f }

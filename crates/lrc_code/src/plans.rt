@@ -1,6 +1,7 @@
 //! Recipes that are kept from their first use.
 
-ghost use Rattle.std.specs.Prelude.{◌≡◌, ℕ, ◌+◌, ◌-◌, ◌^◌, ◌<◌, ◌≤◌, ◌↔◌, true, false, min, IsTrue, IfOk, IfSome, MatchResult, length};
+ghost use Rattle.std.specs.Prelude.{◌≡◌, ℕ, ◌+◌, ◌-◌, ◌^◌, ◌<◌, ◌≤◌, ◌↔◌, true, false, min, IsTrue};
+ghost use Rattle.std.specs.Prelude.{IfOk, IfSome, MatchResult, length};
 ghost use Rattle.lrc_code.specs.Code.{fragment_count, is_lost, Open};
 ghost use Rattle.lrc_code.specs.Recipe.{IsRecipe};
 ghost use Rattle.lrc_code.specs.Stripe.{is_absent, HasRange, Rebuilds};
@@ -32,15 +33,16 @@ impl Plan {
 
     /// Whether the recipe is for this fragment.
     fn is_for(&self, code: Code, lost: LostSet, f: u8) -> bool
-        ensures exact { IsTrue result ↔ (self.now.code ≡ code) × (self.now.lost ≡ lost) × (self.now.fragment ≡ f) }
+        ensures exact { IsTrue result ↔ (self.now.code ≡ code) × (self.now.lost ≡ lost)
+            × (self.now.fragment ≡ f) }
         ensures right { result ≡ true → IsRecipe code (is_lost lost) f self.now.recipe.items }
     {
         self.code == code && self.lost == lost && self.fragment == f
     }
 }
 
-/// Recipes by what they are for: the code, the set of lost fragments, and the fragment. Each is made at its first use, and
-/// kept. A contract sees the number of those that are kept.
+/// Recipes by what they are for: the code, the set of lost fragments, and the fragment. Each is
+/// made at its first use, and kept. A contract sees the number of those that are kept.
 #[derive(Drop)]
 pub struct Plans {
     // in the order of what they are for
@@ -54,7 +56,7 @@ impl Model for Plans {
 }
 
 impl Plans {
-    /// No recipe is kept yet. It asks for no memory.
+    /// No recipe is kept yet. Does not allocate.
     pub fn new(alloc: Global) -> Plans
         ensures { result ≡ 0 }
     {
@@ -63,7 +65,7 @@ impl Plans {
         }
     }
 
-    /// How many recipes are kept, or 4,294,967,295 where there are more.
+    /// How many recipes are kept, or 4,294,967,295 if there are more.
     pub fn known(&self) -> u32
         ensures { result ≡ min self.now (2 ^ 32 - 1) }
     {
@@ -92,7 +94,7 @@ impl Plans {
         }
     }
 
-    /// Keeps a recipe, where none is kept for this fragment and memory allows it.
+    /// Keeps a recipe if none is kept for this fragment and there is memory for it.
     pub fn keep(&mut self, code: Code, lost: LostSet, f: u8, recipe: Recipe)
         requires { IsRecipe code (is_lost lost) f recipe.items }
         ensures more { self.old ≤ self.new }
@@ -109,8 +111,9 @@ impl Plans {
         }
     }
 
-    /// The bytes `from..to` of an absent fragment, as `rebuild` gives them: with its conditions, its answers and its refusals.
-    /// The recipe is kept. Where the memory to keep it is refused, it is used all the same.
+    /// The bytes `from..to` of an absent fragment, as `rebuild` gives them: with its conditions,
+    /// its answers and its refusals. The recipe is kept if there is memory for it, and used in any
+    /// case.
     pub fn rebuild(
         &mut self,
         alloc: Global,
@@ -121,9 +124,11 @@ impl Plans {
     ) -> Result<Vec<u8>, Rebuild>
         requires absent { is_absent left.now.fragments f ≡ true }
         requires inside { HasRange left.now.code left.now.fragments f from to }
-        ensures open { (result ≡ Err Rebuild.Open) ↔ Open left.now.code (is_absent left.now.fragments) f }
+        ensures open { (result ≡ Err Rebuild.Open)
+            ↔ Open left.now.code (is_absent left.now.fragments) f }
         ensures length_of { IfOk result (λ v. length v.items ≡ to - from) }
-        ensures ok { IfOk result (λ v. Rebuilds left.now.code left.now.fragments f from to v.items) }
+        ensures ok { IfOk result
+            (λ v. Rebuilds left.now.code left.now.fragments f from to v.items) }
         ensures more { self.old ≤ self.new }
         ensures one { self.new ≤ self.old + 1 }
     {

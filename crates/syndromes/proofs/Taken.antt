@@ -11,7 +11,7 @@ use Rattle.syndromes.specs.declared.formulas.Formula.{Formula}
 use Rattle.syndromes.specs.declared.weights.Weights.{Weights}
 use Rattle.syndromes.specs.Syndromes.{syndrome, column_at}
 use Rattle.syndromes.specs.Weights.{AreWeights, weighed}
-use Rattle.syndromes.specs.Plans.{AreWeightsFor}
+use Rattle.syndromes.specs.Plans.{TakesOnly}
 
 pub syndrome_same : (e : ℕ) (c d : ℕ → ℕ) → e < 4 → ((i : ℕ) → i < 16 → c i ≡ d i) → syndrome e c ≡ syndrome e d
 syndrome_same e c d l same =
@@ -45,10 +45,10 @@ weighed_is w factors s t four are same =
     xor_sum_same 4 _ _ (λ e l. ap₂ product (are e l) (same e l))
     ∙ sym (ap (λ n. xor_sum n (λ e. product (get_or factors e 0) (t e))) four)
 
-pub weights_for : (formula : Option Formula) (w : Weights) (third fourth : Bool) → IfSome formula (λ f. AreWeights w f.factors) → (third ≡ false → IfSome formula (λ f. get_or f.factors 2 0 ≡ 0))
-    → (fourth ≡ false → IfSome formula (λ f. get_or f.factors 3 0 ≡ 0)) → AreWeightsFor formula w third fourth
-weights_for None w third fourth are no_third no_fourth = tt
-weights_for (Some f) w third fourth are no_third no_fourth = (are, no_third, no_fourth)
+pub takes_only : (formula : Option Formula) (third fourth : Bool) → (third ≡ false → IfSome formula (λ f. get_or f.factors 2 0 ≡ 0)) → (fourth ≡ false → IfSome formula (λ f. get_or f.factors 3 0 ≡ 0))
+    → TakesOnly formula third fourth
+takes_only None third fourth no_third no_fourth = tt
+takes_only (Some f) third fourth no_third no_fourth = (no_third, no_fourth)
 
 -- ---- block after block
 -- a fact of each place that is written stays where the bytes stay, and holds of the next block

@@ -1,26 +1,23 @@
--- What is known before the lists are read: the formulas, their weights, and the syndromes they take.
+-- What is known before the lists are read: the formulas, and the syndromes they take.
 use Rattle.std.specs.Prelude.{◌≡◌, ℕ, ◌+◌, ◌-◌, ◌<◌, Bool, true, false, List, Option, IfSome}
 use Rattle.std.specs.Prelude.{slice_index}
 use Rattle.std.specs.Borrow.{Bor}
 use Rattle.kernels.specs.Lists.{bytes_at}
 use Rattle.syndromes.specs.declared.formulas.Formula.{Formula}
 use Rattle.syndromes.specs.declared.pass.Plan.{Plan}
-use Rattle.syndromes.specs.declared.weights.Weights.{Weights}
 use Rattle.syndromes.specs.Syndromes.{syndrome, column_at}
-use Rattle.syndromes.specs.Weights.{AreWeights}
 
--- where a formula is given, the weights are its factors, and the third and the fourth are 0 where
--- those syndromes are not taken
-abbrev pub AreWeightsFor : Option Formula → Weights → Bool → Bool → Type 0
-AreWeightsFor formula w third fourth = IfSome formula (λ f. AreWeights w f.factors
-    × (third ≡ false → slice_index f.factors 2 ≡ 0)
+-- where a formula is given, its third and fourth factors are 0 if those syndromes are not taken
+abbrev pub TakesOnly : Option Formula → Bool → Bool → Type 0
+TakesOnly formula third fourth = IfSome formula (λ f.
+    (third ≡ false → slice_index f.factors 2 ≡ 0)
     × (fourth ≡ false → slice_index f.factors 3 ≡ 0))
 
 pub record IsPlan (p : Plan) : Type 0 where
-  pub first : AreWeightsFor p.formulas.first p.first p.takes_third p.takes_fourth
-  pub second : AreWeightsFor p.formulas.second p.second p.takes_third p.takes_fourth
-  pub third : AreWeightsFor p.formulas.third p.third p.takes_third p.takes_fourth
-  pub fourth : AreWeightsFor p.formulas.fourth p.fourth p.takes_third p.takes_fourth
+  pub first : TakesOnly p.formulas.first p.takes_third p.takes_fourth
+  pub second : TakesOnly p.formulas.second p.takes_third p.takes_fourth
+  pub third : TakesOnly p.formulas.third p.takes_third p.takes_fourth
+  pub fourth : TakesOnly p.formulas.fourth p.takes_third p.takes_fourth
 
 -- the four lists have the syndromes of the places at..end, the third and the fourth where they are
 -- taken

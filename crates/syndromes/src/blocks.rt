@@ -7,8 +7,8 @@ ghost use Rattle.syndromes.specs.Syndromes.{syndrome, column_at, HaveBytes};
 use gf256::xor_into;
 use kernels::{combine_lists, write_parities};
 
-/// How many places a block has at most: few enough that its syndromes stay in the first cache beside
-/// the lists.
+/// How many places a block has at most: few enough that its syndromes stay in the first cache
+/// beside the lists.
 pub(crate) const BLOCK: usize = 1024;
 
 static ZEROS: [u8; BLOCK] = [0; BLOCK];

@@ -1,66 +1,12 @@
 //! The four syndromes of sixteen lists at thirty-two places.
 ghost use Rattle.std.specs.Prelude.{◌≡◌, ◌<◌, ◌≤◌, ◌+◌, ℕ, true, map, length, slice_index, bit_xor};
 ghost use Rattle.std.specs.Prelude.{All};
-ghost use Rattle.kernels.specs.Doublings.{sum_of_6, with_bit_0, with_bit_1, with_bit_2};
 ghost use Rattle.kernels.specs.Doublings.{third_apart, fourth_apart};
 ghost use Rattle.kernels.specs.Lists.{bytes_at, list_at};
 ghost use Rattle.syndromes.specs.Syndromes.{syndrome};
 
-use crate::lanes::{LANES, fourth_each, load, sum_2, sum_3, sum_4, third_each};
+use kernels::{GroupSums, LANES, fourth_each, load_from, sum_2, sums_of, third_each};
 use std::simd::prelude::*;
-
-/// The thirty-two bytes of list `f` from `at` on.
-#[inline(always)]
-fn load_from(sources: &[&[u8]], f: usize, at: usize) -> u8x32
-    requires f_below { f < length sources.now }
-    requires inside { All (λ s. at + LANES ≤ length s.now) sources.now }
-    ensures lanes { (k : ℕ) → k < LANES → slice_index result k
-        ≡ slice_index (list_at (map (λ s. s.now) sources.now) f) (at + k) }
-    ensures bytes { (k : ℕ) → k < LANES → slice_index result k < 256 }
-{
-    load(sources[f], at)
-}
-
-/// The sums of thirty-two places of a group: of all six lists, and of those whose number in the
-/// group, counted from 1, has bit 0, bit 1 or bit 2.
-#[derive(Clone, Copy, Drop)]
-struct Sums {
-    whole: u8x32,
-    bit_0: u8x32,
-    bit_1: u8x32,
-    bit_2: u8x32,
-}
-
-/// The sums of the six lists from `first` on.
-#[inline(always)]
-fn sums_of(sources: &[&[u8]], first: usize, at: usize) -> Sums
-    requires first_below { first + 6 ≤ length sources.now }
-    requires inside { All (λ s. at + LANES ≤ length s.now) sources.now }
-    ensures bytes { (i k : ℕ) → i < 6 → k < LANES
-        → bytes_at (map (λ s. s.now) sources.now) (at + k) (first + i) < 256 }
-    ensures whole { (k : ℕ) → k < LANES → slice_index result.whole k
-        ≡ sum_of_6 (λ i. bytes_at (map (λ s. s.now) sources.now) (at + k) (first + i)) }
-    ensures bit_0 { (k : ℕ) → k < LANES → slice_index result.bit_0 k
-        ≡ with_bit_0 (λ i. bytes_at (map (λ s. s.now) sources.now) (at + k) (first + i)) }
-    ensures bit_1 { (k : ℕ) → k < LANES → slice_index result.bit_1 k
-        ≡ with_bit_1 (λ i. bytes_at (map (λ s. s.now) sources.now) (at + k) (first + i)) }
-    ensures bit_2 { (k : ℕ) → k < LANES → slice_index result.bit_2 k
-        ≡ with_bit_2 (λ i. bytes_at (map (λ s. s.now) sources.now) (at + k) (first + i)) }
-{
-    let x0 = load_from(sources, first, at);
-    let x1 = load_from(sources, first + 1, at);
-    let x2 = load_from(sources, first + 2, at);
-    let x3 = load_from(sources, first + 3, at);
-    let x4 = load_from(sources, first + 4, at);
-    let x5 = load_from(sources, first + 5, at);
-    let bit_0 = sum_3(x0, x2, x4);
-    Sums {
-        whole: sum_4(bit_0, x1, x3, x5),
-        bit_0,
-        bit_1: sum_3(x1, x2, x5),
-        bit_2: sum_3(x3, x4, x5),
-    }
-}
 
 /// The four syndromes at thirty-two places.
 #[derive(Clone, Copy, Drop)]
@@ -73,7 +19,7 @@ pub(crate) struct Columns {
 
 /// The parity of the sums of two groups, and the byte in its place.
 #[inline(always)]
-fn third_of(wanted: bool, s: Sums, t: Sums, sources: &[&[u8]], at: usize) -> u8x32
+fn third_of(wanted: bool, s: GroupSums, t: GroupSums, sources: &[&[u8]], at: usize) -> u8x32
     requires count { length sources.now ≡ 16 }
     requires inside { All (λ s. at + LANES ≤ length s.now) sources.now }
     ensures { wanted ≡ true → (k : ℕ) → k < LANES → slice_index result k ≡ bit_xor (third_apart
@@ -91,7 +37,7 @@ fn third_of(wanted: bool, s: Sums, t: Sums, sources: &[&[u8]], at: usize) -> u8x
 
 /// The same for the fourth parity.
 #[inline(always)]
-fn fourth_of(wanted: bool, s: Sums, t: Sums, sources: &[&[u8]], at: usize) -> u8x32
+fn fourth_of(wanted: bool, s: GroupSums, t: GroupSums, sources: &[&[u8]], at: usize) -> u8x32
     requires count { length sources.now ≡ 16 }
     requires inside { All (λ s. at + LANES ≤ length s.now) sources.now }
     ensures { wanted ≡ true → (k : ℕ) → k < LANES → slice_index result k ≡ bit_xor (fourth_apart

@@ -4,14 +4,12 @@ ghost use Rattle.std.specs.Prelude.{IfSome, length, map, slice_index, bit_xor};
 ghost use Rattle.kernels.specs.Lists.{combined, bytes_at, list_at};
 ghost use Rattle.syndromes.specs.Syndromes.{syndrome, column_at, HaveBytes, HasSums, HasRoom};
 ghost use Rattle.syndromes.specs.Formulas.{IsFormula, AreFormulas, addend, shares_for};
-ghost use Rattle.syndromes.specs.Weights.{AreWeights};
-ghost use Rattle.syndromes.specs.Plans.{IsPlan, AreWeightsFor, AreSyndromes};
+ghost use Rattle.syndromes.specs.Plans.{IsPlan, TakesOnly, AreSyndromes};
 
 use crate::blocks::{BLOCK, part_or_zeros, write_syndromes};
 use crate::formulas::{Formula, formulas_for};
-use crate::lanes::LANES;
 use crate::pass::{Plan, add_list, plain_of, plan_for, weigh, write_sum, write_taken};
-use crate::weights::Weights;
+use kernels::LANES;
 
 /// Adds the places `at..end` of a target that was made before, where it is to be added.
 fn add_made(part: &mut [u8], shares: Option<[u8; 4]>, made: &[u8], at: usize, end: usize)
@@ -93,7 +91,6 @@ fn make_part(
     at: usize,
     end: usize,
     formula: &Formula,
-    weights: &Weights,
     syndromes: &[&[u8]; 4],
     first: &[u8],
     second: &[u8],
@@ -102,7 +99,6 @@ fn make_part(
     requires order { at ≤ end }
     requires long { length part.old ≡ end - at }
     requires same { All (λ s. length s.now ≡ end - at) syndromes.now }
-    requires weights { AreWeights weights.now formula.now.factors }
     requires first_room { HasRoom formula.now.first end first.now }
     requires second_room { HasRoom formula.now.second end second.now }
     requires third_room { HasRoom formula.now.third end third.now }
@@ -117,50 +113,55 @@ fn make_part(
         make_plainly(part, at, end, formula, syndromes[e], first, second, third);
         return;
     }
-    weigh(part, weights, &formula.factors, syndromes);
+    weigh(part, &formula.factors, syndromes);
     add_made(part, formula.third, third, at, end);
     add_made(part, formula.second, second, at, end);
     add_made(part, formula.first, first, at, end);
 }
 
-/// Where a formula is given, makes the places `at..end` of its target, which has those before
-/// already.
-fn make_target(
-    lists: &[Option<&[u8]>; 16],
-    target: &mut [u8],
+/// Some places of the lists with their syndromes.
+#[derive(Clone, Copy, Drop)]
+struct Block<'a, 'b, 'c> {
+    lists: &'a [Option<&'b [u8]>; 16],
     at: usize,
     end: usize,
-    formula: &Option<Formula>,
-    weights: &Weights,
+    syndromes: [&'c [u8]; 4],
     has_third: bool,
     has_fourth: bool,
-    syndromes: &[&[u8]; 4],
+}
+
+/// Where a formula is given, makes the places of a block of its target, which has those before
+/// already.
+fn make_target(
+    block: &Block,
+    target: &mut [u8],
+    formula: &Option<Formula>,
     first: &[u8],
     second: &[u8],
     third: &[u8],
 )
-    requires formula { IfSome formula.now (λ f. IsFormula f × HasRoom f.first end first.now
-        × HasRoom f.second end second.now × HasRoom f.third end third.now
-        × HasSums lists.now f.first end first.now × HasSums lists.now f.second end second.now
-        × HasSums lists.now f.third end third.now) }
-    requires order { at ≤ end }
-    requires room { HasRoom (shares_for formula.now) end target.old }
-    requires before { HasSums lists.now (shares_for formula.now) at target.old }
-    requires same { All (λ s. length s.now ≡ end - at) syndromes.now }
-    requires weights { AreWeightsFor formula.now weights.now has_third has_fourth }
-    requires are { AreSyndromes lists.now at end has_third has_fourth
-        (map (λ s. s.now) syndromes.now) }
-    ensures made { HasSums lists.now (shares_for formula.now) end target.new }
+    requires formula { IfSome formula.now (λ f. IsFormula f × HasRoom f.first block.now.end first.now
+        × HasRoom f.second block.now.end second.now × HasRoom f.third block.now.end third.now
+        × HasSums block.now.lists.now f.first block.now.end first.now
+        × HasSums block.now.lists.now f.second block.now.end second.now
+        × HasSums block.now.lists.now f.third block.now.end third.now) }
+    requires order { block.now.at ≤ block.now.end }
+    requires room { HasRoom (shares_for formula.now) block.now.end target.old }
+    requires before { HasSums block.now.lists.now (shares_for formula.now) block.now.at target.old }
+    requires same { All (λ s. length s.now ≡ block.now.end - block.now.at) block.now.syndromes }
+    requires takes { TakesOnly formula.now block.now.has_third block.now.has_fourth }
+    requires are { AreSyndromes block.now.lists.now block.now.at block.now.end block.now.has_third
+        block.now.has_fourth (map (λ s. s.now) block.now.syndromes) }
+    ensures made { HasSums block.now.lists.now (shares_for formula.now) block.now.end target.new }
     ensures kept { formula.now ≡ None → target.new ≡ target.old }
 {
     if let Some(formula) = formula {
         make_part(
-            &mut target[at..end],
-            at,
-            end,
+            &mut target[block.at..block.end],
+            block.at,
+            block.end,
             formula,
-            weights,
-            syndromes,
+            &block.syndromes,
             first,
             second,
             third,
@@ -168,7 +169,7 @@ fn make_target(
     }
 }
 
-/// Writes the syndromes of the places `at..end`; the third and the fourth only where they are taken.
+/// Writes the syndromes of the places `at..end`; the third and the fourth only if they are taken.
 fn write_block(
     lists: &[Option<&[u8]>; 16],
     at: usize,
@@ -245,67 +246,23 @@ fn make_block(
     ensures third_kept { plan.now.formulas.third ≡ None → third.new ≡ third.old }
     ensures fourth_kept { plan.now.formulas.fourth ≡ None → fourth.new ≡ fourth.old }
 {
-    let f = &plan.formulas;
     let t = plan.takes_third;
     let u = plan.takes_fourth;
     write_block(lists, at, end, t, u, one, two, three, four);
-    let s: [&[u8]; 4] = [one, two, three, four];
-    make_target(
+    let syndromes: [&[u8]; 4] = [one, two, three, four];
+    let block = Block {
         lists,
-        first,
         at,
         end,
-        &f.first,
-        &plan.first,
-        t,
-        u,
-        &s,
-        &[],
-        &[],
-        &[],
-    );
-    make_target(
-        lists,
-        second,
-        at,
-        end,
-        &f.second,
-        &plan.second,
-        t,
-        u,
-        &s,
-        first,
-        &[],
-        &[],
-    );
-    make_target(
-        lists,
-        third,
-        at,
-        end,
-        &f.third,
-        &plan.third,
-        t,
-        u,
-        &s,
-        first,
-        second,
-        &[],
-    );
-    make_target(
-        lists,
-        fourth,
-        at,
-        end,
-        &f.fourth,
-        &plan.fourth,
-        t,
-        u,
-        &s,
-        first,
-        second,
-        third,
-    );
+        syndromes,
+        has_third: t,
+        has_fourth: u,
+    };
+    let f = &plan.formulas;
+    make_target(&block, first, &f.first, &[], &[], &[]);
+    make_target(&block, second, &f.second, first, &[], &[]);
+    make_target(&block, third, &f.third, first, second, &[]);
+    make_target(&block, fourth, &f.fourth, first, second, third);
 }
 
 /// Makes each of four targets the sum of the four syndromes of the lists, each times its share, at

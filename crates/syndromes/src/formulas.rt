@@ -62,7 +62,8 @@ fn chosen(is_chosen: bool, made: Option<[u8; 4]>) -> Option<[u8; 4]>
     if is_chosen { made } else { None }
 }
 
-/// How many sums take about as long as a product: more than a formula without products has.
+/// How many sums take about as long as a product: more than the factors of a formula without
+/// products.
 const PRODUCT: u32 = 8;
 
 /// About how long a factor takes, in sums.
@@ -74,18 +75,12 @@ fn cost_of(factor: u8) -> u32 {
     }
 }
 
-impl Formula {
-    /// About how long the formula takes, in sums.
-    fn cost(&self) -> u32 {
-        let products = cost_of(self.factors[0])
-            .wrapping_add(cost_of(self.factors[1]))
-            .wrapping_add(cost_of(self.factors[2]))
-            .wrapping_add(cost_of(self.factors[3]));
-        products
-            .wrapping_add(u32::from(self.first.is_some()))
-            .wrapping_add(u32::from(self.second.is_some()))
-            .wrapping_add(u32::from(self.third.is_some()))
-    }
+/// About how long a formula with these factors takes, in sums, without the targets that it adds.
+fn cost(factors: [u8; 4]) -> u32 {
+    cost_of(factors[0])
+        .wrapping_add(cost_of(factors[1]))
+        .wrapping_add(cost_of(factors[2]))
+        .wrapping_add(cost_of(factors[3]))
 }
 
 /// The cheapest formula, where targets with these shares are made before.
@@ -101,28 +96,31 @@ fn cheapest(
     ensures second { IsNoneOr result.second second }
     ensures third { IsNoneOr result.third third }
 {
-    let mut best = formula_with(shares, None, None, None);
     let count: u8 = match (first, second, third) {
         (_, _, Some(_)) => 8,
         (_, Some(_), _) => 4,
         (Some(_), _, _) => 2,
         _ => 1,
     };
+    let mut best = 0;
+    let mut least = cost(shares);
     for targets in 1..count {
-        if best.cost() < PRODUCT {
-            return best;
-        }
-        let tried = formula_with(
-            shares,
-            chosen(targets & 1 != 0, first),
-            chosen(targets & 2 != 0, second),
-            chosen(targets & 4 != 0, third),
-        );
-        if tried.cost() < best.cost() {
-            best = tried;
+        if least >= PRODUCT {
+            let with_first = less(shares, chosen(targets & 1 != 0, first));
+            let with_second = less(with_first, chosen(targets & 2 != 0, second));
+            let tried = cost(less(with_second, chosen(targets & 4 != 0, third)));
+            if tried < least {
+                best = targets;
+                least = tried;
+            }
         }
     }
-    best
+    formula_with(
+        shares,
+        chosen(best & 1 != 0, first),
+        chosen(best & 2 != 0, second),
+        chosen(best & 4 != 0, third),
+    )
 }
 
 /// The cheapest formula for shares that are given.

@@ -9,7 +9,6 @@ mod blocks;
 mod columns;
 mod combine;
 mod formulas;
-mod lanes;
 mod pass;
 mod weights;
 

@@ -9,30 +9,16 @@ ghost use Rattle.syndromes.specs.Plans.{IsPlan};
 use crate::blocks::combine_four;
 use crate::columns::{Columns, columns_at};
 use crate::formulas::{Formula, Formulas};
-use crate::lanes::{LANES, load, store, sum_2};
 use crate::weights::Weights;
+use kernels::{LANES, load, store, sum_2};
 use std::simd::prelude::*;
 
-/// The formulas of four targets, what they multiply by, and which syndromes they take.
+/// The formulas of four targets, and which syndromes they take.
 #[derive(Clone, Copy, Drop)]
 pub(crate) struct Plan {
     pub(crate) formulas: Formulas,
-    pub(crate) first: Weights,
-    pub(crate) second: Weights,
-    pub(crate) third: Weights,
-    pub(crate) fourth: Weights,
     pub(crate) takes_third: bool,
     pub(crate) takes_fourth: bool,
-}
-
-/// The weights of a formula; none where no formula is given.
-fn weights_of(formula: &Option<Formula>) -> Weights
-    ensures { IfSome formula.now (λ f. AreWeights result f.factors) }
-{
-    match formula {
-        None => Weights::new(&[0; 4]),
-        Some(formula) => Weights::new(&formula.factors),
-    }
 }
 
 /// Whether syndrome `e` is multiplied for a target.
@@ -71,10 +57,6 @@ pub(crate) fn plan_for(formulas: Formulas) -> Plan
 {
     Plan {
         formulas,
-        first: weights_of(&formulas.first),
-        second: weights_of(&formulas.second),
-        third: weights_of(&formulas.third),
-        fourth: weights_of(&formulas.fourth),
         takes_third: is_taken(&formulas, 2),
         takes_fourth: is_taken(&formulas, 3),
     }
@@ -201,12 +183,11 @@ fn columns_of(lists: &[&[u8]], at: usize) -> Columns
     }
 }
 
-/// Makes the target the sum of the four lists, each times its weight. Each `COPY` is compiled by
+/// Makes the target the sum of the four lists, each times its factor. Each `COPY` is compiled by
 /// itself.
 #[inline(always)]
 fn sum_weighed<const COPY: u8>(
     target: &mut [u8],
-    weights: &Weights,
     factors: &[u8; 4],
     lists: &[&[u8]],
     takes_second: bool,
@@ -217,11 +198,10 @@ fn sum_weighed<const COPY: u8>(
     requires count { length lists.now ≡ 4 }
     requires same { All (λ s. length s.now ≡ length target.old) lists.now }
     requires wide { LANES ≤ length target.old }
-    requires weights { AreWeights weights.now factors.now }
     ensures { EachIndex target.new (λ k. slice_index target.new k ≡ combined factors.now
         (bytes_at (map (λ s. s.now) lists.now) k)) }
 {
-    let weights = *weights;
+    let weights = Weights::new(factors);
     let width = target.len();
     let mut done = 0;
     'each: while done < width {
@@ -253,22 +233,21 @@ pub(crate) fn plain_of(factors: &[u8; 4]) -> Option<usize>
 
 /// Makes the target the sum of the four lists, each times its factor: by the tables of the factors
 /// if the lists are as long as a vector.
-pub(crate) fn weigh(target: &mut [u8], weights: &Weights, factors: &[u8; 4], lists: &[&[u8]; 4])
+pub(crate) fn weigh(target: &mut [u8], factors: &[u8; 4], lists: &[&[u8]; 4])
     requires same { All (λ s. length s.now ≡ length target.old) lists.now }
-    requires weights { AreWeights weights.now factors.now }
     ensures { EachIndex target.new (λ k. slice_index target.new k ≡ combined factors.now
         (bytes_at (map (λ s. s.now) lists.now) k)) }
 {
     if target.len() < LANES {
         combine_four(target, factors, lists);
     } else if factors[1] == 0 && factors[3] == 0 {
-        sum_weighed::<0>(target, weights, factors, lists, false, false);
+        sum_weighed::<0>(target, factors, lists, false, false);
     } else if factors[1] == 0 {
-        sum_weighed::<1>(target, weights, factors, lists, false, true);
+        sum_weighed::<1>(target, factors, lists, false, true);
     } else if factors[3] == 0 {
-        sum_weighed::<2>(target, weights, factors, lists, true, false);
+        sum_weighed::<2>(target, factors, lists, true, false);
     } else {
-        sum_weighed::<3>(target, weights, factors, lists, true, true);
+        sum_weighed::<3>(target, factors, lists, true, true);
     }
 }
 

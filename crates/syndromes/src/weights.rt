@@ -3,7 +3,7 @@ ghost use Rattle.std.specs.Prelude.{◌≡◌, ◌<◌, ℕ, false, slice_index}
 ghost use Rattle.syndromes.specs.Weights.{AreWeights, lane, weighed};
 
 use crate::columns::Columns;
-use crate::lanes::{Factor, LANES};
+use kernels::{Factor, LANES};
 use std::simd::prelude::*;
 
 /// What the syndromes are multiplied by for a target, with the tables of the products.
@@ -20,14 +20,14 @@ impl Weights {
         ensures { AreWeights result factors.now }
     {
         Weights {
-            first: Factor::of(factors[0]),
-            second: Factor::of(factors[1]),
-            third: Factor::of(factors[2]),
-            fourth: Factor::of(factors[3]),
+            first: Factor::new(factors[0]),
+            second: Factor::new(factors[1]),
+            third: Factor::new(factors[2]),
+            fourth: Factor::new(factors[3]),
         }
     }
 
-    /// The sums. The second and the fourth factor are left out where they are 0 and not taken.
+    /// The sums. The second and the fourth factor are left out if they are not taken.
     #[inline(always)]
     pub(crate) fn sums_at(&self, s: Columns, takes_second: bool, takes_fourth: bool) -> u8x32
         requires second { takes_second ≡ false → self.now.second.scale ≡ 0 }

@@ -1,7 +1,10 @@
 //! Stripes, and what is rebuilt of them.
-ghost use Rattle.std.specs.Prelude.{◌≡◌, ◌↔◌, All, IsTrue, length};
+ghost use Rattle.std.specs.Prelude.{◌≡◌, ◌<◌, ◌↔◌, ℕ, true, false, All, IsTrue, length};
+ghost use Rattle.lrc_code.specs.Code.{fragment_count};
+ghost use Rattle.lrc_code.specs.Stripe.{is_absent, Reaches};
 
 use anyhow::{Context, Result, bail, ensure};
+use decode::decode_to;
 use lrc_code::{Code, Left, LostSet, NoMemory, Rebuild, encode_in, is_open_in, rebuild};
 use std::alloc::Global;
 use std::fmt;
@@ -33,6 +36,27 @@ fn are_long(slices: &[&[u8]], width: usize) -> bool
     slices.iter().all(|slice| slice.len() == width)
 }
 
+/// Whether `decode_to` writes these bytes of a lost fragment, at two targets, so that it is not
+/// rebuilt alone. It writes none if the fragment is unrecoverable.
+fn is_decoded(
+    alloc: Global,
+    left: &Left,
+    f: u8,
+    width: usize,
+    wanted: &[u8],
+) -> Result<bool, NoMemory>
+    requires inside { f < fragment_count left.now.code }
+    requires absent { is_absent left.now.fragments f ≡ true }
+    requires reach { (i : ℕ) → i < fragment_count left.now.code
+        → is_absent left.now.fragments i ≡ false → Reaches left.now.fragments width i }
+{
+    let mut one = vec![in alloc; 0; width]?;
+    let mut two = vec![in alloc; 0; width]?;
+    let chosen = [Some(f), Some(f), None, None];
+    let did = decode_to(left, chosen, 0, width, &mut one, &mut two, &mut [], &mut []);
+    Ok(did && one.as_slice() == wanted && two.as_slice() == wanted)
+}
+
 impl Comparison {
     /// Nothing was read yet.
     pub fn new(alloc: Global, code: Code) -> Comparison {
@@ -47,7 +71,7 @@ impl Comparison {
         }
     }
 
-    /// Reads a line, and compares what it says with what the code gives.
+    /// Reads a line, and compares it with what the code gives.
     pub fn take_line(&mut self, alloc: Global, line: &str) -> Result<()> {
         let mut words = line.split(' ');
         let kind = words.next().unwrap_or("");
@@ -101,7 +125,7 @@ impl Comparison {
         )
     }
 
-    /// Compares a lost fragment with what is rebuilt from those that are left.
+    /// Compares a lost fragment with what is rebuilt and decoded from the remaining ones.
     fn compare_fragment(&mut self, alloc: Global, number: &str, bytes: &str) -> Result<()> {
         let f = number.parse::<u8>().context("no number")?;
         let left = self.left();
@@ -109,14 +133,16 @@ impl Comparison {
         let slot = left.fragments[usize::from(f)];
         ensure!(
             slot.is_none() && left.reaches(self.width),
-            "not as it was said"
+            "present, or too short"
         );
         match rebuild(alloc, &left, usize::from(f), 0, self.width) {
             Ok(rebuilt) => {
-                ensure!(!is_open_in(left.code, self.lost, f), "said to be open");
+                ensure!(!is_open_in(left.code, self.lost, f), "expected to be open");
+                let wanted = bytes_of(alloc, bytes)?;
+                ensure!(rebuilt.as_slice() == wanted.as_slice(), "other bytes");
                 ensure!(
-                    rebuilt.as_slice() == bytes_of(alloc, bytes)?.as_slice(),
-                    "other bytes"
+                    is_decoded(alloc, &left, f, self.width, wanted.as_slice())?,
+                    "other bytes by decoding"
                 );
                 self.rebuilt = self.rebuilt.saturating_add(1);
             }
@@ -125,6 +151,10 @@ impl Comparison {
                     bytes == "open" && is_open_in(left.code, self.lost, f),
                     "not open"
                 );
+                ensure!(
+                    !is_decoded(alloc, &left, f, self.width, &[])?,
+                    "decoded although it is open"
+                );
                 self.open = self.open.saturating_add(1);
             }
             Err(Rebuild::NoMemory) => bail!("out of memory"),
@@ -132,7 +162,7 @@ impl Comparison {
         Ok(())
     }
 
-    /// What is left of the stripe.
+    /// The remaining fragments of the stripe.
     fn left(&self) -> Left<'_> {
         let mut fragments = [None; 16];
         for (f, bytes) in self.fragments.iter().enumerate().take(16) {

@@ -1,4 +1,4 @@
-use Rattle.std.proofs.Common.{◌≡◌, ℕ, ◌<◌, [], ◌∷◌, List, length, get_or, bit_xor, refl, ap, ◌∙◌, arith, w8, Fits}
+use Rattle.std.proofs.Common.{◌≡◌, ℕ, ◌<◌, List, length, get_or, bit_xor, ap, ◌∙◌, arith, w8, Fits}
 use Rattle.std.proofs.lemmas.Simd.{Each1-get_or, below_from_Fits}
 use lib.Lanes.{Each1}
 use Rattle.gf256.specs.Field.{product}
@@ -21,6 +21,13 @@ returns c k h =
     ∙ ap (λ x. bit_xor x (product 0x74 t1)) (c.plus_times-three.ensures k h ∙ ap (λ w. bit_xor (get_or c.plus_times-two.result k 0) (product w t0)) c.new-3.ensures
     ∙ ap (λ x. bit_xor x (product 0x1D t0)) (c.plus_times-two.ensures k h ∙ ap (λ w. bit_xor (get_or c.plus_times-one.result k 0) (product w s2)) c.new-2.ensures
     ∙ ap (λ x. bit_xor x (product 0x10 s2)) (c.plus_times-one.ensures k h ∙ ap (λ w. bit_xor s0 (product w s1)) c.new.ensures))))
-    ∙ fourth_by_products s0 s1 s2 t0 t1 t2
-    (byte c.args.s0 k h c.fits-s0.0 c.fits-s0.1, (byte c.args.s1 k h c.fits-s1.0 c.fits-s1.1, (byte c.args.s2 k h c.fits-s2.0 c.fits-s2.1,
-    (byte c.args.t0 k h c.fits-t0.0 c.fits-t0.1, (byte c.args.t1 k h c.fits-t1.0 c.fits-t1.1, (byte c.args.t2 k h c.fits-t2.0 c.fits-t2.1, (tt {0})))))))
+    ∙ fourth_by_products s0 s1 s2 t0 t1 t2 (
+      byte c.args.s0 k h c.fits-s0.0 c.fits-s0.1,
+      (
+        byte c.args.s1 k h c.fits-s1.0 c.fits-s1.1,
+        (
+          byte c.args.s2 k h c.fits-s2.0 c.fits-s2.1,
+          (byte c.args.t0 k h c.fits-t0.0 c.fits-t0.1, (byte c.args.t1 k h c.fits-t1.0 c.fits-t1.1, (byte c.args.t2 k h c.fits-t2.0 c.fits-t2.1, (tt {0})))),
+        ),
+      ),
+    )

@@ -9,9 +9,9 @@ use Rattle.syndromes.proofs.combine.make_target.Goals as goal
 pub returns-in-Some-clause-made : goal.returns-in-Some-clause-made
 returns-in-Some-clause-made c =
     let f = c.in-Some.formula in
-    let lists = c.args.lists.now in
-    let at : ℕ = c.args.at in
-    let end : ℕ = c.args.end in
+    let lists = c.args.block.now.lists.now in
+    let at : ℕ = c.args.block.now.at in
+    let end : ℕ = c.args.block.now.end in
     let x : List ℕ = c.args.first.now in
     let y : List ℕ = c.args.second.now in
     let z : List ℕ = c.args.third.now in
@@ -20,10 +20,10 @@ returns-in-Some-clause-made c =
     let before : HasSums lists (Some f.shares) at c.args.target.now = rw c.in-Some.is at c.requires.before in
     let room : HasRoom (Some f.shares) end c.args.target.now = rw c.in-Some.is at c.requires.room in
     let long : length c.make_part.new.part ≡ end - at = omega (arith, c.make_part.auto.part, room, c.requires.order) in
-    let weights = rw c.in-Some.is at c.requires.weights in
+    let takes = rw c.in-Some.is at c.requires.takes in
     let are = c.requires.are in
-    let four : (j : ℕ) → j < end - at → combined f.factors (bytes_at (map (λ s. s.now) c.args.syndromes.now) j) ≡ combined f.factors (λ e. syndrome e (column_at lists (at + j))) =
-    λ j l. combined_taken f.factors _ (λ e. syndrome e (column_at lists (at + j))) c.args.has_third c.args.has_fourth given.0.four (are.first j l) (are.second j l) (λ on. are.third_is on j l) (λ on. are.fourth_is on j l) weights.1 weights.2 in
+    let four : (j : ℕ) → j < end - at → combined f.factors (bytes_at (map (λ s. s.now) c.args.block.now.syndromes) j) ≡ combined f.factors (λ e. syndrome e (column_at lists (at + j))) =
+    λ j l. combined_taken f.factors _ (λ e. syndrome e (column_at lists (at + j))) c.args.block.now.has_third c.args.block.now.has_fourth given.0.four (are.first j l) (are.second j l) (λ on. are.third_is on j l) (λ on. are.fourth_is on j l) takes.0 takes.1 in
     rw c.in-Some.is
     (spliced c.args.target.now c.make_part.new.part _ at end (λ k. sum_by f.shares (λ e. syndrome e (column_at lists k)))
     (omega (arith, room, c.requires.order)) c.requires.order long before

@@ -1,4 +1,4 @@
-use Rattle.syndromes.proofs.Taken.{weights_for}
+use Rattle.syndromes.proofs.Taken.{takes_only}
 use Rattle.syndromes.proofs.pass.plan_for.Goals as goal
 
 pub returns-clause-plan : goal.returns-clause-plan
@@ -7,8 +7,8 @@ returns-clause-plan c =
     let third = c.is_taken in
     let fourth = c.is_taken-2 in
     record {
-      first = weights_for f.first c.weights_of.result third.result fourth.result c.weights_of.ensures third.ensures.first fourth.ensures.first;
-      second = weights_for f.second c.weights_of-2.result third.result fourth.result c.weights_of-2.ensures third.ensures.second fourth.ensures.second;
-      third = weights_for f.third c.weights_of-3.result third.result fourth.result c.weights_of-3.ensures third.ensures.third fourth.ensures.third;
-      fourth = weights_for f.fourth c.weights_of-4.result third.result fourth.result c.weights_of-4.ensures third.ensures.fourth fourth.ensures.fourth;
+      first = takes_only f.first third.result fourth.result third.ensures.first fourth.ensures.first;
+      second = takes_only f.second third.result fourth.result third.ensures.second fourth.ensures.second;
+      third = takes_only f.third third.result fourth.result third.ensures.third fourth.ensures.third;
+      fourth = takes_only f.fourth third.result fourth.result third.ensures.fourth fourth.ensures.fourth;
     }

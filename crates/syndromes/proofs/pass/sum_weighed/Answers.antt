@@ -13,5 +13,5 @@ each-preserved g c =
       long = omega arith;
       sums = written_more (λ k x. x ≡ combined c.args.factors.now (bytes_at lists k)) c.each.target c.store.new.target c.each.done at c.next_block-at.ensures.no_gap c.each.invariant.sums c.store.ensures.before
           (λ k h. c.store.ensures.lanes k h ∙ c.sums_at-sums.ensures k h
-          ∙ weighed_is c.args.weights.now c.args.factors.now (lane c.columns_of.result k) (bytes_at lists (at + k)) (omega arith) c.requires.weights (λ e l. c.columns_of.ensures k h e l));
+          ∙ weighed_is c.new-weights.result c.args.factors.now (lane c.columns_of.result k) (bytes_at lists (at + k)) (omega arith) c.new-weights.ensures (λ e l. c.columns_of.ensures k h e l));
     }

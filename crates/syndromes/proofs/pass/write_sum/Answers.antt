@@ -1,4 +1,4 @@
-use Rattle.std.proofs.Common.{◌≡◌, ◌+◌, ℕ, get_or, bit_xor, ap₂, ◌∙◌, arith}
+use Rattle.std.proofs.Common.{◌≡◌, ℕ, get_or, bit_xor, ap₂, ◌∙◌, arith}
 use Rattle.syndromes.proofs.Taken.{written_more}
 use Rattle.syndromes.proofs.pass.write_sum.Goals as goal
 
