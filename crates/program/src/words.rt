@@ -73,7 +73,8 @@ fn run_script<
     requires workers { InRange line.now.options.workers 16 }
     requires limit { InRange line.now.options.limit 1048576 }
     ensures prints { OnOk result (HasScript (FnOnceReturnsAt F.FnOnce opener) line.now (λ file.
-        HasOutput line.now.options (R.remaining file) (W.contents output.old) (W.contents output.new))) }
+        HasOutput line.now.options (R.remaining file)
+        (W.contents output.old) (W.contents output.new))) }
     ensures no_output { IfErr result (λ fail. fail ≢ Fail.Write
         → Keeps (W.contents output.old) (W.contents output.new)) }
     ensures cause { IfErr result (λ fail.

@@ -1,6 +1,6 @@
 //! The calls of a session. No call waits: it returns `Busy` if another thread is in the critical
-//! section. The session has then seen no more of the history. `Busy` never comes to a session with a
-//! room of 64. After any other error the history does not have the call, and the session may have
+//! section. The session has then seen no more of the history. `Busy` never comes to a session with
+//! a room of 64. After any other error the history does not have the call, and the session may have
 //! seen further calls.
 ghost use Rattle.std.specs.Prelude.{◌≡◌, ◌≢◌, ◌⊎◌, ◌↔◌, ◌<◌, None, length, IfOk, IfErr};
 ghost use Rattle.sealed.specs.Layout.{stripe_count};

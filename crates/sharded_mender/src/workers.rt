@@ -41,8 +41,9 @@ pub fn scrub<R: Wait>(
 /// the plan's length or the allowance is 0.
 ///
 /// Each ticket below the plan's length that was drawn in this call has one result, with the answer
-/// of the one repair that was made for it. The tickets rise, so the items are repaired in the plan's
-/// order. A worker whose drawer has the whole allowance repairs the plan's items from the first on.
+/// of the one repair that was made for it. The tickets rise, so the items are repaired in the
+/// plan's order. A worker whose drawer has the whole allowance repairs the plan's items from the
+/// first on.
 ///
 /// `JournalFull` if the journal of an item's shard held as many entries as its limit; `NoMemory` if
 /// out of memory. The fault has the results so far. The ticket drawn last has none, and its repair

@@ -12,9 +12,9 @@ use std::alloc::Global;
 use std::sync::Wait;
 
 impl Store {
-    /// Runs the jobs row by row, each between its `before` and its `after`, and gives the replies, each
-    /// with its row. If a call finds the journal full, or its blob is too long, the run goes on. Room
-    /// for all replies is allocated first.
+    /// Runs the jobs row by row, each between its `before` and its `after`, and gives the replies,
+    /// each with its row. If a call finds the journal full, or its blob is too long, the run goes
+    /// on. Room for all replies is allocated first.
     ///
     /// `Stopped`, with the replies so far, if that room or a call was refused memory, or if a
     /// `before` answered false.
