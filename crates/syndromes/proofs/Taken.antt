@@ -32,11 +32,11 @@ term_or_none a wanted e x y same none =
     ]
 
 -- sums that take a syndrome only where it is wanted
-pub combined_taken : (factors : List ℕ) (s t : ℕ → ℕ) (third fourth : Bool) → length factors ≡ 4 → s 0 ≡ t 0 → s 1 ≡ t 1 → (third ≡ true → s 2 ≡ t 2) → (fourth ≡ true → s 3 ≡ t 3)
-    → (third ≡ false → get_or factors 2 0 ≡ 0) → (fourth ≡ false → get_or factors 3 0 ≡ 0) → combined factors s ≡ combined factors t
-combined_taken factors s t third fourth four a b c d no_third no_fourth =
+pub combined_taken : (factors : List ℕ) (s t : ℕ → ℕ) (second third fourth : Bool) → length factors ≡ 4 → s 0 ≡ t 0 → (second ≡ true → s 1 ≡ t 1) → (third ≡ true → s 2 ≡ t 2) → (fourth ≡ true → s 3 ≡ t 3)
+    → (second ≡ false → get_or factors 1 0 ≡ 0) → (third ≡ false → get_or factors 2 0 ≡ 0) → (fourth ≡ false → get_or factors 3 0 ≡ 0) → combined factors s ≡ combined factors t
+combined_taken factors s t second third fourth four a b c d no_second no_third no_fourth =
     xor_sum_same (length factors) _ _ (λ e l. each_of_four (λ e. product (get_or factors e 0) (s e) ≡ product (get_or factors e 0) (t e))
-    (ap (product (get_or factors 0 0)) a) (ap (product (get_or factors 1 0)) b)
+    (ap (product (get_or factors 0 0)) a) (term_or_none factors second 1 (s 1) (t 1) b no_second)
     (term_or_none factors third 2 (s 2) (t 2) c no_third) (term_or_none factors fourth 3 (s 3) (t 3) d no_fourth) e (omega (arith, l, four)))
 
 -- the sums by the weights are those by the factors
@@ -45,10 +45,10 @@ weighed_is w factors s t four are same =
     xor_sum_same 4 _ _ (λ e l. ap₂ product (are e l) (same e l))
     ∙ sym (ap (λ n. xor_sum n (λ e. product (get_or factors e 0) (t e))) four)
 
-pub takes_only : (formula : Option Formula) (third fourth : Bool) → (third ≡ false → IfSome formula (λ f. get_or f.factors 2 0 ≡ 0)) → (fourth ≡ false → IfSome formula (λ f. get_or f.factors 3 0 ≡ 0))
-    → TakesOnly formula third fourth
-takes_only None third fourth no_third no_fourth = tt
-takes_only (Some f) third fourth no_third no_fourth = (no_third, no_fourth)
+pub takes_only : (formula : Option Formula) (second third fourth : Bool) → (second ≡ false → IfSome formula (λ f. get_or f.factors 1 0 ≡ 0)) → (third ≡ false → IfSome formula (λ f. get_or f.factors 2 0 ≡ 0)) → (fourth ≡ false → IfSome formula (λ f. get_or f.factors 3 0 ≡ 0))
+    → TakesOnly formula second third fourth
+takes_only None second third fourth no_second no_third no_fourth = tt
+takes_only (Some f) second third fourth no_second no_third no_fourth = (no_second, no_third, no_fourth)
 
 -- ---- block after block
 -- a fact of each place that is written stays where the bytes stay, and holds of the next block

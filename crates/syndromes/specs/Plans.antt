@@ -7,24 +7,27 @@ use Rattle.syndromes.specs.declared.formulas.Formula.{Formula}
 use Rattle.syndromes.specs.declared.pass.Plan.{Plan}
 use Rattle.syndromes.specs.Syndromes.{syndrome, column_at}
 
--- where a formula is given, its third and fourth factors are 0 if those syndromes are not taken
-abbrev pub TakesOnly : Option Formula → Bool → Bool → Type 0
-TakesOnly formula third fourth = IfSome formula (λ f.
-    (third ≡ false → slice_index f.factors 2 ≡ 0)
+-- where a formula is given, its factors but the first are 0 if those syndromes are not taken
+abbrev pub TakesOnly : Option Formula → Bool → Bool → Bool → Type 0
+TakesOnly formula second third fourth = IfSome formula (λ f.
+    (second ≡ false → slice_index f.factors 1 ≡ 0)
+    × (third ≡ false → slice_index f.factors 2 ≡ 0)
     × (fourth ≡ false → slice_index f.factors 3 ≡ 0))
 
 pub record IsPlan (p : Plan) : Type 0 where
-  pub first : TakesOnly p.formulas.first p.takes_third p.takes_fourth
-  pub second : TakesOnly p.formulas.second p.takes_third p.takes_fourth
-  pub third : TakesOnly p.formulas.third p.takes_third p.takes_fourth
-  pub fourth : TakesOnly p.formulas.fourth p.takes_third p.takes_fourth
+  pub first : TakesOnly p.formulas.first p.takes_second p.takes_third p.takes_fourth
+  pub second : TakesOnly p.formulas.second p.takes_second p.takes_third p.takes_fourth
+  pub third : TakesOnly p.formulas.third p.takes_second p.takes_third p.takes_fourth
+  pub fourth : TakesOnly p.formulas.fourth p.takes_second p.takes_third p.takes_fourth
 
--- the four lists have the syndromes of the places at..end, the third and the fourth where they are
+-- the four lists have the syndromes of the places at..end, all but the first only if they are
 -- taken
-pub record AreSyndromes (lists : List (Option (Bor (List ℕ)))) (at end : ℕ) (third fourth : Bool)
+pub record AreSyndromes (lists : List (Option (Bor (List ℕ)))) (at end : ℕ)
+    (second third fourth : Bool)
     (made : List (List ℕ)) : Type 0 where
   pub first : (k : ℕ) → k < end - at → bytes_at made k 0 ≡ syndrome 0 (column_at lists (at + k))
-  pub second : (k : ℕ) → k < end - at → bytes_at made k 1 ≡ syndrome 1 (column_at lists (at + k))
+  pub second_is : second ≡ true → (k : ℕ) → k < end - at
+      → bytes_at made k 1 ≡ syndrome 1 (column_at lists (at + k))
   pub third_is : third ≡ true → (k : ℕ) → k < end - at
       → bytes_at made k 2 ≡ syndrome 2 (column_at lists (at + k))
   pub fourth_is : fourth ≡ true → (k : ℕ) → k < end - at

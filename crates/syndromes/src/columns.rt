@@ -17,6 +17,21 @@ pub(crate) struct Columns {
     pub(crate) fourth: u8x32,
 }
 
+/// The sum of a group, and the byte in the place of its parity.
+#[inline(always)]
+fn second_of(wanted: bool, t: GroupSums, sources: &[&[u8]], at: usize) -> u8x32
+    requires count { length sources.now ≡ 16 }
+    requires inside { All (λ s. at + LANES ≤ length s.now) sources.now }
+    ensures { wanted ≡ true → (k : ℕ) → k < LANES → slice_index result k ≡ bit_xor
+        (slice_index t.whole k) (slice_index (list_at (map (λ s. s.now) sources.now) 13) (at + k)) }
+{
+    if wanted {
+        sum_2(t.whole, load_from(sources, 13, at))
+    } else {
+        u8x32::splat(0)
+    }
+}
+
 /// The parity of the sums of two groups, and the byte in its place.
 #[inline(always)]
 fn third_of(wanted: bool, s: GroupSums, t: GroupSums, sources: &[&[u8]], at: usize) -> u8x32
@@ -53,15 +68,20 @@ fn fourth_of(wanted: bool, s: GroupSums, t: GroupSums, sources: &[&[u8]], at: us
     }
 }
 
-/// The syndromes at thirty-two places from `at` on; the third and the fourth only where they are
-/// wanted.
+/// The syndromes at thirty-two places from `at` on; all but the first only if they are wanted.
 #[inline(always)]
-pub(crate) fn columns_at(sources: &[&[u8]], third: bool, fourth: bool, at: usize) -> Columns
+pub(crate) fn columns_at(
+    sources: &[&[u8]],
+    second: bool,
+    third: bool,
+    fourth: bool,
+    at: usize,
+) -> Columns
     requires count { length sources.now ≡ 16 }
     requires inside { All (λ s. at + LANES ≤ length s.now) sources.now }
     ensures first { (k : ℕ) → k < LANES → slice_index result.first k
         ≡ syndrome 0 (bytes_at (map (λ s. s.now) sources.now) (at + k)) }
-    ensures second { (k : ℕ) → k < LANES → slice_index result.second k
+    ensures second { second ≡ true → (k : ℕ) → k < LANES → slice_index result.second k
         ≡ syndrome 1 (bytes_at (map (λ s. s.now) sources.now) (at + k)) }
     ensures third { third ≡ true → (k : ℕ) → k < LANES → slice_index result.third k
         ≡ syndrome 2 (bytes_at (map (λ s. s.now) sources.now) (at + k)) }
@@ -72,7 +92,7 @@ pub(crate) fn columns_at(sources: &[&[u8]], third: bool, fourth: bool, at: usize
     let t = sums_of(sources, 6, at);
     Columns {
         first: sum_2(s.whole, load_from(sources, 12, at)),
-        second: sum_2(t.whole, load_from(sources, 13, at)),
+        second: second_of(second, t, sources, at),
         third: third_of(third, s, t, sources, at),
         fourth: fourth_of(fourth, s, t, sources, at),
     }

@@ -126,6 +126,7 @@ struct Block<'a, 'b, 'c> {
     at: usize,
     end: usize,
     syndromes: [&'c [u8]; 4],
+    has_second: bool,
     has_third: bool,
     has_fourth: bool,
 }
@@ -150,9 +151,10 @@ fn make_target(
     requires room { HasRoom (shares_for formula.now) block.now.end target.old }
     requires before { HasSums block.now.lists.now (shares_for formula.now) block.now.at target.old }
     requires same { All (λ s. length s.now ≡ block.now.end - block.now.at) block.now.syndromes }
-    requires takes { TakesOnly formula.now block.now.has_third block.now.has_fourth }
-    requires are { AreSyndromes block.now.lists.now block.now.at block.now.end block.now.has_third
-        block.now.has_fourth (map (λ s. s.now) block.now.syndromes) }
+    requires takes { TakesOnly formula.now block.now.has_second block.now.has_third
+        block.now.has_fourth }
+    requires are { AreSyndromes block.now.lists.now block.now.at block.now.end block.now.has_second
+        block.now.has_third block.now.has_fourth (map (λ s. s.now) block.now.syndromes) }
     ensures made { HasSums block.now.lists.now (shares_for formula.now) block.now.end target.new }
     ensures kept { formula.now ≡ None → target.new ≡ target.old }
 {
@@ -170,11 +172,12 @@ fn make_target(
     }
 }
 
-/// Writes the syndromes of the places `at..end`; the third and the fourth only if they are taken.
+/// Writes the syndromes of the places `at..end`; all but the first only if they are taken.
 fn write_block(
     lists: &[Option<&[u8]>; 16],
     at: usize,
     end: usize,
+    has_second: bool,
     has_third: bool,
     has_fourth: bool,
     first: &mut [u8],
@@ -189,7 +192,7 @@ fn write_block(
     requires same_second { length second.old ≡ end - at }
     requires same_third { length third.old ≡ end - at }
     requires same_fourth { length fourth.old ≡ end - at }
-    ensures { AreSyndromes lists.now at end has_third has_fourth
+    ensures { AreSyndromes lists.now at end has_second has_third has_fourth
         (first.new ∷ second.new ∷ third.new ∷ fourth.new ∷ []) }
 {
     if end - at < LANES {
@@ -201,7 +204,7 @@ fn write_block(
         sources[i] = part_or_zeros(lists, i, at, end);
     }
     write_taken(
-        &sources, has_third, has_fourth, first, second, third, fourth,
+        &sources, has_second, has_third, has_fourth, first, second, third, fourth,
     );
 }
 
@@ -247,17 +250,21 @@ fn make_block(
     ensures third_kept { plan.now.formulas.third ≡ None → third.new ≡ third.old }
     ensures fourth_kept { plan.now.formulas.fourth ≡ None → fourth.new ≡ fourth.old }
 {
-    let t = plan.takes_third;
-    let u = plan.takes_fourth;
-    write_block(lists, at, end, t, u, one, two, three, four);
+    let has_second = plan.takes_second;
+    let has_third = plan.takes_third;
+    let has_fourth = plan.takes_fourth;
+    write_block(
+        lists, at, end, has_second, has_third, has_fourth, one, two, three, four,
+    );
     let syndromes: [&[u8]; 4] = [one, two, three, four];
     let block = Block {
         lists,
         at,
         end,
         syndromes,
-        has_third: t,
-        has_fourth: u,
+        has_second,
+        has_third,
+        has_fourth,
     };
     let f = &plan.formulas;
     make_target(&block, first, &f.first, &[], &[], &[]);

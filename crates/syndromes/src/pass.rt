@@ -17,6 +17,7 @@ use std::simd::prelude::*;
 #[derive(Clone, Copy, Drop)]
 pub(crate) struct Plan {
     pub(crate) formulas: Formulas,
+    pub(crate) takes_second: bool,
     pub(crate) takes_third: bool,
     pub(crate) takes_fourth: bool,
 }
@@ -57,6 +58,7 @@ pub(crate) fn plan_for(formulas: Formulas) -> Plan
 {
     Plan {
         formulas,
+        takes_second: is_taken(&formulas, 1),
         takes_third: is_taken(&formulas, 2),
         takes_fourth: is_taken(&formulas, 3),
     }
@@ -91,11 +93,12 @@ fn store_if(wanted: bool, block: u8x32, target: &mut [u8], at: usize)
     }
 }
 
-/// Writes the syndromes of all places of the lists; the third and the fourth only where they are
-/// wanted. Each `COPY` is compiled by itself.
+/// Writes the syndromes of all places of the lists; all but the first only if they are wanted.
+/// Each `COPY` is compiled by itself.
 #[inline(always)]
 fn write_columns<const COPY: u8>(
     sources: &[&[u8]],
+    second_wanted: bool,
     third_wanted: bool,
     fourth_wanted: bool,
     first: &mut [u8],
@@ -111,7 +114,7 @@ fn write_columns<const COPY: u8>(
     requires wide { LANES ≤ length first.old }
     ensures first { EachIndex first.new (λ k. slice_index first.new k
         ≡ syndrome 0 (bytes_at (map (λ s. s.now) sources.now) k)) }
-    ensures second { EachIndex second.new (λ k. slice_index second.new k
+    ensures second { second_wanted ≡ true → EachIndex second.new (λ k. slice_index second.new k
         ≡ syndrome 1 (bytes_at (map (λ s. s.now) sources.now) k)) }
     ensures third { third_wanted ≡ true → EachIndex third.new (λ k. slice_index third.new k
         ≡ syndrome 2 (bytes_at (map (λ s. s.now) sources.now) k)) }
@@ -122,19 +125,19 @@ fn write_columns<const COPY: u8>(
     let mut done = 0;
     'each: while done < width {
         let at = next_block(done, width);
-        let s = columns_at(sources, third_wanted, fourth_wanted, at);
+        let s = columns_at(sources, second_wanted, third_wanted, fourth_wanted, at);
         store(s.first, first, at);
-        store(s.second, second, at);
+        store_if(second_wanted, s.second, second, at);
         store_if(third_wanted, s.third, third, at);
         store_if(fourth_wanted, s.fourth, fourth, at);
         done = at + LANES;
     }
 }
 
-/// Writes the syndromes of all places of the lists; the third and the fourth only where they are
-/// taken.
+/// Writes the syndromes of all places of the lists; all but the first only if they are taken.
 pub(crate) fn write_taken(
     sources: &[&[u8]; 16],
+    takes_second: bool,
     takes_third: bool,
     takes_fourth: bool,
     first: &mut [u8],
@@ -149,7 +152,7 @@ pub(crate) fn write_taken(
     requires wide { LANES ≤ length first.old }
     ensures first { EachIndex first.new (λ k. slice_index first.new k
         ≡ syndrome 0 (bytes_at (map (λ s. s.now) sources.now) k)) }
-    ensures second { EachIndex second.new (λ k. slice_index second.new k
+    ensures second { takes_second ≡ true → EachIndex second.new (λ k. slice_index second.new k
         ≡ syndrome 1 (bytes_at (map (λ s. s.now) sources.now) k)) }
     ensures third { takes_third ≡ true → EachIndex third.new (λ k. slice_index third.new k
         ≡ syndrome 2 (bytes_at (map (λ s. s.now) sources.now) k)) }
@@ -158,12 +161,16 @@ pub(crate) fn write_taken(
 {
     // a copy, which a store to a syndrome cannot change: so its slices stay in registers
     let lists = *sources;
-    if !takes_fourth {
-        write_columns::<0>(&lists, true, false, first, second, third, fourth);
+    if !takes_fourth && !takes_second {
+        write_columns::<0>(&lists, false, true, false, first, second, third, fourth);
+    } else if !takes_fourth {
+        write_columns::<1>(&lists, true, true, false, first, second, third, fourth);
     } else if !takes_third {
-        write_columns::<1>(&lists, false, true, first, second, third, fourth);
+        write_columns::<2>(&lists, true, false, true, first, second, third, fourth);
+    } else if !takes_second {
+        write_columns::<3>(&lists, false, true, true, first, second, third, fourth);
     } else {
-        write_columns::<2>(&lists, true, true, first, second, third, fourth);
+        write_columns::<4>(&lists, true, true, true, first, second, third, fourth);
     }
 }
 

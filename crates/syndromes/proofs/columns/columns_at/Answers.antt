@@ -17,9 +17,10 @@ returns-clause-first c k h =
     ∙ ap₂ bit_xor (c.sums_of-s.ensures.whole k h ∙ parity_by_groups (map (λ s. s.now) c.args.sources.now) (c.args.at + k) (fits c k h) 0 (omega arith)) (c.load_from.ensures.lanes k h)
 
 pub returns-clause-second : goal.returns-clause-second
-returns-clause-second c k h =
-    c.sum_2-2.ensures k h
-    ∙ ap₂ bit_xor (c.sums_of-t.ensures.whole k h ∙ parity_by_groups (map (λ s. s.now) c.args.sources.now) (c.args.at + k) (fits c k h) 1 (omega arith)) (c.load_from-2.ensures.lanes k h)
+returns-clause-second c wanted k h =
+    c.second_of.ensures wanted k h
+    ∙ ap (λ x. bit_xor x (bytes_at (map (λ s. s.now) c.args.sources.now) (c.args.at + k) 13))
+    (c.sums_of-t.ensures.whole k h ∙ parity_by_groups (map (λ s. s.now) c.args.sources.now) (c.args.at + k) (fits c k h) 1 (omega arith))
 
 pub returns-clause-third : goal.returns-clause-third
 returns-clause-third c wanted k h =

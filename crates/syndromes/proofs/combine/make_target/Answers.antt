@@ -23,7 +23,7 @@ returns-in-Some-clause-made c =
     let takes = rw c.in-Some.is at c.requires.takes in
     let are = c.requires.are in
     let four : (j : ℕ) → j < end - at → combined f.factors (bytes_at (map (λ s. s.now) c.args.block.now.syndromes) j) ≡ combined f.factors (λ e. syndrome e (column_at lists (at + j))) =
-    λ j l. combined_taken f.factors _ (λ e. syndrome e (column_at lists (at + j))) c.args.block.now.has_third c.args.block.now.has_fourth given.0.four (are.first j l) (are.second j l) (λ on. are.third_is on j l) (λ on. are.fourth_is on j l) takes.0 takes.1 in
+    λ j l. combined_taken f.factors _ (λ e. syndrome e (column_at lists (at + j))) c.args.block.now.has_second c.args.block.now.has_third c.args.block.now.has_fourth given.0.four (are.first j l) (λ on. are.second_is on j l) (λ on. are.third_is on j l) (λ on. are.fourth_is on j l) takes.0 takes.1 takes.2 in
     rw c.in-Some.is
     (spliced c.args.target.now c.make_part.new.part _ at end (λ k. sum_by f.shares (λ e. syndrome e (column_at lists k)))
     (omega (arith, room, c.requires.order)) c.requires.order long before

@@ -18,7 +18,7 @@ each-preserved g c =
       same_third = omega arith;
       same_fourth = omega arith;
       first = written_more (λ k x. x ≡ syndrome 0 (bytes_at sources k)) c.each.first c.store.new.target c.each.done at order i.first c.store.ensures.before (λ k h. c.store.ensures.lanes k h ∙ s.first k h);
-      second = written_more (λ k x. x ≡ syndrome 1 (bytes_at sources k)) c.each.second c.store-in-each.new.target c.each.done at order i.second c.store-in-each.ensures.before (λ k h. c.store-in-each.ensures.lanes k h ∙ s.second k h);
-      third = λ on. written_more (λ k x. x ≡ syndrome 2 (bytes_at sources k)) c.each.third c.store_if.new.target c.each.done at order (i.third on) c.store_if.ensures.before (λ k h. c.store_if.ensures.lanes on k h ∙ s.third on k h);
-      fourth = λ on. written_more (λ k x. x ≡ syndrome 3 (bytes_at sources k)) c.each.fourth c.store_if-in-each.new.target c.each.done at order (i.fourth on) c.store_if-in-each.ensures.before (λ k h. c.store_if-in-each.ensures.lanes on k h ∙ s.fourth on k h);
+      second = λ on. written_more (λ k x. x ≡ syndrome 1 (bytes_at sources k)) c.each.second c.store_if.new.target c.each.done at order (i.second on) c.store_if.ensures.before (λ k h. c.store_if.ensures.lanes on k h ∙ s.second on k h);
+      third = λ on. written_more (λ k x. x ≡ syndrome 2 (bytes_at sources k)) c.each.third c.store_if-in-each.new.target c.each.done at order (i.third on) c.store_if-in-each.ensures.before (λ k h. c.store_if-in-each.ensures.lanes on k h ∙ s.third on k h);
+      fourth = λ on. written_more (λ k x. x ≡ syndrome 3 (bytes_at sources k)) c.each.fourth c.store_if-in-each-2.new.target c.each.done at order (i.fourth on) c.store_if-in-each-2.ensures.before (λ k h. c.store_if-in-each-2.ensures.lanes on k h ∙ s.fourth on k h);
     }

@@ -11,7 +11,7 @@ invariant-each g l = record {
   same_third : length l.third ≡ l.width;
   same_fourth : length l.fourth ≡ l.width;
   first : (k : ℕ) → k < l.done → get_or l.first k 0 ≡ syndrome 0 (bytes_at (map (λ s. s.now) l.sources) k);
-  second : (k : ℕ) → k < l.done → get_or l.second k 0 ≡ syndrome 1 (bytes_at (map (λ s. s.now) l.sources) k);
+  second : l.second_wanted ≡ true → (k : ℕ) → k < l.done → get_or l.second k 0 ≡ syndrome 1 (bytes_at (map (λ s. s.now) l.sources) k);
   third : l.third_wanted ≡ true → (k : ℕ) → k < l.done → get_or l.third k 0 ≡ syndrome 2 (bytes_at (map (λ s. s.now) l.sources) k);
   fourth : l.fourth_wanted ≡ true → (k : ℕ) → k < l.done → get_or l.fourth k 0 ≡ syndrome 3 (bytes_at (map (λ s. s.now) l.sources) k);
 }
