@@ -365,16 +365,14 @@ fn decode_left(
     requires are_lost { AreLostIn code lost chosen }
     requires range { from ≤ end }
     requires room { HaveRoomFor chosen (end - from) first.old second.old third.old fourth.old }
-    ensures first { result ≡ DONE → DecodesLost code (map
-        (λ f. f.now) fragments.now) lost (slice_index_or chosen 0 None) from end first.old first.new }
-    ensures second { result ≡ DONE → DecodesLost code (map
-        (λ f. f.now) fragments.now) lost (slice_index_or chosen 1 None) from end second.old
-        second.new }
-    ensures third { result ≡ DONE → DecodesLost code (map
-        (λ f. f.now) fragments.now) lost (slice_index_or chosen 2 None) from end third.old third.new }
-    ensures fourth { result ≡ DONE → DecodesLost code (map
-        (λ f. f.now) fragments.now) lost (slice_index_or chosen 3 None) from end fourth.old
-        fourth.new }
+    ensures first { result ≡ DONE → DecodesLost code (map (λ f. f.now) fragments.now) lost
+        (slice_index_or chosen 0 None) from end first.old first.new }
+    ensures second { result ≡ DONE → DecodesLost code (map (λ f. f.now) fragments.now) lost
+        (slice_index_or chosen 1 None) from end second.old second.new }
+    ensures third { result ≡ DONE → DecodesLost code (map (λ f. f.now) fragments.now) lost
+        (slice_index_or chosen 2 None) from end third.old third.new }
+    ensures fourth { result ≡ DONE → DecodesLost code (map (λ f. f.now) fragments.now) lost
+        (slice_index_or chosen 3 None) from end fourth.old fourth.new }
     ensures open { (result ≡ OPEN) ↔ ((result ≢ BAD_ARGUMENT)
         × HasOpen code (is_lost lost) chosen) }
     ensures taken { (result ≢ BAD_ARGUMENT)

@@ -141,7 +141,8 @@ fn make_target(
     second: &[u8],
     third: &[u8],
 )
-    requires formula { IfSome formula.now (λ f. IsFormula f × HasRoom f.first block.now.end first.now
+    requires formula { IfSome formula.now (λ f. IsFormula f
+        × HasRoom f.first block.now.end first.now
         × HasRoom f.second block.now.end second.now × HasRoom f.third block.now.end third.now
         × HasSums block.now.lists.now f.first block.now.end first.now
         × HasSums block.now.lists.now f.second block.now.end second.now
