@@ -180,7 +180,7 @@ fn far_count(code: Code, lost: LostSet, chosen: &[Option<u8>; 4]) -> u32
         + is_far(code, lost, chosen[3])
 }
 
-/// Whether the syndromes are faster than recipes, as measured: the wider the fragments, and the
+/// Whether the syndromes are faster than recipes, as measured: the wider the fragments are, and the
 /// more of them are not alone lost in their groups.
 fn are_syndromes_faster(code: Code, lost: LostSet, chosen: &[Option<u8>; 4], width: usize) -> bool
     requires { (i : ℕ) → i < 4 → IfSome (slice_index_or chosen.now i None)

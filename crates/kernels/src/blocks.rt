@@ -88,8 +88,8 @@ pub fn third_each(s0: u8x32, s1: u8x32, s2: u8x32, t0: u8x32, t1: u8x32, t2: u8x
     Factor::new(0x10).plus_times(s, t)
 }
 
-/// The fourth parity, from the sums over the bits of the numbers in each group: by products, since
-/// two doublings take longer than one. 0x1D is x^8.
+/// The fourth parity, from the sums over the bits of the numbers in each group, by products: 0x04,
+/// 0x10 and 0x1D are x^2, x^4 and x^8.
 #[inline(always)]
 pub fn fourth_each(s0: u8x32, s1: u8x32, s2: u8x32, t0: u8x32, t1: u8x32, t2: u8x32) -> u8x32
     ensures { (k : ℕ) → k < LANES → slice_index result k
