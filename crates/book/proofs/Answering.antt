@@ -21,7 +21,7 @@ use Rattle.history.specs.State.{State, Blob, IsLostInside}
 use Rattle.history.specs.Step.{Operation, delete, stat, IsReply, after}
 use Rattle.history.specs.History.{History, state_of, call_of}
 use Rattle.book.specs.Contents.{Contents, sealed_at}
-use Rattle.book.specs.Tells.{Tells, Correspond, CarriesOn}
+use Rattle.book.specs.Tells.{HoldsHistory, Correspond, CarriesOn}
 use Rattle.history.specs.Views.{View, view_of, delete_reply, stat_reply}
 use Rattle.book.proofs.Carrying.{carried}
 use Rattle.history.proofs.Inside.{lost_inside}
@@ -37,12 +37,12 @@ reply_at w None (Some blob) reply m none same inside is = absurd same
 reply_at w (Some s) None reply m none same inside is = absurd same
 
 pub replied : (book : Contents) (h : History) (n : List ℕ) (reply : ℕ → Option View → Note) (m : Note) → ((v : ℕ) → reply v None ≡ note.NoName)
-    → Tells book h → m ≡ reply_for reply (sealed_at book n) → m ≡ reply book.width (option_map view_of (finite.get (state_of h).names n))
+    → HoldsHistory book h → m ≡ reply_for reply (sealed_at book n) → m ≡ reply book.width (option_map view_of (finite.get (state_of h).names n))
 replied book h n reply m none told is =
     reply_at book.width (sealed_at book n) (finite.get (state_of h).names n) reply m none (told.catalogue n) (λ blob here. lost_inside book.width h told.legal n blob here) is
 
 -- ---- calls that leave the state as it is
-pub carries_unchanged : (old new : Contents) (who : ℕ) (o : Operation) (answer : Answer) → ((h : History) → Tells old h → IsReply old.width (state_of h) o (note_of answer))
+pub carries_unchanged : (old new : Contents) (who : ℕ) (o : Operation) (answer : Answer) → ((h : History) → HoldsHistory old h → IsReply old.width (state_of h) o (note_of answer))
     → ((s : State) → after s o (note_of answer) ≡ s) → new.width ≡ old.width → new.base ≡ old.base → new.catalogue ≡ old.catalogue
     → new.entries ≡ old.entries ++ record { who = who; call = call_of o; note = note_of answer } ∷ []
     → CarriesOn old new who o answer

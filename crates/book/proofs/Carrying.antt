@@ -11,7 +11,7 @@ use Rattle.history.specs.Step.{IsReply, after}
 use Rattle.history.specs.History.{Event, History, after_all, IsLegalFrom, IsLegal, state_of, entry_of}
 use Rattle.history.specs.Base.{Outlines, empty_base}
 use Rattle.book.specs.Contents.{Contents, sealed_at}
-use Rattle.book.specs.Tells.{Tells, Correspond}
+use Rattle.book.specs.Tells.{HoldsHistory, Correspond}
 use Rattle.history.specs.Lawful.{IsLawfulFrom}
 use Rattle.history.proofs.Beginnings.{after_all-append, legal_rest, empty_outlined}
 
@@ -20,10 +20,10 @@ legal_push w s [] e legal reply = (reply, tt)
 legal_push w s (x ∷ h) e legal reply = (legal.0, legal_push w (after s x.operation x.note) h e legal.1 reply)
 
 -- what a new book owes to go on with a call
-pub carried : (old new : Contents) (h : History) (e : Event) → Tells old h → IsReply old.width (state_of h) e.operation e.note
+pub carried : (old new : Contents) (h : History) (e : Event) → HoldsHistory old h → IsReply old.width (state_of h) e.operation e.note
     → new.width ≡ old.width → new.base ≡ old.base → new.entries ≡ old.entries ++ entry_of e ∷ []
     → ((n : List ℕ) → Correspond old.width (sealed_at new n) (finite.get (after (state_of h) e.operation e.note).names n))
-    → Tells new (h ++ e ∷ [])
+    → HoldsHistory new (h ++ e ∷ [])
 carried old new h e told reply same_width same_base entries kept =
     let t = old.base.trimmed in
     let P : ℕ → Type 0 = λ w. IsLegal w (h ++ e ∷ []) in
@@ -43,7 +43,7 @@ carried old new h e told reply same_width same_base entries kept =
     }
 
 -- an empty book represents the empty history
-pub tells_none : (book : Contents) → book.base ≡ empty_base → book.entries ≡ [] → book.catalogue ≡ [] → Tells book []
+pub tells_none : (book : Contents) → book.base ≡ empty_base → book.entries ≡ [] → book.catalogue ≡ [] → HoldsHistory book []
 tells_none book base entries catalogue =
     record {
       legal = tt;
@@ -57,7 +57,7 @@ tells_none book base entries catalogue =
     }
 
 -- the entries of a book that represents a history are lawful from its base
-pub told_is_lawful : (book : Contents) (h : History) → Tells book h → IsLawfulFrom book.base book.width book.entries
+pub told_is_lawful : (book : Contents) (h : History) → HoldsHistory book h → IsLawfulFrom book.base book.width book.entries
 told_is_lawful book h told =
     record {
       state = state_of (take book.base.trimmed h);

@@ -26,9 +26,9 @@ use Rattle.history.specs.Views.{no_such, open_test, repair_reply}
 use Rattle.history.proofs.Keeping.{by_fragment}
 use Rattle.history.proofs.Replies.{below_of}
 use Rattle.book.specs.Contents.{Contents, sealed_at}
-use Rattle.book.specs.Known.{IsFragmentIn, Serves}
+use Rattle.book.specs.Known.{IsFragmentIn, IsRepairFor}
 use Rattle.book.specs.Lacking.{lacks, seen_of}
-use Rattle.book.specs.Tells.{Tells, Represents, Correspond}
+use Rattle.book.specs.Tells.{HoldsHistory, Represents, Correspond}
 use Rattle.book.proofs.Mending.{lacks_here}
 use Rattle.book.proofs.Versions.{was_put, put_later, only_put}
 
@@ -132,15 +132,15 @@ module _ (w : ℕ) (h : History) (n : List ℕ) (v j f : ℕ) (found : List ℕ)
     of_each : v ≡ s.version → IsRebuildable s j f → IsFragmentOf s j f found
     of_each e can c also stands = own_fragment e ∙ same_closed s blob.bytes c blob.lost also is.stands stands j can.has.0 f can.has.1 can.closed
 
-    serves : Serves v j f found s
+    serves : IsRepairFor v j f found s
     serves = record { long = ap length known.is ∙ length-map-range_with_len (λ p. column known.code (data_at known.code w known.bytes j p) f) 0 w ∙ sym is.width; own = of_each }
 
-  serves_at : (x : Option Sealed) (had : Option Blob) → finite.get (state_of h).names n ≡ had → Correspond w x had → IfSome x (Serves v j f found)
+  serves_at : (x : Option Sealed) (had : Option Blob) → finite.get (state_of h).names n ≡ had → Correspond w x had → IfSome x (IsRepairFor v j f found)
   serves_at None had here both = tt
   serves_at (Some s) None here both = absurd both
   serves_at (Some s) (Some blob) here both = serves s blob here both
 
-pub known_serves : (book : Contents) (h : History) (n : List ℕ) (v j f : ℕ) (found : List ℕ) → Tells book h → IsFragmentIn h book.width n v j f found → IfSome (sealed_at book n) (Serves v j f found)
+pub known_serves : (book : Contents) (h : History) (n : List ℕ) (v j f : ℕ) (found : List ℕ) → HoldsHistory book h → IsFragmentIn h book.width n v j f found → IfSome (sealed_at book n) (IsRepairFor v j f found)
 known_serves book h n v j f found told known =
     serves_at book.width h n v j f found told.legal known (sealed_at book n) (finite.get (state_of h).names n) refl (told.catalogue n)
 
@@ -156,7 +156,7 @@ fragment_later h more w n v j f found known =
       is = known.is;
     }
 
-pub known_after : (old new : Contents) (n : List ℕ) (v j f : ℕ) (found : List ℕ) (e : Event) → new.width ≡ old.width → ((h : History) → Tells old h → Tells new (h ++ e ∷ []))
-    → (h : History) → Tells old h → IsFragmentIn h old.width n v j f found → (h : History) × Tells new h × IsFragmentIn h new.width n v j f found
+pub known_after : (old new : Contents) (n : List ℕ) (v j f : ℕ) (found : List ℕ) (e : Event) → new.width ≡ old.width → ((h : History) → HoldsHistory old h → HoldsHistory new (h ++ e ∷ []))
+    → (h : History) → HoldsHistory old h → IsFragmentIn h old.width n v j f found → (h : History) × HoldsHistory new h × IsFragmentIn h new.width n v j f found
 known_after old new n v j f found e width carries h told known =
     (h ++ e ∷ [], carries h told, subst (λ w. IsFragmentIn (h ++ e ∷ []) w n v j f found) (sym width) (fragment_later h (e ∷ []) old.width n v j f found known))

@@ -21,7 +21,7 @@ use Rattle.history.specs.State.{State, Blob}
 use Rattle.history.specs.Step.{Operation, lose, repair, IsReply, after, with_lost}
 use Rattle.history.specs.History.{History, state_of, call_of}
 use Rattle.book.specs.Contents.{Contents, sealed_at}
-use Rattle.book.specs.Tells.{Tells, Represents, Correspond, CarriesOn}
+use Rattle.book.specs.Tells.{HoldsHistory, Represents, Correspond, CarriesOn}
 use Rattle.history.specs.Views.{View, lose_reply, repair_reply}
 use Rattle.book.proofs.Answering.{replied}
 use Rattle.book.proofs.Carrying.{carried}
@@ -97,7 +97,7 @@ module _ (w : ℕ) (state : State) (n : List ℕ) (blob : Blob) (here : finite.g
 -- name one that the new value represents
 module _ (old new : Contents) (who : ℕ) (n : List ℕ) (o : Operation) (answer : Answer) (reply : ℕ → Option View → Note) (Becomes : Sealed → Sealed → Type 0)
     (replaced : Replaces reply Becomes old.catalogue new.catalogue n (note_of answer))
-    (is_reply : (h : History) → Tells old h → IsReply old.width (state_of h) o (note_of answer))
+    (is_reply : (h : History) → HoldsHistory old h → IsReply old.width (state_of h) o (note_of answer))
     (none_after : (s : State) → finite.get s.names n ≡ None → note_of answer ≡ note.NoName → after s o (note_of answer) ≡ s)
     (some_after : (state : State) (blob : Blob) (here : finite.get state.names n ≡ Some blob) (s t : Sealed) → Represents old.width s blob → Becomes s t
     → HasBlob old.width state n blob here t (after state o (note_of answer))) where

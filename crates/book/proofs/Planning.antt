@@ -29,7 +29,7 @@ use Rattle.lrc_code.specs.Count.{count_below}
 use Rattle.book.specs.Lacking.{lacks, lacked_count, lacked_below}
 use Rattle.history.specs.Base.{pairs_of}
 use Rattle.book.specs.Plan.{items_for, plan_of, items_lacked}
-use Rattle.book.specs.Tells.{Tells, Represents, Correspond}
+use Rattle.book.specs.Tells.{HoldsHistory, Represents, Correspond}
 use Rattle.book.specs.declared.plan.Item.{Item}
 use Rattle.book.proofs.Lacking.{lacks_alike}
 use Rattle.history.proofs.Rising.{keys_rise, same_found, pairs_of-has, pairs_rise, same_pairs}
@@ -179,7 +179,7 @@ same_of w (Some s) None same inside = absurd same
 abbrev with_values : {X Y : Type 0} → (X → Y) → List (List ℕ × X) → List (List ℕ × Y)
 with_values f es = map (λ e. (e.0, f e.1)) es
 
-pub plan_is : (book : Contents) (h : History) → IsStrictlySortedBy name_cmp (keys_of book.catalogue) → Tells book h → flat_map items_lacked book.catalogue ≡ plan_of (state_of h)
+pub plan_is : (book : Contents) (h : History) → IsStrictlySortedBy name_cmp (keys_of book.catalogue) → HoldsHistory book h → flat_map items_lacked book.catalogue ≡ plan_of (state_of h)
 plan_is book h rises told =
     let names = (state_of h).names in
     let same : with_values of_value book.catalogue ≡ with_values of_blob (finite.entries names) =

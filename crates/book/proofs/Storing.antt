@@ -15,7 +15,7 @@ use Rattle.history.specs.State.{State, Blob, empty_state}
 use Rattle.history.specs.Step.{put}
 use Rattle.history.specs.History.{Event, History, after_all, state_of, entry_of}
 use Rattle.book.specs.Contents.{Contents, sealed_at}
-use Rattle.book.specs.Tells.{Tells, Represents, Correspond, CarriesOn}
+use Rattle.book.specs.Tells.{HoldsHistory, Represents, Correspond, CarriesOn}
 use Rattle.history.specs.History.{is_put}
 use Rattle.history.specs.declared.note.Note.TheVariants as note
 use Rattle.history.specs.declared.note.Call.TheVariants.{Put}
@@ -25,7 +25,7 @@ use Rattle.history.proofs.Puts.{puts-after_all}
 use Rattle.book.proofs.Carrying.{carried}
 
 -- the number of puts is that of the base and of the entries
-puts_counted : (book : Contents) (h : History) → Tells book h → (state_of h).puts ≡ book.base.puts + count_by is_put book.entries
+puts_counted : (book : Contents) (h : History) → HoldsHistory book h → (state_of h).puts ≡ book.base.puts + count_by is_put book.entries
 puts_counted book h told =
     let t = book.base.trimmed in
     let whole : state_of h ≡ after_all (state_of (take t h)) (drop t h) = ap state_of (sym (take-append-drop t h)) ∙ after_all-append empty_state (take t h) (drop t h) in

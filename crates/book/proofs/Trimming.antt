@@ -10,13 +10,13 @@ use Rattle.history.specs.Base.{Outlines}
 use Rattle.history.proofs.Beginnings.{after_all-append, legal_rest}
 use Rattle.book.specs.Contents.{Contents}
 use Rattle.book.specs.Losing.{Catalogue, value_at}
-use Rattle.book.specs.Tells.{Tells, Correspond}
+use Rattle.book.specs.Tells.{HoldsHistory, Correspond}
 
 legal_first : (w : ℕ) (s : State) (one two : History) → IsLegalFrom w s (one ++ two) → IsLegalFrom w s one
 legal_first w s [] two legal = tt
 legal_first w s (e ∷ one) two legal = (legal.0, legal_first w (after s e.operation e.note) one two legal.1)
 
-module _ (old : Contents) (n : ℕ) (h : History) (told : Tells old h) where
+module _ (old : Contents) (n : ℕ) (h : History) (told : HoldsHistory old h) where
   given_legal : IsLegalFrom old.width (state_of (take old.base.trimmed h)) (take n (drop old.base.trimmed h))
   given_legal =
       let t = old.base.trimmed in
@@ -40,7 +40,7 @@ module _ (old : Contents) (n : ℕ) (h : History) (told : Tells old h) where
 -- outlined
 pub tells_trimmed : (old new : Contents) (n : ℕ) → n ≤ length old.entries
     → ((s : State) (g : History) → Outlines old.base s → IsLegalFrom old.width s g → map entry_of g ≡ take n old.entries → Outlines new.base (after_all s g))
-    → new.base.trimmed ≡ old.base.trimmed + n → new.entries ≡ drop n old.entries → new.width ≡ old.width → new.catalogue ≡ old.catalogue → (h : History) → Tells old h → Tells new h
+    → new.base.trimmed ≡ old.base.trimmed + n → new.entries ≡ drop n old.entries → new.width ≡ old.width → new.catalogue ≡ old.catalogue → (h : History) → HoldsHistory old h → HoldsHistory new h
 tells_trimmed old new n few outlines trimmed entries same_width same_catalogue h told =
     let t = old.base.trimmed in
     let K : ℕ → Catalogue → Type 0 = λ w c. (m : List ℕ) → Correspond w (value_at c m) (finite.get (state_of h).names m) in

@@ -19,6 +19,6 @@ pub record IsFragmentIn (h : History) (w : ℕ) (name : List ℕ) (version j f :
 
 -- the bytes can mend the value: if it has this version and the fragment f of stripe j can be
 -- rebuilt, they are that fragment
-pub record Serves (version j f : ℕ) (bytes : List ℕ) (s : Sealed) : Type 0 where
+pub record IsRepairFor (version j f : ℕ) (bytes : List ℕ) (s : Sealed) : Type 0 where
   pub long : length bytes ≡ s.width
   pub own : version ≡ s.version → IsRebuildable s j f → IsFragmentOf s j f bytes

@@ -3,7 +3,7 @@ ghost use Rattle.std.specs.Prelude.{◌≡◌, ◌≤◌, ◌↔◌, [], length,
 ghost use Rattle.std.specs.Option.{option_map};
 ghost use Rattle.history.specs.Base.{empty_base};
 ghost use Rattle.book.specs.Contents.{sealed_at};
-ghost use Rattle.book.specs.Tells.{Tells};
+ghost use Rattle.book.specs.Tells.{HoldsHistory};
 
 use crate::book::Book;
 use crate::catalogue::Catalogue;
@@ -26,7 +26,7 @@ impl Book {
           entries = [];
           catalogue = [];
         }) }
-        ensures told { IfOk result (λ b. Tells b []) }
+        ensures told { IfOk result (λ b. HoldsHistory b []) }
         ensures err { IfErr result (λ e. e ≡ Fault.NoMemory) }
     {
         let Ok(journal) = Journal::new(alloc, limit) else {

@@ -12,7 +12,7 @@ ghost use Rattle.sealed.specs.Sealed.{StandsFor};
 ghost use Rattle.history.specs.Names.{name_cmp};
 ghost use Rattle.history.specs.Views.{lose_reply, repair_reply};
 ghost use Rattle.book.specs.Catalogue.{lacks_at};
-ghost use Rattle.book.specs.Known.{Serves};
+ghost use Rattle.book.specs.Known.{IsRepairFor};
 ghost use Rattle.book.specs.Losing.{Loses, Mends, Replaces, value_at};
 ghost use Rattle.book.specs.Notes.{note_of};
 ghost use Rattle.book.specs.Plan.{items_lacked};
@@ -150,7 +150,7 @@ impl Catalogue {
         fragment: u64,
         bytes: Bytes,
     ) -> Result<Answer, Fault>
-        requires { IfSome (value_at self.old name.now) (Serves version stripe fragment bytes) }
+        requires { IfSome (value_at self.old name.now) (IsRepairFor version stripe fragment bytes) }
         ensures ok { IfOk result (λ a. Replaces (λ w x. repair_reply w x stripe fragment)
             (Mends stripe fragment (note_of a)) self.old self.new name.now (note_of a)) }
         ensures faults { IfErr result (λ e. e ≡ Fault.NoMemory) }

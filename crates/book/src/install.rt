@@ -3,11 +3,11 @@ ghost use Rattle.std.specs.Prelude.{◌≡◌, true, ◌↔◌, length, IfSome, 
 ghost use Rattle.history.specs.History.{History};
 ghost use Rattle.history.specs.Step.{repair as repair_of};
 ghost use Rattle.history.specs.Views.{repair_reply};
-ghost use Rattle.book.specs.Known.{IsFragmentIn, Serves};
+ghost use Rattle.book.specs.Known.{IsFragmentIn, IsRepairFor};
 ghost use Rattle.book.specs.Catalogue.{lacks_at};
 ghost use Rattle.book.specs.Losing.{Mends, Replaces, value_at};
 ghost use Rattle.book.specs.Notes.{note_of};
-ghost use Rattle.book.specs.Tells.{Tells, CarriesOn, IsCallFault, KeepsBase};
+ghost use Rattle.book.specs.Tells.{HoldsHistory, CarriesOn, IsCallFault, KeepsBase};
 
 use crate::book::Book;
 use crate::stored_blob::StoredBlob;
@@ -35,7 +35,7 @@ impl Book {
         fragment: u64,
         bytes: Bytes,
     ) -> Result<Answer, Fault>
-        requires known { (h : History) × Tells self.old h
+        requires known { (h : History) × HoldsHistory self.old h
             × IsFragmentIn h self.old.width name version stripe fragment bytes }
         ensures ok { IfOk result (CarriesOn self.old self.new who
             (repair_of name stripe fragment)) }
@@ -78,7 +78,7 @@ pub(crate) fn install_in(
     bytes: Bytes,
 ) -> Result<Answer, Fault>
     requires { IfSome (value_at catalogue.old.entries name.now)
-        (Serves version stripe fragment bytes) }
+        (IsRepairFor version stripe fragment bytes) }
     ensures ok { IfOk result (λ a. Replaces (λ w x. repair_reply w x stripe fragment)
         (Mends stripe fragment (note_of a)) catalogue.old.entries catalogue.new.entries name.now
         (note_of a)) }

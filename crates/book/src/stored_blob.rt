@@ -8,7 +8,7 @@ ghost use Rattle.sealed.specs.Blob.{nothing};
 ghost use Rattle.sealed.specs.Change.{IsChanged};
 ghost use Rattle.sealed.specs.Sealed.{StandsFor, absent_in};
 ghost use Rattle.sealed.specs.Rebuilding.{IsFragmentOf, IsRebuildable};
-ghost use Rattle.book.specs.Known.{Serves};
+ghost use Rattle.book.specs.Known.{IsRepairFor};
 ghost use Rattle.book.specs.Catalogue.{lacks_some};
 ghost use Rattle.book.specs.Lacking.{reply_for, lacks, lacked_count, seen_of};
 ghost use Rattle.book.specs.Losing.{IsWith, Loses, Mends};
@@ -194,7 +194,7 @@ impl StoredBlob {
         fragment: u64,
         bytes: Bytes,
     ) -> Result<Answer, Fault>
-        requires { Serves version stripe fragment bytes self.old }
+        requires { IsRepairFor version stripe fragment bytes self.old }
         ensures answer { IfOk result (λ a. note_of a ≡ reply_for
             (λ w x. repair_reply w x stripe fragment) (Some self.old)) }
         ensures changed { IfOk result (λ a. Mends stripe fragment (note_of a) self.old self.new) }

@@ -1,7 +1,7 @@
 //! Discarding the oldest entries of the journal.
 ghost use Rattle.std.specs.Prelude.{◌≡◌, ◌+◌, drop, length, IsOk, IfOk, IfErr, OnErr};
 ghost use Rattle.history.specs.History.{History};
-ghost use Rattle.book.specs.Tells.{Tells};
+ghost use Rattle.book.specs.Tells.{HoldsHistory};
 ghost use Rattle.book.specs.Trimming.{given_up};
 
 use crate::Fault;
@@ -19,7 +19,7 @@ impl Book {
     ///
     /// `NoMemory` if memory for the new base runs out; the book is then unchanged.
     pub fn trim(&mut self, alloc: Global, keep: u64) -> Result<u64, Fault>
-        ensures told { (h : History) → Tells self.old h → Tells self.new h }
+        ensures told { (h : History) → HoldsHistory self.old h → HoldsHistory self.new h }
         ensures answer { IfOk result (λ n. n ≡ given_up self.old.base.trimmed
             (length self.old.entries) keep) }
         ensures trimmed { IfOk result (λ n. self.new.base.trimmed ≡ self.old.base.trimmed + n) }

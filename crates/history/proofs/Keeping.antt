@@ -18,7 +18,7 @@ use Rattle.sealed.specs.Layout.{HasFragment, stripe_count, stripe_of, fragment_o
 use Rattle.sealed.specs.Blob.{pair_cmp}
 use Rattle.sealed.proofs.Counting.{some_data, data_is_counted, few_fragments, div_mono}
 use Rattle.sealed.proofs.Places.{fragment_inside, stripe_by_count, fragment_by_count}
-use Rattle.lent.specs.Range.{HasOpen}
+use Rattle.lent.specs.Range.{HasUnrecoverableByte}
 use Rattle.lent.proofs.Readable.{Meets, has_open}
 use Rattle.history.specs.Views.{open_test, open_in_range}
 use Rattle.history.specs.Metadata.{lost_of, is_open_between}
@@ -107,7 +107,7 @@ module _ (k : BlobMetadata) (w start len : ℕ) (some : 1 ≤ w) (bytes : 0 < le
       let whole' : data_count k.code * j + n % data_count k.code ≡ n = subst (λ (x : ℕ). data_count k.code * x + n % data_count k.code ≡ n) q whole in
       omega arith
 
-  has_one : list_any (is_open_between k (start / w) ((start + len - 1) / w)) k.lost.keys ≡ true → HasOpen k.code w (lost_of k) start len
+  has_one : list_any (is_open_between k (start / w) ((start + len - 1) / w)) k.lost.keys ≡ true → HasUnrecoverableByte k.code w (lost_of k) start len
   has_one h =
       let found = some_pair (is_open_between k (start / w) ((start + len - 1) / w)) k.lost.keys h in
       let j = found.0.0 in
@@ -122,7 +122,7 @@ module _ (k : BlobMetadata) (w start len : ℕ) (some : 1 ≤ w) (bytes : 0 < le
       has_open k.code w some start len (lost_of k) n (meets n (le_of (start / w) n ends.0) (le_of n ((start + len - 1) / w) ends.1))
       (subst (λ x. Open k.code (lost_of k x) (n % data_count k.code)) (sym (stripe_back j f l)) (subst (λ x. Open k.code (lost_of k j) x) (sym (fragment_back j f l)) opened))
 
-  is_one : HasOpen k.code w (lost_of k) start len → list_any (is_open_between k (start / w) ((start + len - 1) / w)) k.lost.keys ≡ true
+  is_one : HasUnrecoverableByte k.code w (lost_of k) start len → list_any (is_open_between k (start / w) ((start + len - 1) / w)) k.lost.keys ≡ true
   is_one o =
       let i = o.0 in
       let j = stripe_of k.code w i in

@@ -17,7 +17,7 @@ use Rattle.lrc_code.proofs.Recoverable.{exact}
 use Rattle.sealed.proofs.Changing.{pairs_total}
 use Rattle.sealed.specs.Layout.{stripe_of, fragment_of}
 use Rattle.sealed.specs.Blob.{Lost, nothing, lost_in, pair_cmp}
-use Rattle.lent.specs.Range.{is_outside, HasOpen}
+use Rattle.lent.specs.Range.{is_outside, HasUnrecoverableByte}
 use Rattle.history.specs.Names.{name_cmp}
 use Rattle.history.specs.State.{State, Blob, empty_state}
 use Rattle.history.specs.Step.{Operation, put, read, lose, repair, delete, stat, IfHolds, IsReply, IsReadReply, IsLoseReply, IsRepairReply, is_no_fragment, stripes_of, after, with_lost}
@@ -65,7 +65,7 @@ fragment_below Small zero i = subst (λ x. x < 10) (sym (div-zero (i % 0))) (ome
 fragment_below Wide (suc w) i = (let l : fragment_of Wide (suc w) i < 12 = div_below (i % (12 * suc w)) 12 (suc w) (omega arith) (omega arith) in omega arith)
 fragment_below Small (suc w) i = (let l : fragment_of Small (suc w) i < 6 = div_below (i % (6 * suc w)) 6 (suc w) (omega arith) (omega arith) in omega arith)
 
-pub open_found : (code : Code) (w : ℕ) (lost : ℕ → ℕ → Bool) (start len : ℕ) → (open_in_range code w lost start len ≡ true) ↔ HasOpen code w lost start len
+pub open_found : (code : Code) (w : ℕ) (lost : ℕ → ℕ → Bool) (start len : ℕ) → (open_in_range code w lost start len ≡ true) ↔ HasUnrecoverableByte code w lost start len
 open_found code w lost start len = (
   λ h. let r = any_found (λ i. open_test code (lost (stripe_of code w i)) (fragment_of code w i)) start len h in (r.0, r.1, r.2, (exact code (lost (stripe_of code w r.0)) (fragment_of code w r.0) (fragment_below code w r.0)).0 r.3),
   λ o. any_made (λ i. open_test code (lost (stripe_of code w i)) (fragment_of code w i)) start len o.0 o.1 o.2 ((exact code (lost (stripe_of code w o.0)) (fragment_of code w o.0) (fragment_below code w o.0)).1 o.3),
@@ -79,7 +79,7 @@ module _ (w : ℕ) where
   read_is None start len m = (λ e. e, λ e. e)
   read_is (Some blob) start len m =
       match_is (is_outside (length blob.bytes) start len) _ m note.OutOfRange _ (λ inside.
-      if_is (open_in_range blob.code w (lost_in blob.lost) start len) (HasOpen blob.code w (lost_in blob.lost) start len) (open_found blob.code w (lost_in blob.lost) start len) m (note.Unrecoverable blob.version) (note.Granted blob.version))
+      if_is (open_in_range blob.code w (lost_in blob.lost) start len) (HasUnrecoverableByte blob.code w (lost_in blob.lost) start len) (open_found blob.code w (lost_in blob.lost) start len) m (note.Unrecoverable blob.version) (note.Granted blob.version))
 
   lose_is : (x : Option Blob) (j f : ℕ) (m : Note) → IsLoseReply w x j f m ↔ (m ≡ lose_reply w (option_map view_of x) j f)
   lose_is None j f m = (λ e. e, λ e. e)

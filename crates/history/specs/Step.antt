@@ -6,7 +6,7 @@ use Rattle.lrc_code.specs.declared.Code.{Code}
 use Rattle.lrc_code.specs.Code.{fragment_count, Open}
 use Rattle.sealed.specs.Layout.{stripe_count}
 use Rattle.sealed.specs.Blob.{IsBlob, Lost, nothing, lost_in}
-use Rattle.lent.specs.Range.{is_outside, HasOpen}
+use Rattle.lent.specs.Range.{is_outside, HasUnrecoverableByte}
 use Rattle.history.specs.State.{Blob, State}
 use Rattle.history.specs.declared.note.Note.{Note}
 use Rattle.history.specs.declared.note.Note.TheVariants.{Stored, NoName, OutOfRange, Unrecoverable, Granted, Lost as LostNow, NoFragment, AlreadyLost, Repaired, NotLost, Deleted, Shape}
@@ -36,7 +36,7 @@ module _ (w : ℕ) where
   abbrev pub IsReadReply : Option Blob → ℕ → ℕ → Note → Type 0
   IsReadReply found start len note = MatchOption found (note ≡ NoName) (λ blob.
       MatchBool (is_outside (length blob.bytes) start len) (note ≡ OutOfRange)
-      (IfHolds (HasOpen blob.code w (lost_in blob.lost) start len) (note ≡ Unrecoverable blob.version) (note ≡ Granted blob.version)))
+      (IfHolds (HasUnrecoverableByte blob.code w (lost_in blob.lost) start len) (note ≡ Unrecoverable blob.version) (note ≡ Granted blob.version)))
 
   abbrev pub IsLoseReply : Option Blob → ℕ → ℕ → Note → Type 0
   IsLoseReply found j f note = MatchOption found (note ≡ NoName) (λ blob.

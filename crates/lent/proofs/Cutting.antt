@@ -11,7 +11,7 @@ use Rattle.lrc_code.specs.declared.Code.{Code}
 use Rattle.lrc_code.specs.declared.Code.TheVariants.{Wide, Small}
 use Rattle.sealed.specs.Layout.{byte_of}
 use Rattle.lent.specs.declared.part.Part.{Part}
-use Rattle.lent.specs.Cut.{IsPart, all_numbers, AreApart, IsCut, part_of, cut_end, cut}
+use Rattle.lent.specs.Cut.{IsPart, all_numbers, NeighboursDiffer, IsCut, part_of, cut_end, cut}
 
 -- ---- the worked cut: bytes 3 to 8 of a blob in fragments of four
 pub worked : cut Wide 4 3 6 ≡ (record { stripe = 0; fragment = 0; from = 3; to = 4 }) ∷ (record { stripe = 0; fragment = 1; from = 0; to = 4 }) ∷ (record { stripe = 0; fragment = 2; from = 0; to = 1 }) ∷ []
@@ -55,7 +55,7 @@ module _ (code : Code) (w start end : ℕ) where
   abbrev parts : ℕ → ℕ → List Part
   parts k n = map (part_of code w start end) (range_with_len k n)
 
-  apart : (k n : ℕ) → AreApart (parts k n)
+  apart : (k n : ℕ) → NeighboursDiffer (parts k n)
   apart k zero = tt
   apart k (suc zero) = tt
   apart k (suc (suc n)) = (λ e h. next_differs code k e h, apart (k + 1) (suc n))

@@ -6,7 +6,7 @@ use Rattle.lrc_code.specs.Code.{data_count, Open}
 use Rattle.sealed.specs.Layout.{stripe_count, stripe_of, fragment_of}
 use Rattle.sealed.proofs.Counting.{div_mono}
 use Rattle.sealed.proofs.Places.{stripe_by_count, fragment_by_count, stripe_below}
-use Rattle.lent.specs.Range.{HasOpen}
+use Rattle.lent.specs.Range.{HasUnrecoverableByte}
 use Rattle.lent.specs.Cut.{cut_end}
 
 -- the range meets the k-th data fragment of the blob
@@ -54,7 +54,7 @@ module _ (code : Code) (w : ℕ) (some : 1 ≤ w) (start len : ℕ) where
       let c : (start + len - 1) / w < cut_end w start len = end_above w start len (omega arith) in
       record { first = a; last = omega arith }
 
-  pub has_open : (lost : ℕ → ℕ → Bool) (k : ℕ) → Meets w start len k → OpenAt code lost k → HasOpen code w lost start len
+  pub has_open : (lost : ℕ → ℕ → Bool) (k : ℕ) → Meets w start len k → OpenAt code lost k → HasUnrecoverableByte code w lost start len
   has_open lost k met opened =
       let u = byte_met k met in
       let i = u.0 in
@@ -62,7 +62,7 @@ module _ (code : Code) (w : ℕ) (some : 1 ≤ w) (start len : ℕ) where
       let f : k % data_count code ≡ fragment_of code w i = ap (λ n. n % data_count code) (sym u.3) ∙ sym (fragment_by_count code w some i) in
       (i, u.1, u.2, subst (λ g. Open code (lost (stripe_of code w i)) g) f (subst (λ j. Open code (lost j) (k % data_count code)) stripe opened))
 
-  pub has_none : (lost : ℕ → ℕ → Bool) → ((k : ℕ) → Meets w start len k → OpenAt code lost k → ⊥) → HasOpen code w lost start len → ⊥
+  pub has_none : (lost : ℕ → ℕ → Bool) → ((k : ℕ) → Meets w start len k → OpenAt code lost k → ⊥) → HasUnrecoverableByte code w lost start len → ⊥
   has_none lost closed has =
       let i = has.0 in
       let at_stripe : Open code (lost ((i / w) / data_count code)) (fragment_of code w i) = subst (λ j. Open code (lost j) (fragment_of code w i)) (stripe_by_count code w some i) has.3 in

@@ -22,16 +22,16 @@ all_numbers code w [] = []
 all_numbers code w (part ∷ parts) = numbers_of code w part ++ all_numbers code w parts
 
 -- no two neighbours lie in the same fragment
-abbrev pub AreApart : List Part → Type 0
-AreApart [] = Unit {0}
-AreApart (one ∷ []) = Unit {0}
-AreApart (one ∷ next ∷ parts) = (one.stripe ≡ next.stripe → one.fragment ≢ next.fragment) × AreApart (next ∷ parts)
+abbrev pub NeighboursDiffer : List Part → Type 0
+NeighboursDiffer [] = Unit {0}
+NeighboursDiffer (one ∷ []) = Unit {0}
+NeighboursDiffer (one ∷ next ∷ parts) = (one.stripe ≡ next.stripe → one.fragment ≢ next.fragment) × NeighboursDiffer (next ∷ parts)
 
 -- the parts cover the bytes of the range in order, and none could be longer
 pub record IsCut (code : Code) (w start len : ℕ) (parts : List Part) : Type 0 where
   pub each : All (IsPart code w) parts
   pub covers : all_numbers code w parts ≡ range_with_len start len
-  pub apart : AreApart parts
+  pub apart : NeighboursDiffer parts
 
 -- ---- the cut, computed: of each data fragment that the range meets, what lies between its ends
 -- the part of the blob's k-th data fragment that lies between the bytes start and end

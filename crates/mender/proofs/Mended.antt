@@ -9,7 +9,7 @@ use Rattle.book.specs.declared.plan.Item.{Item}
 use Rattle.gate.specs.Places.{times}
 use Rattle.gate.proofs.Lists.{times-append, times-one}
 use Rattle.mender.specs.declared.done.Done.{Done}
-use Rattle.mender.specs.Drawn.{DrawerState, IsWhole}
+use Rattle.mender.specs.Drawn.{DrawerState, DrewFirstNumbers}
 use Rattle.mender.specs.Gathered.{tickets_of, IsOfPlan, IsComplete}
 use Rattle.mender.specs.Worked.{Draws, Worked, Finished}
 use Rattle.mender.specs.Mended.{Left, with_hand, joined, results_of, HasFinished, HasResults}
@@ -60,7 +60,7 @@ results_joined plan one other all xs ys a b drawn = record {
 }
 
 -- Where no other drawer may draw or has drawn, and as many numbers were drawn as the plan is long, the results are complete
-pub complete_whole : (plan : List Item) (hand : DrawerState) (done : List Done) → HasResults plan hand done → IsWhole hand → hand.allowance + length hand.drawn ≡ 2 ^ 40
+pub complete_whole : (plan : List Item) (hand : DrawerState) (done : List Done) → HasResults plan hand done → DrewFirstNumbers hand → hand.allowance + length hand.drawn ≡ 2 ^ 40
     → length plan ≤ length hand.drawn → IsComplete plan done
 complete_whole plan hand done has whole full many = (
   has.of_plan,
@@ -70,7 +70,7 @@ complete_whole plan hand done has whole full many = (
 )
 
 -- a number past the plan's end was drawn, so all below its length were
-pub many_past : (plan : List Item) (hand : DrawerState) (n : ℕ) → IsWhole hand → hand.allowance + length hand.drawn ≡ 2 ^ 40 → length plan ≤ n → 0 < times n hand.drawn
+pub many_past : (plan : List Item) (hand : DrawerState) (n : ℕ) → DrewFirstNumbers hand → hand.allowance + length hand.drawn ≡ 2 ^ 40 → length plan ≤ n → 0 < times n hand.drawn
     → length plan ≤ length hand.drawn
 many_past plan hand n whole full past drawn = dite (dec_lt n (length hand.drawn))
     (λ below. omega arith)
@@ -161,7 +161,7 @@ crew_ends plan hand (left ∷ crew) all =
 -- Workers finished with drawers that were split from a first one before anything was drawn, and all are joined again. What the first one kept leaves at least as many
 -- numbers as the plan is long. Then their results are complete
 pub complete_joined : (plan : List Item) (first : DrawerState) (crew : List Left) → first.drawn ≡ [] → first.allowance + sum_by (λ (left : Left). left.given) crew ≡ 2 ^ 40
-    → first.allowance + length plan ≤ 2 ^ 40 → All (HasFinished plan) crew → IsWhole (joined first crew) → IsComplete plan (results_of crew)
+    → first.allowance + length plan ≤ 2 ^ 40 → All (HasFinished plan) crew → DrewFirstNumbers (joined first crew) → IsComplete plan (results_of crew)
 complete_joined plan first crew none shares room all whole =
     let has = joined_results plan first [] crew (no_results plan first none) all in
     let nothing : length first.drawn ≡ 0 = ap length none in
@@ -182,7 +182,7 @@ drawn_joined hand (other ∷ before) left after n = drawn_joined (with_hand hand
 
 -- The same, where one of the workers met a number past the plan's end
 pub complete_past : (plan : List Item) (first : DrawerState) (crew : List Left) → first.drawn ≡ [] → first.allowance + sum_by (λ (left : Left). left.given) crew ≡ 2 ^ 40
-    → All (HasFinished plan) crew → IsWhole (joined first crew) → (n : ℕ) → length plan ≤ n → 0 < times n (joined first crew).drawn → IsComplete plan (results_of crew)
+    → All (HasFinished plan) crew → DrewFirstNumbers (joined first crew) → (n : ℕ) → length plan ≤ n → 0 < times n (joined first crew).drawn → IsComplete plan (results_of crew)
 complete_past plan first crew none shares all whole n past drawn =
     let has = joined_results plan first [] crew (no_results plan first none) all in
     let nothing : length first.drawn ≡ 0 = ap length none in

@@ -26,5 +26,5 @@ abbrev pub IsSole : DrawerState → Type 0
 IsSole hand = hand.allowance + length hand.drawn ≡ 2 ^ 40
 
 -- then this one has drawn the numbers below the count of its draws, each once
-abbrev pub IsWhole : DrawerState → Type 0
-IsWhole hand = IsSole hand → AreFirst hand.drawn (length hand.drawn)
+abbrev pub DrewFirstNumbers : DrawerState → Type 0
+DrewFirstNumbers hand = IsSole hand → AreFirst hand.drawn (length hand.drawn)

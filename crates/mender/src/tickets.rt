@@ -2,7 +2,7 @@
 ghost use Rattle.std.specs.Prelude.{◌≡◌, ◌+◌, ◌-◌, ◌/◌, ◌^◌, ◌<◌, ◌++◌, ◌∷◌, [], length, All};
 ghost use Rattle.std.specs.Prelude.{IfSome, IfNone, IfOk, OnOk, OnErr};
 ghost use Rattle.gate.specs.Places.{times, AreApart};
-ghost use Rattle.mender.specs.Drawn.{IsSole, IsWhole};
+ghost use Rattle.mender.specs.Drawn.{IsSole, DrewFirstNumbers};
 
 use crate::view::{DrawStep, DrawerView, HalveStep, JoinStep, LookStep, TicketRule};
 use atomic_table::{Seat, Table};
@@ -88,7 +88,7 @@ impl Tickets {
         ensures fresh { IfSome result (λ n. times n drawer.old.drawn ≡ 0) }
         ensures rises { IfSome result (λ n. All (λ m. m < n) drawer.old.drawn) }
         ensures next { IfSome result (λ n. IsSole drawer.old → n ≡ length drawer.old.drawn) }
-        ensures whole { IfSome result (λ _. IsWhole drawer.new) }
+        ensures whole { IfSome result (λ _. DrewFirstNumbers drawer.new) }
     {
         if drawer.allowance == 0 {
             return None;
@@ -137,7 +137,7 @@ impl Drawer {
           drawn = self.old.drawn ++ other.drawn;
         } }
         ensures apart { AreApart self.old.drawn other.drawn }
-        ensures whole { IsWhole self.new }
+        ensures whole { DrewFirstNumbers self.new }
     {
         let Drawer { seat, allowance } = other;
         let shared = &tickets.table.shared;

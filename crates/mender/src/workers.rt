@@ -5,7 +5,7 @@ ghost use Rattle.history.specs.History.{state_of};
 ghost use Rattle.book.specs.Plan.{plan_of};
 ghost use Rattle.book.specs.Tells.{IsCallFault};
 ghost use Rattle.shared.specs.Deeds.{Takes};
-ghost use Rattle.shared.specs.Calls.{HasRoom};
+ghost use Rattle.shared.specs.Calls.{HasJournalRoom};
 ghost use Rattle.mender.specs.Drawn.{IsIntact};
 ghost use Rattle.mender.specs.Worked.{Finished, Stopped, StoppedFull, IfFull, AreInOrder};
 ghost use Rattle.mender.specs.Worked.{AreMended};
@@ -73,7 +73,7 @@ pub fn work<R: Wait>(
     ensures in_order_by_then { IfErr result
         (λ stop. IsIntact drawer.old → AreInOrder plan.now.items.items stop.done.items) }
     ensures no_memory { IfErr result (λ stop. stop.fault ≡ Fault.NoMemory
-        → HasRoom pass.new ⊎ (vec_capacity stop.done ≡ length stop.done.items)) }
+        → HasJournalRoom pass.new ⊎ (vec_capacity stop.done ≡ length stop.done.items)) }
     ensures stopped_full { IfErr result (λ stop. IfFull stop.fault (StoppedFull plan.now.items.items
         drawer.old drawer.new pass.old stop.done.items pass.new)) }
 {

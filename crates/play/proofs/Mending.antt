@@ -9,13 +9,13 @@ use Rattle.gate.specs.Places.{TableId, times}
 use Rattle.shared.specs.Passes.{Shows, Which}
 use Rattle.book.specs.declared.plan.Item.{Item}
 use Rattle.mender.specs.declared.done.Done.{Done}
-use Rattle.mender.specs.Drawn.{DrawerState, IsWhole, AreFirst}
+use Rattle.mender.specs.Drawn.{DrawerState, DrewFirstNumbers, AreFirst}
 use Rattle.mender.specs.Gathered.{IsComplete}
 use Rattle.mender.specs.Worked.{Draws, Finished}
 use Rattle.mender.specs.Mended.{Left, HasFinished, joined, results_of, with_hand}
 use Rattle.mender.proofs.Counts.{once_below-out}
 use Rattle.mender.proofs.Mended.{complete_joined, joined-snoc, results_of-snoc}
-use Rattle.rounds.specs.Rounds.{AreOf, FitsTickets, DidAll, DidErrand, DidMend}
+use Rattle.rounds.specs.Rounds.{AllBelongTo, FitsTickets, DidAll, DidErrand, DidMend}
 use Rattle.rounds.specs.declared.work.Errand.{Errand}
 use Rattle.rounds.specs.declared.work.Errand.TheVariants.{Calls, Mend}
 use Rattle.rounds.specs.declared.work.Mended.{Mended}
@@ -26,7 +26,7 @@ use Rattle.rounds.specs.declared.work.Outcome.TheVariants as outcome
 use Rattle.rounds.specs.declared.work.Ran.{Ran}
 use Rattle.rounds.specs.declared.work.Work.{Work}
 use Rattle.rounds.specs.Pools.{AreWorkers, passes_of, outcomes_of}
-use Rattle.play.specs.Mends.{IsPart, IsMender, AreMenders, IsForRow, AreForRow, IsBack, AreBack, IsEnded, AreEnded, given_to, given_to_all, given_before, results_in, left_with, left_of, all_left, is_stopped, drawn_by, AreDrawnOnce}
+use Rattle.play.specs.Mends.{IsMendingPart, IsMender, AreMenders, IsForRow, AreForRow, IsBack, AreBack, IsEnded, AreEnded, given_to, given_to_all, given_before, results_in, left_with, left_of, all_left, is_stopped, drawn_by, AreDrawnOnce}
 
 -- ---- the parts are given out
 -- one worker more
@@ -47,7 +47,7 @@ fits-mender plan tickets (Calls jobs) is = absurd is
 fits-mender plan tickets (Mend m) is = is.drawer_of ∙ sym is.tickets_are
 
 -- they are done by passes of the store
-pub menders-of : (store : Which) (plan : List Item) (tickets : TableId) (works : List Work) → AreWorkers store (passes_of works) → AreMenders plan tickets works → AreOf store works
+pub menders-of : (store : Which) (plan : List Item) (tickets : TableId) (works : List Work) → AreWorkers store (passes_of works) → AreMenders plan tickets works → AllBelongTo store works
 menders-of store plan tickets [] all are = tt
 menders-of store plan tickets (w ∷ works) all are = ((all.0.0, fits-mender plan tickets w.errand are.0), menders-of store plan tickets works all.1 are.1)
 
@@ -96,7 +96,7 @@ record Returns (plan : List Item) (tickets : TableId) (given : ℕ) (o : Outcome
   pub back : IsBack plan tickets o
   pub shares : sum_by (λ (left : Left). left.given) (left_of o) ≡ given
 
-part-back : (plan : List Item) (tickets : TableId) (v : Shows) (m : Mending) (o : Outcome) (w : Shows) → DidMend v m o w → IsPart plan tickets m
+part-back : (plan : List Item) (tickets : TableId) (v : Shows) (m : Mending) (o : Outcome) (w : Shows) → DidMend v m o w → IsMendingPart plan tickets m
     → Returns plan tickets m.drawer.allowance o
 part-back plan tickets v m (outcome.Called r) w did is = absurd did
 part-back plan tickets v m (outcome.Mended drawer Paused) w did is =
@@ -145,14 +145,14 @@ pool-more outcomes o = sym (flat_map_more left_of [] outcomes o)
 -- a drawer that took in the drawers of these outcomes, and knows of its draws
 pub record HasJoined (first : DrawerState) (outcomes : List Outcome) (drawer : DrawerState) : Type 0 where
   pub joins : drawer ≡ joined first (all_left outcomes)
-  pub whole : IsWhole drawer
+  pub whole : DrewFirstNumbers drawer
 
 pub joined-none : (first : DrawerState) → first.drawn ≡ [] → HasJoined first [] first
 joined-none first none =
     let nothing : length first.drawn ≡ 0 = ap length none in
     record { joins = refl; whole = λ full n. ap (times n) none ∙ sym (once_below-out n (length first.drawn) (omega arith)) }
 
-pub joined-more : (first : DrawerState) (outcomes : List Outcome) (old new other : DrawerState) (m : Mended) → HasJoined first outcomes old → new ≡ with_hand old other → IsWhole new
+pub joined-more : (first : DrawerState) (outcomes : List Outcome) (old new other : DrawerState) (m : Mended) → HasJoined first outcomes old → new ≡ with_hand old other → DrewFirstNumbers new
     → HasJoined first (outcomes ++ outcome.Mended other m ∷ []) new
 joined-more first outcomes old new other m has is whole =
     let left : Left = left_with other (results_in m) in
@@ -184,7 +184,7 @@ all-more plan outcomes all more other m are one is =
 pub mend-complete : (plan : List Item) (first drawer : DrawerState) (outcomes : List Outcome) (all : List Done) → first.drawn ≡ [] → first.allowance + given_before outcomes ≡ 2 ^ 40
     → first.allowance + length plan ≤ 2 ^ 40 → HasJoined first outcomes drawer → AreAll plan outcomes all → IsComplete plan all
 mend-complete plan first drawer outcomes all none shares room has are = subst (IsComplete plan) (sym are.results)
-    (complete_joined plan first (all_left outcomes) none shares room are.finished (subst IsWhole has.joins has.whole))
+    (complete_joined plan first (all_left outcomes) none shares room are.finished (subst DrewFirstNumbers has.joins has.whole))
 
 -- ---- all draws
 joined-drawn : (first : DrawerState) (os : List Outcome) → (joined first (all_left os)).drawn ≡ first.drawn ++ drawn_by os

@@ -32,9 +32,9 @@ use Rattle.script.specs.declared.rows.Row.{Row}
 use Rattle.script.specs.declared.rows.Task.TheVariants as task
 use Rattle.rounds.specs.Pools.{IsAllOwn, AreWorkers, AreNew, HaveSeen, did_by, passes_of, passes_back, outcomes_of}
 use Rattle.play.specs.Mends.{IsMender, AreMenders, IsEnded, AreEnded, TellsMend, AreDrawnOnce}
-use Rattle.play.specs.Runs.{Mends, round_in}
+use Rattle.play.specs.Runs.{IsMend, round_in}
 use Rattle.play.specs.Lists.{Each, Pairs}
-use Rattle.play.specs.Accounts.{Placed, act_at, Stands, own_places, Account, steps_in, found_of, Settles, IsMendOf, FindsAll, IsRound, IsOf, IsBefore, IsGood, IsLater}
+use Rattle.play.specs.Accounts.{Placed, act_at, Stands, own_places, Account, steps_in, found_of, Settles, IsMendOf, FindsAll, IsRound, IsOfWorker, IsBefore, IsGood, IsLater}
 use Rattle.transcript.specs.declared.outcome.NumberedOutcome.{NumberedOutcome}
 use Rattle.transcript.specs.declared.outcome.RowOutcome.{RowOutcome}
 use Rattle.play.proofs.Buckets.{each-append, each-across, each-both, each-weaker, pairs-append, pairs-weaker}
@@ -112,7 +112,7 @@ module _ (store : Which) (rows : List Row) (round top base number : ℕ) (past :
       let p = t.part in
       let xs = p.steps in
       let ys = rest.steps in
-      let later = each-weaker (IsOf rows round top who base (length before)) (IsLater rows round top base (length before)) (λ q is. record { row = is.row; few = is.few; place = is.place; in_round = is.in_round }) xs p.are_of in
+      let later = each-weaker (IsOfWorker rows round top who base (length before)) (IsLater rows round top base (length before)) (λ q is. record { row = is.row; few = is.few; place = is.place; in_round = is.in_round }) xs p.are_of in
       let across : (x y : Placed) → (x.step.row ≡ number) → (y.step.row ≡ number) × (who + 1 ≤ y.step.who) → IsGood (round_in rows) x y = λ x y a b. (inl (omega (arith, a, b.0)), inl (inl (omega (arith, a, b.0)))) in
       let both = each-both (λ (q : Placed). q.step.row ≡ number) (λ (q : Placed). who + 1 ≤ q.step.who) ys rest.of_row rest.labels in
       record {
@@ -121,13 +121,13 @@ module _ (store : Which) (rows : List Row) (round top base number : ℕ) (past :
         stand = each-append (Stands store.width store.limit acts) xs ys p.stand rest.stand;
         are_later = each-append (IsLater rows round top base (length before)) xs ys later rest.are_later;
         labels = each-append (λ (q : Placed). who ≤ q.step.who) xs ys
-            (each-weaker (IsOf rows round top who base (length before)) (λ (q : Placed). who ≤ q.step.who) (λ q is. let e : q.step.who ≡ who = is.label in omega arith) xs p.are_of)
+            (each-weaker (IsOfWorker rows round top who base (length before)) (λ (q : Placed). who ≤ q.step.who) (λ q is. let e : q.step.who ≡ who = is.label in omega arith) xs p.are_of)
             (each-weaker (λ (q : Placed). who + 1 ≤ q.step.who) (λ (q : Placed). who ≤ q.step.who) (λ q is. omega arith) ys rest.labels);
         order = pairs-append (IsGood (round_in rows)) xs ys (pairs-weaker IsBefore (IsGood (round_in rows)) (λ x y is. (inl is.0, inr is.1)) xs p.order) rest.order
             (each-across (λ (q : Placed). q.step.row ≡ number) (λ (q : Placed). (q.step.row ≡ number) × (who + 1 ≤ q.step.who)) (IsGood (round_in rows)) across xs ys p.of_row both);
         of_row = each-append (λ (q : Placed). q.step.row ≡ number) xs ys p.of_row rest.of_row;
         below = each-append (λ (q : Placed). q.step.who < who + length (o ∷ os)) xs ys
-            (each-weaker (IsOf rows round top who base (length before)) (λ (q : Placed). q.step.who < who + length (o ∷ os)) (λ q is. let e : q.step.who ≡ who = is.label in omega arith) xs p.are_of)
+            (each-weaker (IsOfWorker rows round top who base (length before)) (λ (q : Placed). q.step.who < who + length (o ∷ os)) (λ q is. let e : q.step.who ≡ who = is.label in omega arith) xs p.are_of)
             (each-weaker (λ (q : Placed). q.step.who < who + 1 + length os) (λ (q : Placed). q.step.who < who + length (o ∷ os)) (λ q less. omega (arith, less)) ys rest.below);
         took = subst (Took plan (o ∷ os)) (sym (map-append (λ (q : Placed). q.step.deed) xs ys)) (took_more plan (o ∷ []) os (deeds_in xs) (deeds_in ys) t.took rest.took);
       }
@@ -175,7 +175,7 @@ mend_round store workers rows round top base number is old dismissed hired renew
     let by_workers = each-both (λ (p : Placed). 1 ≤ p.step.who) (λ (p : Placed). p.step.who < 1 + length (outcomes_of rans)) m.steps m.labels m.below in
     let mended = mends_told workers plan (outcomes_of rans) m.steps outcome m.took tells drawn
     (each-weaker (λ (p : Placed). (1 ≤ p.step.who) × (p.step.who < 1 + length (outcomes_of rans))) (λ (p : Placed). (1 ≤ p.step.who) × (p.step.who ≤ workers)) (λ p h. (h.0, omega (arith, h.1, outcomes, many))) m.steps by_workers) in
-    let settles : Settles store.width workers is.row task.Mend one = (hired.acts, refl, subst (λ (items : List Item). Mends workers items (map found_of m.steps)) planned mended.0, mended.1) in
+    let settles : Settles store.width workers is.row task.Mend one = (hired.acts, refl, subst (λ (items : List Item). IsMend workers items (map found_of m.steps)) planned mended.0, mended.1) in
     record {
       accounts = one ∷ [];
       dones = refl;

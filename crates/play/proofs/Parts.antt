@@ -7,7 +7,7 @@ use Rattle.shared.specs.Deeds.{act_if}
 use Rattle.shared.specs.Serving.{Turn, act_in, deed_told, IsServed, AreServed, places_of}
 use Rattle.script.specs.declared.rows.Row.{Row}
 use Rattle.play.specs.Runs.{IsAsked, round_in}
-use Rattle.play.specs.Accounts.{Placed, Stands, own_places, Account, dones_in, numbers_in, steps_in, Settles, IsAccount, IsCallOf, RiseFrom, IsBefore, IsOf}
+use Rattle.play.specs.Accounts.{Placed, Stands, own_places, Account, dones_in, numbers_in, steps_in, Settles, IsAccount, IsCallOf, RiseFrom, IsBefore, IsOfWorker}
 use Rattle.play.proofs.Noting.{number_replies}
 use Rattle.play.specs.declared.calls.RowCall.{RowCall}
 use Rattle.transcript.specs.declared.outcome.NumberedOutcome.{NumberedOutcome}
@@ -31,7 +31,7 @@ pub record Part (w l workers : ℕ) (rows : List Row) (round top : ℕ) (acts : 
   pub are_calls : Each (IsCallPast base top) accounts
   pub places : own_places (steps_in accounts) ≡ places_of who turns
   pub stand : Each (Stands w l acts) (steps_in accounts)
-  pub are_of : Each (IsOf rows round top who base low) (steps_in accounts)
+  pub are_of : Each (IsOfWorker rows round top who base low) (steps_in accounts)
   pub order : Pairs IsBefore (steps_in accounts)
 
 module _ (w l workers : ℕ) (rows : List Row) (round top : ℕ) (acts : List Act) (who : ℕ) where
@@ -80,12 +80,12 @@ module _ (w l workers : ℕ) (rows : List Row) (round top : ℕ) (acts : List Ac
         stand = (record { does = s.does; stands = s.stands }, rest.stand);
         are_of = (
           record { label = refl; row = low_row; few = call.few; place = omega arith; in_round = call.in_round },
-          each-weaker (IsOf rows round top who c.number (t.place + length (act_in who t))) (IsOf rows round top who base low)
+          each-weaker (IsOfWorker rows round top who c.number (t.place + length (act_in who t))) (IsOfWorker rows round top who base low)
               (λ q is. let a : c.number < q.step.row = is.row in let b : t.place + length (act_in who t) ≤ length q.before = is.place in
               record { label = is.label; row = omega arith; few = is.few; place = omega arith; in_round = is.in_round }) (steps_in rest.accounts) rest.are_of,
         );
         order = (
-          each-weaker (IsOf rows round top who c.number (t.place + length (act_in who t))) (IsBefore p)
+          each-weaker (IsOfWorker rows round top who c.number (t.place + length (act_in who t))) (IsBefore p)
               (λ q is. let a : c.number < q.step.row = is.row in let b : t.place + length (act_in who t) ≤ length q.before = is.place in
               let e : length (act_in who t) ≡ length (act_of who s.deed) = ap length act in (omega arith, omega arith)) (steps_in rest.accounts) rest.are_of,
           rest.order,
@@ -98,7 +98,7 @@ pub record MendPart (w l : ℕ) (rows : List Row) (round top : ℕ) (acts : List
   pub steps : List Placed
   pub places : own_places steps ≡ places_of who turns
   pub stand : Each (Stands w l acts) steps
-  pub are_of : Each (IsOf rows round top who base low) steps
+  pub are_of : Each (IsOfWorker rows round top who base low) steps
   pub order : Pairs IsBefore steps
   pub of_row : Each (λ (p : Placed). p.step.row ≡ number) steps
   pub told : map Some (map (λ (p : Placed). p.step.deed) steps) ≡ map (λ (t : Turn). deed_told t.ask t.reply) turns
@@ -114,19 +114,19 @@ module _ (w l : ℕ) (rows : List Row) (round top : ℕ) (acts : List Act) (who 
       let at : length s.before ≡ t.place = s.place_is in
       let first : low ≤ t.place = served.0 in
       let e : length (act_in who t) ≡ length (act_of who s.deed) = ap length act in
-      let later = each-both (IsOf rows round top who base (t.place + length (act_in who t))) (λ (q : Placed). q.step.row ≡ number) rest.steps rest.are_of rest.of_row in
+      let later = each-both (IsOfWorker rows round top who base (t.place + length (act_in who t))) (λ (q : Placed). q.step.row ≡ number) rest.steps rest.are_of rest.of_row in
       record {
         steps = p ∷ rest.steps;
         places = (λ i. number_if (at i) (sym act i) ++ rest.places i);
         stand = (record { does = s.does; stands = s.stands }, rest.stand);
         are_of = (
           record { label = refl; row = past; few = few; place = omega arith; in_round = here },
-          each-weaker (IsOf rows round top who base (t.place + length (act_in who t))) (IsOf rows round top who base low)
+          each-weaker (IsOfWorker rows round top who base (t.place + length (act_in who t))) (IsOfWorker rows round top who base low)
               (λ q is. let b : t.place + length (act_in who t) ≤ length q.before = is.place in
               record { label = is.label; row = is.row; few = is.few; place = omega arith; in_round = is.in_round }) rest.steps rest.are_of,
         );
         order = (
-          each-weaker (λ (q : Placed). IsOf rows round top who base (t.place + length (act_in who t)) q × (q.step.row ≡ number)) (IsBefore p)
+          each-weaker (λ (q : Placed). IsOfWorker rows round top who base (t.place + length (act_in who t)) q × (q.step.row ≡ number)) (IsBefore p)
               (λ q is. let b : t.place + length (act_in who t) ≤ length q.before = is.0.place in let r : q.step.row ≡ number = is.1 in (omega arith, omega arith)) rest.steps later,
           rest.order,
         );

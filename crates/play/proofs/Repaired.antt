@@ -31,7 +31,7 @@ use Rattle.transcript.specs.Lines.{line_text}
 use Rattle.play.specs.Lists.{Each}
 use Rattle.play.specs.Mends.{all_left, drawn_by, TellsMend, AreDrawnOnce}
 use Rattle.play.specs.Printed.{is_noted, noted, is_repaired, is_not_lost, is_gone, is_unrecoverable, mend_text}
-use Rattle.play.specs.Runs.{operation_in, operations_in, is_full, meets_full, IsByWorker, Mends}
+use Rattle.play.specs.Runs.{operation_in, operations_in, is_full, meets_full, IsByWorker, IsMend}
 use Rattle.play.specs.Steps.{Found}
 use Rattle.play.specs.Accounts.{Placed, found_of, IsMendTextOf}
 use Rattle.play.proofs.Buckets.{by_key, by_key-all, each-both, each-filter, each-passes, has_key}
@@ -103,7 +103,7 @@ meets_are (p ∷ steps) = ap (λ b. is_full p.step.deed || b) (meets_are steps)
 
 -- repairs of the first items of the plan, or of all of them if none met a full journal
 mends_first : (workers : ℕ) (plan : List Item) (os : List Outcome) (steps : List Placed) (c : ℕ) → (took : Took plan os (deeds_in steps)) → ((n : ℕ) → times n (tickets_in took.taken) ≡ once_below n c)
-    → Each (λ (p : Placed). (1 ≤ p.step.who) × (p.step.who ≤ workers)) steps → (list_any is_full (deeds_in steps) ≡ false → drop c plan ≡ []) → Mends workers plan (map found_of steps)
+    → Each (λ (p : Placed). (1 ≤ p.step.who) × (p.step.who ≤ workers)) steps → (list_any is_full (deeds_in steps) ≡ false → drop c plan ≡ []) → IsMend workers plan (map found_of steps)
 mends_first workers plan os steps c took once are_by all =
     let operations = operations_are steps ∙ took.operations in
     let taken = IsPermutation-append_left (drop c plan) (take c plan) (items_in took.taken) (IsPermutation-sym (items_in took.taken) (take c plan) (first_taken plan took.taken took.of_plan c once)) in
@@ -167,7 +167,7 @@ module _ (steps : List Placed) (results : List Done) (are : deeds_in steps ≡ m
 
 -- ---- the whole
 pub mends_told : (workers : ℕ) (plan : List Item) (os : List Outcome) (steps : List Placed) (outcome : RowOutcome) → Took plan os (deeds_in steps) → TellsMend plan os outcome → AreDrawnOnce os
-    → Each (λ (p : Placed). (1 ≤ p.step.who) × (p.step.who ≤ workers)) steps → Mends workers plan (map found_of steps) × IsMendTextOf (map found_of steps) outcome
+    → Each (λ (p : Placed). (1 ≤ p.step.who) × (p.step.who ≤ workers)) steps → IsMend workers plan (map found_of steps) × IsMendTextOf (map found_of steps) outcome
 mends_told workers plan os steps (row.Replied reply) took tells drawn are_by = absurd tells
 mends_told workers plan os steps (row.Mended report) took tells drawn are_by =
     let results = results_of (all_left os) in

@@ -21,7 +21,7 @@ use Rattle.script.specs.declared.rows.Task.{Task}
 use Rattle.script.specs.declared.rows.Task.TheVariants.{Make, Mend}
 use Rattle.play.specs.Lists.{Each, Pairs}
 use Rattle.play.specs.Steps.{Step, Found, found, standing_after}
-use Rattle.play.specs.Runs.{steps_of, IsOne, IsRow, Mends, IsByWorker, is_full, operation_in, operations_in}
+use Rattle.play.specs.Runs.{steps_of, IsOne, IsRow, IsMend, IsByWorker, is_full, operation_in, operations_in}
 use Rattle.play.specs.Printed.{deed_text, is_noted, is_repaired, is_not_lost, is_gone, is_unrecoverable, mend_text, row_text, row_lines}
 use Rattle.transcript.specs.Lines.{AreLines, IsLineFor, line_text}
 use Rattle.play.specs.Accounts.{Placed, found_of, Account, dones_in, numbers_in, steps_in, earlier, HasDone, Settles, IsAccount, IsDone}
@@ -148,7 +148,7 @@ each_operation (f ∷ fs) all =
 only_calls_moved : (xs ys : List Found) → IsPermutation xs ys → length (operations_in xs) ≡ length xs → length (operations_in ys) ≡ length ys
 only_calls_moved xs ys moved all = omega (arith, all, many_operations xs, many_operations ys, sum_by-IsPermutation many_in xs ys moved, length_permutation xs ys moved)
 
-mends_moved : (workers : ℕ) (plan : List Item) (xs ys : List Found) → IsPermutation xs ys → Mends workers plan xs → Mends workers plan ys
+mends_moved : (workers : ℕ) (plan : List Item) (xs ys : List Found) → IsPermutation xs ys → IsMend workers plan xs → IsMend workers plan ys
 mends_moved workers plan xs ys moved m =
     let more = only_calls_moved xs ys moved m.only_calls in
     let f : Found → Operation = λ x. operation_for x.1.deed in
@@ -237,7 +237,7 @@ module _ (w l workers : ℕ) (rows : List Row) (acts : List Act) (accounts : Lis
       let same = steps_for a alone in
       let moved = IsPermutation-map found_of a.steps (in_order_below (length acts) a.steps) (by_key-all key (suc (twice (length acts))) a.steps (keys_of a alone)) in
       let standing = standing_then a.done.number found finds.0 finds.1 in (
-        subst (λ (u : Standing × List Found). Mends workers (plan_of u.0.state) u.1) (λ i. (sym standing i, sym same i)) (mends_moved workers (plan_of (standing_of found).state) (map found_of a.steps) (map found_of (in_order_below (length acts) a.steps)) moved mends),
+        subst (λ (u : Standing × List Found). IsMend workers (plan_of u.0.state) u.1) (λ i. (sym standing i, sym same i)) (mends_moved workers (plan_of (standing_of found).state) (map found_of a.steps) (map found_of (in_order_below (length acts) a.steps)) moved mends),
         λ reply r_is. text reply r_is ∙ mend_text_moved (map found_of a.steps) (map found_of (in_order_below (length acts) a.steps)) moved ∙ ap mend_text (sym same),
       )
 

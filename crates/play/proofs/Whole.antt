@@ -8,7 +8,7 @@ use Rattle.gate.proofs.Lists.{prefix_trans}
 use Rattle.history.specs.History.{History, entry_of}
 use Rattle.book.specs.Contents.{Contents}
 use Rattle.book.specs.Serial.{Act, events_in, given_in, standing_of}
-use Rattle.book.specs.Tells.{Tells}
+use Rattle.book.specs.Tells.{HoldsHistory}
 use Rattle.script.specs.declared.rows.Row.{Row}
 use Rattle.play.specs.Lists.{Each, Pairs}
 use Rattle.play.specs.Steps.{Step, standing_after, calls_in}
@@ -70,7 +70,7 @@ has_run w l workers rows before acts did told played more own once_told =
 
 -- its text, from the book at the end
 pub printed_is : (w l workers : ℕ) (rows : List Row) (history : Bool) (acts : List Act) (told sorted : List NumberedOutcome) (book : Contents) (h : History) (lines text : List ℕ) → (r : HasRun w l workers rows acts told)
-    → IsPermutation told sorted → IsNonDecreasingBy (λ (d : NumberedOutcome). d.number) sorted → AreLines sorted lines → Tells book h → h ≡ events_in acts → book.base.trimmed ≡ given_in acts → book.base.trimmed + length book.entries ≡ length h
+    → IsPermutation told sorted → IsNonDecreasingBy (λ (d : NumberedOutcome). d.number) sorted → AreLines sorted lines → HoldsHistory book h → h ≡ events_in acts → book.base.trimmed ≡ given_in acts → book.base.trimmed + length book.entries ≡ length h
     → text ≡ lines ++ ((if history then entry_lines (book.base.trimmed + 1) book.entries else []) ++ (codes "calls " ++ (decimal (book.base.trimmed + length book.entries) ++ codes "\nlawful yes\n")))
     → text ≡ printed w history rows r.steps
 printed_is w l workers rows history acts told sorted book h lines text r moved rise are tells seen given count whole =

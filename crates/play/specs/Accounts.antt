@@ -11,7 +11,7 @@ use Rattle.script.specs.declared.rows.Task.{Task}
 use Rattle.script.specs.declared.rows.Task.TheVariants.{Make, Mend}
 use Rattle.play.specs.Steps.{Step, Found}
 use Rattle.play.specs.Lists.{Each, Pairs}
-use Rattle.play.specs.Runs.{IsAsked, MayPrecede, Mends, round_in}
+use Rattle.play.specs.Runs.{IsAsked, MayPrecede, IsMend, round_in}
 use Rattle.transcript.specs.Lines.{IsLineFor, line_text}
 use Rattle.play.specs.Printed.{deed_text, mend_text}
 use Rattle.play.specs.declared.calls.RowCall.{RowCall}
@@ -66,7 +66,7 @@ IsMendTextOf steps outcome = (line : Line) → IsLineFor outcome line → line_t
 abbrev pub Settles : ℕ → ℕ → Row → Task → Account → Type 0
 Settles w workers row (Make ask) a = (p : Placed) × (a.steps ≡ p ∷ []) × (p.step.who ≡ row.worker) × IsAsked ask p.step.deed × IsTextOf w p a.done.outcome
 Settles w workers row Mend a =
-    (acts : List Act) × (a.found ≡ Some acts) × Mends workers (plan_of (standing_of acts).state) (map found_of a.steps) × IsMendTextOf (map found_of a.steps) a.done.outcome
+    (acts : List Act) × (a.found ≡ Some acts) × IsMend workers (plan_of (standing_of acts).state) (map found_of a.steps) × IsMendTextOf (map found_of a.steps) a.done.outcome
 
 -- the account of a row of the script
 pub record IsAccount (w workers : ℕ) (rows : List Row) (a : Account) : Type 0 where
@@ -114,7 +114,7 @@ abbrev pub IsBefore : Placed → Placed → Type 0
 IsBefore x y = (x.step.row ≤ y.step.row) × (length x.before + length (act_at x) ≤ length y.before)
 
 -- a step of this worker and round, whose row and place are past these, and whose row is no later than `top`
-pub record IsOf (rows : List Row) (round top who base low : ℕ) (p : Placed) : Type 0 where
+pub record IsOfWorker (rows : List Row) (round top who base low : ℕ) (p : Placed) : Type 0 where
   pub label : p.step.who ≡ who
   pub row : base < p.step.row
   pub few : p.step.row ≤ top

@@ -21,7 +21,7 @@ use Rattle.transcript.specs.declared.outcome.RowOutcome.TheVariants as row
 
 -- ---- before the round
 -- a part in mending this plan, with a drawer of these tickets that has drawn none
-pub record IsPart (plan : List Item) (tickets : TableId) (m : Mending) : Type 0 where
+pub record IsMendingPart (plan : List Item) (tickets : TableId) (m : Mending) : Type 0 where
   pub drawer_of : m.drawer.tickets ≡ tickets
   pub tickets_are : m.tickets.value ≡ tickets
   pub none : m.drawer.drawn ≡ []
@@ -30,7 +30,7 @@ pub record IsPart (plan : List Item) (tickets : TableId) (m : Mending) : Type 0 
 -- each worker has such a part
 abbrev pub IsMender : List Item → TableId → Errand → Type 0
 IsMender plan tickets (Calls jobs) = ⊥
-IsMender plan tickets (Mend m) = IsPart plan tickets m
+IsMender plan tickets (Mend m) = IsMendingPart plan tickets m
 
 abbrev pub AreMenders : List Item → TableId → List Work → Type 0
 AreMenders plan tickets [] = Unit {0}

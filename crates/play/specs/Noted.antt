@@ -20,8 +20,8 @@ abbrev pub noted : List RowReply → List NumberedOutcome
 noted replies = map outcome_for replies
 
 -- the replies of all workers, one worker after the other, are appended to the earlier ones
-abbrev pub AreNoted : List Outcome → List NumberedOutcome → List NumberedOutcome → Type 0
-AreNoted [] old new = new ≡ old
-AreNoted (o ∷ outcomes) old new =
+abbrev pub AppendsReplies : List Outcome → List NumberedOutcome → List NumberedOutcome → Type 0
+AppendsReplies [] old new = new ≡ old
+AppendsReplies (o ∷ outcomes) old new =
     (replies : List RowReply) × AreRepliesOf o replies
-    × AreNoted outcomes (old ++ noted replies) new
+    × AppendsReplies outcomes (old ++ noted replies) new

@@ -6,7 +6,7 @@ ghost use Rattle.std.specs.Fn.{FnOnceReturnsAt};
 ghost use Rattle.std.specs.Io.KnownBytes.{Appends, Keeps};
 ghost use Rattle.command_line.specs.Line.{Says};
 ghost use Rattle.play.specs.Ranges.{InRange};
-ghost use Rattle.play.specs.Fails.{Tells};
+ghost use Rattle.play.specs.Fails.{NamesRefusedRow};
 ghost use Rattle.program.specs.Endings.{IfFailure, IsEndingOf, IsQuiet, IsSuccess, message_of};
 ghost use Rattle.program.specs.Output.{HasOutput};
 ghost use Rattle.program.specs.Words.{HasCommandLine, HasHelpRequest, HasScript, HasUsageError};
@@ -80,7 +80,7 @@ fn run_script<
     ensures cause { IfErr result (λ fail.
         ((fail ≡ Fail.Read) × IsUnopened (FnOnceReturnsAt F.FnOnce opener) line.now)
         ⊎ HasScript (FnOnceReturnsAt F.FnOnce opener) line.now (λ file.
-        IfSome (R.remaining file) (λ text. Tells line.now.options.workers text fail))) }
+        IfSome (R.remaining file) (λ text. NamesRefusedRow line.now.options.workers text fail))) }
     ensures never_paused { IfErr result (λ fail. fail ≢ Fail.Paused) }
 {
     match opener(line.script.as_str()) {
@@ -113,7 +113,7 @@ pub fn run_words<
         ⊎ HasCommandLine (map (λ w. w.now) words.now) (λ line.
         ((fail ≡ Fail.Read) × IsUnopened (FnOnceReturnsAt F.FnOnce opener) line)
         ⊎ HasScript (FnOnceReturnsAt F.FnOnce opener) line (λ file.
-        IfSome (R.remaining file) (λ text. Tells line.options.workers text fail)))))
+        IfSome (R.remaining file) (λ text. NamesRefusedRow line.options.workers text fail)))))
         result.ending }
     ensures never_paused { IfFailure (λ fail. fail ≢ Fail.Paused) result.ending }
     ensures no_output { IsQuiet result.ending

@@ -17,7 +17,7 @@ use Rattle.history.specs.Step.{Operation, put, read, lose, repair, delete, stat,
 use Rattle.history.specs.History.{Event, History, state_of, call_of, entry_of}
 use Rattle.history.proofs.Beginnings.{after_all-append}
 use Rattle.book.specs.Contents.{Contents, sealed_at}
-use Rattle.book.specs.Tells.{Tells, Correspond}
+use Rattle.book.specs.Tells.{HoldsHistory, Correspond}
 use Rattle.book.specs.Serial.{Act, call, trim, events_in, given_in}
 use Rattle.requests.specs.Between.{bytes_found, operation_in, first_in, between, acts_for, acts_between, TellsActs, MayFollow}
 use Rattle.requests.proofs.Bytes.{bytes_are}
@@ -33,7 +33,7 @@ get_put s n code b m =
     finite.get-insert nat_list_cmp_total s.names n blob n ∙ ap (λ t. cond t (Some blob) (finite.get s.names n)) ((eq_by_cmp_equiv nat_list_cmp_total).refl n)
 
 -- a call is read off the book after it
-operation_back : (book : Contents) (h : History) (e : Event) → Tells book (h ++ e ∷ []) → operation_in book (call_of e.operation) ≡ e.operation
+operation_back : (book : Contents) (h : History) (e : Event) → HoldsHistory book (h ++ e ∷ []) → operation_in book (call_of e.operation) ≡ e.operation
 operation_back book h e told = by_operation e.operation refl
   where
     by_operation : (o : Operation) → e.operation ≡ o → operation_in book (call_of o) ≡ o
@@ -49,13 +49,13 @@ operation_back book h e told = by_operation e.operation refl
     by_operation (delete n) is = refl
     by_operation (stat n) is = refl
 
-events_back : (book : Contents) (h g : History) → Tells book (h ++ g) → length g ≤ 1 → first_in book (map entry_of g) ≡ g
+events_back : (book : Contents) (h g : History) → HoldsHistory book (h ++ g) → length g ≤ 1 → first_in book (map entry_of g) ≡ g
 events_back book h [] told few = refl
 events_back book h (e ∷ []) told few = ap (λ o. record { who = e.who; operation = o; note = e.note } ∷ []) (operation_back book h e told)
 events_back book h (d ∷ e ∷ g) told few = absurd (omega arith)
 
 -- the history of a book has as many calls as were discarded and are in its journal
-pub told_length : (book : Contents) (h : History) → Tells book h → book.base.trimmed + length book.entries ≡ length h
+pub told_length : (book : Contents) (h : History) → HoldsHistory book h → book.base.trimmed + length book.entries ≡ length h
 told_length book h told =
     let t = book.base.trimmed in
     let long : t ≤ length h = told.long in
@@ -68,17 +68,17 @@ pub record GoesOn (a b : Contents) (g : History) (n : ℕ) : Type 0 where
   pub width : b.width ≡ a.width
   pub limit : b.limit ≡ a.limit
   pub few : length g ≤ 1
-  pub told : (h : History) → Tells a h → Tells b (h ++ g)
-  pub held : (h : History) → Tells a h → b.base.trimmed ≤ length h
+  pub told : (h : History) → HoldsHistory a h → HoldsHistory b (h ++ g)
+  pub held : (h : History) → HoldsHistory a h → b.base.trimmed ≤ length h
   pub given : b.base.trimmed ≡ a.base.trimmed + n
   pub one : 0 < length g → n ≡ 0
   pub room : 0 < length g → length a.entries ≢ a.limit
 
 -- what lies between them is these events
-pub between_is : (a b : Contents) (g h : History) (n : ℕ) → GoesOn a b g n → Tells a h → between a b ≡ g
+pub between_is : (a b : Contents) (g h : History) (n : ℕ) → GoesOn a b g n → HoldsHistory a h → between a b ≡ g
 between_is a b g h n on told =
     let t = b.base.trimmed in
-    let later : Tells b (h ++ g) = on.told h told in
+    let later : HoldsHistory b (h ++ g) = on.told h told in
     let entries : b.entries ≡ map entry_of (drop t h) ++ map entry_of g =
     later.entries ∙ ap (map entry_of) (drop-append-le t h g (on.held h told)) ∙ map-append entry_of (drop t h) g in
     let whole : length (map entry_of (drop t h)) ≡ length h - t = length-map (drop t h) entry_of ∙ length-drop t h in
@@ -112,7 +112,7 @@ given_for [] (suc n) one = omega arith
 given_for (e ∷ g) n one = sym (one (omega arith))
 
 -- what was done between them
-pub acts_are : (a b : Contents) (g h : History) (n : ℕ) → GoesOn a b g n → Tells a h → acts_between a b ≡ acts_for g n
+pub acts_are : (a b : Contents) (g h : History) (n : ℕ) → GoesOn a b g n → HoldsHistory a h → acts_between a b ≡ acts_for g n
 acts_are a b g h n on told =
     let more : b.base.trimmed - a.base.trimmed ≡ n = let is = on.given in omega arith in
     λ i. acts_for (between_is a b g h n on told i) (more i)
@@ -121,7 +121,7 @@ acts_are a b g h n on told =
 pub tells_more : (a b : Contents) (g : History) (n : ℕ) → GoesOn a b g n → (acts : List Act) → TellsActs a acts → TellsActs b (acts ++ acts_for g n)
 tells_more a b g n on acts t =
     let h : History = events_in acts in
-    let later : Tells b (h ++ g) = on.told h t.tells in
+    let later : HoldsHistory b (h ++ g) = on.told h t.tells in
     let old : a.base.trimmed + length a.entries ≡ length h = told_length a h t.tells in
     let new : b.base.trimmed + length b.entries ≡ length (h ++ g) = told_length b (h ++ g) later in
     let long = length-append h g in
@@ -129,7 +129,7 @@ tells_more a b g n on acts t =
     let given : b.base.trimmed ≡ a.base.trimmed + n = on.given in
     let same : b.limit ≡ a.limit = on.limit in
     record {
-      tells = subst (Tells b) (sym (events-append acts (acts_for g n) ∙ ap (λ l. h ++ l) (events_for g n on.few))) later;
+      tells = subst (HoldsHistory b) (sym (events-append acts (acts_for g n) ∙ ap (λ l. h ++ l) (events_for g n on.few))) later;
       given = given ∙ (λ i. t.given i + sym (given_for g n on.one) i) ∙ sym (given-append acts (acts_for g n));
       room = dite (dec_le 1 (length g))
           (λ some. let free : length a.entries < a.limit = below_unless (length a.entries) a.limit fits (on.room some) in let few = on.few in let none = on.one some in omega arith)

@@ -8,7 +8,7 @@ use Rattle.history.specs.Step.{Operation, put, read, lose, repair, delete, stat}
 use Rattle.history.specs.History.{History}
 use Rattle.book.specs.Contents.{Contents, sealed_at}
 use Rattle.book.specs.Serial.{Act, call, trim_acts, events_in, given_in}
-use Rattle.book.specs.Tells.{Tells}
+use Rattle.book.specs.Tells.{HoldsHistory}
 use Rattle.requests.specs.Bytes.{bytes_of}
 
 abbrev pub bytes_found : Option Sealed → List ℕ
@@ -46,7 +46,7 @@ acts_between a b = acts_for (between a b) (b.base.trimmed - a.base.trimmed)
 -- the book represents the calls of these acts, has discarded as many as they discard, and has no more
 -- entries than its limit
 pub record TellsActs (book : Contents) (acts : List Act) : Type 0 where
-  pub tells : Tells book (events_in acts)
+  pub tells : HoldsHistory book (events_in acts)
   pub given : book.base.trimmed ≡ given_in acts
   pub room : length book.entries ≤ book.limit
 

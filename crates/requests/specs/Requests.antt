@@ -10,7 +10,7 @@ use Rattle.book.specs.declared.answer.Answer.{Answer}
 use Rattle.book.specs.Asked.{IsReadAnswer, IsGrantable}
 use Rattle.book.specs.Contents.{Contents, sealed_at}
 use Rattle.book.specs.Known.{IsFragmentIn}
-use Rattle.book.specs.Tells.{IsCallFault, Tells}
+use Rattle.book.specs.Tells.{IsCallFault, HoldsHistory}
 use Rattle.requests.specs.declared.request.Request.{Request}
 use Rattle.requests.specs.declared.request.Request.TheVariants.{Put, Read, Lose, Install, Delete, Stat}
 use Rattle.requests.specs.Bytes.{bytes_of}
@@ -27,7 +27,7 @@ operation_of (Stat n) = stat n
 -- it can be made on this book
 abbrev pub CanMake : Contents → Request → Type 0
 CanMake book (Put alloc n s) = (s.width ≡ book.width) × ((b : List ℕ) × StandsFor s b nothing)
-CanMake book (Install alloc n version j f bytes) = (h : History) × Tells book h × IsFragmentIn h book.width n version j f bytes
+CanMake book (Install alloc n version j f bytes) = (h : History) × HoldsHistory book h × IsFragmentIn h book.width n version j f bytes
 CanMake book request = Unit {0}
 
 -- what a book answers to a read

@@ -1,7 +1,7 @@
 //! A book in the gate.
 ghost use Rattle.std.specs.Prelude.{◌≡◌, ◌+◌, length, IfOk, IfErr, OnErr};
 ghost use Rattle.history.specs.History.{History, state_of};
-ghost use Rattle.book.specs.Tells.{Tells};
+ghost use Rattle.book.specs.Tells.{HoldsHistory};
 ghost use Rattle.book.specs.Trimming.{given_up};
 ghost use Rattle.book.specs.Plan.{plan_of};
 
@@ -34,7 +34,7 @@ impl Kept {
 
     /// The lost fragments of all blobs, as `Book::plan` gives them.
     pub fn plan(&self, alloc: Global) -> Result<Plan, AllocError>
-        ensures { IfOk result (λ p. (h : History) → Tells self.now.0.value h
+        ensures { IfOk result (λ p. (h : History) → HoldsHistory self.now.0.value h
             → p.items.items ≡ plan_of (state_of h)) }
     {
         let book: &Book = &self.0;
@@ -43,7 +43,8 @@ impl Kept {
 
     /// Discards all entries except the last `keep`, as `Book::trim` does.
     pub fn trim(&mut self, alloc: Global, keep: u64) -> Result<u64, Fault>
-        ensures told { (h : History) → Tells self.old.0.value h → Tells self.new.0.value h }
+        ensures told { (h : History) → HoldsHistory self.old.0.value h
+            → HoldsHistory self.new.0.value h }
         ensures answer { IfOk result (λ n.
             n ≡ given_up self.old.0.value.base.trimmed (length self.old.0.value.entries) keep) }
         ensures trimmed { IfOk result

@@ -2,7 +2,7 @@
 use Rattle.std.proofs.Common.{ℕ, Bool, List, [], ◌∷◌, ◌++◌, Result, Ok, Err, IfOk, map, subst, sym}
 use Rattle.std.proofs.lemmas.List.{map-append}
 use Rattle.shared.specs.Passes.{Which}
-use Rattle.rounds.specs.Rounds.{AreOf, IsOf, ArePaced, AreReady, IsReady, DidAll, DidAt, EachRan, work_of}
+use Rattle.rounds.specs.Rounds.{AllBelongTo, BelongsTo, ArePaced, AreReady, IsReady, DidAll, DidAt, EachRan, work_of}
 use Rattle.rounds.specs.declared.work.Ran.{Ran}
 use Rattle.rounds.specs.declared.work.Started.{Started}
 use Rattle.rounds.specs.declared.work.Work.{Work}
@@ -31,7 +31,7 @@ if_each_did items may_answer works (Ok v) all = each_did may_answer works (items
 if_each_did items may_answer works (Err e) all = (tt, tt)
 
 -- the work between others has a pass to the store too
-pub one-of : (store : Which) (before after : List Work) (w : Work) → AreOf store (before ++ w ∷ after) → IsOf store w
+pub one-of : (store : Which) (before after : List Work) (w : Work) → AllBelongTo store (before ++ w ∷ after) → BelongsTo store w
 one-of store [] after w all = all.0
 one-of store (x ∷ before) after w all = one-of store before after w all.1
 

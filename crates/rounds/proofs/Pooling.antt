@@ -5,7 +5,7 @@ use mathlib.Core.List.{IsPrefix}
 use Rattle.gate.proofs.Lists.{prefix_trans}
 use Rattle.book.specs.Serial.{Act}
 use Rattle.shared.specs.Passes.{Shows, Which, Stays}
-use Rattle.rounds.specs.Rounds.{AreOf, FitsTickets, DidAll, DidErrand, DidMend}
+use Rattle.rounds.specs.Rounds.{AllBelongTo, FitsTickets, DidAll, DidErrand, DidMend}
 use Rattle.rounds.specs.declared.work.Errand.{Errand}
 use Rattle.rounds.specs.declared.work.Errand.TheVariants.{Calls, Mend}
 use Rattle.rounds.specs.declared.work.Mended.TheVariants.{Paused, Worked}
@@ -36,7 +36,7 @@ fits-calls (Calls jobs) is = tt
 fits-calls (Mend m) is = absurd is
 
 -- passes of the store run the tasks
-pub calls-of : (store : Which) (works : List Work) → AreWorkers store (passes_of works) → AreCalls works → AreOf store works
+pub calls-of : (store : Which) (works : List Work) → AreWorkers store (passes_of works) → AreCalls works → AllBelongTo store works
 calls-of store [] all are = tt
 calls-of store (w ∷ works) all are = ((all.0.0, fits-calls w.errand are.0), calls-of store works all.1 are.1)
 

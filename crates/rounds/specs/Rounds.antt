@@ -27,12 +27,12 @@ FitsTickets (Calls jobs) = Unit {0}
 FitsTickets (Mend m) = m.drawer.tickets ≡ m.tickets.value
 
 -- the pass is one to this store
-abbrev pub IsOf : Which → Work → Type 0
-IsOf store w = (w.pass.store ≡ store) × FitsTickets w.errand
+abbrev pub BelongsTo : Which → Work → Type 0
+BelongsTo store w = (w.pass.store ≡ store) × FitsTickets w.errand
 
-abbrev pub AreOf : Which → List Work → Type 0
-AreOf store [] = Unit {0}
-AreOf store (w ∷ ws) = IsOf store w × AreOf store ws
+abbrev pub AllBelongTo : Which → List Work → Type 0
+AllBelongTo store [] = Unit {0}
+AllBelongTo store (w ∷ ws) = BelongsTo store w × AllBelongTo store ws
 
 -- ---- what came of an errand, with the pass before and after it
 -- each reply is to the next job's row, and is that of the sequential specification at its place,
@@ -114,7 +114,7 @@ work_of (Done promise ran) = promise.0.value
 
 abbrev pub IsReady : {P : Type 0} → Which → P → (ℕ → Bool → Type 0) → Started P → Type 0
 IsReady store pace may_answer (Busy handle) = handle.promise.1.value ≡ pace
-IsReady store pace may_answer (Idle work) = IsOf store work
+IsReady store pace may_answer (Idle work) = BelongsTo store work
 IsReady store pace may_answer (Done promise ran) = DidAt may_answer promise.0.value ran
 
 abbrev pub AreReady : {P : Type 0} → Which → P → (ℕ → Bool → Type 0) → List (Started P) → Type 0

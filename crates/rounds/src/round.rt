@@ -1,7 +1,8 @@
 //! One round: a thread for each worker that has a task, all joined at its end.
 ghost use Rattle.std.specs.Prelude.{◌≡◌, ◌≤◌, ◌++◌, [], false, IfOk, IfErr, map, vec_len};
 ghost use Rattle.std.specs.Prelude.{vec_capacity};
-ghost use Rattle.rounds.specs.Rounds.{AreOf, IsOf, ArePaced, AreReady, IsPacedErrand, IsReady};
+ghost use Rattle.rounds.specs.Rounds.{AllBelongTo, BelongsTo, ArePaced, AreReady, IsPacedErrand};
+ghost use Rattle.rounds.specs.Rounds.{IsReady};
 ghost use Rattle.rounds.specs.Rounds.{DidAll, DidAt, DidMend, EachRan, AreReturned, work_of};
 ghost use Rattle.rounds.specs.declared.work.Errand.TheVariants.{Mend};
 
@@ -44,7 +45,7 @@ fn mend_on<R: Wait, P: Pace>(
 
 /// The task of a worker, as its thread runs it.
 fn work_on<R: Wait, P: Pace>(rt: &R, alloc: Global, store: &Store, work: Work, pace: &P) -> Ran
-    requires { IsOf store.now work }
+    requires { BelongsTo store.now work }
     ensures { DidAt (P.may_answer pace.now) work result }
 {
     let Work { mut pass, errand } = work;
@@ -65,7 +66,7 @@ fn start<'s, 'e, R: Threads + Wait + Sync, P: Pace + Sync>(
     work: Work,
     pace: &'e P,
 ) -> Started<P>
-    requires { IsOf store.now work }
+    requires { BelongsTo store.now work }
     ensures work { work_of result ≡ work }
     ensures ready { IsReady store.now pace.now (P.may_answer pace.now) result }
 {
@@ -106,7 +107,7 @@ fn start_all<'s, 'e, R: Threads + Wait + Sync, P: Pace + Sync>(
     pace: &'e P,
     begun: Begun<P>,
 ) -> Begun<P>
-    requires works { AreOf store.now works.items }
+    requires works { AllBelongTo store.now works.items }
     requires none { (begun.started.items ≡ []) × (begun.left.items ≡ [])
         × (begun.is_short ≡ false) }
     requires room { (vec_len works ≤ vec_capacity begun.started)
@@ -190,7 +191,7 @@ pub fn run_round<R: Threads + Wait + Sync, P: Pace + Sync>(
     works: Vec<Work>,
     pace: &P,
 ) -> Result<Vec<Ran>, NotRun>
-    requires { AreOf store.now works.items }
+    requires { AllBelongTo store.now works.items }
     ensures did { IfOk result (λ rans. DidAll works.items rans.items) }
     ensures paced { IfOk result (λ rans. ArePaced (P.may_answer pace.now) works.items rans.items) }
     ensures back { IfErr result (AreReturned works.items) }
@@ -212,7 +213,7 @@ pub fn run_round<R: Threads + Wait + Sync, P: Pace + Sync>(
         thread::scope_env(),
         rt,
         move |scope| -> Result<Vec<Ran>, NotRun>
-            requires { AreOf store.now works.items × (rans.items ≡ [])
+            requires { AllBelongTo store.now works.items × (rans.items ≡ [])
                 × (vec_len works ≤ vec_capacity rans)
                 × (begun.started.items ≡ []) × (begun.left.items ≡ []) × (begun.is_short ≡ false)
                 × (vec_len works ≤ vec_capacity begun.started)

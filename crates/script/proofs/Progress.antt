@@ -14,7 +14,7 @@ use Rattle.script.specs.declared.rows.Refusal.TheVariants as refusal_is
 use Rattle.script.specs.declared.rows.Row.{Row}
 use Rattle.script.specs.declared.rows.Word.{Word}
 use Rattle.script.specs.Fields.{Record, row_of}
-use Rattle.script.specs.Script.{AcceptedBefore, Explains, HasWorker, Tells, IsTidy, at_row, refusal, script_records}
+use Rattle.script.specs.Script.{AcceptedBefore, Explains, HasWorker, RefusesWith, IsTidy, at_row, refusal, script_records}
 use Rattle.script.proofs.Accepted.{accepted-among, accepted-more, passed-all, refused-next, tidy-more, tidy-none}
 use Rattle.script.proofs.NextRecords.{Rest, read-end, read-more}
 
@@ -112,7 +112,7 @@ place-refused rem workers rows text a b r w config p read refused =
     rw all (length p.done, omega arith, omega (arith, length-append p.done (r ∷ tail)), accepted-among workers p.done (r ∷ tail) p.accepted, refused-next workers p.done r tail ∙ next)
 
 pub progress-refused : {R : Type 0} (rem : R → Option (List ℕ)) (workers : ℕ) (rows : List Row) (known : Option (List ℕ)) (a b : Reader R) (r : Record) (e : Refusal)
-    → Progress rem known workers rows a → ReadRecord rem a b true r → Tells e (refusal workers rows r) → IfSome known (λ text. Explains workers (script_records text) (at_row e (length rows + 1)))
+    → Progress rem known workers rows a → ReadRecord rem a b true r → RefusesWith e (refusal workers rows r) → IfSome known (λ text. Explains workers (script_records text) (at_row e (length rows + 1)))
 progress-refused rem workers rows None a b r e p read refused = tt
 progress-refused rem workers rows (Some text) a b r (refusal_is.Refused w) p read refused = place-refused rem workers rows text a b r w p.config p.place read refused
 progress-refused rem workers rows (Some text) a b r refusal_is.NoMemory p read refused = tt

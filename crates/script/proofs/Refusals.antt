@@ -10,10 +10,10 @@ use Rattle.script.specs.declared.rows.Word.{Word}
 use Rattle.script.specs.declared.rows.Word.TheVariants as word
 use Rattle.script.specs.Numbers.{value}
 use Rattle.script.specs.Fields.{Record, a_field, b_field, fits_arguments, fits_name, is_number_in, is_worker, name_field, operation_field, operation_of, round_field, row_of, task_of, worker_field}
-use Rattle.script.specs.Script.{Heads, Tells, breaks_mend, first_word, last_round, late_word, refusal, task_refusal}
+use Rattle.script.specs.Script.{Heads, RefusesWith, breaks_mend, first_word, last_round, late_word, refusal, task_refusal}
 
 -- a test that comes later changes no word that was found
-more-words : (p q : Bool) (v w : Word) (rest : List (Bool × Word)) (e : Refusal) → Tells e (first_word ((p, v) ∷ (q, w) ∷ [])) → Tells e (first_word ((p, v) ∷ (q, w) ∷ rest))
+more-words : (p q : Bool) (v w : Word) (rest : List (Bool × Word)) (e : Refusal) → RefusesWith e (first_word ((p, v) ∷ (q, w) ∷ [])) → RefusesWith e (first_word ((p, v) ∷ (q, w) ∷ rest))
 more-words p q v w rest refusal_is.NoMemory h = tt
 more-words true q v w rest (refusal_is.Refused u) h = h
 more-words false true v w rest (refusal_is.Refused u) h = h
@@ -27,14 +27,14 @@ pub refusal_late : (workers : ℕ) (earlier : List Row) (r : Record) → (length
 unfolding refusal
 refusal_late workers earlier r a b c d e f = rw (a, b, c, d, e, f) refl
 
-pub tells-late : (earlier : List Row) (r : Record) (e : Refusal) → Tells e (task_refusal (operation_of (operation_field r)) (name_field r) (a_field r) (b_field r)) → Tells e (late_word earlier r)
+pub tells-late : (earlier : List Row) (r : Record) (e : Refusal) → RefusesWith e (task_refusal (operation_of (operation_field r)) (name_field r) (a_field r) (b_field r)) → RefusesWith e (late_word earlier r)
 tells-late earlier r e h =
     more-words (not (fits_name (operation_of (operation_field r)) (name_field r))) (not (fits_arguments (operation_of (operation_field r)) (a_field r) (b_field r)))
     word.Name word.Argument ((breaks_mend earlier (row_of r), word.Mend) ∷ []) e h
 
 -- a record whose task is refused
 pub row-refused : (workers : ℕ) (earlier : List Row) (r : Record) (head : Head) (e : Refusal) → Heads workers earlier r head
-    → Tells e (task_refusal (Some head.operation) (name_field r) (a_field r) (b_field r)) → Tells e (refusal workers earlier r)
+    → RefusesWith e (task_refusal (Some head.operation) (name_field r) (a_field r) (b_field r)) → RefusesWith e (refusal workers earlier r)
 row-refused workers earlier r head e h t = rw h.late (tells-late earlier r e (rw h.operation t))
 
 last-word : (p q s : Bool) (u v w : Word) → first_word ((p, u) ∷ (q, v) ∷ []) ≡ None → s ≡ true → first_word ((p, u) ∷ (q, v) ∷ (s, w) ∷ []) ≡ Some w

@@ -63,9 +63,9 @@ unfoldable pub refusal : ℕ → List Row → Record → Option Word
 refusal workers earlier r = first_word (tests workers earlier r)
 
 -- a refusal of one record has its word, or memory ran out
-abbrev pub Tells : Refusal → Option Word → Type 0
-Tells (refusal_is.Refused w) o = o ≡ Some w
-Tells refusal_is.NoMemory o = Unit {0}
+abbrev pub RefusesWith : Refusal → Option Word → Type 0
+RefusesWith (refusal_is.Refused w) o = o ≡ Some w
+RefusesWith refusal_is.NoMemory o = Unit {0}
 
 -- the word that refuses a record's name or arguments, if one does
 abbrev pub task_refusal : Option Operation → List ℕ → List ℕ → List ℕ → Option Word

@@ -7,7 +7,7 @@ ghost use Rattle.script.specs.Numbers.{value};
 ghost use Rattle.script.specs.Fields.{are_bytes, are_empty, are_hex_bytes, are_numbers, bytes_of};
 ghost use Rattle.script.specs.Fields.{fits_arguments, hex_bytes, hex_digit, is_hex_digit};
 ghost use Rattle.script.specs.Fields.{is_number_in, is_worker, operation_of, task_of};
-ghost use Rattle.script.specs.Script.{first_word, task_refusal, Tells};
+ghost use Rattle.script.specs.Script.{first_word, task_refusal, RefusesWith};
 
 use crate::numbers::number;
 use crate::rows::{Operation, Refusal, Task, Word};
@@ -151,7 +151,7 @@ pub(crate) fn task(
     ensures { MatchResult result
         (λ task. (task_refusal (Some operation) name.now a.now b.now ≡ None)
         × (task ≡ task_of (Some operation) name.now a.now b.now))
-        (λ e. Tells e (task_refusal (Some operation) name.now a.now b.now)) }
+        (λ e. RefusesWith e (task_refusal (Some operation) name.now a.now b.now)) }
 {
     if operation == Operation::Mend {
         return mend(name, a, b);
@@ -170,7 +170,7 @@ fn mend(name: &[u8], a: &[u8], b: &[u8]) -> Result<Task, Refusal>
     ensures { MatchResult result
         (λ task. (task_refusal (Some Operation.Mend) name.now a.now b.now ≡ None)
         × (task ≡ task_of (Some Operation.Mend) name.now a.now b.now))
-        (λ e. Tells e (task_refusal (Some Operation.Mend) name.now a.now b.now)) }
+        (λ e. RefusesWith e (task_refusal (Some Operation.Mend) name.now a.now b.now)) }
 {
     if !name.is_empty() {
         return Err(Refusal::Refused(Word::Name));
@@ -186,7 +186,7 @@ fn trim(name: &[u8], a: &[u8], b: &[u8]) -> Result<Task, Refusal>
     ensures { MatchResult result
         (λ task. (task_refusal (Some Operation.Trim) name.now a.now b.now ≡ None)
         × (task ≡ task_of (Some Operation.Trim) name.now a.now b.now))
-        (λ e. Tells e (task_refusal (Some Operation.Trim) name.now a.now b.now)) }
+        (λ e. RefusesWith e (task_refusal (Some Operation.Trim) name.now a.now b.now)) }
 {
     if !name.is_empty() {
         return Err(Refusal::Refused(Word::Name));
@@ -204,7 +204,7 @@ fn ask(alloc: Global, operation: Operation, name: Name, a: &[u8], b: &[u8]) -> R
     ensures { MatchResult result
         (λ ask. (fits_arguments (Some operation) a.now b.now ≡ true)
         × (Task.Make ask ≡ task_of (Some operation) name a.now b.now))
-        (λ e. Tells e
+        (λ e. RefusesWith e
         (first_word ((not (fits_arguments (Some operation) a.now b.now), Word.Argument) ∷ []))) }
 {
     match operation {
@@ -246,7 +246,7 @@ fn ask(alloc: Global, operation: Operation, name: Name, a: &[u8], b: &[u8]) -> R
 fn put(alloc: Global, name: Name, code: Code, a: &[u8], b: &[u8]) -> Result<Ask, Refusal>
     ensures { MatchResult result
         (λ ask. (are_bytes a.now b.now ≡ true) × (ask ≡ Ask.Put name code (bytes_of a.now b.now)))
-        (λ e. Tells e (first_word ((not (are_bytes a.now b.now), Word.Argument) ∷ []))) }
+        (λ e. RefusesWith e (first_word ((not (are_bytes a.now b.now), Word.Argument) ∷ []))) }
 {
     match put_bytes(alloc, a, b) {
         Ok(Some(bytes)) => Ok(Ask::Put { name, code, bytes }),

@@ -4,7 +4,7 @@ ghost use Rattle.std.specs.Prelude.{◌≡◌, ◌≤◌, [], None, Some, MatchR
 ghost use Rattle.csv.specs.Records.{fields_of};
 ghost use Rattle.script.specs.Fields.{row_of};
 ghost use Rattle.script.specs.Script.{breaks_mend, Heads, is_mend, IsTidy, last_round, refusal};
-ghost use Rattle.script.specs.Script.{Tells};
+ghost use Rattle.script.specs.Script.{RefusesWith};
 
 use crate::fields::{number_in, operation, task, worker};
 use crate::rows::{Head, Refusal, Row, Task, Word};
@@ -107,7 +107,7 @@ pub(crate) fn row(
     ensures { MatchResult result
         (λ row. (refusal workers earlier.now (fields_of fields.now) ≡ None)
         × (row ≡ row_of (fields_of fields.now)))
-        (λ e. Tells e (refusal workers earlier.now (fields_of fields.now))) }
+        (λ e. RefusesWith e (refusal workers earlier.now (fields_of fields.now))) }
 {
     let head = match head(fields, earlier, workers) {
         Ok(head) => head,

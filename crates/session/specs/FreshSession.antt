@@ -2,11 +2,11 @@
 use Rattle.std.specs.Prelude.{◌≡◌, ℕ, ◌+◌, ◌<◌, [], length}
 use Rattle.gate.specs.Places.{times}
 use Rattle.book.specs.Contents.{Contents}
-use Rattle.book.specs.Tells.{Tells}
-use Rattle.shared.specs.Passes.{Shows, Agrees}
+use Rattle.book.specs.Tells.{HoldsHistory}
+use Rattle.shared.specs.Passes.{Shows, IsConsistent}
 
 -- the first session of a store with this width and limit: it has seen and made no call
-pub record IsFresh (width limit : ℕ) (v : Shows) : Type 0 where
+pub record IsFirstSession (width limit : ℕ) (v : Shows) : Type 0 where
   pub width_is : v.store.width ≡ width
   pub limit_is : v.store.limit ≡ limit
   pub is : v ≡ record { store = v.store; who = 0; room = 64; seen = []; trimmed = 0; made = []; acts = []; did = []; visits = 0; seen_visits = 1; expected_visits = 0 }
@@ -34,11 +34,11 @@ pub record IsSplitOff (v : Shows) (who : ℕ) (w : Shows) : Type 0 where
 -- session's own
 pub record IsClosing (v : Shows) (book : Contents) : Type 0 where
   pub room : v.room ≡ 64
-  pub told : Tells book v.seen
+  pub told : HoldsHistory book v.seen
   pub made : (k : ℕ) → k < length v.seen → times k v.made ≡ 1
   pub count : length v.made ≡ length v.seen
   pub trimmed : book.base.trimmed ≡ v.trimmed
-  pub agrees : Agrees v
+  pub agrees : IsConsistent v
   pub did : (k : ℕ) → k < length v.acts → times k v.did ≡ 1
   pub did_count : length v.did ≡ length v.acts
   pub entries : book.base.trimmed + length book.entries ≡ length v.made

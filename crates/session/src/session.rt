@@ -3,9 +3,9 @@ ghost use Rattle.std.specs.Prelude.{◌≡◌, ◌⊎◌, ◌↔◌, ◌≤◌, 
 ghost use Rattle.std.specs.Prelude.{OnOk, OnErr};
 ghost use mathlib.Core.List.{IsPrefix};
 ghost use Rattle.gate.specs.Places.{AreApart, times};
-ghost use Rattle.book.specs.Tells.{Tells};
-ghost use Rattle.shared.specs.Passes.{Agrees, IsWhole};
-ghost use Rattle.session.specs.FreshSession.{IsFresh, IsSplitOff, IsClosing};
+ghost use Rattle.book.specs.Tells.{HoldsHistory};
+ghost use Rattle.shared.specs.Passes.{IsConsistent, IsWhole};
+ghost use Rattle.session.specs.FreshSession.{IsFirstSession, IsSplitOff, IsClosing};
 
 use shared::{Book, Fault, Limit, Pass, Store};
 use std::alloc::Global;
@@ -34,7 +34,7 @@ impl Session {
     /// Opens a store without blobs, and returns its only session. `BadWidth` if `width` is not in
     /// 1..=65,536. `NoMemory` if memory runs out.
     pub fn open(alloc: Global, width: u32, limit: Limit) -> Result<Session, Fault>
-        ensures opened { IfOk result (IsFresh width limit) }
+        ensures opened { IfOk result (IsFirstSession width limit) }
         ensures bad_width { (result ≡ Err Fault.BadWidth) ↔ ((1 ≤ width) × (width ≤ 65536) → ⊥) }
         ensures faults { IfErr result (λ e. (e ≡ Fault.NoMemory) ⊎ (e ≡ Fault.BadWidth)) }
     {

@@ -8,7 +8,7 @@ use Rattle.std.specs.FinMap as finite
 use Rattle.gate.specs.Places.{times}
 use Rattle.history.specs.History.{History, IsLegal, state_of}
 use Rattle.book.specs.Serial.{Act, call, trim, events_in}
-use Rattle.shared.specs.Passes.{Shows, Agrees, IsWhole}
+use Rattle.shared.specs.Passes.{Shows, IsConsistent, IsWhole}
 use Rattle.sharded.specs.Hash.{shard_of}
 use Rattle.sharded.specs.OneMap.{operation_shard, part}
 use Rattle.sharded.specs.Passes.{IsActOfShard, HasActsOfShard, AreLegal, HaveWidth}
@@ -98,6 +98,6 @@ acts_of_shard count k (call e ∷ acts) f =
     (subst (IsActOfShard count k) (sym same) first.2, acts_of_shard count k acts (λ p l. f (suc p) (omega arith)))
 acts_of_shard count k (trim n ∷ acts) f = acts_of_shard count k acts (λ p l. f (suc p) (omega arith))
 
-pub whole_of_shard : (count k : ℕ) (v : Shows) → HasActsOfShard count k v → IsWhole v → Agrees v → AreCallsOfShard count k v.seen
+pub whole_of_shard : (count k : ℕ) (v : Shows) → HasActsOfShard count k v → IsWhole v → IsConsistent v → AreCallsOfShard count k v.seen
 whole_of_shard count k v homed whole agrees =
     subst (AreCallsOfShard count k) (sym agrees.seen_is) (acts_of_shard count k v.acts (λ p l. homed p (let once : times p v.did ≡ 1 = whole.all p l in omega arith)))

@@ -9,7 +9,7 @@ use Rattle.history.specs.History.{History, state_of}
 use Rattle.book.specs.declared.plan.Plan.{Plan}
 use Rattle.book.specs.Contents.{Contents}
 use Rattle.book.specs.Plan.{plan_of}
-use Rattle.book.specs.Tells.{Tells}
+use Rattle.book.specs.Tells.{HoldsHistory}
 use Rattle.book.specs.Trimming.{given_up}
 use Rattle.requests.specs.declared.kept.Kept.{Kept}
 use Rattle.book.specs.Serial.{events_in, given_in}
@@ -28,7 +28,7 @@ given_more (Ok n) old new trimmed same = trimmed
 given_more (Err e) old new trimmed same = let e = ap (λ (c : Contents). c.base.trimmed) same in omega arith
 
 -- a book after a trim goes on from the book before
-pub trim_goes_on : (r : Result ℕ Fault) (old new : Contents) → new.width ≡ old.width → new.limit ≡ old.limit → ((h : History) → Tells old h → Tells new h) → IfOk r (λ n. new.base.trimmed ≡ old.base.trimmed + n)
+pub trim_goes_on : (r : Result ℕ Fault) (old new : Contents) → new.width ≡ old.width → new.limit ≡ old.limit → ((h : History) → HoldsHistory old h → HoldsHistory new h) → IfOk r (λ n. new.base.trimmed ≡ old.base.trimmed + n)
     → OnErr r (new ≡ old) → GoesOn old new [] (given_by r)
 trim_goes_on r old new width limit told trimmed same = still_goes_on old new (given_by r) width limit (given_more r old new trimmed same) told
 
@@ -45,7 +45,7 @@ takes_trim (Ok n) p q x who keep step answer =
 
 -- the plan of the book is that of the state that was seen
 pub planned : (found : Result Plan AllocError) (r : Result Plan Fault) (p q : SeatState Kept) (x : Kept) (Q : AllocError → Type 0) → Stepped p q x [] 0 → is_ok r ≡ is_ok found
-    → MatchResult found (λ plan. r ≡ Ok plan) Q → IfOk found (λ plan. (h : History) → Tells x.0.value h → plan.items.items ≡ plan_of (state_of h))
+    → MatchResult found (λ plan. r ≡ Ok plan) Q → IfOk found (λ plan. (h : History) → HoldsHistory x.0.value h → plan.items.items ≡ plan_of (state_of h))
     → IfOk r (λ plan. plan.items.items ≡ plan_of (state_of (seen_of q.list)))
 planned (Ok plan) r p q x Q step both same is =
     let h : History = seen_of p.list ++ events_in step.others in

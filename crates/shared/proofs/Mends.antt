@@ -27,7 +27,7 @@ use Rattle.shared.specs.Passes.{Which, Shows, seen_of, width_of, trimmed_of, sho
 use Rattle.shared.specs.Deeds.{deed_of, act_if, Takes}
 use Rattle.shared.specs.Calls.{Called}
 use Rattle.requests.specs.Inspections.{FoundIn}
-use Rattle.shared.specs.Mends.{IsKnown, Found}
+use Rattle.shared.specs.Mends.{IsKnown, InspectionGives}
 use Rattle.requests.proofs.Between.{GoesOn}
 use Rattle.shared.proofs.Steps.{event, Stepped, told_history, takes, IsFullIf, call_goes_on, same_goes_on, room_seen, called}
 
@@ -69,7 +69,7 @@ refused_full e book is =
 
 -- what an inspection of the book makes of a pass
 pub inspection_found : (p q : SeatState Kept) (x y : Kept) (who : ℕ) (n : List ℕ) (j f : ℕ) (l : Inspection) → Stepped p q x (events_at_inspection l who (repair n j f)) 0 → trimmed_of q.list ≡ x.0.value.base.trimmed → FoundIn x.0.value y.0.value who n j f l
-    → Found (shows p who) n j f l (shows q who)
+    → InspectionGives (shows p who) n j f l (shows q who)
 inspection_found p q x y who n j f (Done a) step left is =
     called p q x who (repair n j f) (Ok a) step left ((λ e. absurd (cc (e))), (λ there. absurd (is.1 there))) (λ e. absurd (cc (e))) (λ e. cc (e))
 inspection_found p q x y who n j f (Refused e) step left is =

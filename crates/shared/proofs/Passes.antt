@@ -7,12 +7,12 @@ use Rattle.gate.specs.Places.{SeatState, last_of, IsWithin, times, AreApart, Has
 use Rattle.gate.specs.Events.{number_if, history_of, event_at, events_at}
 use Rattle.gate.proofs.Events.{history_prefix, events_at_prefix, events_at-append, once_each, all_made, all_below, once_below_length, within_prefix}
 use Rattle.gate.proofs.Lists.{times-append}
-use Rattle.book.specs.Tells.{Tells}
+use Rattle.book.specs.Tells.{HoldsHistory}
 use Rattle.requests.specs.declared.kept.Kept.{Kept}
 use Rattle.history.specs.History.{History, IsLegal}
 use Rattle.book.specs.Serial.{Act, call, trim, events_in}
 use Rattle.requests.specs.Between.{acts_for}
-use Rattle.shared.specs.Passes.{calls_at, between_kept, acts_between_kept, acts_of, did_of, seen_of, made_of, width_of, limit_of, trimmed_of, shows, TellsAs, IsTold, IsPass, Agrees, IsWhole}
+use Rattle.shared.specs.Passes.{calls_at, between_kept, acts_between_kept, acts_of, did_of, seen_of, made_of, width_of, limit_of, trimmed_of, shows, TellsAs, IsTold, IsPass, IsConsistent, IsWhole}
 use Rattle.requests.proofs.Between.{one_call, one_act, told_length, events-append, events_for}
 
 -- the calls among the acts are those that lie between the books
@@ -66,7 +66,7 @@ made_are list (p ∷ ps) =
     ∙ sym (flat_map-append (λ k. number_if (length (events_in (take k acts))) (events_in (take 1 (drop k acts)))) (event_at acts_between_kept 0 list p) (did_of list ps))
 
 -- what a pass shows agrees
-pub agreed : (p : SeatState Kept) (who : ℕ) → IsPass p → Agrees (shows p who)
+pub agreed : (p : SeatState Kept) (who : ℕ) → IsPass p → IsConsistent (shows p who)
 agreed p who pass =
     let x : Kept = pass.told.0 in
     let is = pass.told.2 in
@@ -79,7 +79,7 @@ agreed p who pass =
 pub legal_shown : (p : SeatState Kept) (who : ℕ) → IsPass p → IsLegal (shows p who).store.width (shows p who).seen
 legal_shown p who pass = let told = pass.told.2 in subst (λ (w : ℕ). IsLegal w (seen_of p.list)) told.width told.told.tells.legal
 
-pub opened : (p : SeatState Kept) (x : Kept) → p.list ≡ x ∷ [] → p.own ≡ [] → p.inside ≡ false → Tells x.0.value [] → IsPass p
+pub opened : (p : SeatState Kept) (x : Kept) → p.list ≡ x ∷ [] → p.own ≡ [] → p.inside ≡ false → HoldsHistory x.0.value [] → IsPass p
 opened p x list own outside tells =
     let all : x.0.value.base.trimmed + length x.0.value.entries ≡ 0 = told_length x.0.value [] tells in record {
       outside = outside;

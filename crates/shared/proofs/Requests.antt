@@ -14,7 +14,7 @@ use Rattle.requests.specs.declared.request.Request.TheVariants.{Put, Read, Lose,
 use Rattle.lrc_code.specs.declared.Code.{Code}
 use Rattle.shared.specs.Deeds.{Takes}
 use Rattle.shared.specs.Calls.{Called}
-use Rattle.shared.specs.Passes.{Shows, IsPass, Agrees, FindsBusy, VisitsOnce, seen_of, width_of, shows}
+use Rattle.shared.specs.Passes.{Shows, IsPass, IsConsistent, FindsBusy, VisitsOnce, seen_of, width_of, shows}
 use Rattle.requests.specs.Requests.{CanMake}
 use Rattle.shared.specs.Requests.{CanAsk}
 use Rattle.shared.proofs.Passes.{agreed, pass_again}
@@ -54,7 +54,7 @@ pub can_make_inside : (p m : SeatState Kept) (x : Kept) (who : ℕ) (request : R
 can_make_inside p m x who request v same pass enters can = can_make p m x who request (found p m x pass enters) (subst (λ (u : Shows). CanAsk u request) (sym same) can)
 
 -- a blob that was refused before the gate was entered
-pub refused_put : (v : Shows) (n : List ℕ) (code : Code) (b : List ℕ) (w : ℕ) (f : Fault) → Agrees v → w ≡ v.store.width → (f ≡ NoMemory) ⊎ (f ≡ TooLong)
+pub refused_put : (v : Shows) (n : List ℕ) (code : Code) (b : List ℕ) (w : ℕ) (f : Fault) → IsConsistent v → w ≡ v.store.width → (f ≡ NoMemory) ⊎ (f ≡ TooLong)
     → (f ≡ TooLong → 4096 < stripe_count code w (length b)) → Called v (put n code b) (Err f) v
 refused_put v n code b w f agrees width is long =
     refused v (put n code b) f agrees (λ full. ⊎_elim (λ (m : f ≡ NoMemory). cc (m, full)) (λ (t : f ≡ TooLong). cc (t, full)) is) (λ _. refl)

@@ -18,12 +18,12 @@ use Rattle.book.specs.Notes.{note_of}
 use Rattle.book.specs.Serial.{IsTooLong, Deed, Does, Act, events_in, given_in, standing_of}
 use Rattle.book.specs.declared.answer.Answer.{Answer}
 use Rattle.book.specs.Contents.{Contents}
-use Rattle.book.specs.Tells.{Tells, CarriesOn}
+use Rattle.book.specs.Tells.{HoldsHistory, CarriesOn}
 use Rattle.requests.specs.declared.kept.Kept.{Kept}
 use Rattle.requests.specs.Between.{MayFollow, TellsActs, acts_for}
-use Rattle.shared.specs.Passes.{Which, Shows, between_kept, acts_between_kept, acts_of, did_of, seen_of, made_of, width_of, limit_of, trimmed_of, shows, TellsAs, IsPass, Agrees, Stays}
+use Rattle.shared.specs.Passes.{Which, Shows, between_kept, acts_between_kept, acts_of, did_of, seen_of, made_of, width_of, limit_of, trimmed_of, shows, TellsAs, IsPass, IsConsistent, Stays}
 use Rattle.shared.specs.Deeds.{deed_of, act_if, Takes}
-use Rattle.shared.specs.Calls.{Called, HasRoom, IsOutside}
+use Rattle.shared.specs.Calls.{Called, HasJournalRoom, IsOutside}
 use Rattle.requests.proofs.Between.{GoesOn, between_is, acts_are, tells_more, told_length, events-append, events_for, below_unless, goes_follows}
 use Rattle.shared.proofs.Passes.{width_stays, limit_stays, trimmed_is, seen_is, agreed}
 
@@ -153,8 +153,8 @@ stays : (p q : SeatState Kept) (x : Kept) (g : History) (n who : ℕ) → Steppe
 stays p q x g n who s = (s.store, refl, s.room)
 
 -- the history that the book tells which was found
-pub told_history : (p q : SeatState Kept) (x : Kept) (g : History) (n : ℕ) (s : Stepped p q x g n) → Tells x.0.value (seen_of p.list ++ events_in s.others)
-told_history p q x g n s = subst (Tells x.0.value) (events-append (acts_of p.list) s.others) s.told.told.tells
+pub told_history : (p q : SeatState Kept) (x : Kept) (g : History) (n : ℕ) (s : Stepped p q x g n) → HoldsHistory x.0.value (seen_of p.list ++ events_in s.others)
+told_history p q x g n s = subst (HoldsHistory x.0.value) (events-append (acts_of p.list) s.others) s.told.told.tells
 
 -- a deed that is these events or gives up n calls
 pub takes : (p q : SeatState Kept) (x : Kept) (g : History) (n who : ℕ) (deed : Option Deed) (s : Stepped p q x g n) → act_if who deed ≡ acts_for g n
@@ -170,12 +170,12 @@ takes p q x g n who deed s is does = record {
 }
 
 -- a book that represents the same history as the other, and has discarded n more calls
-pub still_goes_on : (old new : Contents) (n : ℕ) → new.width ≡ old.width → new.limit ≡ old.limit → new.base.trimmed ≡ old.base.trimmed + n → ((h : History) → Tells old h → Tells new h) → GoesOn old new [] n
+pub still_goes_on : (old new : Contents) (n : ℕ) → new.width ≡ old.width → new.limit ≡ old.limit → new.base.trimmed ≡ old.base.trimmed + n → ((h : History) → HoldsHistory old h → HoldsHistory new h) → GoesOn old new [] n
 still_goes_on old new n width limit given told = record {
   width = width;
   limit = limit;
   few = omega arith;
-  told = λ h before. subst (Tells new) (sym (append-nil h)) (told h before);
+  told = λ h before. subst (HoldsHistory new) (sym (append-nil h)) (told h before);
   held = λ h before. (told h before).long;
   given = given;
   one = λ some. absurd (omega arith);
@@ -185,7 +185,7 @@ still_goes_on old new n width limit given told = record {
 pub same_goes_on : (old new : Contents) → new ≡ old → GoesOn old new [] 0
 same_goes_on old new same =
     still_goes_on old new 0 (ap (λ (c : Contents). c.width) same) (ap (λ (c : Contents). c.limit) same) (let e = ap (λ (c : Contents). c.base.trimmed) same in omega arith)
-    (λ h told. subst (λ (c : Contents). Tells c h) (sym same) told)
+    (λ h told. subst (λ (c : Contents). HoldsHistory c h) (sym same) told)
 
 -- a book that is left as it was found
 pub unchanged : (o : Option Kept) (k : Kept) → o ≡ Some k → IfSome o (λ found. MayFollow found.0.value k.0.value)
@@ -234,7 +234,7 @@ pub left_base : (m q : SeatState Kept) (x y : Kept) → Leaves m q y → y.0.val
 left_base m q x y leaves same = trimmed_is q.list y (ap last_of leaves.list ∙ last_of-snoc m.list y) ∙ ap (λ (base : Checkpoint). base.trimmed) same
 
 -- in a journal with room fewer calls were seen and not discarded than the limit
-pub room_seen : (p q : SeatState Kept) (x : Kept) (who : ℕ) → Stepped p q x [] 0 → trimmed_of q.list ≡ x.0.value.base.trimmed → length x.0.value.entries ≢ x.0.value.limit → HasRoom (shows q who)
+pub room_seen : (p q : SeatState Kept) (x : Kept) (who : ℕ) → Stepped p q x [] 0 → trimmed_of q.list ≡ x.0.value.base.trimmed → length x.0.value.entries ≢ x.0.value.limit → HasJournalRoom (shows q who)
 room_seen p q x who s left apart =
     let h : History = seen_of p.list ++ events_in s.others in
     let same : length (seen_of q.list) ≡ length h = ap length (s.seen ∙ append-nil h) in
@@ -312,7 +312,7 @@ called p q x who o (Err e) s left full short not_long = record {
 
 -- ---- what is refused before the gate is entered
 -- a pass that stays as it is did this deed, which is no act
-pub takes_nothing : (v : Shows) (deed : Option Deed) → Agrees v → act_if v.who deed ≡ [] → IfSome deed (Does v.store.width v.store.limit (standing_of (v.acts ++ []))) → Takes v deed v
+pub takes_nothing : (v : Shows) (deed : Option Deed) → IsConsistent v → act_if v.who deed ≡ [] → IfSome deed (Does v.store.width v.store.limit (standing_of (v.acts ++ []))) → Takes v deed v
 takes_nothing v deed agrees none does = record {
   stays = (refl, refl, refl);
   others = [];
@@ -323,7 +323,7 @@ takes_nothing v deed agrees none does = record {
   lone = λ all. refl;
 }
 
-takes_refused : (v : Shows) (o : Operation) (f : Fault) → Agrees v → (f ≡ JournalFull → ⊥) → (f ≡ TooLong → IsTooLong v.store.width o) → Takes v (deed_of o (Err f)) v
+takes_refused : (v : Shows) (o : Operation) (f : Fault) → IsConsistent v → (f ≡ JournalFull → ⊥) → (f ≡ TooLong → IsTooLong v.store.width o) → Takes v (deed_of o (Err f)) v
 takes_refused v o JournalFull agrees full long = absurd (full refl)
 takes_refused v o TooLong agrees full long = takes_nothing v (deed_of o (Err TooLong)) agrees refl (long refl)
 takes_refused v o NoMemory agrees full long = takes_nothing v None agrees refl tt
@@ -332,7 +332,7 @@ takes_refused v o Busy agrees full long = takes_nothing v None agrees refl tt
 takes_refused v o BadWidth agrees full long = takes_nothing v None agrees refl tt
 takes_refused v o NoPass agrees full long = takes_nothing v None agrees refl tt
 
-pub refused : (v : Shows) (o : Operation) (f : Fault) → Agrees v → (f ≡ JournalFull → ⊥) → (f ≡ NoMemory → IsOutside v o v) → (f ≡ TooLong → IsTooLong v.store.width o) → Called v o (Err f) v
+pub refused : (v : Shows) (o : Operation) (f : Fault) → IsConsistent v → (f ≡ JournalFull → ⊥) → (f ≡ NoMemory → IsOutside v o v) → (f ≡ TooLong → IsTooLong v.store.width o) → Called v o (Err f) v
 refused v o f agrees full memory long = record { takes = takes_refused v o f agrees full long; no_memory = λ is. inr (memory (fault_is is)); outside = λ is. refl }
   where
     fault_is : {e : Fault} → ◌≡◌ {A = Result Answer Fault} (Err f) (Err e) → f ≡ e

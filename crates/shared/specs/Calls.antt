@@ -17,8 +17,8 @@ use Rattle.shared.specs.Passes.{Shows}
 
 -- the journal had room: fewer entries than its limit. These are the calls that were seen and not
 -- discarded
-abbrev pub HasRoom : Shows → Type 0
-HasRoom w = length w.seen < w.trimmed + w.store.limit
+abbrev pub HasJournalRoom : Shows → Type 0
+HasJournalRoom w = length w.seen < w.trimmed + w.store.limit
 
 -- a put may be refused outside, before the gate is entered, and then the pass is as it was. No
 -- other call is
@@ -35,7 +35,7 @@ IsRefusedOutside v r w = (w ≡ v) × ((r ≡ Err NoMemory) ⊎ (r ≡ Err TooLo
 -- too long is refused outside
 pub record Called (v : Shows) (operation : Operation) (r : Result Answer Fault) (w : Shows) : Type 0 where
   pub takes : Takes v (deed_of operation r) w
-  pub no_memory : r ≡ Err NoMemory → HasRoom w ⊎ IsOutside v operation w
+  pub no_memory : r ≡ Err NoMemory → HasJournalRoom w ⊎ IsOutside v operation w
   pub outside : r ≡ Err TooLong → w ≡ v
 
 -- The grant has the range that was asked for. After the history the name has a blob, which the

@@ -7,7 +7,7 @@ use Rattle.history.specs.Step.{Operation}
 use Rattle.book.specs.declared.answer.Answer.{Answer}
 use Rattle.book.specs.Notes.{note_of}
 use Rattle.book.specs.Serial.{Deed, called, full, too_long, trimmed, Does, Act, act_of, standing_of}
-use Rattle.shared.specs.Passes.{Shows, Agrees, Stays}
+use Rattle.shared.specs.Passes.{Shows, IsConsistent, Stays}
 
 -- what a call did. With another fault it did nothing
 abbrev pub deed_of : Operation → Result Answer Fault → Option Deed
@@ -34,5 +34,5 @@ pub record Takes (v : Shows) (deed : Option Deed) (w : Shows) : Type 0 where
   pub does : IfSome deed (Does v.store.width v.store.limit (standing_of (v.acts ++ others)))
   pub acts : w.acts ≡ (v.acts ++ others) ++ act_if v.who deed
   pub did : w.did ≡ v.did ++ number_if (length (v.acts ++ others)) (act_if v.who deed)
-  pub agrees : Agrees w
+  pub agrees : IsConsistent w
   pub lone : v.room ≡ 64 → others ≡ []

@@ -10,7 +10,7 @@ use Rattle.requests.specs.declared.inspection.Inspection.{Inspection}
 use Rattle.requests.specs.declared.inspection.Inspection.TheVariants.{Done, Refused, Rebuildable}
 use Rattle.shared.specs.Passes.{Shows, FindsBusy}
 use Rattle.shared.specs.Deeds.{Takes}
-use Rattle.shared.specs.Calls.{Called, HasRoom}
+use Rattle.shared.specs.Calls.{Called, HasJournalRoom}
 
 -- the value represents a blob that was put in this history
 pub record IsKnown (h : History) (w : ℕ) (n : List ℕ) (s : Sealed) : Type 0 where
@@ -22,7 +22,7 @@ pub record IsKnown (h : History) (w : ℕ) (n : List ℕ) (s : Sealed) : Type 0 
 -- value
 pub record CanMend (v : Shows) (n : List ℕ) (j f : ℕ) (s : Sealed) (w : Shows) : Type 0 where
   pub takes : Takes v None w
-  pub room : HasRoom w
+  pub room : HasJournalRoom w
   pub known : IsKnown w.seen w.store.width n s
   pub rebuildable : IsRebuildable s j f
   pub visits : w.visits ≡ v.visits + 1
@@ -33,7 +33,7 @@ abbrev pub FoundBusy : Shows → List ℕ → ℕ → ℕ → Shows → Type 0
 FoundBusy v n j f w = FindsBusy v w ⊎ ((s : Sealed) × (u : Shows) × CanMend v n j f s u × FindsBusy u w)
 
 -- what a pass found
-abbrev pub Found : Shows → List ℕ → ℕ → ℕ → Inspection → Shows → Type 0
-Found v n j f (Done a) w = Called v (repair n j f) (Ok a) w
-Found v n j f (Refused e) w = Called v (repair n j f) (Err e) w
-Found v n j f (Rebuildable s) w = CanMend v n j f s.value w
+abbrev pub InspectionGives : Shows → List ℕ → ℕ → ℕ → Inspection → Shows → Type 0
+InspectionGives v n j f (Done a) w = Called v (repair n j f) (Ok a) w
+InspectionGives v n j f (Refused e) w = Called v (repair n j f) (Err e) w
+InspectionGives v n j f (Rebuildable s) w = CanMend v n j f s.value w

@@ -102,7 +102,7 @@ calls_at acts places = flat_map (λ k. number_if (length (events_in (take k acts
 
 -- the history, the count of its discarded calls and the own calls are those of the acts, and no
 -- more calls were seen and not discarded than the limit
-pub record Agrees (v : Shows) : Type 0 where
+pub record IsConsistent (v : Shows) : Type 0 where
   pub seen_is : v.seen ≡ events_in v.acts
   pub trimmed_is : v.trimmed ≡ given_in v.acts
   pub made_is : v.made ≡ calls_at v.acts v.did

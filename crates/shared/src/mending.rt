@@ -5,7 +5,7 @@ ghost use Rattle.book.specs.Tells.{IsCallFault};
 ghost use Rattle.shared.specs.Calls.{Called};
 ghost use Rattle.shared.specs.Passes.{FindsBusy, VisitsOnce};
 ghost use Rattle.requests.specs.Inspections.{IfRefused};
-ghost use Rattle.shared.specs.Mends.{Found, FoundBusy};
+ghost use Rattle.shared.specs.Mends.{InspectionGives, FoundBusy};
 
 use crate::{Pass, Store};
 use book::{Answer, Fault, Name};
@@ -116,7 +116,7 @@ impl Store {
         fragment: u64,
     ) -> Inspection
         requires { pass.old.store ≡ self.now }
-        ensures found { Found pass.old name.now stripe fragment result pass.new }
+        ensures found { InspectionGives pass.old name.now stripe fragment result pass.new }
         ensures faults { IfRefused result IsCallFault }
     {
         let mut inside = self.gate.enter(rt, &mut pass.seat);
@@ -135,7 +135,7 @@ impl Store {
         fragment: u64,
     ) -> Inspection
         requires { pass.old.store ≡ self.now }
-        ensures found { Found pass.old name.now stripe fragment result pass.new }
+        ensures found { InspectionGives pass.old name.now stripe fragment result pass.new }
         ensures faults { IfRefused result (λ e. (e ≡ Fault.Busy) ⊎ IsCallFault e) }
         ensures busy { result ≡ Inspection.Refused Fault.Busy → FindsBusy pass.old pass.new }
         ensures entered { result ≢ Inspection.Refused Fault.Busy → VisitsOnce pass.old pass.new }

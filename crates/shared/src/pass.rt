@@ -4,7 +4,7 @@ ghost use Rattle.std.specs.Prelude.{OnErr};
 ghost use mathlib.Core.List.{IsPrefix};
 ghost use Rattle.gate.specs.Places.{AreApart};
 ghost use Rattle.history.specs.History.{IsLegal};
-ghost use Rattle.shared.specs.Passes.{Agrees, IsWhole};
+ghost use Rattle.shared.specs.Passes.{IsConsistent, IsWhole};
 
 use crate::Store;
 use book::{Answer, Fault};
@@ -50,7 +50,7 @@ impl Pass {
     pub fn who(&self) -> u32
         ensures value { result ≡ self.now.who }
         ensures legal { IsLegal self.now.store.width self.now.seen }
-        ensures agrees { Agrees self.now }
+        ensures agrees { IsConsistent self.now }
     {
         self.who
     }
@@ -117,7 +117,7 @@ impl Pass {
     /// The answer to a call that was refused before it entered the critical section.
     pub(crate) fn refuse(&self, fault: Fault) -> Result<Answer, Fault>
         ensures refused { result ≡ Err fault }
-        ensures agrees { Agrees self.now }
+        ensures agrees { IsConsistent self.now }
     {
         // Once a field is read, it is known what every pass keeps.
         let _seat = &self.seat;

@@ -1,8 +1,8 @@
 //! The book behind the gate.
 ghost use Rattle.std.specs.Prelude.{◌≡◌, ◌⊎◌, ◌↔◌, ◌+◌, ◌≤◌, ◌<◌, ℕ, [], length, IfOk, IfErr};
 ghost use Rattle.gate.specs.Places.{times};
-ghost use Rattle.book.specs.Tells.{Tells};
-ghost use Rattle.shared.specs.Passes.{Agrees};
+ghost use Rattle.book.specs.Tells.{HoldsHistory};
+ghost use Rattle.shared.specs.Passes.{IsConsistent};
 
 use crate::Pass;
 use book::{Book, Fault, Limit};
@@ -74,11 +74,11 @@ impl Store {
     pub fn close(self, pass: Pass) -> Book
         requires store { pass.store ≡ self }
         requires lone { pass.room ≡ 64 }
-        ensures told { Tells result pass.seen }
+        ensures told { HoldsHistory result pass.seen }
         ensures made { (k : ℕ) → k < length pass.seen → times k pass.made ≡ 1 }
         ensures count { length pass.made ≡ length pass.seen }
         ensures trimmed { result.base.trimmed ≡ pass.trimmed }
-        ensures agrees { Agrees pass }
+        ensures agrees { IsConsistent pass }
         ensures did { (k : ℕ) → k < length pass.acts → times k pass.did ≡ 1 }
         ensures did_count { length pass.did ≡ length pass.acts }
         ensures entries { result.base.trimmed + length result.entries ≡ length pass.made }

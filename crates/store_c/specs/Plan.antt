@@ -17,15 +17,15 @@ use Rattle.store_c.specs.OnSession.{HasReply}
 
 -- With `done` the other slot holds the lost fragments of all blobs, and C gets their number.
 -- Otherwise it holds nothing
-pub data IsPlan (v : Shows) (status : ℕ) (counts : ℕ × ℕ) (w : Shows) (given : Option Held) : Type 0 where
-  planned : (items : List Item) → status ≡ done → Takes v None w → items ≡ plan_of (state_of w.seen) → counts.1 ≡ length items → given ≡ Some (Repairs items) → IsPlan v status counts w given
-  no_room_for_plan : status ≡ no_memory → counts.1 ≡ counts.0 → w ≡ v → given ≡ None → IsPlan v status counts w given
+pub data HasPlan (v : Shows) (status : ℕ) (counts : ℕ × ℕ) (w : Shows) (given : Option Held) : Type 0 where
+  planned : (items : List Item) → status ≡ done → Takes v None w → items ≡ plan_of (state_of w.seen) → counts.1 ≡ length items → given ≡ Some (Repairs items) → HasPlan v status counts w given
+  no_room_for_plan : status ≡ no_memory → counts.1 ≡ counts.0 → w ≡ v → given ≡ None → HasPlan v status counts w given
   plan_refused : (fault : Fault) → status ≡ status_of_fault fault → Takes v None w → (fault ≡ Busy → FindsBusy v w) → (v.room ≡ 64 → fault ≢ Busy) → counts.1 ≡ counts.0 → given ≡ None
-      → IsPlan v status counts w given
+      → HasPlan v status counts w given
 
 -- the other slot is empty before; or nothing was done
 abbrev pub IsPlanTo : Shows → Option Held → ℕ → ℕ × ℕ → Shows → Option Held → Type 0
-IsPlanTo v None status counts w given = IsPlan v status counts w given
+IsPlanTo v None status counts w given = HasPlan v status counts w given
 IsPlanTo v (Some x) status counts w given = (status ≡ occupied) × (counts.1 ≡ counts.0) × (w ≡ v) × (given ≡ Some x)
 
 -- the next item was repaired, with this reply

@@ -4,16 +4,16 @@ use mathlib.Core.List.{IsPrefix}
 use Rattle.gate.specs.Places.{AreApart}
 use Rattle.history.specs.History.{History}
 use Rattle.book.specs.Contents.{Contents}
-use Rattle.book.specs.Tells.{Tells}
+use Rattle.book.specs.Tells.{HoldsHistory}
 use Rattle.shared.specs.Passes.{Shows, IsWhole}
 use Rattle.session.specs.declared.held.Held.{Held}
 use Rattle.session.specs.declared.held.Held.TheVariants.{Session}
-use Rattle.session.specs.FreshSession.{IsFresh, IsSplitOff, IsClosing}
+use Rattle.session.specs.FreshSession.{IsFirstSession, IsSplitOff, IsClosing}
 use Rattle.store_c.specs.Status.{bad_argument, bad_width, done, empty, no_memory, no_pass, not_alone, occupied}
 
 -- a store was opened, and its first session is held; or nothing was done
 pub data IsOpening (width limit number status : ℕ) (new : Option Held) : Type 0 where
-  opened : (v : Shows) → status ≡ done → IsFresh width limit v → new ≡ Some (Session v number) → IsOpening width limit number status new
+  opened : (v : Shows) → status ≡ done → IsFirstSession width limit v → new ≡ Some (Session v number) → IsOpening width limit number status new
   limit_refused : status ≡ bad_argument → ((1 ≤ limit) × (limit ≤ 1048576) → ⊥) → new ≡ None → IsOpening width limit number status new
   width_refused : status ≡ bad_width → ((1 ≤ width) × (width ≤ 65536) → ⊥) → new ≡ None → IsOpening width limit number status new
   memory_refused : status ≡ no_memory → new ≡ None → IsOpening width limit number status new
@@ -76,7 +76,7 @@ pub record IsReportOf (v : Shows) (entries lawful : ℕ) : Type 0 where
 
 -- the book represents some history
 abbrev pub HasHistory : Contents → Type 0
-HasHistory book = (h : History) × Tells book h
+HasHistory book = (h : History) × HoldsHistory book h
 
 -- the slot held the last session of a store, and holds nothing; or nothing was done
 abbrev pub IsCloseCall : Option Held → ℕ → ℕ × ℕ → ℕ × ℕ → Option Held → Type 0

@@ -1,6 +1,6 @@
 //! The repairs of a plan.
 ghost use Rattle.std.specs.Prelude.{◌≡◌, None};
-ghost use Rattle.store_c.specs.Plan.{IsPlan, IsPlanTo, IsMendStep};
+ghost use Rattle.store_c.specs.Plan.{HasPlan, IsPlanTo, IsMendStep};
 
 use crate::answers::{number_of, tell};
 use crate::status::{DONE, NO_MEMORY, NOTHING_LEFT, OCCUPIED};
@@ -10,7 +10,7 @@ use std::boxed::Box;
 
 fn plan(alloc: Global, session: &mut Session, other: &mut Slot, items: &mut u64) -> u32
     requires { other.old.held ≡ None }
-    ensures { IsPlan session.old result (items.old, items.new) session.new other.new.held }
+    ensures { HasPlan session.old result (items.old, items.new) session.new other.new.held }
 {
     let Ok(mut given) = Box::new(alloc, None::<Held>) else {
         return NO_MEMORY;

@@ -29,7 +29,7 @@ pub record IsLeft (fragments : List (Bor (List ℕ))) (lost : ℕ) (left : Left)
   pub each : (i : ℕ) → i < 16 → slot left.fragments i ≡ fragment_left fragments lost i
 
 -- fragment f is absent, and those that are present have w bytes or more
-pub record IsAsked (left : Left) (f w : ℕ) : Type 0 where
+pub record IsRebuildRequest (left : Left) (f w : ℕ) : Type 0 where
   pub inside : f < fragment_count left.code
   pub absent : is_absent left.fragments f ≡ true
   pub long : (i : ℕ) → i < fragment_count left.code → is_absent left.fragments i ≡ false → Reaches left.fragments w i
@@ -37,6 +37,6 @@ pub record IsAsked (left : Left) (f w : ℕ) : Type 0 where
 -- its first w bytes are built if and only if it is asked for and recoverable; otherwise nothing
 -- changes
 pub record ComesOf (left : Left) (f w : ℕ) (done : Bool) (old new : List ℕ) : Type 0 where
-  pub told : (done ≡ true) ↔ (IsAsked left f w × (Open left.code (is_absent left.fragments) f → ⊥))
+  pub told : (done ≡ true) ↔ (IsRebuildRequest left f w × (Open left.code (is_absent left.fragments) f → ⊥))
   pub built : done ≡ true → Rebuilds left.code left.fragments f 0 w new
   pub kept : done ≡ false → new ≡ old

@@ -12,7 +12,8 @@ ghost use Rattle.lrc_code.specs.Stripe.{Rebuilds, is_absent};
 ghost use Rattle.sealed.specs.Blob.{fragment, nothing};
 ghost use Rattle.sealed.specs.Layout.{HasFragment};
 ghost use Rattle.sealed.specs.Sealed.{StandsFor};
-ghost use Rattle.timed_coder.specs.Timed.{HaveRoom, AreStripe, fragment_left, IsLeft, IsAsked};
+ghost use Rattle.timed_coder.specs.Timed.{HaveRoom, AreStripe, fragment_left, IsLeft};
+ghost use Rattle.timed_coder.specs.Timed.{IsRebuildRequest};
 ghost use Rattle.timed_coder.specs.Timed.{ComesOf};
 
 use bytes::Bytes;
@@ -160,7 +161,7 @@ fn left_of<'a>(fragments: &[&'a [u8]], lost: LostSet) -> Left<'a>
 /// Whether a fragment can be asked for: it is absent, and those that are present have `w` bytes or
 /// more.
 fn is_asked(left: &Left, f: usize, w: usize) -> bool
-    ensures { IsTrue result ↔ IsAsked left.now f w }
+    ensures { IsTrue result ↔ IsRebuildRequest left.now f w }
 {
     f < usize::from(left.code.fragments()) && left.fragments[f].is_none() && left.reaches(w)
 }
@@ -238,7 +239,7 @@ fn rebuild_in(
     w: usize,
     are_kept: bool,
 ) -> Result<Vec<u8>, Rebuild>
-    requires { IsAsked left.now f w }
+    requires { IsRebuildRequest left.now f w }
     ensures open { (result ≡ Err Rebuild.Open) ↔ Open left.now.code (is_absent left.now.fragments)
         f }
     ensures long { IfOk result (λ v. length v.items ≡ w) }

@@ -2,7 +2,7 @@ ghost use Rattle.std.specs.Prelude.{◌≡◌, ◌∷◌, ◌++◌, []};
 ghost use Rattle.history.specs.History.{History};
 ghost use Rattle.history.specs.Step.{put as put_of};
 ghost use Rattle.book.specs.Known.{IsFragmentIn};
-ghost use Rattle.book.specs.Tells.{Tells};
+ghost use Rattle.book.specs.Tells.{HoldsHistory};
 
 use book::{Answer, Book, Fault, Limit, Name, Note, Plan, is_lawful, is_lawful_from};
 use bytes::Bytes;
@@ -15,7 +15,7 @@ use std::test::Fail;
 /// A book of width 1, and the name `a`.
 fn beginning(rt: &impl Abort, alloc: Global, entries: u32) -> (Book, Name)
     ensures width { result.0.width ≡ 1 }
-    ensures told { Tells result.0 [] }
+    ensures told { HoldsHistory result.0 [] }
 {
     let width = Width::new(1).expect(rt, "a width");
     let limit = Limit::new(entries).expect(rt, "a limit");
@@ -26,8 +26,8 @@ fn beginning(rt: &impl Abort, alloc: Global, entries: u32) -> (Book, Name)
 /// Stores bytes under a name.
 fn store(rt: &impl Abort, alloc: Global, book: &mut Book, name: &Name, bytes: &'static [u8]) -> Note
     ensures width { book.new.width ≡ book.old.width }
-    ensures told { (h : History) → Tells book.old h
-        → Tells book.new (h ++ record {
+    ensures told { (h : History) → HoldsHistory book.old h
+        → HoldsHistory book.new (h ++ record {
           who = 1;
           operation = put_of name.now Code.Wide bytes.now;
           note = result;
@@ -80,7 +80,7 @@ enum Step {
 
 /// A book that stored the letters from A on as version 1 of `a`.
 fn stored_a(rt: &impl Abort, alloc: Global) -> (Book, Name)
-    ensures { (h : History) × Tells result.0 h × IsFragmentIn h result.0.width result.1 1 0 0
+    ensures { (h : History) × HoldsHistory result.0 h × IsFragmentIn h result.0.width result.1 1 0 0
         (65 ∷ []) }
 {
     let (mut book, name) = beginning(rt, alloc, 9);
@@ -92,9 +92,10 @@ fn stored_a(rt: &impl Abort, alloc: Global) -> (Book, Name)
 
 /// Makes the call. What is known of version 1 stays known.
 fn make(rt: &impl Abort, alloc: Global, book: &mut Book, name: &Name, step: Step) -> Note
-    requires { (h : History) × Tells book.old h × IsFragmentIn h book.old.width name.now 1 0 0
+    requires { (h : History) × HoldsHistory book.old h
+        × IsFragmentIn h book.old.width name.now 1 0 0
         (65 ∷ []) }
-    ensures { (h : History) × Tells book.new h × IsFragmentIn h book.new.width name.now 1 0 0
+    ensures { (h : History) × HoldsHistory book.new h × IsFragmentIn h book.new.width name.now 1 0 0
         (65 ∷ []) }
 {
     let copy = name.duplicate();

@@ -4,7 +4,7 @@ use Rattle.std.specs.Prelude.{IfSome}
 use Rattle.script.specs.Script.{TellsWhy, script_records}
 use Rattle.script.specs.Fields.{row_of}
 use Rattle.script.specs.Script.{AcceptedBefore}
-use Rattle.play.specs.Fails.{Tells}
+use Rattle.play.specs.Fails.{NamesRefusedRow}
 use Rattle.play.specs.Paced.{HoldsBack}
 use Rattle.play.proofs.run.play.Goals as goal
 
@@ -19,12 +19,12 @@ of_each P Q (Some x) h p = h x p
 
 pub returns-in-Err-clause-refused : goal.returns-in-Err-clause-refused
 returns-in-Err-clause-refused g c =
-    of_each (λ text. TellsWhy c.args.options.now.workers (script_records text) c.in-Err.not_read) (λ text. Tells c.args.options.now.workers text c.from.result) (g.R.Read.remaining c.args.input)
+    of_each (λ text. TellsWhy c.args.options.now.workers (script_records text) c.in-Err.not_read) (λ text. NamesRefusedRow c.args.options.now.workers text c.from.result) (g.R.Read.remaining c.args.input)
     (λ text. c.from.ensures.tells c.args.options.now.workers text) c.in-Err.ensures.refused
 
 pub returns-in-Err-run-clause-refused : goal.returns-in-Err-run-clause-refused
 returns-in-Err-run-clause-refused g c =
-    of_every (λ text. Tells c.args.options.now.workers text c.in-Err-run.fail) (g.R.Read.remaining c.args.input) (c.in-Err-run.ensures.fails c.args.options.now.workers)
+    of_every (λ text. NamesRefusedRow c.args.options.now.workers text c.in-Err-run.fail) (g.R.Read.remaining c.args.input) (c.in-Err-run.ensures.fails c.args.options.now.workers)
 
 pub returns-in-Err-run-clause-paused : goal.returns-in-Err-run-clause-paused
 returns-in-Err-run-clause-paused g c e =

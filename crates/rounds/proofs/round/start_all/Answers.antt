@@ -2,7 +2,7 @@ use Rattle.std.proofs.Common.{◌≡◌, ◌∙◌, List, [], ◌∷◌, ◌++�
 use Rattle.std.proofs.lemmas.Grind.{common_steps}
 use Rattle.std.proofs.lemmas.List.{map-append}
 use Rattle.std.specs.Vec.Iter.{into_iter_items}
-use Rattle.rounds.specs.Rounds.{AreOf, work_of}
+use Rattle.rounds.specs.Rounds.{AllBelongTo, work_of}
 use Rattle.rounds.specs.declared.work.Work.{Work}
 use Rattle.rounds.proofs.Joining.{one-of, ready-more}
 use Rattle.rounds.proofs.round.start_all.Goals as goal
@@ -10,7 +10,7 @@ use Rattle.rounds.proofs.round.start_all.Goals as goal
 pub start-one-requires-after_bounds : goal.start-one-requires-after_bounds
 start-one-requires-after_bounds g c κs within =
     let is : c.args.works.items ≡ c.loop-work.yielded ++ c.in-Some.work ∷ into_iter_items c.next.new.self = grind (arith, common_steps) in
-    one-of c.args.store.now c.loop-work.yielded (into_iter_items c.next.new.self) c.in-Some.work (subst (AreOf c.args.store.now) is c.requires.works)
+    one-of c.args.store.now c.loop-work.yielded (into_iter_items c.next.new.self) c.in-Some.work (subst (AllBelongTo c.args.store.now) is c.requires.works)
 
 pub loop-work-preserved : goal.loop-work-preserved
 loop-work-preserved g c =

@@ -1,7 +1,7 @@
 use Rattle.std.proofs.Common.{◌≡◌, ap, sym, subst}
 use Rattle.std.specs.Prelude.{IfSome}
 use Rattle.book.specs.Contents.{Contents}
-use Rattle.book.specs.Known.{Serves}
+use Rattle.book.specs.Known.{IsRepairFor}
 use Rattle.book.specs.Losing.{Mends, Catalogue, Replaces, value_at}
 use Rattle.book.specs.Notes.{note_of}
 use Rattle.history.specs.Views.{repair_reply}
@@ -21,6 +21,6 @@ returns-clause-ok c =
 
 pub install-requires : goal.install-requires
 install-requires c =
-    let P : Catalogue → Type 0 = λ x. IfSome (value_at x c.args.name) (Serves c.args.version c.args.stripe c.args.fragment c.args.bytes) in
+    let P : Catalogue → Type 0 = λ x. IfSome (value_at x c.args.name) (IsRepairFor c.args.version c.args.stripe c.args.fragment c.args.bytes) in
     subst P (ap (λ (s : Contents). s.catalogue) (sym c.self.view_is))
     (known_serves c.args.self.now c.requires.known.0 c.args.name c.args.version c.args.stripe c.args.fragment c.args.bytes c.requires.known.1 c.requires.known.2)

@@ -1,7 +1,7 @@
 use Rattle.std.proofs.Common.{◌≡◌, ℕ, ◌+◌, ◌<◌, length, sym, subst}
 use Rattle.gate.specs.Places.{times}
 use Rattle.book.specs.Contents.{Contents}
-use Rattle.shared.specs.Passes.{Agrees}
+use Rattle.shared.specs.Passes.{IsConsistent}
 use Rattle.shared.proofs.Passes.{closed, closed_count, closed_acts, closed_acts_count, closed_entries, trimmed_is, agreed}
 use Rattle.shared.proofs.store.Store.close.Goals as goal
 
@@ -29,4 +29,4 @@ pub returns-clause-did_count : goal.returns-clause-did_count
 returns-clause-did_count c = subst (λ v. length v.did ≡ length v.acts) c.pass.view_is (closed_acts_count c.pass.inside.seat c.close-book.ensures.own)
 
 pub returns-clause-agrees : goal.returns-clause-agrees
-returns-clause-agrees c = subst Agrees c.pass.view_is (agreed c.pass.inside.seat c.pass.inside.who c.pass.invariant)
+returns-clause-agrees c = subst IsConsistent c.pass.view_is (agreed c.pass.inside.seat c.pass.inside.who c.pass.invariant)

@@ -2,7 +2,7 @@ use Rattle.std.proofs.Common.{IfSome, sym, subst}
 use Rattle.history.specs.Step.{repair}
 use Rattle.requests.specs.Between.{MayFollow}
 use Rattle.shared.specs.Passes.{shows}
-use Rattle.shared.specs.Mends.{Found}
+use Rattle.shared.specs.Mends.{InspectionGives}
 use Rattle.requests.proofs.Between.{goes_follows}
 use Rattle.shared.proofs.Steps.{Stepped, left_base, stepped}
 use Rattle.shared.proofs.Mends.{events_at_inspection, inspection_goes_on, inspection_found}
@@ -31,6 +31,6 @@ invariant_of-pass g c = (steps g c).pass
 
 pub returns-clause-found : goal.returns-clause-found
 returns-clause-found g c =
-    subst (λ v. Found v c.args.name.now c.args.stripe c.args.fragment c.inspect-inspection.result (shows c.leave.new.seat c.pass.inside.who)) c.pass.view_is
+    subst (λ v. InspectionGives v c.args.name.now c.args.stripe c.args.fragment c.inspect-inspection.result (shows c.leave.new.seat c.pass.inside.who)) c.pass.view_is
     (inspection_found c.pass.inside.seat c.leave.new.seat c.enter-inside.result.value c.inspect-inspection.new.kept c.pass.inside.who c.args.name.now c.args.stripe c.args.fragment c.inspect-inspection.result (steps g c)
     (left_base c.enter-inside.new.seat c.leave.new.seat c.enter-inside.result.value c.inspect-inspection.new.kept (record { same = (c.leave.ensures.kept.0, c.leave.ensures.kept.1, c.leave.ensures.kept.2); list = c.leave.ensures.list; own = c.leave.ensures.own }) c.inspect-inspection.ensures.kept.2) c.inspect-inspection.ensures.found)

@@ -1,8 +1,8 @@
 use Rattle.std.proofs.Common.{◌∷◌, []}
 use Rattle.history.specs.History.{History}
 use Rattle.book.specs.Known.{IsFragmentIn}
-use Rattle.book.specs.Tells.{Tells}
+use Rattle.book.specs.Tells.{HoldsHistory}
 use Rattle.test_blobs.proofs.tests.books.play.Given as goal
 
 abbrev pub invariant-loop-step : goal.invariant-loop-step
-invariant-loop-step g l = (h : History) × Tells l.book h × IsFragmentIn h l.book.width l.name 1 0 0 (65 ∷ [])
+invariant-loop-step g l = (h : History) × HoldsHistory l.book h × IsFragmentIn h l.book.width l.name 1 0 0 (65 ∷ [])
