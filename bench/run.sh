@@ -10,7 +10,7 @@ echo '#include <isa-l.h>' | gcc -E - > /dev/null 2>&1 || { echo "bench: ISA-L is
 grep -q avx2 /proc/cpuinfo || { echo "bench: this processor has no AVX2" >&2; exit 1; }
 made=$(mktemp -d)
 trap 'rm -r "$made"' EXIT
-for crate in timed_coder coder_c; do
+for crate in bench_coder coder_c; do
     cd "$bench/../crates/$crate"
     for cpu in v2 v3; do
         rt lib --cpu=x86-64-$cpu > "$made/log" 2>&1 || { cat "$made/log" >&2; exit 1; }

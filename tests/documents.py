@@ -1,7 +1,7 @@
 #!/usr/bin/env python3
 """The documents' code is the code: tests/documents.py
 
-Each block of Rattle is part of `hello` or `guide`, each block of C, C++ or Python part of a file in
+Each block of Rattle is part of `demo_hello` or `demo_guide`, each block of C, C++ or Python part of a file in
 bindings/, and each block `text` a clause of a function, or what a program prints. Links lead to
 files and headings, paths exist, and pages that a script writes are what it writes. Every crate has
 a README.md, every page a line in docs/README.md, every status a place in docs/errors.md. Figures of
@@ -21,8 +21,8 @@ sys.path[:0] = [os.path.join(TOP, "bench"), os.path.join(TOP, "tools")]
 import reference  # noqa: E402
 import sharded  # noqa: E402
 
-PROGRAMS = ("hello", "guide")
-PRINTING = (*PROGRAMS, "survey")
+PROGRAMS = ("demo_hello", "demo_guide")
+PRINTING = (*PROGRAMS, "demo_survey")
 FENCE = re.compile(r"^```(\w*)\n(.*?)^```$", re.M | re.S)
 QUOTED = re.compile(r"^(?:\d +)?([\w:]+) +(ensures .*)$")
 NAMED = re.compile(r"`([A-Za-z]\w*(?:::\w+)*)`: (`\w+`(?:, `\w+`)*)")

@@ -23,7 +23,7 @@ import lrc
 import sharded
 
 PICTURES = os.path.join(TOP, "docs", "pictures")
-EXAMPLES = os.path.join(TOP, "crates", "examples", "data")
+EXAMPLES = os.path.join(TOP, "crates", "test_examples", "data")
 # Which runs are drawn, each with its script, from the folder of the examples.
 RUNS = {
     "degraded_read_run.svg": "degraded_read.csv",

@@ -9,7 +9,7 @@ python3 tests/documents.py
 python3 tests/figures.py
 python3 tests/prose.py
 python3 tests/believed.py
-[ -x crates/refuse_each/out/refuse_each ] || (cd crates/refuse_each && rt run > /dev/null)
+[ -x crates/test_refused_memory/out/test_refused_memory ] || (cd crates/test_refused_memory && rt run > /dev/null)
 [ -x crates/test_sharded/out/test_sharded ] || (cd crates/test_sharded && rt run > /dev/null)
 [ -x crates/lrcstore/out/lrcstore ] || (cd crates/lrcstore && rt run -- ../examples/data/first_path.csv --workers 2 > /dev/null)
 python3 tests/statuses.py

@@ -1,7 +1,7 @@
 #!/usr/bin/env python3
 """Refuses each request for memory in turn, and then each thread: tests/refused_memory.py
 
-It runs the programs that the merge gate has built. `refuse_each` and `test_sharded` must print the
+It runs the programs that the merge gate has built. `test_refused_memory` and `test_sharded` must print the
 same whichever request is refused. `lrcstore` must end with status 3, nothing on standard output and
 the message of what was refused, or print what it prints with ample memory. Where a thread is refused
 it must end so. In each run the threads are counted: with ample memory one for each worker that has
@@ -17,7 +17,7 @@ from collections import namedtuple
 
 HERE = os.path.dirname(os.path.abspath(__file__))
 TOP = os.path.dirname(HERE)
-DATA = os.path.join(TOP, "crates", "examples", "data")
+DATA = os.path.join(TOP, "crates", "test_examples", "data")
 # The workers of the scripts that `meeting_of` makes.
 MEETINGS = (4, 16)
 RUNS = [
@@ -29,7 +29,7 @@ RUNS = [
     ["meeting_4.csv", "--workers", "4"],
 ]
 # Programs that make a refused call again. With a word test_sharded starts no thread.
-AGAIN = [["refuse_each"], ["test_sharded", "calls"]]
+AGAIN = [["test_refused_memory"], ["test_sharded", "calls"]]
 THREADED = [
     ["first_path.csv", "--workers", "2"],
     ["mend.csv", "--workers", "4"],

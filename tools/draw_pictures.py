@@ -2,7 +2,7 @@
 """Draws the pictures of the documents: tools/draw_pictures.py [FOLDER], else into docs/pictures.
 
 The codes come from the crate `lrc_code`; which fragments a lost one is rebuilt from is what the
-program `guide` prints; the layers are those of crates.txt, the plan's numbers those of `survey`.
+program `demo_guide` prints; the layers are those of crates.txt, the plan's numbers those of `demo_survey`.
 """
 
 import os
@@ -152,8 +152,8 @@ def stripe_row(y, title, below, lost, built_from):
 
 
 def recipes():
-    """The fragments that the first lost one is rebuilt from, by the lost ones, as `guide` prints."""
-    printed = lrc.definition("guide", "stdout")
+    """The fragments that the first lost one is rebuilt from, by the lost ones, as `demo_guide` prints."""
+    printed = lrc.definition("demo_guide", "stdout")
     found = {}
     for lost, built in re.findall(r"^lost ([\d ]+): 0 is (open|built from [\d ]+)$", printed, re.M):
         found[tuple(map(int, lost.split()))] = [int(f) for f in re.findall(r"\d+", built)]

@@ -1,4 +1,4 @@
-"""The picture of what may be lost and what a rebuild reads, from what `survey` prints."""
+"""The picture of what may be lost and what a rebuild reads, from what `demo_survey` prints."""
 
 import re
 
@@ -11,7 +11,7 @@ LEFT, TOP_EDGE, HEIGHT, STEP, BAR, SECOND_LEFT = 64, 76, 180, 76, 26, 520
 
 def figures():
     """For each code: how many are lost, the percent recoverable, and how many are read, if any."""
-    parts = re.split(r"^LRC.*\n", lrc.definition("survey", "stdout"), flags=re.M)[1:]
+    parts = re.split(r"^LRC.*\n", lrc.definition("demo_survey", "stdout"), flags=re.M)[1:]
     for part in parts:
         rows = [row.split() for row in part.splitlines()[1:]]
         yield [

@@ -1,4 +1,4 @@
-"""The Python module: lost sets of both codes, recipes, bad arguments, and what other programs computed (crates/vectors/data/ORIGIN.md)."""
+"""The Python module: lost sets of both codes, recipes, bad arguments, and what other programs computed (crates/test_vectors/data/ORIGIN.md)."""
 
 import itertools
 import os
@@ -9,7 +9,7 @@ sys.path.insert(0, os.path.join(TOP, "bindings", "python"))
 
 import lrc_coder  # noqa: E402
 
-DATA = os.path.join(TOP, "crates", "vectors", "data")
+DATA = os.path.join(TOP, "crates", "test_vectors", "data")
 
 
 def stripe(data_fragments, width):
