@@ -7,7 +7,7 @@ use Rattle.gf256.specs.Field.{product, carryless_product, reduced}
 use Rattle.gf256.proofs.Laws.{all_below, every_below}
 use Rattle.gf256.proofs.Ring.{Term, var, num, plus, times, same_by_ring}
 use Rattle.kernels.specs.Lists.{xor_sum, list_at, bytes_at}
-use Rattle.kernels.specs.Parities.{AreWideParities, parity, parity_coefficients}
+use Rattle.kernels.specs.Parities.{AreParitiesOfTwelve, parity, parity_coefficients}
 use Rattle.kernels.specs.Doublings.{sum_of_3, sum_of_6, with_bit_0, with_bit_1, with_bit_2, third_of, fourth_of, third_apart, fourth_apart, times_4}
 use Rattle.kernels.proofs.Sums.{xor_sum_same}
 
@@ -202,7 +202,7 @@ source_is sources i = sym (let f : Bor (List ℕ) → List ℕ = λ s. s.now in 
 module _ (sources : List (List ℕ)) (ps : List (List ℕ)) where
   -- the twelve bytes at one place
   pub parities_at : (place : ℕ) (xs : List ℕ) → ((i : ℕ) → i < 12 → get_or xs i 0 ≡ bytes_at sources place i)
-      → ((e : ℕ) → e < 4 → bytes_at ps place e ≡ parity e (λ i. get_or xs i 0)) → AreWideParities sources ps place
+      → ((e : ℕ) → e < 4 → bytes_at ps place e ≡ parity e (λ i. get_or xs i 0)) → AreParitiesOfTwelve sources ps place
   parities_at place xs same are e l =
       are e l
       ∙ xor_sum_same 12 (λ i. product (coefficient e i) (get_or xs i 0)) (λ i. product (coefficient e i) (bytes_at sources place i))
@@ -212,7 +212,7 @@ module _ (sources : List (List ℕ)) (ps : List (List ℕ)) where
 pub place_parities : (sources : List (List ℕ)) (p q g h bytes made : List ℕ) (place : ℕ) → ((i : ℕ) → i < 12 → get_or bytes i 0 ≡ bytes_at sources place i)
     → ((e : ℕ) → e < 4 → get_or made e 0 ≡ parity e (λ i. get_or bytes i 0))
     → get_or p place 0 ≡ get_or made 0 0 → get_or q place 0 ≡ get_or made 1 0 → get_or g place 0 ≡ get_or made 2 0 → get_or h place 0 ≡ get_or made 3 0
-    → AreWideParities sources (p ∷ q ∷ g ∷ h ∷ []) place
+    → AreParitiesOfTwelve sources (p ∷ q ∷ g ∷ h ∷ []) place
 place_parities sources p q g h bytes made place same are ep eq eg eh =
     parities_at sources (p ∷ q ∷ g ∷ h ∷ []) place bytes same
     (λ e l. each_of_four (λ e. bytes_at (p ∷ q ∷ g ∷ h ∷ []) place e ≡ get_or made e 0) ep eq eg eh e l ∙ are e l)
@@ -225,7 +225,7 @@ twelve sources place = map (bytes_at sources place) (0 ∷ 1 ∷ 2 ∷ 3 ∷ 4 �
 pub block_parities : (sources : List (List ℕ)) (p q g h : List ℕ) (place : ℕ) → Each1 (λ x. x < 256) (twelve sources place)
     → get_or p place 0 ≡ first_of (twelve sources place) → get_or q place 0 ≡ second_of (twelve sources place)
     → get_or g place 0 ≡ third_by_groups (twelve sources place) → get_or h place 0 ≡ fourth_by_groups (twelve sources place)
-    → AreWideParities sources (p ∷ q ∷ g ∷ h ∷ []) place
+    → AreParitiesOfTwelve sources (p ∷ q ∷ g ∷ h ∷ []) place
 block_parities sources p q g h place fits ep eq eg eh =
     parities_at sources (p ∷ q ∷ g ∷ h ∷ []) place (twelve sources place)
     (at_below (λ i. get_or (twelve sources place) i 0 ≡ bytes_at sources place i) 12 ((((((((((((tt, refl), refl), refl), refl), refl), refl), refl), refl), refl), refl), refl), refl))
@@ -233,18 +233,18 @@ block_parities sources p q g h place fits ep eq eg eh =
 
 -- parities below `at` stay, and those from `at` to `to` are new
 pub parities_more : (sources : List (List ℕ)) (p q g h p' q' g' h' : List ℕ) (at to : ℕ)
-    → ((k : ℕ) → k < at → AreWideParities sources (p ∷ q ∷ g ∷ h ∷ []) k)
+    → ((k : ℕ) → k < at → AreParitiesOfTwelve sources (p ∷ q ∷ g ∷ h ∷ []) k)
     → ((k : ℕ) → k < at → get_or p' k 0 ≡ get_or p k 0) → ((k : ℕ) → k < at → get_or q' k 0 ≡ get_or q k 0)
     → ((k : ℕ) → k < at → get_or g' k 0 ≡ get_or g k 0) → ((k : ℕ) → k < at → get_or h' k 0 ≡ get_or h k 0)
-    → ((k : ℕ) → k < to - at → AreWideParities sources (p' ∷ q' ∷ g' ∷ h' ∷ []) (at + k))
-    → (k : ℕ) → k < to → AreWideParities sources (p' ∷ q' ∷ g' ∷ h' ∷ []) k
+    → ((k : ℕ) → k < to - at → AreParitiesOfTwelve sources (p' ∷ q' ∷ g' ∷ h' ∷ []) (at + k))
+    → (k : ℕ) → k < to → AreParitiesOfTwelve sources (p' ∷ q' ∷ g' ∷ h' ∷ []) k
 parities_more sources p q g h p' q' g' h' at to done ep eq eg eh new k l =
     elim (cases_lt k at) [
       | inl below ↦ λ e m.
           each_of_four (λ e. bytes_at (p' ∷ q' ∷ g' ∷ h' ∷ []) k e ≡ bytes_at (p ∷ q ∷ g ∷ h ∷ []) k e) (ep k below) (eq k below) (eg k below) (eh k below) e m ∙ done k below e m
       | inr from ↦
           let back : at + (k - at) ≡ k = omega arith in
-          subst (AreWideParities sources (p' ∷ q' ∷ g' ∷ h' ∷ [])) back (new (k - at) (omega arith))
+          subst (AreParitiesOfTwelve sources (p' ∷ q' ∷ g' ∷ h' ∷ [])) back (new (k - at) (omega arith))
     ]
 
 -- a fact at one place, at each place up to it

@@ -18,5 +18,5 @@ abbrev pub parity : ℕ → (ℕ → ℕ) → ℕ
 parity e column = xor_sum 12 (λ i. product (slice_index (slice_index_or parity_coefficients e []) i) (column i))
 
 -- at place k the four lists have the parities of the twelve
-abbrev pub AreWideParities : List (List ℕ) → List (List ℕ) → ℕ → Type 0
-AreWideParities sources parities k = (e : ℕ) → e < 4 → bytes_at parities k e ≡ parity e (bytes_at sources k)
+abbrev pub AreParitiesOfTwelve : List (List ℕ) → List (List ℕ) → ℕ → Type 0
+AreParitiesOfTwelve sources parities k = (e : ℕ) → e < 4 → bytes_at parities k e ≡ parity e (bytes_at sources k)

@@ -2,7 +2,7 @@
 ghost use Rattle.std.specs.Prelude.{◌≡◌, ◌<◌, ◌≤◌, ◌+◌, ℕ, [], ◌∷◌, map, length, slice_index, All};
 ghost use Rattle.kernels.specs.Doublings.{sum_of_6, with_bit_0, with_bit_1, with_bit_2};
 ghost use Rattle.kernels.specs.Lists.{xor_sum, bytes_at, list_at};
-ghost use Rattle.kernels.specs.Parities.{AreWideParities};
+ghost use Rattle.kernels.specs.Parities.{AreParitiesOfTwelve};
 
 use crate::blocks::{LANES, fourth_each, load, store, sum_3, sum_4, third_each};
 use crate::place::parities;
@@ -82,7 +82,7 @@ fn encode_block(
     requires third_inside { at + LANES ≤ length third.old }
     requires fourth_inside { at + LANES ≤ length fourth.old }
     ensures parities { (k : ℕ) → k < LANES →
-        AreWideParities (map (λ s. s.now) sources.now)
+        AreParitiesOfTwelve (map (λ s. s.now) sources.now)
         (first.new ∷ second.new ∷ third.new ∷ fourth.new ∷ []) (at + k) }
     ensures first_before { (k : ℕ) → k < at → slice_index first.new k ≡ slice_index first.old k }
     ensures second_before { (k : ℕ) → k < at → slice_index second.new k ≡ slice_index second.old k }
@@ -128,7 +128,7 @@ fn encode_place(
     requires second_inside { at < length second.old }
     requires third_inside { at < length third.old }
     requires fourth_inside { at < length fourth.old }
-    ensures parities { AreWideParities (map (λ s. s.now) sources.now)
+    ensures parities { AreParitiesOfTwelve (map (λ s. s.now) sources.now)
         (first.new ∷ second.new ∷ third.new ∷ fourth.new ∷ []) at }
     ensures first_before { (k : ℕ) → k < at → slice_index first.new k ≡ slice_index first.old k }
     ensures second_before { (k : ℕ) → k < at → slice_index second.new k ≡ slice_index second.old k }
@@ -158,7 +158,7 @@ fn encode_lists(
     requires same_third { length third.old ≡ length first.old }
     requires same_fourth { length fourth.old ≡ length first.old }
     ensures { (k : ℕ) → k < length first.new →
-        AreWideParities (map (λ s. s.now) sources.now)
+        AreParitiesOfTwelve (map (λ s. s.now) sources.now)
         (first.new ∷ second.new ∷ third.new ∷ fourth.new ∷ []) k }
 {
     let width = first.len();
@@ -191,7 +191,7 @@ pub fn write_parities(
     requires same_third { length third.old ≡ length first.old }
     requires same_fourth { length fourth.old ≡ length first.old }
     ensures { (k : ℕ) → k < length first.new →
-        AreWideParities (map (λ s. s.now) sources.now)
+        AreParitiesOfTwelve (map (λ s. s.now) sources.now)
         (first.new ∷ second.new ∷ third.new ∷ fourth.new ∷ []) k }
 {
     // copies, which a store to a parity cannot change: so the code for a block keeps them in

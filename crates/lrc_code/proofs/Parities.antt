@@ -9,13 +9,13 @@ use Rattle.std.specs.List.{All, slice_range}
 use Rattle.std.proofs.lemmas.List.Elements.{All-get_or}
 use Rattle.gf256.specs.Field.{product}
 use Rattle.kernels.specs.Lists.{combined}
-use Rattle.kernels.specs.Parities.{AreWideParities as AreParitiesOfTwelve}
+use Rattle.kernels.specs.Parities.{AreParitiesOfTwelve}
 use Rattle.kernels.proofs.GroupLemmas.{each_of_four}
 use Rattle.lrc_code.specs.declared.Code.{Code}
 use Rattle.lrc_code.specs.declared.Code.TheVariants.{Wide, Small}
 use Rattle.lrc_code.specs.Code.{fragment_count, xor_sum, weight, weights, data_count, IsColumn}
 use Rattle.lrc_code.specs.Column.{column, parity_of}
-use Rattle.lrc_code.specs.Stripe.{IsStripe, list_at, bytes_at, AreWideParities, quarters}
+use Rattle.lrc_code.specs.Stripe.{IsStripe, list_at, bytes_at, AreParities, quarters}
 use Rattle.lrc_code.proofs.Columns.{column_is, column_data, column_parity, count_with_parities}
 use Rattle.kernels.proofs.Sums.{xor_sum_same}
 
@@ -38,13 +38,13 @@ four_in P a b c d pa pb pc pd (suc (suc (suc (suc j)))) l = absurd (omega arith)
 pub four_parities : (code : Code) (sources : List (List ℕ)) (w : ℕ) (a b c d : List ℕ)
     → ((k : ℕ) → k < w → get_or a k 0 ≡ parity_of code 0 (bytes_at sources k)) → ((k : ℕ) → k < w → get_or b k 0 ≡ parity_of code 1 (bytes_at sources k))
     → ((k : ℕ) → k < w → get_or c k 0 ≡ parity_of code 2 (bytes_at sources k)) → ((k : ℕ) → k < w → get_or d k 0 ≡ parity_of code 3 (bytes_at sources k))
-    → (k : ℕ) → k < w → AreWideParities code sources (a ∷ b ∷ c ∷ d ∷ []) k
+    → (k : ℕ) → k < w → AreParities code sources (a ∷ b ∷ c ∷ d ∷ []) k
 four_parities code sources w a b c d pa pb pc pd k l =
     four_in (λ e p. get_or p k 0 ≡ parity_of code e (bytes_at sources k)) a b c d (pa k l) (pb k l) (pc k l) (pd k l)
 
 module _ (code : Code) (w : ℕ) (sources ps : List (List ℕ)) (count : length sources ≡ data_count code)
     (long : (i : ℕ) → i < data_count code → length (list_at sources i) ≡ w) (bytes : (i k : ℕ) → i < data_count code → k < w → get_or (list_at sources i) k 0 < 256)
-    (as_long : (j : ℕ) → j < 4 → length (list_at ps j) ≡ w) (are : (k : ℕ) → k < w → AreWideParities code sources ps k) where
+    (as_long : (j : ℕ) → j < 4 → length (list_at ps j) ≡ w) (are : (k : ℕ) → k < w → AreParities code sources ps k) where
   at_data : (i : ℕ) → i < data_count code → list_at (sources ++ ps) i ≡ list_at sources i
   at_data i l = get_or_append_left sources ps [] i (subst (λ n. i < n) (sym count) l)
 
@@ -95,7 +95,7 @@ stripe_same code sources p q g h p' q' g' h' n w ep eq eg eh en stripe =
     subst (λ ps. IsStripe code w (list_at (sources ++ ps))) four (subst (λ n. IsStripe code n (list_at (sources ++ p ∷ q ∷ g ∷ h ∷ []))) en stripe)
 
 -- the parities of twelve lists are those of LRC(12,2,2)
-pub wide_parities : (sources parities : List (List ℕ)) (k : ℕ) → AreParitiesOfTwelve sources parities k → AreWideParities Wide sources parities k
+pub wide_parities : (sources parities : List (List ℕ)) (k : ℕ) → AreParitiesOfTwelve sources parities k → AreParities Wide sources parities k
 unfolding xor_sum weight weights
 wide_parities sources parities k are =
     each_of_four (λ e. bytes_at parities k e ≡ parity_of Wide e (bytes_at sources k)) (are 0 (omega arith)) (are 1 (omega arith)) (are 2 (omega arith)) (are 3 (omega arith))

@@ -1,5 +1,5 @@
 use Rattle.std.proofs.Common.{◌≡◌, ◌+◌, ◌-◌, length, map, [], ◌∷◌, arith}
-use Rattle.kernels.specs.Parities.{AreWideParities}
+use Rattle.kernels.specs.Parities.{AreParitiesOfTwelve}
 use Rattle.kernels.proofs.GroupLemmas.{parities_more, at_last}
 use Rattle.kernels.proofs.groups.encode_lists.Goals as goal
 
@@ -9,7 +9,7 @@ loop-at-preserved c =
     parities_more (map (λ s. s.now) c.args.sources.now) c.loop-at.first c.loop-at.second c.loop-at.third c.loop-at.fourth
     c.encode_place.new.first c.encode_place.new.second c.encode_place.new.third c.encode_place.new.fourth c.loop-at.at (c.loop-at.at + 1)
     c.loop-at.invariant b.first_before b.second_before b.third_before b.fourth_before
-    (at_last (AreWideParities (map (λ s. s.now) c.args.sources.now) (c.encode_place.new.first ∷ c.encode_place.new.second ∷ c.encode_place.new.third ∷ c.encode_place.new.fourth ∷ [])) c.loop-at.at b.parities)
+    (at_last (AreParitiesOfTwelve (map (λ s. s.now) c.args.sources.now) (c.encode_place.new.first ∷ c.encode_place.new.second ∷ c.encode_place.new.third ∷ c.encode_place.new.fourth ∷ [])) c.loop-at.at b.parities)
 
 pub returns-then-width-lt-LANES : goal.returns-then-width-lt-LANES
 returns-then-width-lt-LANES c k h = c.loop-at.invariant k (omega arith)
