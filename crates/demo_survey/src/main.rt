@@ -8,7 +8,8 @@ ghost use Rattle.std.specs.Prelude.{◌≡◌, ℕ, ◌+◌, ◌*◌, ◌/◌, �
 ghost use Rattle.std.specs.Prelude.{true, length, List, count_by};
 ghost use Rattle.lrc_code.specs.Code.{fragment_count, is_lost, Open};
 ghost use Rattle.lrc_code.specs.declared.recipes.Term.{Term};
-ghost use Rattle.demo_survey.specs.Survey.{lost_sets, has_size, is_whole, is_counted, IsRead, ReadsFor};
+ghost use Rattle.demo_survey.specs.Survey.{lost_sets, has_size, is_whole, is_counted, IsRead};
+ghost use Rattle.demo_survey.specs.Survey.{ReadsFor};
 ghost use Rattle.demo_survey.specs.Survey.{ReadsForAll, is_counted_by_any_four};
 
 use anyhow::Result;
