@@ -4,12 +4,13 @@ use Rattle.std.specs.Prelude.{if◌then◌else◌}
 use Rattle.std.specs.List.{list_any}
 use Rattle.sealed.specs.declared.fault.Fault.{Fault}
 use Rattle.sealed.specs.declared.fault.Fault.TheVariants.{NoMemory, JournalFull, BadName, TooLong, Busy, BadWidth, NoPass}
-use Rattle.rounds.specs.declared.work.Mended.TheVariants.{Worked, Paused}
-use Rattle.rounds.specs.declared.work.Outcome.{Outcome}
-use Rattle.rounds.specs.declared.work.Outcome.TheVariants.{Called, Mended}
-use Rattle.rounds.specs.Halts.{is_journal_full, lacks_memory, is_paused, halt_after, GoesOn}
+use Rattle.rounds.specs.declared.kinds.Mended.TheVariants.{Worked, Paused}
+use Rattle.rounds.specs.declared.kinds.Mended.{Mended}
+use Rattle.rounds.specs.declared.kinds.Returned.{Returned}
+use Rattle.rounds.specs.Halts.{halt_after, GoesOn}
+use Rattle.rounds.specs.Errands.{is_journal_full, mend_lacks_memory, mend_is_paused}
 use Rattle.play.specs.Lists.{Each}
-use Rattle.play.specs.Mends.{IsEnded, AreEnded}
+use Rattle.play.specs.Mends.{HasEnded, AreEnded}
 use Rattle.rounds.specs.declared.halt.Halt.TheVariants as halt
 use Rattle.play.proofs.Buckets.{each-both}
 
@@ -18,7 +19,7 @@ or_none : (a b : Bool) → (a || b) ≡ false → (a ≡ false) × (b ≡ false)
 or_none true b e = absurd (true≢false e)
 or_none false b e = (refl, e)
 
-none_of : (p : Outcome → Bool) (os : List Outcome) → list_any p os ≡ false → Each (λ o. p o ≡ false) os
+none_of : {O : Type 0} (p : O → Bool) (os : List O) → list_any p os ≡ false → Each (λ o. p o ≡ false) os
 none_of p [] e = tt
 none_of p (o ∷ os) e = let both = or_none (p o) (list_any p os) e in (both.0, none_of p os both.1)
 
@@ -27,10 +28,10 @@ neither true b e = absurd (cc (e))
 neither false true e = absurd (cc (e))
 neither false false e = (refl, refl)
 
-pub all_go_on : (os : List Outcome) → halt_after os ≡ None → Each GoesOn os
-all_go_on os none =
-    let no = neither (list_any lacks_memory os) (list_any is_paused os) none in
-    each-both (λ o. lacks_memory o ≡ false) (λ o. is_paused o ≡ false) os (none_of lacks_memory os no.0) (none_of is_paused os no.1)
+pub all_go_on : {O : Type 0} (lacks paused : O → Bool) (os : List O) → halt_after lacks paused os ≡ None → Each (GoesOn lacks paused) os
+all_go_on lacks paused os none =
+    let no = neither (list_any lacks os) (list_any paused os) none in
+    each-both (λ o. lacks o ≡ false) (λ o. paused o ≡ false) os (none_of lacks os no.0) (none_of paused os no.1)
 
 -- ---- what that says of a mend
 full_of : (fault : Fault) → not (is_journal_full fault) ≡ false → fault ≡ JournalFull
@@ -42,12 +43,11 @@ full_of BadWidth e = absurd (true≢false e)
 full_of NoPass e = absurd (true≢false e)
 full_of NoMemory e = absurd (true≢false e)
 
-goes_ended : (o : Outcome) → GoesOn o → IsEnded o
-goes_ended (Called r) goes = tt
-goes_ended (Mended drawer (Worked (Ok done))) goes = tt
-goes_ended (Mended drawer (Worked (Err stop))) goes = full_of stop.fault goes.0
-goes_ended (Mended drawer Paused) goes = absurd (true≢false goes.1)
+goes_ended : (m : Mended) → (mend_lacks_memory m ≡ false) × (mend_is_paused m ≡ false) → HasEnded m
+goes_ended (Worked (Ok done)) goes = tt
+goes_ended (Worked (Err stop)) goes = full_of stop.fault goes.0
+goes_ended Paused goes = absurd (true≢false goes.1)
 
-pub are_ended : (os : List Outcome) → Each GoesOn os → AreEnded os
+pub are_ended : (os : List Returned) → Each (GoesOn (λ (o : Returned). mend_lacks_memory o.mended) (λ (o : Returned). mend_is_paused o.mended)) os → AreEnded os
 are_ended [] go = tt
-are_ended (o ∷ os) go = (goes_ended o go.0, are_ended os go.1)
+are_ended (o ∷ os) go = (goes_ended o.mended go.0, are_ended os go.1)

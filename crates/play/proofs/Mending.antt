@@ -1,8 +1,8 @@
 -- The drawers of a mend's workers, given out and joined again.
-use Rattle.std.proofs.Common.{◌≡◌, ⊎_elim, ℕ, ◌+◌, ◌-◌, ◌/◌, ◌^◌, ◌≤◌, ◌||◌, Bool, true, false, List, [], ◌∷◌, ◌++◌, length, All, Ok, Err, append_assoc, append-nil, sum_by, subst, sym, ap, refl, ◌∙◌, arith, length-append}
+use Rattle.std.proofs.Common.{◌≡◌, ⊎_elim, ℕ, ◌+◌, ◌-◌, ◌/◌, ◌^◌, ◌≤◌, ◌||◌, Bool, true, false, List, [], ◌∷◌, ◌++◌, length, All, Ok, Err, append_assoc, append-nil, subst, sym, ap, refl, ◌∙◌, arith, length-append}
 use Rattle.std.proofs.lemmas.List.Elements.{All-append, All-cons, All-nil}
-use Rattle.std.proofs.lemmas.List.Sums.{sum_by-append, sum_by-cons, sum_by_push}
-use Rattle.std.proofs.lemmas.List.{flat_map_more}
+use Rattle.std.proofs.lemmas.List.Sums.{sum_by-cons, sum_by_push}
+use Rattle.std.proofs.lemmas.List.{map-append}
 use Rattle.std.proofs.lemmas.List.Folds.{list_any-append}
 use Rattle.std.specs.List.{list_any}
 use Rattle.gate.specs.Places.{TableId, times}
@@ -15,53 +15,47 @@ use Rattle.mender.specs.Worked.{Draws, Finished}
 use Rattle.mender.specs.Mended.{Left, HasFinished, joined, results_of, with_hand}
 use Rattle.mender.proofs.Counts.{once_below-out}
 use Rattle.mender.proofs.Mended.{complete_joined, joined-snoc, results_of-snoc}
-use Rattle.rounds.specs.Rounds.{AreOf, FitsTickets, DidAll, DidErrand, DidMend}
-use Rattle.rounds.specs.declared.work.Errand.{Errand}
-use Rattle.rounds.specs.declared.work.Errand.TheVariants.{Calls, Mend}
-use Rattle.rounds.specs.declared.work.Mended.{Mended}
-use Rattle.rounds.specs.declared.work.Mended.TheVariants.{Paused, Worked}
-use Rattle.rounds.specs.declared.work.Mending.{Mending}
-use Rattle.rounds.specs.declared.work.Outcome.{Outcome}
-use Rattle.rounds.specs.declared.work.Outcome.TheVariants as outcome
+use Rattle.rounds.specs.Rounds.{AreOf, DidAll, Effect}
+use Rattle.rounds.specs.Errands.{DidMend, DidPart, FitsPart}
+use Rattle.rounds.specs.declared.kinds.Mended.{Mended}
+use Rattle.rounds.specs.declared.kinds.Mended.TheVariants.{Paused, Worked}
+use Rattle.rounds.specs.declared.kinds.Mending.{Mending}
+use Rattle.rounds.specs.declared.kinds.Returned.{Returned}
 use Rattle.rounds.specs.declared.work.Ran.{Ran}
 use Rattle.rounds.specs.declared.work.Work.{Work}
 use Rattle.rounds.specs.Pools.{AreWorkers, passes_of, outcomes_of}
-use Rattle.play.specs.Mends.{IsPart, IsMender, AreMenders, IsForRow, AreForRow, IsBack, AreBack, IsEnded, AreEnded, given_to, given_to_all, given_before, results_in, left_with, left_of, all_left, is_stopped, drawn_by, AreDrawnOnce}
+use Rattle.play.specs.Mends.{IsPart, AreMenders, AreForRow, FinishedIfDone, AreBack, IsEnded, AreEnded, given_to_all, given_before, results_in, left_with, left_of, all_left, is_stopped, drawn_by, AreDrawnOnce}
 
 -- ---- the parts are given out
 -- one worker more
-pub menders-more : (plan : List Item) (tickets : TableId) (works : List Work) (w : Work) → AreMenders plan tickets works → IsMender plan tickets w.errand
+pub menders-more : (plan : List Item) (tickets : TableId) (works : List (Work Mending)) (w : Work Mending) → AreMenders plan tickets works → IsPart plan tickets w.errand
     → AreMenders plan tickets (works ++ w ∷ [])
 menders-more plan tickets [] w all last = (last, tt)
 menders-more plan tickets (x ∷ works) w all last = (all.0, menders-more plan tickets works w all.1 last)
 
-pub rows-more : (row : ℕ) (works : List Work) (w : Work) → AreForRow row works → IsForRow row w.errand → AreForRow row (works ++ w ∷ [])
+pub rows-more : (row : ℕ) (works : List (Work Mending)) (w : Work Mending) → AreForRow row works → w.errand.row ≡ row → AreForRow row (works ++ w ∷ [])
 rows-more row [] w all last = (last, tt)
 rows-more row (x ∷ works) w all last = (all.0, rows-more row works w all.1 last)
 
-pub given-more : (works : List Work) (w : Work) → given_to_all (works ++ w ∷ []) ≡ given_to_all works + given_to w.errand
-given-more works w = sum_by_push (λ (x : Work). given_to x.errand) works w
-
-fits-mender : (plan : List Item) (tickets : TableId) (e : Errand) → IsMender plan tickets e → FitsTickets e
-fits-mender plan tickets (Calls jobs) is = absurd is
-fits-mender plan tickets (Mend m) is = is.drawer_of ∙ sym is.tickets_are
+pub given-more : (works : List (Work Mending)) (w : Work Mending) → given_to_all (works ++ w ∷ []) ≡ given_to_all works + w.errand.drawer.allowance
+given-more works w = sum_by_push (λ (x : Work Mending). x.errand.drawer.allowance) works w
 
 -- they are done by passes of the store
-pub menders-of : (store : Which) (plan : List Item) (tickets : TableId) (works : List Work) → AreWorkers store (passes_of works) → AreMenders plan tickets works → AreOf store works
+pub menders-of : (store : Which) (plan : List Item) (tickets : TableId) (works : List (Work Mending)) → AreWorkers store (passes_of works) → AreMenders plan tickets works → AreOf FitsPart store works
 menders-of store plan tickets [] all are = tt
-menders-of store plan tickets (w ∷ works) all are = ((all.0.0, fits-mender plan tickets w.errand are.0), menders-of store plan tickets works all.1 are.1)
+menders-of store plan tickets (w ∷ works) all are = ((all.0.0, are.0.drawer_of ∙ sym are.0.tickets_are), menders-of store plan tickets works all.1 are.1)
 
 -- half of a drawer's allowance goes to one worker more
-pub shares-more : (works : List Work) (w : Work) (old new : ℕ) → old + given_to_all works ≡ 2 ^ 40 → new ≡ old - old / 2 → given_to w.errand ≡ old / 2
+pub shares-more : (works : List (Work Mending)) (w : Work Mending) (old new : ℕ) → old + given_to_all works ≡ 2 ^ 40 → new ≡ old - old / 2 → w.errand.drawer.allowance ≡ old / 2
     → new + given_to_all (works ++ w ∷ []) ≡ 2 ^ 40
 shares-more works w old new shares kept given =
     let more = given-more works w in
     omega arith
 
-pub half-left : (works : List Work) (old new : ℕ) → old + given_to_all works ≡ 2 ^ 40 → new ≡ old - old / 2 → new ≤ 2 ^ 39
+pub half-left : (works : List (Work Mending)) (old new : ℕ) → old + given_to_all works ≡ 2 ^ 40 → new ≡ old - old / 2 → new ≤ 2 ^ 39
 half-left works old new shares kept = omega arith
 
-pub ended-more : (os : List Outcome) (o : Outcome) → AreEnded os → IsEnded o → AreEnded (os ++ o ∷ [])
+pub ended-more : (os : List Returned) (o : Returned) → AreEnded os → IsEnded o → AreEnded (os ++ o ∷ [])
 ended-more [] o all last = (last, tt)
 ended-more (x ∷ os) o all last = (all.0, ended-more os o all.1 last)
 
@@ -92,58 +86,55 @@ holds-finished plan tickets old new done finished of none = ⊎_elim
     finished
 
 -- a worker is back, with what it was given
-record Returns (plan : List Item) (tickets : TableId) (given : ℕ) (o : Outcome) : Type 0 where
-  pub back : IsBack plan tickets o
-  pub shares : sum_by (λ (left : Left). left.given) (left_of o) ≡ given
+record Returns (plan : List Item) (tickets : TableId) (given : ℕ) (drawer : DrawerState) (mended : Mended) : Type 0 where
+  pub back : (drawer.tickets ≡ tickets) × FinishedIfDone plan drawer mended
+  pub shares : (left_with drawer (results_in mended)).given ≡ given
 
-part-back : (plan : List Item) (tickets : TableId) (v : Shows) (m : Mending) (o : Outcome) (w : Shows) → DidMend v m o w → IsPart plan tickets m
-    → Returns plan tickets m.drawer.allowance o
-part-back plan tickets v m (outcome.Called r) w did is = absurd did
-part-back plan tickets v m (outcome.Mended drawer Paused) w did is =
+part-back : (plan : List Item) (tickets : TableId) (v : Shows) (m : Mending) (drawer : DrawerState) (mended : Mended) (w : Shows) → DidPart v m drawer mended w → IsPart plan tickets m
+    → Returns plan tickets m.drawer.allowance drawer mended
+part-back plan tickets v m drawer Paused w did is =
     let holds = holds-same tickets m.drawer drawer did.0 is.drawer_of is.none in
     record { back = (holds.drawer_of, tt); shares = omega (arith, holds.shares) }
-part-back plan tickets v m (outcome.Mended drawer (Worked (Err stop))) w did is =
+part-back plan tickets v m drawer (Worked (Err stop)) w did is =
     let holds = holds-draws tickets m.drawer drawer _ did.0.3.draws is.drawer_of is.none in
     record { back = (holds.drawer_of, tt); shares = omega (arith, holds.shares) }
-part-back plan tickets v m (outcome.Mended drawer (Worked (Ok done))) w did is =
+part-back plan tickets v m drawer (Worked (Ok done)) w did is =
     let finished = subst (λ (p : List Item). Finished p m.drawer drawer done.items) is.plan_is did.0 in
     let holds = holds-finished plan tickets m.drawer drawer done.items finished is.drawer_of is.none in
     let left : HasFinished plan (left_with drawer done.items) = record { old = m.drawer; given = sym holds.shares; none = is.none; finished = finished } in
     record { back = (holds.drawer_of, left); shares = omega (arith, holds.shares) }
 
-errand-back : (plan : List Item) (tickets : TableId) (v : Shows) (e : Errand) (o : Outcome) (w : Shows) → DidErrand v e o w → IsMender plan tickets e
-    → Returns plan tickets (given_to e) o
-errand-back plan tickets v (Calls jobs) o w did is = absurd is
-errand-back plan tickets v (Mend m) o w did is = part-back plan tickets v m o w did is
-
 -- each worker gives back one outcome
-pub did-many : (works : List Work) (rans : List Ran) → DidAll works rans → length works ≡ length rans
-did-many [] [] did = refl
-did-many [] (r ∷ rans) did = absurd did
-did-many (w ∷ works) [] did = absurd did
-did-many (w ∷ works) (r ∷ rans) did = let rest = did-many works rans did.1 in omega arith
+pub did-many : {E O : Type 0} (did : Effect E O) (works : List (Work E)) (rans : List (Ran O)) → DidAll did works rans → length works ≡ length rans
+did-many is [] [] did = refl
+did-many is [] (r ∷ rans) did = absurd did
+did-many is (w ∷ works) [] did = absurd did
+did-many is (w ∷ works) (r ∷ rans) did = let rest = did-many is works rans did.1 in omega arith
 
 -- all are, with what they were given
-pub menders-back : (plan : List Item) (tickets : TableId) (works : List Work) (rans : List Ran) → AreMenders plan tickets works → DidAll works rans
+pub menders-back : (plan : List Item) (tickets : TableId) (works : List (Work Mending)) (rans : List (Ran Returned)) → AreMenders plan tickets works → DidAll DidMend works rans
     → AreBack plan tickets (outcomes_of rans) × (given_before (outcomes_of rans) ≡ given_to_all works)
 menders-back plan tickets [] [] all did = (tt, refl)
 menders-back plan tickets [] (r ∷ rans) all did = absurd did
 menders-back plan tickets (w ∷ works) [] all did = absurd did
 menders-back plan tickets (w ∷ works) (r ∷ rans) all did =
-    let one = errand-back plan tickets w.pass w.errand r.outcome r.pass did.0 all.0 in
+    let one = part-back plan tickets w.pass w.errand r.outcome.drawer r.outcome.mended r.pass did.0 all.0 in
     let rest = menders-back plan tickets works rans all.1 did.1 in
-    let before = sum_by-append (λ (left : Left). left.given) (left_of r.outcome) (all_left (outcomes_of rans)) in
+    let before = sum_by-cons (λ (left : Left). left.given) (left_of r.outcome) (all_left (outcomes_of rans)) in
     let own = one.shares in
     let others = rest.1 in
-    let given = sum_by-cons (λ (x : Work). given_to x.errand) w works in
+    let given = sum_by-cons (λ (x : Work Mending). x.errand.drawer.allowance) w works in
     ((one.back, rest.0), omega arith)
 
 -- ---- the drawers are joined
-pool-more : (outcomes : List Outcome) (o : Outcome) → all_left (outcomes ++ o ∷ []) ≡ all_left outcomes ++ left_of o
-pool-more outcomes o = sym (flat_map_more left_of [] outcomes o)
+abbrev pub back_with : DrawerState → Mended → Returned
+back_with drawer mended = record { drawer = drawer; mended = mended }
+
+pool-more : (outcomes : List Returned) (o : Returned) → all_left (outcomes ++ o ∷ []) ≡ all_left outcomes ++ left_of o ∷ []
+pool-more outcomes o = map-append left_of outcomes (o ∷ [])
 
 -- a drawer that took in the drawers of these outcomes, and knows of its draws
-pub record HasJoined (first : DrawerState) (outcomes : List Outcome) (drawer : DrawerState) : Type 0 where
+pub record HasJoined (first : DrawerState) (outcomes : List Returned) (drawer : DrawerState) : Type 0 where
   pub joins : drawer ≡ joined first (all_left outcomes)
   pub whole : IsWhole drawer
 
@@ -152,17 +143,17 @@ joined-none first none =
     let nothing : length first.drawn ≡ 0 = ap length none in
     record { joins = refl; whole = λ full n. ap (times n) none ∙ sym (once_below-out n (length first.drawn) (omega arith)) }
 
-pub joined-more : (first : DrawerState) (outcomes : List Outcome) (old new other : DrawerState) (m : Mended) → HasJoined first outcomes old → new ≡ with_hand old other → IsWhole new
-    → HasJoined first (outcomes ++ outcome.Mended other m ∷ []) new
+pub joined-more : (first : DrawerState) (outcomes : List Returned) (old new other : DrawerState) (m : Mended) → HasJoined first outcomes old → new ≡ with_hand old other → IsWhole new
+    → HasJoined first (outcomes ++ back_with other m ∷ []) new
 joined-more first outcomes old new other m has is whole =
     let left : Left = left_with other (results_in m) in
     record {
-      joins = is ∙ ap (λ (hand : DrawerState). with_hand hand other) has.joins ∙ sym (joined-snoc first (all_left outcomes) left) ∙ sym (ap (joined first) (pool-more outcomes (outcome.Mended other m)));
+      joins = is ∙ ap (λ (hand : DrawerState). with_hand hand other) has.joins ∙ sym (joined-snoc first (all_left outcomes) left) ∙ sym (ap (joined first) (pool-more outcomes (back_with other m)));
       whole = whole;
     }
 
 -- these are the results of all, and none stopped
-pub record AreAll (plan : List Item) (outcomes : List Outcome) (all : List Done) : Type 0 where
+pub record AreAll (plan : List Item) (outcomes : List Returned) (all : List Done) : Type 0 where
   pub finished : All (HasFinished plan) (all_left outcomes)
   pub results : all ≡ results_of (all_left outcomes)
 
@@ -170,39 +161,37 @@ pub all-none : (plan : List Item) → AreAll plan [] []
 all-none plan = record { finished = All-nil (HasFinished plan); results = refl }
 
 -- one more that did not stop
-pub all-more : (plan : List Item) (outcomes : List Outcome) (all more : List Done) (other : DrawerState) (m : Mended) → AreAll plan outcomes all
-    → HasFinished plan (left_with other (results_in m)) → more ≡ all ++ results_in m → AreAll plan (outcomes ++ outcome.Mended other m ∷ []) more
+pub all-more : (plan : List Item) (outcomes : List Returned) (all more : List Done) (other : DrawerState) (m : Mended) → AreAll plan outcomes all
+    → HasFinished plan (left_with other (results_in m)) → more ≡ all ++ results_in m → AreAll plan (outcomes ++ back_with other m ∷ []) more
 all-more plan outcomes all more other m are one is =
     let left : Left = left_with other (results_in m) in
-    let pool = pool-more outcomes (outcome.Mended other m) in
+    let pool = pool-more outcomes (back_with other m) in
     record {
       finished = subst (All (HasFinished plan)) (sym pool) (All-append (HasFinished plan) (all_left outcomes) (left ∷ []) are.finished (All-cons (HasFinished plan) left [] one (All-nil (HasFinished plan))));
       results = is ∙ ap (λ (xs : List Done). xs ++ left.done) are.results ∙ sym (results_of-snoc (all_left outcomes) left) ∙ sym (ap results_of pool);
     }
 
 -- Their results are complete
-pub mend-complete : (plan : List Item) (first drawer : DrawerState) (outcomes : List Outcome) (all : List Done) → first.drawn ≡ [] → first.allowance + given_before outcomes ≡ 2 ^ 40
+pub mend-complete : (plan : List Item) (first drawer : DrawerState) (outcomes : List Returned) (all : List Done) → first.drawn ≡ [] → first.allowance + given_before outcomes ≡ 2 ^ 40
     → first.allowance + length plan ≤ 2 ^ 40 → HasJoined first outcomes drawer → AreAll plan outcomes all → IsComplete plan all
 mend-complete plan first drawer outcomes all none shares room has are = subst (IsComplete plan) (sym are.results)
     (complete_joined plan first (all_left outcomes) none shares room are.finished (subst IsWhole has.joins has.whole))
 
 -- ---- all draws
-joined-drawn : (first : DrawerState) (os : List Outcome) → (joined first (all_left os)).drawn ≡ first.drawn ++ drawn_by os
+joined-drawn : (first : DrawerState) (os : List Returned) → (joined first (all_left os)).drawn ≡ first.drawn ++ drawn_by os
 joined-drawn first [] = sym (append-nil first.drawn)
-joined-drawn first (outcome.Called r ∷ os) = joined-drawn first os
-joined-drawn first (outcome.Mended drawer m ∷ os) = joined-drawn (with_hand first drawer) os ∙ append_assoc first.drawn drawer.drawn (drawn_by os)
+joined-drawn first (o ∷ os) = joined-drawn (with_hand first o.drawer) os ∙ append_assoc first.drawn o.drawer.drawn (drawn_by os)
 
-joined-shares : (first : DrawerState) (os : List Outcome) → (joined first (all_left os)).allowance + length (joined first (all_left os)).drawn ≡ first.allowance + length first.drawn + given_before os
+joined-shares : (first : DrawerState) (os : List Returned) → (joined first (all_left os)).allowance + length (joined first (all_left os)).drawn ≡ first.allowance + length first.drawn + given_before os
 joined-shares first [] = omega arith
-joined-shares first (outcome.Called r ∷ os) = joined-shares first os
-joined-shares first (outcome.Mended drawer m ∷ os) =
-    let rest = joined-shares (with_hand first drawer) os in
-    let both = length-append first.drawn drawer.drawn in
-    let sum = sum_by-cons (λ (left : Left). left.given) (left_with drawer (results_in m)) (all_left os) in
+joined-shares first (o ∷ os) =
+    let rest = joined-shares (with_hand first o.drawer) os in
+    let both = length-append first.drawn o.drawer.drawn in
+    let sum = sum_by-cons (λ (left : Left). left.given) (left_of o) (all_left os) in
     omega (arith, rest, both, sum)
 
 -- the tickets that were drawn are the first ones, each once
-pub drawn-once : (first drawer : DrawerState) (outcomes : List Outcome) → first.drawn ≡ [] → first.allowance + given_before outcomes ≡ 2 ^ 40 → HasJoined first outcomes drawer → AreDrawnOnce outcomes
+pub drawn-once : (first drawer : DrawerState) (outcomes : List Returned) → first.drawn ≡ [] → first.allowance + given_before outcomes ≡ 2 ^ 40 → HasJoined first outcomes drawer → AreDrawnOnce outcomes
 drawn-once first drawer outcomes none shares has =
     let nothing : length first.drawn ≡ 0 = ap length none in
     let drawn : drawer.drawn ≡ drawn_by outcomes = ap (λ (h : DrawerState). h.drawn) has.joins ∙ joined-drawn first outcomes ∙ ap (λ l. l ++ drawn_by outcomes) none in
@@ -219,5 +208,5 @@ or-one true = refl
 or-one false = refl
 
 -- whether one stopped
-pub stopped-more : (outcomes : List Outcome) (o : Outcome) (was is : Bool) → was ≡ list_any is_stopped outcomes → is ≡ (was || is_stopped o) → is ≡ list_any is_stopped (outcomes ++ o ∷ [])
+pub stopped-more : (outcomes : List Returned) (o : Returned) (was is : Bool) → was ≡ list_any is_stopped outcomes → is ≡ (was || is_stopped o) → is ≡ list_any is_stopped (outcomes ++ o ∷ [])
 stopped-more outcomes o was is before more = more ∙ ap (λ b. b || is_stopped o) before ∙ sym (list_any-append is_stopped outcomes (o ∷ []) ∙ ap (λ b. list_any is_stopped outcomes || b) (or-none (is_stopped o)))

@@ -20,18 +20,18 @@ use Rattle.mender.specs.Worked.{Finished, ask_of, asks_of, replies_of}
 use Rattle.mender.specs.Worked as worked
 use Rattle.shared.specs.Serving.{Turn, deed_told, AreServed, places_of, Serves}
 use Rattle.shared.proofs.Serving.{are_served-longer}
-use Rattle.rounds.specs.Rounds.{DidAll, DidErrand}
-use Rattle.rounds.specs.declared.work.Errand.{Errand}
-use Rattle.rounds.specs.declared.work.Errand.TheVariants.{Calls, Mend}
-use Rattle.rounds.specs.declared.work.Mended.TheVariants.{Paused, Worked}
-use Rattle.rounds.specs.declared.work.Outcome.{Outcome}
-use Rattle.rounds.specs.declared.work.Outcome.TheVariants as outcome
+use Rattle.rounds.specs.Rounds.{DidAll}
+use Rattle.rounds.specs.Errands.{DidMend, DidPart}
+use Rattle.rounds.specs.declared.kinds.Mended.TheVariants.{Paused, Worked}
+use Rattle.rounds.specs.declared.kinds.Mended.{Mended}
+use Rattle.rounds.specs.declared.kinds.Mending.{Mending}
+use Rattle.rounds.specs.declared.kinds.Returned.{Returned}
 use Rattle.rounds.specs.declared.work.Ran.{Ran}
 use Rattle.rounds.specs.declared.work.Work.{Work}
 use Rattle.script.specs.declared.rows.Row.{Row}
 use Rattle.script.specs.declared.rows.Task.TheVariants as task
 use Rattle.rounds.specs.Pools.{IsAllOwn, AreWorkers, AreNew, HaveSeen, did_by, passes_of, passes_back, outcomes_of}
-use Rattle.play.specs.Mends.{IsMender, AreMenders, IsEnded, AreEnded, TellsMend, AreDrawnOnce}
+use Rattle.play.specs.Mends.{IsPart, AreMenders, HasEnded, AreEnded, TellsMend, AreDrawnOnce}
 use Rattle.play.specs.Runs.{Mends, round_in}
 use Rattle.play.specs.Lists.{Each, Pairs}
 use Rattle.play.specs.Accounts.{Placed, act_at, Stands, own_places, Account, steps_in, found_of, Settles, IsMendOf, FindsAll, IsRound, IsOf, IsBefore, IsGood, IsLater}
@@ -40,6 +40,8 @@ use Rattle.transcript.specs.declared.outcome.RowOutcome.{RowOutcome}
 use Rattle.play.proofs.Buckets.{each-append, each-across, each-both, each-weaker, pairs-append, pairs-weaker}
 use Rattle.play.proofs.Parts.{MendPart, mend_part}
 use Rattle.play.proofs.Taking.{Took, took_none, took_more, took_ok, took_full, deeds_finished, deeds_full}
+use Rattle.mender.specs.Drawn.{DrawerState}
+use Rattle.play.proofs.Mending.{back_with}
 use Rattle.play.proofs.Repaired.{deeds_in, mends_told}
 
 -- if each had a reply, all were asked for
@@ -52,13 +54,13 @@ all_asked v w asks replies serves many =
 
 module _ (store : Which) (rows : List Row) (round top base number : ℕ) (past : base < number) (few : number ≤ top) (here : round_in rows number ≡ round) (before acts : List Act) (plan : List Item) (tickets : TableId) where
   -- a worker that mended: its turns
-  pub record Turned (who : ℕ) (o : Outcome) (w : Shows) : Type 0 where
+  pub record Turned (who : ℕ) (o : Returned) (w : Shows) : Type 0 where
     pub turns : List Turn
     pub did : w.did ≡ places_of who turns
     pub part : MendPart store.width store.limit rows round top acts who base (length before) number turns
     pub took : Took plan (o ∷ []) (deeds_in part.steps)
 
-  turned : (who : ℕ) (o : Outcome) (v w : Shows) (asks : List Ask) (replies : List Reply) → v.store ≡ store → (v.who ≡ who) × (v.acts ≡ before) × (v.did ≡ []) → (serves : Serves v asks replies w) → IsPrefix w.acts acts
+  turned : (who : ℕ) (o : Returned) (v w : Shows) (asks : List Ask) (replies : List Reply) → v.store ≡ store → (v.who ≡ who) × (v.acts ≡ before) × (v.did ≡ []) → (serves : Serves v asks replies w) → IsPrefix w.acts acts
       → ((deeds : List Deed) → map Some deeds ≡ map (λ (t : Turn). deed_told t.ask t.reply) serves.turns → Took plan (o ∷ []) deeds) → Turned who o w
   turned who o v w asks replies at new serves later takes =
       let each : AreServed store.width store.limit acts who (length before) serves.turns =
@@ -72,31 +74,29 @@ module _ (store : Which) (rows : List Row) (round top base number : ℕ) (past :
         took = takes (deeds_in mine.steps) mine.told;
       }
 
-  mender_did : (who : ℕ) (v w : Shows) (e : Errand) (o : Outcome) → v.store ≡ store → (v.who ≡ who) × (v.acts ≡ before) × (v.did ≡ []) → IsMender plan tickets e → DidErrand v e o w → IsEnded o → IsPrefix w.acts acts
-      → Turned who o w
-  mender_did who v w (Calls jobs) o at new is did ended later = absurd is
-  mender_did who v w (Mend m) (outcome.Called r) at new is did ended later = absurd did
-  mender_did who v w (Mend m) (outcome.Mended drawer Paused) at new is did ended later = absurd ended
-  mender_did who v w (Mend m) (outcome.Mended drawer (Worked (Ok done))) at new is did ended later =
+  mender_did : (who : ℕ) (v w : Shows) (m : Mending) (drawer : DrawerState) (mended : Mended) → v.store ≡ store → (v.who ≡ who) × (v.acts ≡ before) × (v.did ≡ []) → IsPart plan tickets m → DidPart v m drawer mended w → HasEnded mended → IsPrefix w.acts acts
+      → Turned who (back_with drawer mended) w
+  mender_did who v w m drawer Paused at new is did ended later = absurd ended
+  mender_did who v w m drawer (Worked (Ok done)) at new is did ended later =
       let asked = all_asked v w (asks_of done.items) (replies_of done.items) did.1 (length-map done.items (λ d. Made d.answer) ∙ sym (length-map done.items (λ d. ask_of d.item))) in
-      turned who (outcome.Mended drawer (Worked (Ok done))) v w (asks_of done.items) (replies_of done.items) at new did.1 later
+      turned who (back_with drawer (Worked (Ok done))) v w (asks_of done.items) (replies_of done.items) at new did.1 later
       (λ deeds told.
       took_ok plan m.drawer drawer done.items (Worked (Ok done)) deeds (subst (λ (p : List Item). Finished p m.drawer drawer done.items) is.plan_is did.0) is.none refl (append-nil done.items)
       (deeds_finished deeds did.1.turns done.items told asked did.1.replied))
-  mender_did who v w (Mend m) (outcome.Mended drawer (Worked (Err stop))) at new is did ended later =
+  mender_did who v w m drawer (Worked (Err stop)) at new is did ended later =
       let full = did.2 ended in
       let done = stop.done.items in
       let asks = asks_of done ++ ask_of full.item ∷ [] in
       let replies = replies_of done ++ Refused JournalFull ∷ [] in
       let many : length replies ≡ length asks = omega (arith, length-append (replies_of done) (Refused JournalFull ∷ []), length-append (asks_of done) (ask_of full.item ∷ []), length-map done (λ d. Made d.answer), length-map done (λ d. ask_of d.item)) in
       let asked = all_asked v w asks replies full.serves many in
-      turned who (outcome.Mended drawer (Worked (Err stop))) v w asks replies at new full.serves later
+      turned who (back_with drawer (Worked (Err stop))) v w asks replies at new full.serves later
       (λ deeds told.
       took_full plan m.drawer drawer done (Worked (Err stop)) full.ticket full.item deeds (subst (λ (p : List Item). worked.Worked p m.drawer drawer done (full.ticket ∷ [])) is.plan_is full.worked)
       (subst (λ (p : List Item). slice_get p full.ticket ≡ Some full.item) is.plan_is full.there) is.none refl (deeds_full deeds full.serves.turns done full.item told asked full.serves.replied))
 
   -- what the workers from this one on did
-  pub record MendersDid (who : ℕ) (os : List Outcome) (did : List ℕ) : Type 0 where
+  pub record MendersDid (who : ℕ) (os : List Returned) (did : List ℕ) : Type 0 where
     pub steps : List Placed
     pub places : did ≡ own_places steps
     pub stand : Each (Stands store.width store.limit acts) steps
@@ -107,7 +107,7 @@ module _ (store : Which) (rows : List Row) (round top base number : ℕ) (past :
     pub below : Each (λ (p : Placed). p.step.who < who + length os) steps
     pub took : Took plan os (deeds_in steps)
 
-  one_mender : (who : ℕ) (o : Outcome) (os : List Outcome) (w : Shows) (rest_did : List ℕ) → Turned who o w → MendersDid (who + 1) os rest_did → MendersDid who (o ∷ os) (w.did ++ rest_did)
+  one_mender : (who : ℕ) (o : Returned) (os : List Returned) (w : Shows) (rest_did : List ℕ) → Turned who o w → MendersDid (who + 1) os rest_did → MendersDid who (o ∷ os) (w.did ++ rest_did)
   one_mender who o os w rest_did t rest =
       let p = t.part in
       let xs = p.steps in
@@ -132,13 +132,13 @@ module _ (store : Which) (rows : List Row) (round top base number : ℕ) (past :
         took = subst (Took plan (o ∷ os)) (sym (map-append (λ (q : Placed). q.step.deed) xs ys)) (took_more plan (o ∷ []) os (deeds_in xs) (deeds_in ys) t.took rest.took);
       }
 
-  pub menders_did : (who : ℕ) (works : List Work) (rans : List Ran) → AreWorkers store (passes_of works) → AreNew before who (passes_of works) → AreMenders plan tickets works → DidAll works rans
+  pub menders_did : (who : ℕ) (works : List (Work Mending)) (rans : List (Ran Returned)) → AreWorkers store (passes_of works) → AreNew before who (passes_of works) → AreMenders plan tickets works → DidAll DidMend works rans
       → AreEnded (outcomes_of rans) → HaveSeen acts (passes_back rans) → MendersDid who (outcomes_of rans) (did_by (passes_back rans))
   menders_did who [] [] at fresh are did ended seen = record { steps = []; places = refl; stand = tt; are_later = tt; labels = tt; order = tt; of_row = tt; below = tt; took = took_none plan }
   menders_did who [] (r ∷ rans) at fresh are did ended seen = absurd did
   menders_did who (w ∷ works) [] at fresh are did ended seen = absurd did
   menders_did who (w ∷ works) (r ∷ rans) at fresh are did ended seen =
-      one_mender who r.outcome (outcomes_of rans) r.pass (did_by (passes_back rans)) (mender_did who w.pass r.pass w.errand r.outcome at.0.0 fresh.0 are.0 did.0 ended.0 seen.0)
+      one_mender who r.outcome (outcomes_of rans) r.pass (did_by (passes_back rans)) (mender_did who w.pass r.pass w.errand r.outcome.drawer r.outcome.mended at.0.0 fresh.0 are.0 did.0 ended.0 seen.0)
       (menders_did (who + 1) works rans at.1 fresh.1 are.1 did.1 ended.1 seen.1)
 
 -- ---- before the workers mend
@@ -158,9 +158,9 @@ did_none acts who (p ∷ ps) fresh = (λ i. fresh.0.2 i ++ did_none acts (who + 
 
 -- ---- the mend as a round
 pub mend_round : (store : Which) (workers : ℕ) (rows : List Row) (round top base number : ℕ) (is : IsMendOf rows round top base number) (old dismissed hired renewed : Shows) (passes : List Shows) (plan : List Item) (tickets : TableId)
-    (works : List Work) (rans : List Ran) (outcome : RowOutcome) (done : List NumberedOutcome)
+    (works : List (Work Mending)) (rans : List (Ran Returned)) (outcome : RowOutcome) (done : List NumberedOutcome)
     → AreNew old.acts 1 passes → IsPrefix old.acts dismissed.acts → dismissed.did ≡ old.did ++ did_by passes → (hired.acts ≡ dismissed.acts) × (hired.did ≡ dismissed.did) → IsAllOwn hired → IsPrefix hired.acts renewed.acts
-    → AreWorkers store (passes_of works) → AreNew hired.acts 1 (passes_of works) → AreMenders plan tickets works → DidAll works rans → AreEnded (outcomes_of rans) → HaveSeen renewed.acts (passes_back rans)
+    → AreWorkers store (passes_of works) → AreNew hired.acts 1 (passes_of works) → AreMenders plan tickets works → DidAll DidMend works rans → AreEnded (outcomes_of rans) → HaveSeen renewed.acts (passes_back rans)
     → renewed.did ≡ hired.did ++ did_by (passes_back rans) → plan ≡ plan_of (standing_of hired.acts).state → length rans ≡ workers → TellsMend plan (outcomes_of rans) outcome → AreDrawnOnce (outcomes_of rans)
     → IsRound store.width store.limit workers rows round top base (number ∷ []) old.acts renewed.acts old.did renewed.did done (done ++ record { number = number; outcome = outcome } ∷ [])
 mend_round store workers rows round top base number is old dismissed hired renewed passes plan tickets works rans outcome done idle more joined same own later at fresh are did ended seen all_did planned many tells drawn =

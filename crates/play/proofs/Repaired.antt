@@ -24,7 +24,7 @@ use Rattle.mender.specs.Mended.{results_of}
 use Rattle.mender.specs.Worked.{repair_of}
 use Rattle.mender.specs.declared.done.Done.{Done}
 use Rattle.mender.proofs.Counts.{once_below-in, once_below-out}
-use Rattle.rounds.specs.declared.work.Outcome.{Outcome}
+use Rattle.rounds.specs.declared.kinds.Returned.{Returned}
 use Rattle.transcript.specs.declared.outcome.RowOutcome.{RowOutcome}
 use Rattle.transcript.specs.declared.outcome.RowOutcome.TheVariants as row
 use Rattle.transcript.specs.Lines.{line_text}
@@ -102,7 +102,7 @@ meets_are [] = refl
 meets_are (p ∷ steps) = ap (λ b. is_full p.step.deed || b) (meets_are steps)
 
 -- repairs of the first items of the plan, or of all of them if none met a full journal
-mends_first : (workers : ℕ) (plan : List Item) (os : List Outcome) (steps : List Placed) (c : ℕ) → (took : Took plan os (deeds_in steps)) → ((n : ℕ) → times n (tickets_in took.taken) ≡ once_below n c)
+mends_first : (workers : ℕ) (plan : List Item) (os : List Returned) (steps : List Placed) (c : ℕ) → (took : Took plan os (deeds_in steps)) → ((n : ℕ) → times n (tickets_in took.taken) ≡ once_below n c)
     → Each (λ (p : Placed). (1 ≤ p.step.who) × (p.step.who ≤ workers)) steps → (list_any is_full (deeds_in steps) ≡ false → drop c plan ≡ []) → Mends workers plan (map found_of steps)
 mends_first workers plan os steps c took once are_by all =
     let operations = operations_are steps ∙ took.operations in
@@ -164,7 +164,7 @@ module _ (steps : List Placed) (results : List Done) (are : deeds_in steps ≡ m
       ∙ (λ i. if sym none i then codes "full" else numbers_text (map found_of steps))
 
 -- ---- the whole
-pub mends_told : (workers : ℕ) (plan : List Item) (os : List Outcome) (steps : List Placed) (outcome : RowOutcome) → Took plan os (deeds_in steps) → TellsMend plan os outcome → AreDrawnOnce os
+pub mends_told : (workers : ℕ) (plan : List Item) (os : List Returned) (steps : List Placed) (outcome : RowOutcome) → Took plan os (deeds_in steps) → TellsMend plan os outcome → AreDrawnOnce os
     → Each (λ (p : Placed). (1 ≤ p.step.who) × (p.step.who ≤ workers)) steps → Mends workers plan (map found_of steps) × IsMendTextOf (map found_of steps) outcome
 mends_told workers plan os steps (row.Replied reply) took tells drawn are_by = absurd tells
 mends_told workers plan os steps (row.Mended report) took tells drawn are_by =

@@ -23,13 +23,13 @@ use Rattle.mender.specs.Drawn.{DrawerState}
 use Rattle.mender.specs.Gathered.{tickets_of, IsOfPlan}
 use Rattle.mender.specs.Mended.{Left, results_of}
 use Rattle.mender.specs.Worked.{repair_of, ask_of, asks_of, replies_of, Worked, Finished}
-use Rattle.rounds.specs.declared.work.Mended.{Mended}
-use Rattle.rounds.specs.declared.work.Outcome.{Outcome}
-use Rattle.rounds.specs.declared.work.Outcome.TheVariants as outcome
+use Rattle.rounds.specs.declared.kinds.Mended.{Mended}
+use Rattle.rounds.specs.declared.kinds.Returned.{Returned}
 use Rattle.play.specs.Lists.{Each}
-use Rattle.play.specs.Mends.{left_of, all_left, is_stopped, drawn_in, drawn_by}
+use Rattle.play.specs.Mends.{left_of, all_left, is_stopped, drawn_by}
 use Rattle.play.specs.Runs.{operation_in, is_full}
 use Rattle.play.proofs.Buckets.{each-append}
+use Rattle.play.proofs.Mending.{back_with}
 
 -- a ticket with its item
 abbrev pub Taken : Type 0
@@ -49,7 +49,7 @@ abbrev pub operations_by : List Deed → List Operation
 operations_by deeds = flat_map operation_in deeds
 
 -- What these workers took of the plan, each with its repair. Of the plan's tickets they took just those that were drawn. If none met a full journal, the deeds are the results
-pub record Took (plan : List Item) (os : List Outcome) (deeds : List Deed) : Type 0 where
+pub record Took (plan : List Item) (os : List Returned) (deeds : List Deed) : Type 0 where
   pub taken : List Taken
   pub operations : operations_by deeds ≡ map repair_of (items_in taken)
   pub many : length deeds ≡ length taken
@@ -65,12 +65,12 @@ neither : (a b : Bool) → (a || b) ≡ false → (a ≡ false) × (b ≡ false)
 neither true b h = absurd (true≢false h)
 neither false b h = (refl, h)
 
-pub took_more : (plan : List Item) (xs ys : List Outcome) (one two : List Deed) → Took plan xs one → Took plan ys two → Took plan (xs ++ ys) (one ++ two)
+pub took_more : (plan : List Item) (xs ys : List Returned) (one two : List Deed) → Took plan xs one → Took plan ys two → Took plan (xs ++ ys) (one ++ two)
 took_more plan xs ys one two a b =
     let any_full = list_any-append is_full one two in
     let any_stopped = list_any-append is_stopped xs ys in
     let tickets_all = map-append (λ (t : Taken). t.0) a.taken b.taken in
-    let results_all : results_of (all_left (xs ++ ys)) ≡ results_of (all_left xs) ++ results_of (all_left ys) = ap results_of (flat_map-append left_of xs ys) ∙ flat_map-append (λ (left : Left). left.done) (all_left xs) (all_left ys) in
+    let results_all : results_of (all_left (xs ++ ys)) ≡ results_of (all_left xs) ++ results_of (all_left ys) = ap results_of (map-append left_of xs ys) ∙ flat_map-append (λ (left : Left). left.done) (all_left xs) (all_left ys) in
     record {
       taken = a.taken ++ b.taken;
       operations = flat_map-append operation_in one two ∙ (λ i. a.operations i ++ b.operations i)
@@ -78,7 +78,7 @@ took_more plan xs ys one two a b =
       many = omega (arith, length-append one two, length-append a.taken b.taken, a.many, b.many);
       of_plan = each-append (λ (t : Taken). slice_get plan t.0 ≡ Some t.1) a.taken b.taken a.of_plan b.of_plan;
       tickets = λ n below. ap (times n) tickets_all ∙ times-append n (tickets_in a.taken) (tickets_in b.taken) ∙ (λ i. a.tickets n below i + b.tickets n below i)
-          ∙ sym (ap (times n) (flat_map-append drawn_in xs ys) ∙ times-append n (drawn_by xs) (drawn_by ys));
+          ∙ sym (ap (times n) (flat_map-append (λ (o : Returned). o.drawer.drawn) xs ys) ∙ times-append n (drawn_by xs) (drawn_by ys));
       full = any_full ∙ (λ i. a.full i || b.full i) ∙ sym any_stopped;
       results = λ none.
           let each = neither (list_any is_stopped xs) (list_any is_stopped ys) (sym any_stopped ∙ none) in
@@ -160,8 +160,8 @@ drawn_finished plan old new done others w none n past =
 
 -- a worker that finished
 took_finished : (plan : List Item) (old new : DrawerState) (done : List Done) (m : Mended) (others : List ℕ) (deeds : List Deed) → Worked plan old new done others → old.drawn ≡ [] → ((n : ℕ) → n < length plan → times n others ≡ 0)
-    → is_stopped (outcome.Mended new m) ≡ false → results_of (all_left (outcome.Mended new m ∷ [])) ≡ done → deeds ≡ map deed_in done → Took plan (outcome.Mended new m ∷ []) deeds
-took_finished plan old new done m others deeds w none past not_stopped results are = subst (Took plan (outcome.Mended new m ∷ [])) (sym are) (record {
+    → is_stopped (back_with new m) ≡ false → results_of (all_left (back_with new m ∷ [])) ≡ done → deeds ≡ map deed_in done → Took plan (back_with new m ∷ []) deeds
+took_finished plan old new done m others deeds w none past not_stopped results are = subst (Took plan (back_with new m ∷ [])) (sym are) (record {
   taken = map taken_in done;
   operations = operations_done done;
   many = many_done done;
@@ -171,8 +171,8 @@ took_finished plan old new done m others deeds w none past not_stopped results a
   results = λ no. (ap (map deed_in) (sym results), tickets_done done ∙ ap tickets_of (sym results));
 })
 
-pub took_ok : (plan : List Item) (old new : DrawerState) (done : List Done) (m : Mended) (deeds : List Deed) → Finished plan old new done → old.drawn ≡ [] → is_stopped (outcome.Mended new m) ≡ false
-    → results_of (all_left (outcome.Mended new m ∷ [])) ≡ done → deeds ≡ map deed_in done → Took plan (outcome.Mended new m ∷ []) deeds
+pub took_ok : (plan : List Item) (old new : DrawerState) (done : List Done) (m : Mended) (deeds : List Deed) → Finished plan old new done → old.drawn ≡ [] → is_stopped (back_with new m) ≡ false
+    → results_of (all_left (back_with new m ∷ [])) ≡ done → deeds ≡ map deed_in done → Took plan (back_with new m ∷ []) deeds
 took_ok plan old new done m deeds finished none not_stopped results are = ⊎_elim
     (λ t. took_finished plan old new done m [] deeds t.0 none (λ n below. refl) not_stopped results are)
     (λ t. took_finished plan old new done m (t.0 ∷ []) deeds t.2 none (λ n below. past_none n t.0 (length plan) below t.1) not_stopped results are)
@@ -180,8 +180,8 @@ took_ok plan old new done m deeds finished none not_stopped results are = ⊎_el
 
 -- and one that met a full journal
 pub took_full : (plan : List Item) (old new : DrawerState) (done : List Done) (m : Mended) (ticket : ℕ) (item : Item) (deeds : List Deed) → Worked plan old new done (ticket ∷ []) → slice_get plan ticket ≡ Some item → old.drawn ≡ []
-    → is_stopped (outcome.Mended new m) ≡ true → deeds ≡ map deed_in done ++ full (repair_of item) ∷ [] → Took plan (outcome.Mended new m ∷ []) deeds
-took_full plan old new done m ticket item deeds w there none stopped are = subst (Took plan (outcome.Mended new m ∷ [])) (sym are) (record {
+    → is_stopped (back_with new m) ≡ true → deeds ≡ map deed_in done ++ full (repair_of item) ∷ [] → Took plan (back_with new m ∷ []) deeds
+took_full plan old new done m ticket item deeds w there none stopped are = subst (Took plan (back_with new m ∷ [])) (sym are) (record {
   taken = map taken_in done ++ (ticket, item) ∷ [];
   operations = flat_map-append operation_in (map deed_in done) (full (repair_of item) ∷ []) ∙ ap (λ l. l ++ repair_of item ∷ []) (operations_done done)
       ∙ sym (ap (map repair_of) (map-append (λ (t : Taken). t.1) (map taken_in done) ((ticket, item) ∷ [])) ∙ map-append repair_of (items_in (map taken_in done)) (item ∷ []));

@@ -1,5 +1,5 @@
 -- The parts of a mend's workers.
-use Rattle.std.specs.Prelude.{◌≡◌, ℕ, ◌+◌, Bool, true, false, List, [], ◌∷◌, length, Ok, Err}
+use Rattle.std.specs.Prelude.{◌≡◌, ℕ, ◌+◌, Bool, true, false, List, [], ◌∷◌, length, map, Ok, Err}
 use Rattle.std.specs.List.{flat_map, list_any, sum_by}
 use Rattle.gate.specs.Places.{TableId}
 use Rattle.sealed.specs.declared.fault.Fault.TheVariants.{JournalFull}
@@ -8,13 +8,10 @@ use Rattle.mender.specs.declared.done.Done.{Done}
 use Rattle.mender.specs.Drawn.{DrawerState, AreFirst}
 use Rattle.mender.specs.Gathered.{IsComplete, report_of}
 use Rattle.mender.specs.Mended.{Left, HasFinished, results_of}
-use Rattle.rounds.specs.declared.work.Errand.{Errand}
-use Rattle.rounds.specs.declared.work.Errand.TheVariants.{Calls, Mend}
-use Rattle.rounds.specs.declared.work.Mended.{Mended}
-use Rattle.rounds.specs.declared.work.Mended.TheVariants.{Worked, Paused}
-use Rattle.rounds.specs.declared.work.Mending.{Mending}
-use Rattle.rounds.specs.declared.work.Outcome.{Outcome}
-use Rattle.rounds.specs.declared.work.Outcome.TheVariants as outcome
+use Rattle.rounds.specs.declared.kinds.Mended.{Mended}
+use Rattle.rounds.specs.declared.kinds.Mended.TheVariants.{Worked, Paused}
+use Rattle.rounds.specs.declared.kinds.Mending.{Mending}
+use Rattle.rounds.specs.declared.kinds.Returned.{Returned}
 use Rattle.rounds.specs.declared.work.Work.{Work}
 use Rattle.transcript.specs.declared.outcome.RowOutcome.{RowOutcome}
 use Rattle.transcript.specs.declared.outcome.RowOutcome.TheVariants as row
@@ -28,30 +25,18 @@ pub record IsPart (plan : List Item) (tickets : TableId) (m : Mending) : Type 0 
   pub plan_is : m.plan.value.items.items ≡ plan
 
 -- each worker has such a part
-abbrev pub IsMender : List Item → TableId → Errand → Type 0
-IsMender plan tickets (Calls jobs) = ⊥
-IsMender plan tickets (Mend m) = IsPart plan tickets m
-
-abbrev pub AreMenders : List Item → TableId → List Work → Type 0
+abbrev pub AreMenders : List Item → TableId → List (Work Mending) → Type 0
 AreMenders plan tickets [] = Unit {0}
-AreMenders plan tickets (w ∷ ws) = IsMender plan tickets w.errand × AreMenders plan tickets ws
+AreMenders plan tickets (w ∷ ws) = IsPart plan tickets w.errand × AreMenders plan tickets ws
 
 -- each mends for this row, and asks the pace about it
-abbrev pub IsForRow : ℕ → Errand → Type 0
-IsForRow row (Calls jobs) = ⊥
-IsForRow row (Mend m) = m.row ≡ row
-
-abbrev pub AreForRow : ℕ → List Work → Type 0
+abbrev pub AreForRow : ℕ → List (Work Mending) → Type 0
 AreForRow row [] = Unit {0}
-AreForRow row (w ∷ ws) = IsForRow row w.errand × AreForRow row ws
+AreForRow row (w ∷ ws) = (w.errand.row ≡ row) × AreForRow row ws
 
 -- the allowances that the workers got
-abbrev pub given_to : Errand → ℕ
-given_to (Calls jobs) = 0
-given_to (Mend m) = m.drawer.allowance
-
-abbrev pub given_to_all : List Work → ℕ
-given_to_all works = sum_by (λ w. given_to w.errand) works
+abbrev pub given_to_all : List (Work Mending) → ℕ
+given_to_all works = sum_by (λ w. w.errand.drawer.allowance) works
 
 -- ---- after the round
 -- the results of a worker that did not stop
@@ -64,12 +49,11 @@ results_in m = []
 abbrev pub left_with : DrawerState → List Done → Left
 left_with drawer done = record { given = drawer.allowance + length drawer.drawn; drawer = drawer; done = done }
 
-abbrev pub left_of : Outcome → List Left
-left_of (outcome.Called r) = []
-left_of (outcome.Mended drawer m) = left_with drawer (results_in m) ∷ []
+abbrev pub left_of : Returned → Left
+left_of o = left_with o.drawer (results_in o.mended)
 
-abbrev pub all_left : List Outcome → List Left
-all_left outcomes = flat_map left_of outcomes
+abbrev pub all_left : List Returned → List Left
+all_left outcomes = map left_of outcomes
 
 -- a worker that did not stop has finished its part
 abbrev pub FinishedIfDone : List Item → DrawerState → Mended → Type 0
@@ -77,16 +61,15 @@ FinishedIfDone plan drawer (Worked (Ok done)) = HasFinished plan (left_with draw
 FinishedIfDone plan drawer m = Unit {0}
 
 -- each worker is back from its part
-abbrev pub IsBack : List Item → TableId → Outcome → Type 0
-IsBack plan tickets (outcome.Called r) = ⊥
-IsBack plan tickets (outcome.Mended drawer m) = (drawer.tickets ≡ tickets) × FinishedIfDone plan drawer m
+abbrev pub IsBack : List Item → TableId → Returned → Type 0
+IsBack plan tickets o = (o.drawer.tickets ≡ tickets) × FinishedIfDone plan o.drawer o.mended
 
-abbrev pub AreBack : List Item → TableId → List Outcome → Type 0
+abbrev pub AreBack : List Item → TableId → List Returned → Type 0
 AreBack plan tickets [] = Unit {0}
 AreBack plan tickets (o ∷ os) = IsBack plan tickets o × AreBack plan tickets os
 
 -- the allowances that they were given
-abbrev pub given_before : List Outcome → ℕ
+abbrev pub given_before : List Returned → ℕ
 given_before outcomes = sum_by (λ (left : Left). left.given) (all_left outcomes)
 
 -- the worker did what it could: the pace admitted it, and it stopped only at a full journal
@@ -95,11 +78,10 @@ HasEnded (Worked (Ok done)) = Unit {0}
 HasEnded (Worked (Err stop)) = stop.fault ≡ JournalFull
 HasEnded Paused = ⊥
 
-abbrev pub IsEnded : Outcome → Type 0
-IsEnded (outcome.Called r) = Unit {0}
-IsEnded (outcome.Mended drawer m) = HasEnded m
+abbrev pub IsEnded : Returned → Type 0
+IsEnded o = HasEnded o.mended
 
-abbrev pub AreEnded : List Outcome → Type 0
+abbrev pub AreEnded : List Returned → Type 0
 AreEnded [] = Unit {0}
 AreEnded (o ∷ os) = IsEnded o × AreEnded os
 
@@ -108,25 +90,20 @@ abbrev pub has_stopped : Mended → Bool
 has_stopped (Worked (Ok done)) = false
 has_stopped m = true
 
-abbrev pub is_stopped : Outcome → Bool
-is_stopped (outcome.Called r) = false
-is_stopped (outcome.Mended drawer m) = has_stopped m
+abbrev pub is_stopped : Returned → Bool
+is_stopped o = has_stopped o.mended
 
 -- the tickets that were drawn
-abbrev pub drawn_in : Outcome → List ℕ
-drawn_in (outcome.Called r) = []
-drawn_in (outcome.Mended drawer m) = drawer.drawn
-
-abbrev pub drawn_by : List Outcome → List ℕ
-drawn_by outcomes = flat_map drawn_in outcomes
+abbrev pub drawn_by : List Returned → List ℕ
+drawn_by outcomes = flat_map (λ o. o.drawer.drawn) outcomes
 
 -- the drawn tickets of all workers are the first ones, each once
-abbrev pub AreDrawnOnce : List Outcome → Type 0
+abbrev pub AreDrawnOnce : List Returned → Type 0
 AreDrawnOnce outcomes = AreFirst (drawn_by outcomes) (length (drawn_by outcomes))
 
 -- The outcome of a mend. If no worker stopped, each item has one result, and it has the counts of
 -- all results; otherwise a worker stopped
-abbrev pub TellsMend : List Item → List Outcome → RowOutcome → Type 0
+abbrev pub TellsMend : List Item → List Returned → RowOutcome → Type 0
 TellsMend plan outcomes (row.Replied reply) = ⊥
 TellsMend plan outcomes (row.Mended report) =
     (list_any is_stopped outcomes ≡ false) × IsComplete plan (results_of (all_left outcomes)) × (report ≡ report_of (results_of (all_left outcomes)))

@@ -1,16 +1,19 @@
 -- The outcomes of the rows of a round.
-use Rattle.std.specs.Prelude.{◌≡◌, List, [], ◌∷◌, ◌++◌, map, Ok, Err}
+use Rattle.std.specs.Prelude.{◌≡◌, List, [], ◌∷◌, ◌++◌, map, Result, Ok, Err, Vec}
+use Rattle.std.specs.Global.{Global}
 use Rattle.requests.specs.declared.jobs.RowReply.{RowReply}
-use Rattle.rounds.specs.declared.work.Outcome.{Outcome}
-use Rattle.rounds.specs.declared.work.Outcome.TheVariants.{Called, Mended}
+use Rattle.requests.specs.declared.jobs.Stopped.{Stopped}
+use Rattle.rounds.specs.declared.kinds.Called.{Called}
 use Rattle.transcript.specs.declared.outcome.NumberedOutcome.{NumberedOutcome}
 use Rattle.transcript.specs.declared.outcome.RowOutcome.TheVariants.{Replied}
 
 -- the replies of a worker that ran to its end
-abbrev pub AreRepliesOf : Outcome → List RowReply → Type 0
-AreRepliesOf (Called (Ok replies)) rs = rs ≡ replies.items
-AreRepliesOf (Called (Err stopped)) rs = ⊥
-AreRepliesOf (Mended drawer mended) rs = rs ≡ []
+abbrev pub AreAllOf : Result (Vec RowReply Global) Stopped → List RowReply → Type 0
+AreAllOf (Ok replies) rs = rs ≡ replies.items
+AreAllOf (Err stopped) rs = ⊥
+
+abbrev pub AreRepliesOf : Called → List RowReply → Type 0
+AreRepliesOf called rs = AreAllOf called.0 rs
 
 -- each reply with its row's number
 abbrev pub outcome_for : RowReply → NumberedOutcome
@@ -20,7 +23,7 @@ abbrev pub noted : List RowReply → List NumberedOutcome
 noted replies = map outcome_for replies
 
 -- the replies of all workers, one worker after the other, are appended to the earlier ones
-abbrev pub AreNoted : List Outcome → List NumberedOutcome → List NumberedOutcome → Type 0
+abbrev pub AreNoted : List Called → List NumberedOutcome → List NumberedOutcome → Type 0
 AreNoted [] old new = new ≡ old
 AreNoted (o ∷ outcomes) old new =
     (replies : List RowReply) × AreRepliesOf o replies

@@ -1,20 +1,20 @@
 -- The passes of a run's workers.
-use Rattle.std.proofs.Common.{◌≡◌, ℕ, ◌+◌, List, [], ◌∷◌, ◌++◌, length, Ok, Err, subst, sym, ap, suc, refl, ◌∙◌, arith}
+use Rattle.std.proofs.Common.{◌≡◌, ℕ, ◌+◌, List, [], ◌∷◌, ◌++◌, length, Result, Ok, Err, Vec, Global, subst, sym, ap, suc, refl, ◌∙◌, arith}
 use Rattle.std.proofs.lemmas.List.{flat_map_more}
 use mathlib.Core.List.{IsPrefix}
 use Rattle.gate.proofs.Lists.{prefix_trans}
 use Rattle.book.specs.Serial.{Act}
 use Rattle.shared.specs.Passes.{Shows, Which, Stays}
-use Rattle.rounds.specs.Rounds.{AreOf, FitsTickets, DidAll, DidErrand, DidMend}
-use Rattle.rounds.specs.declared.work.Errand.{Errand}
-use Rattle.rounds.specs.declared.work.Errand.TheVariants.{Calls, Mend}
-use Rattle.rounds.specs.declared.work.Mended.TheVariants.{Paused, Worked}
-use Rattle.rounds.specs.declared.work.Mending.{Mending}
-use Rattle.rounds.specs.declared.work.Outcome.{Outcome}
-use Rattle.rounds.specs.declared.work.Outcome.TheVariants.{Called, Mended}
+use Rattle.rounds.specs.Rounds.{AreOf, DidAll, Effect}
+use Rattle.rounds.specs.Errands.{DidCalls, DidMend, DidPart, HaveReplies}
+use Rattle.mender.specs.Drawn.{DrawerState}
+use Rattle.requests.specs.declared.jobs.RowReply.{RowReply}
+use Rattle.requests.specs.declared.jobs.Stopped.{Stopped}
+use Rattle.rounds.specs.declared.kinds.Mended.{Mended}
+use Rattle.rounds.specs.declared.kinds.Mended.TheVariants.{Paused, Worked}
 use Rattle.rounds.specs.declared.work.Ran.{Ran}
 use Rattle.rounds.specs.declared.work.Work.{Work}
-use Rattle.rounds.specs.Pools.{AreWorkers, AreCalls, AreNew, HaveSeen, IsCalls, did_by, passes_of, passes_back}
+use Rattle.rounds.specs.Pools.{AreWorkers, AreNew, HaveSeen, did_by, passes_of, passes_back}
 
 -- one worker more
 pub workers-more : (store : Which) (ps : List Shows) (p : Shows) → AreWorkers store ps → p.store ≡ store → p.room ≡ 1 → AreWorkers store (ps ++ p ∷ [])
@@ -27,48 +27,45 @@ one-worker store [] after p all = all.0
 one-worker store (x ∷ before) after p all = one-worker store before after p all.1
 
 -- one work more
-pub calls-more : (works : List Work) (w : Work) → AreCalls works → IsCalls w.errand → AreCalls (works ++ w ∷ [])
-calls-more [] w all last = (last, tt)
-calls-more (x ∷ works) w all last = (all.0, calls-more works w all.1 last)
-
-fits-calls : (e : Errand) → IsCalls e → FitsTickets e
-fits-calls (Calls jobs) is = tt
-fits-calls (Mend m) is = absurd is
-
--- passes of the store run the tasks
-pub calls-of : (store : Which) (works : List Work) → AreWorkers store (passes_of works) → AreCalls works → AreOf store works
-calls-of store [] all are = tt
-calls-of store (w ∷ works) all are = ((all.0.0, fits-calls w.errand are.0), calls-of store works all.1 are.1)
+pub works-of : {E : Type 0} (fits : E → Type 0) (store : Which) (works : List (Work E)) → ((e : E) → fits e) → AreWorkers store (passes_of works) → AreOf fits store works
+works-of fits store [] fit all = tt
+works-of fits store (w ∷ works) fit all = ((all.0.0, fit w.errand), works-of fits store works fit all.1)
 
 -- whatever a worker did, its pass is the same one
-stays-mend : (v : Shows) (m : Mending) (o : Outcome) (w : Shows) → DidMend v m o w → Stays v w
-stays-mend v m (Called r) w did = absurd did
-stays-mend v m (Mended drawer Paused) w did = subst (λ (x : Shows). Stays v x) (sym did.1) (refl, refl, refl)
-stays-mend v m (Mended drawer (Worked (Ok done))) w did = did.1.stays
-stays-mend v m (Mended drawer (Worked (Err stop))) w did = did.1.stays
+abbrev Keeps : {E O : Type 0} → Effect E O → Type 0
+Keeps {E} {O} did = (v : Shows) (e : E) (o : O) (w : Shows) → did v e o w → Stays v w
 
-stays : (v : Shows) (e : Errand) (o : Outcome) (w : Shows) → DidErrand v e o w → Stays v w
-stays v (Calls jobs) (Called (Ok replies)) w did = did.1.stays
-stays v (Calls jobs) (Called (Err stopped)) w did = did.0.stays
-stays v (Calls jobs) (Mended drawer m) w did = absurd did
-stays v (Mend m) o w did = stays-mend v m o w did
+pub mend-keeps : Keeps DidMend
+mend-keeps v m o w did = by o.drawer o.mended did
+  where
+    by : (drawer : DrawerState) (mended : Mended) → DidPart v m drawer mended w → Stays v w
+    by drawer Paused did = subst (λ (x : Shows). Stays v x) (sym did.1) (refl, refl, refl)
+    by drawer (Worked (Ok done)) did = did.1.stays
+    by drawer (Worked (Err stop)) did = did.1.stays
+
+pub calls-keep : Keeps DidCalls
+calls-keep v calls o w did = by o.0 did
+  where
+    by : (r : Result (Vec RowReply Global) Stopped) → HaveReplies v calls.0.items r w → Stays v w
+    by (Ok replies) did = did.1.stays
+    by (Err stopped) did = did.0.stays
 
 -- after a round they are workers still
-pub back : (store : Which) (works : List Work) (rans : List Ran) → AreWorkers store (passes_of works) → DidAll works rans
+pub back : {E O : Type 0} (did : Effect E O) → Keeps did → (store : Which) (works : List (Work E)) (rans : List (Ran O)) → AreWorkers store (passes_of works) → DidAll did works rans
     → AreWorkers store (passes_back rans) × (length (passes_back rans) ≡ length (passes_of works))
-back store [] [] all did = (tt, refl)
-back store [] (r ∷ rans) all did = absurd did
-back store (w ∷ works) [] all did = absurd did
-back store (w ∷ works) (r ∷ rans) all did =
-    let same : Stays w.pass r.pass = stays w.pass w.errand r.outcome r.pass did.0 in
-    let rest : AreWorkers store (passes_back rans) × (length (passes_back rans) ≡ length (passes_of works)) = back store works rans all.1 did.1 in
+back did keeps store [] [] all done = (tt, refl)
+back did keeps store [] (r ∷ rans) all done = absurd done
+back did keeps store (w ∷ works) [] all done = absurd done
+back did keeps store (w ∷ works) (r ∷ rans) all done =
+    let same : Stays w.pass r.pass = keeps w.pass w.errand r.outcome r.pass done.0 in
+    let rest : AreWorkers store (passes_back rans) × (length (passes_back rans) ≡ length (passes_of works)) = back did keeps store works rans all.1 done.1 in
     (((same.0 ∙ all.0.0, same.2 ∙ all.0.1), rest.0), ap suc rest.1)
 
 -- there are as many, and with the rest of the first pass their rooms add up to the old sum
-pub pool-back : (store : Which) (room : ℕ) (passes left : List Shows) (works : List Work) (rans : List Ran) → passes_of works ≡ passes → left ≡ passes_back rans
-    → AreWorkers store passes → room + length passes ≡ 64 → DidAll works rans → AreWorkers store left × (room + length left ≡ 64) × (length left ≡ length passes)
-pool-back store room passes left works rans given taken all rooms did =
-    let on : AreWorkers store (passes_back rans) × (length (passes_back rans) ≡ length (passes_of works)) = back store works rans (subst (AreWorkers store) (sym given) all) did in
+pub pool-back : {E O : Type 0} (did : Effect E O) → Keeps did → (store : Which) (room : ℕ) (passes left : List Shows) (works : List (Work E)) (rans : List (Ran O)) → passes_of works ≡ passes → left ≡ passes_back rans
+    → AreWorkers store passes → room + length passes ≡ 64 → DidAll did works rans → AreWorkers store left × (room + length left ≡ 64) × (length left ≡ length passes)
+pool-back did keeps store room passes left works rans given taken all rooms done =
+    let on : AreWorkers store (passes_back rans) × (length (passes_back rans) ≡ length (passes_of works)) = back did keeps store works rans (subst (AreWorkers store) (sym given) all) done in
     let len : length left ≡ length passes = ap length taken ∙ (on.1 ∙ ap length given) in
     (subst (AreWorkers store) (sym taken) on.0, subst (λ (n : ℕ). room + n ≡ 64) (sym len) rooms, len)
 

@@ -1,16 +1,14 @@
 -- Why a run stopped before its end.
-use Rattle.std.specs.Prelude.{◌≡◌, ℕ, Bool, true, false, not, List, Option, None, Some, Ok, Err, if◌then◌else◌}
+use Rattle.std.specs.Prelude.{◌≡◌, ℕ, Bool, false, List, Option, None, Some, if◌then◌else◌}
 use Rattle.std.specs.List.{list_any}
-use Rattle.sealed.specs.declared.fault.Fault.{Fault}
-use Rattle.sealed.specs.declared.fault.Fault.TheVariants.{JournalFull}
-use Rattle.requests.specs.declared.jobs.Cause.{Cause}
-use Rattle.requests.specs.declared.jobs.Cause.TheVariants as cause
-use Rattle.rounds.specs.Rounds.{ArePaced, DidAll}
-use Rattle.rounds.specs.declared.work.Mended.TheVariants.{Worked, Paused}
+use Rattle.rounds.specs.Errands.{DidCalls, DidMend, ArePacedCalls, IsPacedMend, calls_lack_memory, calls_are_paused, mend_lacks_memory, mend_is_paused}
+use Rattle.rounds.specs.declared.kinds.Called.{Called}
+use Rattle.rounds.specs.declared.kinds.Calls.{Calls}
+use Rattle.rounds.specs.declared.kinds.Mending.{Mending}
+use Rattle.rounds.specs.declared.kinds.Returned.{Returned}
+use Rattle.rounds.specs.Rounds.{ArePaced, AtPace, DidAll, Effect}
 use Rattle.rounds.specs.declared.work.NotRun.{NotRun}
 use Rattle.rounds.specs.declared.work.NotRun.TheVariants as not_run
-use Rattle.rounds.specs.declared.work.Outcome.{Outcome}
-use Rattle.rounds.specs.declared.work.Outcome.TheVariants.{Called, Mended}
 use Rattle.rounds.specs.declared.work.Ran.{Ran}
 use Rattle.rounds.specs.declared.work.Work.{Work}
 use Rattle.rounds.specs.Pools.{outcomes_of}
@@ -18,51 +16,50 @@ use Rattle.rounds.specs.declared.halt.Halt.{Halt}
 use Rattle.rounds.specs.declared.halt.Halt.TheVariants as halt
 
 -- the halt for a round that could not be run
-abbrev pub halt_by : NotRun → Halt
+abbrev pub halt_by : {E O : Type 0} → NotRun E O → Halt
 halt_by (not_run.Memory left) = halt.Memory
 halt_by (not_run.Start rans left) = halt.Start
 
--- ---- after a round
--- the two errors of a worker, and of a cause
-abbrev pub is_journal_full : Fault → Bool
-is_journal_full JournalFull = true
-is_journal_full fault = false
-
-abbrev pub is_no_memory : Cause → Bool
-is_no_memory cause.NoMemory = true
-is_no_memory cause.Paused = false
-
--- a worker ran out of memory. A mend that meets a full journal comes to its end
-abbrev pub lacks_memory : Outcome → Bool
-lacks_memory (Called (Ok replies)) = false
-lacks_memory (Called (Err stopped)) = is_no_memory stopped.cause
-lacks_memory (Mended drawer (Worked (Ok done))) = false
-lacks_memory (Mended drawer (Worked (Err stop))) = not (is_journal_full stop.fault)
-lacks_memory (Mended drawer Paused) = false
-
--- the pace stopped a worker
-abbrev pub is_paused : Outcome → Bool
-is_paused (Called (Ok replies)) = false
-is_paused (Called (Err stopped)) = not (is_no_memory stopped.cause)
-is_paused (Mended drawer (Worked r)) = false
-is_paused (Mended drawer Paused) = true
-
 -- why a round ends the run, if it does. Memory takes precedence over a pause
-abbrev pub halt_after : List Outcome → Option Halt
-halt_after outcomes =
+abbrev pub halt_after : {O : Type 0} → (O → Bool) → (O → Bool) → List O → Option Halt
+halt_after lacks_memory is_paused outcomes =
     if list_any lacks_memory outcomes then Some halt.Memory
     else if list_any is_paused outcomes then Some halt.Paused
     else None
 
 -- a worker came to the end of its part
-abbrev pub GoesOn : Outcome → Type 0
-GoesOn o = (lacks_memory o ≡ false) × (is_paused o ≡ false)
+abbrev pub GoesOn : {O : Type 0} → (O → Bool) → (O → Bool) → O → Type 0
+GoesOn lacks_memory is_paused o = (lacks_memory o ≡ false) × (is_paused o ≡ false)
 
 -- a round of such works, at such a pace, was run, and ended the run for this reason, or for none
-pub record HasRound (AreWorks : List Work → Type 0) (may_answer : ℕ → Bool → Type 0) (reason : Option Halt) : Type 0 where
-  pub works : List Work
-  pub rans : List Ran
+pub record HasRound {E O : Type 0} (did : Effect E O) (paced : AtPace E O)
+    (lacks_memory is_paused : O → Bool) (AreWorks : List (Work E) → Type 0)
+    (may_answer : ℕ → Bool → Type 0) (reason : Option Halt) : Type 0 where
+  pub works : List (Work E)
+  pub rans : List (Ran O)
   pub are : AreWorks works
-  pub did : DidAll works rans
-  pub paced : ArePaced may_answer works rans
-  pub ends : halt_after (outcomes_of rans) ≡ reason
+  pub did_all : DidAll did works rans
+  pub are_paced : ArePaced paced may_answer works rans
+  pub ends : halt_after lacks_memory is_paused (outcomes_of rans) ≡ reason
+
+-- ---- of calls, and of a mend
+abbrev pub called_lacks : Called → Bool
+called_lacks o = calls_lack_memory o.0
+
+abbrev pub called_paused : Called → Bool
+called_paused o = calls_are_paused o.0
+
+abbrev pub mend_lacks : Returned → Bool
+mend_lacks o = mend_lacks_memory o.mended
+
+abbrev pub mend_paused : Returned → Bool
+mend_paused o = mend_is_paused o.mended
+
+abbrev pub HasCallRound : (List (Work Calls) → Type 0) → (ℕ → Bool → Type 0) → Option Halt → Type 0
+HasCallRound AreWorks may_answer reason =
+    HasRound DidCalls ArePacedCalls called_lacks called_paused AreWorks may_answer reason
+
+abbrev pub HasMendRound : (List (Work Mending) → Type 0) → (ℕ → Bool → Type 0) → Option Halt
+    → Type 0
+HasMendRound AreWorks may_answer reason =
+    HasRound DidMend IsPacedMend mend_lacks mend_paused AreWorks may_answer reason

@@ -1,3 +1,4 @@
+pub mod Errands
 pub mod Halts
 pub mod Pools
 pub mod Rounds

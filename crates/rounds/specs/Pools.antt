@@ -5,9 +5,6 @@ use mathlib.Core.List.{IsPrefix}
 use Rattle.gate.specs.Places.{times}
 use Rattle.book.specs.Serial.{Act}
 use Rattle.shared.specs.Passes.{Shows, Which}
-use Rattle.rounds.specs.declared.work.Errand.{Errand}
-use Rattle.rounds.specs.declared.work.Errand.TheVariants.{Calls, Mend}
-use Rattle.rounds.specs.declared.work.Outcome.{Outcome}
 use Rattle.rounds.specs.declared.work.Ran.{Ran}
 use Rattle.rounds.specs.declared.work.Work.{Work}
 use Rattle.rounds.specs.declared.pool.Pool.{Pool}
@@ -51,21 +48,12 @@ pub record IsFresh (store : Which) (pool : Pool) : Type 0 where
   pub own : IsAllOwn pool.first
 
 -- the passes that go into a round
-abbrev pub passes_of : List Work → List Shows
+abbrev pub passes_of : {E : Type 0} → List (Work E) → List Shows
 passes_of works = map (λ w. w.pass) works
 
 -- and those that come back from it
-abbrev pub passes_back : List Ran → List Shows
+abbrev pub passes_back : {O : Type 0} → List (Ran O) → List Shows
 passes_back rans = map (λ r. r.pass) rans
 
-abbrev pub outcomes_of : List Ran → List Outcome
+abbrev pub outcomes_of : {O : Type 0} → List (Ran O) → List O
 outcomes_of rans = map (λ r. r.outcome) rans
-
--- each worker is to make calls
-abbrev pub IsCalls : Errand → Type 0
-IsCalls (Calls jobs) = Unit {0}
-IsCalls (Mend m) = ⊥
-
-abbrev pub AreCalls : List Work → Type 0
-AreCalls [] = Unit {0}
-AreCalls (w ∷ ws) = IsCalls w.errand × AreCalls ws

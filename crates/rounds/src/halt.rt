@@ -1,12 +1,10 @@
 //! Halts: why a run stopped before its end.
 ghost use Rattle.std.specs.Prelude.{◌≡◌};
 ghost use Rattle.std.specs.List.{list_any};
-ghost use Rattle.rounds.specs.Halts.{lacks_memory, is_paused, halt_after};
+ghost use Rattle.rounds.specs.Halts.{halt_after};
 ghost use Rattle.rounds.specs.declared.halt.Halt.TheVariants.{Memory};
 
-use crate::work::{Mended, NotRun, Outcome};
-use book::Fault;
-use shared::Cause;
+use crate::work::{Ending, NotRun};
 use std::alloc::{AllocError, AllocFailed};
 
 /// Why a run stopped before its end.
@@ -36,12 +34,12 @@ impl<T: Drop> From<AllocFailed<T>> for Halt {
     }
 }
 
-impl From<NotRun> for Halt {
+impl<E: Drop, O: Drop> From<NotRun<E, O>> for Halt {
     ghost use Rattle.rounds.specs.Halts.{halt_by};
 
     ghost from_gives = { λ error halt. halt ≡ halt_by error };
 
-    fn from(error: NotRun) -> Halt {
+    fn from(error: NotRun<E, O>) -> Halt {
         match error {
             NotRun::Memory(_left) => Halt::Memory,
             NotRun::Start(_rans, _left) => Halt::Start,
@@ -50,45 +48,23 @@ impl From<NotRun> for Halt {
 }
 
 /// Whether this worker ran out of memory. A worker that met a full journal did not.
-fn lacks_memory(outcome: &Outcome) -> bool
-    ensures { result ≡ lacks_memory outcome.now }
+fn one_lacks_memory<O: Ending>(outcomes: &[O]) -> bool
+    ensures { result ≡ list_any O.lacks outcomes.now }
 {
-    match outcome {
-        Outcome::Called(Err(stopped)) => stopped.cause == Cause::NoMemory,
-        Outcome::Mended(_, Mended::Worked(Err(stopped))) => stopped.fault != Fault::JournalFull,
-        _ => false,
-    }
-}
-
-/// Whether the pace stopped this worker.
-fn is_paused(outcome: &Outcome) -> bool
-    ensures { result ≡ is_paused outcome.now }
-{
-    match outcome {
-        Outcome::Called(Err(stopped)) => stopped.cause == Cause::Paused,
-        Outcome::Mended(_, Mended::Paused) => true,
-        _ => false,
-    }
-}
-
-/// Whether a worker ran out of memory.
-fn one_lacks_memory(outcomes: &[Outcome]) -> bool
-    ensures { result ≡ list_any lacks_memory outcomes.now }
-{
-    outcomes.iter().any(|outcome| lacks_memory(outcome))
+    outcomes.iter().any(|outcome| outcome.lacks_memory())
 }
 
 /// Whether the pace stopped a worker.
-fn one_is_paused(outcomes: &[Outcome]) -> bool
-    ensures { result ≡ list_any is_paused outcomes.now }
+fn one_is_paused<O: Ending>(outcomes: &[O]) -> bool
+    ensures { result ≡ list_any O.paused outcomes.now }
 {
-    outcomes.iter().any(|outcome| is_paused(outcome))
+    outcomes.iter().any(|outcome| outcome.is_paused())
 }
 
 /// Why a round ends the run, or `None` if it does not. If a worker ran out of memory and another
 /// was paused, this is `Memory`.
-pub fn halted(outcomes: &[Outcome]) -> Option<Halt>
-    ensures { result ≡ halt_after outcomes.now }
+pub fn halted<O: Ending>(outcomes: &[O]) -> Option<Halt>
+    ensures { result ≡ halt_after O.lacks O.paused outcomes.now }
 {
     if one_lacks_memory(outcomes) {
         return Some(Halt::Memory);

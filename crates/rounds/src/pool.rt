@@ -4,7 +4,7 @@ ghost use mathlib.Core.List.{IsPrefix};
 ghost use Rattle.rounds.specs.Pools.{IsPool, IsFresh, IsAllOwn, HaveSeen, did_by, passes_back};
 ghost use Rattle.rounds.specs.Pools.{outcomes_of};
 
-use crate::work::{Outcome, Ran};
+use crate::work::Ran;
 use shared::{Pass, Store};
 use std::alloc::{AllocError, Global};
 
@@ -81,7 +81,7 @@ impl Pool {
 
 /// The passes that came back from a round, and the outcomes of the workers' tasks. `AllocError` if
 /// memory runs out.
-pub fn unzip(alloc: Global, rans: Vec<Ran>) -> Result<(Vec<Pass>, Vec<Outcome>), AllocError>
+pub fn unzip<O: Drop>(alloc: Global, rans: Vec<Ran<O>>) -> Result<(Vec<Pass>, Vec<O>), AllocError>
     ensures passes { IfOk result (λ r. r.0.items ≡ passes_back rans.items) }
     ensures outcomes { IfOk result (λ r. r.1.items ≡ outcomes_of rans.items) }
 {

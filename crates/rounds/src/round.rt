@@ -1,12 +1,10 @@
 //! One round: a thread for each worker that has a task, all joined at its end.
-ghost use Rattle.std.specs.Prelude.{◌≡◌, ◌≤◌, ◌++◌, [], false, IfOk, IfErr, map, vec_len};
-ghost use Rattle.std.specs.Prelude.{vec_capacity};
-ghost use Rattle.rounds.specs.Rounds.{AreOf, IsOf, ArePaced, AreReady, IsPacedErrand, IsReady};
-ghost use Rattle.rounds.specs.Rounds.{DidAll, DidAt, DidMend, EachRan, AreReturned, work_of};
-ghost use Rattle.rounds.specs.declared.work.Errand.TheVariants.{Mend};
+ghost use Rattle.std.specs.Prelude.{◌≡◌, ◌≤◌, ◌++◌, [], false, IfOk, IfErr, map};
+ghost use Rattle.std.specs.Prelude.{vec_len, vec_capacity};
+ghost use Rattle.rounds.specs.Rounds.{AreOf, IsOf, ArePaced, AreReady, IsReady, DidAll, DidAt};
+ghost use Rattle.rounds.specs.Rounds.{EachRan, AreReturned, work_of};
 
-use crate::work::{DoesErrand, Errand, Mended, Mending, NotRun, Outcome, Ran, Started, Work};
-use mender::work;
+use crate::work::{DoesErrand, Errand, NotRun, Ran, Started, Work};
 use shared::{Pace, Pass, Store};
 use std::alloc::Global;
 use std::snapshot::Snapshot;
@@ -14,69 +12,50 @@ use std::sync::Wait;
 use std::thread;
 use std::thread::{Scope, SpawnError, Threads};
 
-/// Repairs items of a plan, once the pace admits the row.
-fn mend_on<R: Wait, P: Pace>(
+/// Runs a worker's task, on the worker's thread.
+fn work_on<R: Wait, E: Errand, P: Pace>(
     rt: &R,
     alloc: Global,
     store: &Store,
-    pass: &mut Pass,
-    mending: Mending,
+    work: Work<E>,
     pace: &P,
-) -> Outcome
-    requires store { pass.old.store ≡ store.now }
-    requires tickets { mending.drawer.tickets ≡ mending.tickets.value }
-    ensures did { DidMend pass.old mending result pass.new }
-    ensures paced { IsPacedErrand (P.may_answer pace.now) pass.old (Mend mending) result pass.new }
-{
-    let Mending {
-        row,
-        plan,
-        tickets,
-        mut drawer,
-    } = mending;
-    if !pace.before(row) {
-        return Outcome::Mended(drawer, Mended::Paused);
-    }
-    let worked = work(rt, alloc, store, pass, &plan, &tickets, &mut drawer);
-    pace.after(row);
-    Outcome::Mended(drawer, Mended::Worked(worked))
-}
-
-/// The task of a worker, as its thread runs it.
-fn work_on<R: Wait, P: Pace>(rt: &R, alloc: Global, store: &Store, work: Work, pace: &P) -> Ran
-    requires { IsOf store.now work }
-    ensures { DidAt (P.may_answer pace.now) work result }
+) -> Ran<E::Outcome>
+    requires { IsOf E.fits store.now work }
+    ensures { DidAt E.did E.paced (P.may_answer pace.now) work result }
 {
     let Work { mut pass, errand } = work;
-    let outcome = match errand {
-        Errand::Calls(jobs) => Outcome::Called(store.run(rt, alloc, &mut pass, jobs, pace)),
-        Errand::Mend(mending) => mend_on(rt, alloc, store, &mut pass, mending, pace),
-    };
+    let outcome = errand.carry_out(rt, alloc, store, &mut pass, pace);
     Ran { pass, outcome }
 }
 
 /// Starts a worker's thread if the worker has a task. If no thread can be started, the calling
 /// thread runs the task.
-fn start<'s, 'e, R: Threads + Wait + Sync, P: Pace + Sync>(
+fn start<'s, 'e, R: Threads + Wait + Sync, E: Errand + Send + 'e, P: Pace + Sync>(
     scope: &Scope<'s, &'e ()>,
     rt: &'e R,
     alloc: Global,
     store: &'e Store,
-    work: Work,
+    work: Work<E>,
     pace: &'e P,
-) -> Started<P>
-    requires { IsOf store.now work }
+) -> Started<E, P>
+where
+    E::Outcome: Send,
+    requires { IsOf E.fits store.now work }
     ensures work { work_of result ≡ work }
-    ensures ready { IsReady store.now pace.now (P.may_answer pace.now) result }
+    ensures ready { IsReady E.fits E.did E.paced store.now pace.now (P.may_answer pace.now) result }
 {
-    if work.is_idle() {
+    if work.errand.is_idle() {
         return Started::Idle(work);
     }
     let (promise, same) = (
         DoesErrand(Snapshot::of(&work), Snapshot::of(pace)),
         DoesErrand(Snapshot::of(&work), Snapshot::of(pace)),
     );
-    match scope.spawn_with(promise, move || work_on(rt, alloc, store, work, pace)) {
+    let run = move || -> Ran<E::Outcome>
+        requires { IsOf E.fits store.now work }
+        ensures { DidAt E.did E.paced (P.may_answer pace.entry.now) work result }
+    { work_on(rt, alloc, store, work, pace) };
+    match scope.spawn_with(promise, run) {
         Ok(handle) => Started::Busy(handle),
         Err(refused) => {
             let SpawnError { value } = refused;
@@ -87,32 +66,35 @@ fn start<'s, 'e, R: Threads + Wait + Sync, P: Pace + Sync>(
 
 /// The works of a round, while threads are started.
 #[derive(Drop)]
-struct Begun<P: Pace> {
-    /// The workers up to the first whose thread can't be started, that one included.
-    started: Vec<Started<P>>,
+struct Begun<E: Errand, P: Pace> {
+    /// The workers up to one whose thread can't be started.
+    started: Vec<Started<E, P>>,
     /// The works behind it.
-    left: Vec<Work>,
-    /// Whether there is such a worker.
+    left: Vec<Work<E>>,
+    /// Whether there is such a one.
     is_short: bool,
 }
 
-/// Starts the workers in order, up to the first whose thread can't be started.
-fn start_all<'s, 'e, R: Threads + Wait + Sync, P: Pace + Sync>(
+/// Starts the workers, as long as that works.
+fn start_all<'s, 'e, R: Threads + Wait + Sync, E: Errand + Send + 'e, P: Pace + Sync>(
     scope: &Scope<'s, &'e ()>,
     rt: &'e R,
     alloc: Global,
     store: &'e Store,
-    works: Vec<Work>,
+    works: Vec<Work<E>>,
     pace: &'e P,
-    begun: Begun<P>,
-) -> Begun<P>
-    requires works { AreOf store.now works.items }
+    begun: Begun<E, P>,
+) -> Begun<E, P>
+where
+    E::Outcome: Send,
+    requires works { AreOf E.fits store.now works.items }
     requires none { (begun.started.items ≡ []) × (begun.left.items ≡ [])
         × (begun.is_short ≡ false) }
     requires room { (vec_len works ≤ vec_capacity begun.started)
         × (vec_len works ≤ vec_capacity begun.left) }
     ensures works { map work_of result.started.items ++ result.left.items ≡ works.items }
-    ensures ready { AreReady store.now pace.now (P.may_answer pace.now) result.started.items }
+    ensures ready { AreReady E.fits E.did E.paced store.now pace.now (P.may_answer pace.now)
+        result.started.items }
     ensures all { result.is_short ≡ false → result.left.items ≡ [] }
 {
     let Begun {
@@ -137,15 +119,15 @@ fn start_all<'s, 'e, R: Threads + Wait + Sync, P: Pace + Sync>(
 }
 
 /// The result of a worker, once its thread has ended. A worker without a task has no thread.
-fn join<R: Threads + Wait, P: Pace>(
+fn join<R: Threads + Wait, E: Errand, P: Pace>(
     rt: &R,
     alloc: Global,
     store: &Store,
-    started: Started<P>,
+    started: Started<E, P>,
     pace: &P,
-) -> Ran
-    requires { IsReady store.now pace.now (P.may_answer pace.now) started }
-    ensures { DidAt (P.may_answer pace.now) (work_of started) result }
+) -> Ran<E::Outcome>
+    requires { IsReady E.fits E.did E.paced store.now pace.now (P.may_answer pace.now) started }
+    ensures { DidAt E.did E.paced (P.may_answer pace.now) (work_of started) result }
 {
     match started {
         Started::Busy(handle) => handle.join(rt),
@@ -155,18 +137,20 @@ fn join<R: Threads + Wait, P: Pace>(
 }
 
 /// Joins the workers, in order.
-fn join_all<R: Threads + Wait, P: Pace>(
+fn join_all<R: Threads + Wait, E: Errand, P: Pace>(
     rt: &R,
     alloc: Global,
     store: &Store,
-    started: Vec<Started<P>>,
+    started: Vec<Started<E, P>>,
     pace: &P,
-    mut rans: Vec<Ran>,
-) -> Vec<Ran>
-    requires ready { AreReady store.now pace.now (P.may_answer pace.now) started.items }
+    mut rans: Vec<Ran<E::Outcome>>,
+) -> Vec<Ran<E::Outcome>>
+    requires ready { AreReady E.fits E.did E.paced store.now pace.now (P.may_answer pace.now)
+        started.items }
     requires none { rans.items ≡ [] }
     requires room { vec_len started ≤ vec_capacity rans }
-    ensures { EachRan (DidAt (P.may_answer pace.now)) (map work_of started.items) result.items }
+    ensures { EachRan (DidAt E.did E.paced (P.may_answer pace.now)) (map work_of started.items)
+        result.items }
 {
     for one in started {
         rans.push_reserved(join(rt, alloc, store, one, pace));
@@ -183,17 +167,20 @@ fn join_all<R: Threads + Wait, P: Pace>(
 /// `Start` if a thread can't be started. That worker's task runs on the caller's thread, and the
 /// workers before it are joined. The error has their results, and the unchanged works of the
 /// workers behind it.
-pub fn run_round<R: Threads + Wait + Sync, P: Pace + Sync>(
+pub fn run_round<R: Threads + Wait + Sync, E: Errand + Send, P: Pace + Sync>(
     rt: &R,
     alloc: Global,
     store: &Store,
-    works: Vec<Work>,
+    works: Vec<Work<E>>,
     pace: &P,
-) -> Result<Vec<Ran>, NotRun>
-    requires { AreOf store.now works.items }
-    ensures did { IfOk result (λ rans. DidAll works.items rans.items) }
-    ensures paced { IfOk result (λ rans. ArePaced (P.may_answer pace.now) works.items rans.items) }
-    ensures back { IfErr result (AreReturned works.items) }
+) -> Result<Vec<Ran<E::Outcome>>, NotRun<E, E::Outcome>>
+where
+    E::Outcome: Send,
+    requires { AreOf E.fits store.now works.items }
+    ensures did { IfOk result (λ rans. DidAll E.did works.items rans.items) }
+    ensures paced { IfOk result (λ rans.
+        ArePaced E.paced (P.may_answer pace.now) works.items rans.items) }
+    ensures back { IfErr result (AreReturned E.did works.items) }
 {
     let many = works.len();
     let (Ok(rans), Ok(started), Ok(left)) = (
@@ -211,15 +198,15 @@ pub fn run_round<R: Threads + Wait + Sync, P: Pace + Sync>(
     thread::scope(
         thread::scope_env(),
         rt,
-        move |scope| -> Result<Vec<Ran>, NotRun>
-            requires { AreOf store.now works.items × (rans.items ≡ [])
-                × (vec_len works ≤ vec_capacity rans)
-                × (begun.started.items ≡ []) × (begun.left.items ≡ []) × (begun.is_short ≡ false)
+        move |scope| -> Result<Vec<Ran<E::Outcome>>, NotRun<E, E::Outcome>>
+            requires { AreOf E.fits store.now works.items × (rans.items ≡ [])
+                × (vec_len works ≤ vec_capacity rans) × (begun.started.items ≡ [])
+                × (begun.left.items ≡ []) × (begun.is_short ≡ false)
                 × (vec_len works ≤ vec_capacity begun.started)
                 × (vec_len works ≤ vec_capacity begun.left) }
-            ensures did { IfOk result (λ rans. EachRan (DidAt (P.may_answer pace.entry.now))
-                works.items rans.items) }
-            ensures back { IfErr result (AreReturned works.items) }
+            ensures did { IfOk result (λ rans.
+                EachRan (DidAt E.did E.paced (P.may_answer pace.entry.now)) works.items rans.items) }
+            ensures back { IfErr result (AreReturned E.did works.items) }
         {
             let Begun {
                 started,

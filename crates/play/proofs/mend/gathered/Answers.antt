@@ -1,23 +1,22 @@
 use Rattle.std.proofs.Common.{◌≡◌, ◌∷◌, ◌∙◌, Ok, ap, arith, subst, sym}
 use Rattle.std.proofs.lemmas.Grind.{common_steps}
 use Rattle.std.specs.Vec.Iter.{into_iter_items}
-use Rattle.rounds.specs.declared.work.Mended.TheVariants.{Worked}
-use Rattle.rounds.specs.declared.work.Outcome.{Outcome}
-use Rattle.rounds.specs.declared.work.Outcome.TheVariants.{Mended}
+use Rattle.rounds.specs.declared.kinds.Mended.TheVariants.{Worked}
+use Rattle.rounds.specs.declared.kinds.Returned.{Returned}
 use Rattle.play.specs.Mends.{AreBack}
 use Rattle.play.proofs.Halting.{are_ended}
-use Rattle.play.proofs.Mending.{joined-more, all-more, drawn-once, mend-complete, or-none, stopped-more}
+use Rattle.play.proofs.Mending.{back_with, joined-more, all-more, drawn-once, mend-complete, or-none, stopped-more}
 use Rattle.play.proofs.mend.gathered.Goals as goal
 
 pub loop-outcome-preserved-in-Some-results_of : goal.loop-outcome-preserved-in-Some-results_of
 loop-outcome-preserved-in-Some-results_of c =
     let plan = c.args.plan.now.items.items in
-    let other = c.in-Mended.other in
+    let other = c.in-Some.outcome.drawer in
     let done = c.in-Some-results_of.done in
-    let is : c.in-Some.outcome ≡ Mended other (Worked (Ok done)) = c.in-Mended.is ∙ ap (Mended other) c.in-Some-results_of.ensures.done in
+    let is : c.in-Some.outcome ≡ back_with other (Worked (Ok done)) = ap (back_with other) c.in-Some-results_of.ensures.done in
     let rest = into_iter_items c.next.new.self in
     let next : into_iter_items c.loop-outcome.outcome-iterator ≡ c.in-Some.outcome ∷ rest = grind (arith, common_steps) in
-    let back = subst (AreBack plan c.args.tickets.now) (next ∙ ap (λ (o : Outcome). o ∷ rest) is) c.loop-outcome.invariant.back in
+    let back = subst (AreBack plan c.args.tickets.now) (next ∙ ap (λ (o : Returned). o ∷ rest) is) c.loop-outcome.invariant.back in
     record {
       tickets = grind (arith, common_steps);
       back = back.1;
@@ -25,7 +24,7 @@ loop-outcome-preserved-in-Some-results_of c =
           c.join.ensures.both c.join.ensures.whole);
       all = λ not_full. rw is (all-more plan c.loop-outcome.yielded c.loop-outcome.all.items c.append.new.self.items other (Worked (Ok done))
           (c.loop-outcome.invariant.all not_full) back.0.1 c.in_ok-append-in-Some-results_of.ensures.items);
-      stopped = rw is (stopped-more c.loop-outcome.yielded (Mended other (Worked (Ok done))) c.loop-outcome.is_full c.loop-outcome.is_full c.loop-outcome.invariant.stopped (sym (or-none c.loop-outcome.is_full)));
+      stopped = rw is (stopped-more c.loop-outcome.yielded (back_with other (Worked (Ok done))) c.loop-outcome.is_full c.loop-outcome.is_full c.loop-outcome.invariant.stopped (sym (or-none c.loop-outcome.is_full)));
       outcomes = grind (arith, common_steps);
     }
 

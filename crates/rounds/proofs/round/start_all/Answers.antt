@@ -9,8 +9,9 @@ use Rattle.rounds.proofs.round.start_all.Goals as goal
 
 pub start-one-requires-after_bounds : goal.start-one-requires-after_bounds
 start-one-requires-after_bounds g c κs within =
-    let is : c.args.works.items ≡ c.loop-work.yielded ++ c.in-Some.work ∷ into_iter_items c.next.new.self = grind (arith, common_steps) in
-    one-of c.args.store.now c.loop-work.yielded (into_iter_items c.next.new.self) c.in-Some.work (subst (AreOf c.args.store.now) is c.requires.works)
+    let is : c.args.works.items ≡ c.loop-work.yielded ++ c.in-Some.work ∷ into_iter_items c.next.new.self =
+    c.loop-work.invariant.rest ∙ ap (λ (l : List (Work g.row.E.Denot)). c.loop-work.yielded ++ l) c.in-Some.ensures.steps.0 in
+    one-of g.E.Errand.fits c.args.store.now c.loop-work.yielded (into_iter_items c.next.new.self) c.in-Some.work (subst (AreOf g.E.Errand.fits c.args.store.now) is c.requires.works)
 
 pub loop-work-preserved : goal.loop-work-preserved
 loop-work-preserved g c =
@@ -19,13 +20,13 @@ loop-work-preserved g c =
     let left = c.loop-work.left.items in
     let one = c.start-one.result in
     let none : left ≡ [] = inv.all c.if-is_short.false in
-    let before : map work_of started ≡ c.loop-work.yielded = sym (append-nil (map work_of started)) ∙ ap (λ (l : List Work). map work_of started ++ l) (sym none) ∙ inv.works in
+    let before : map work_of started ≡ c.loop-work.yielded = sym (append-nil (map work_of started)) ∙ ap (λ (l : List (Work g.row.E.Denot)). map work_of started ++ l) (sym none) ∙ inv.works in
     record {
       started_room = grind (arith, common_steps);
       left_room = grind (arith, common_steps);
-      works = ap (λ l. map work_of l ++ left) c.push_reserved-else-is_short.ensures.items ∙ ap (λ (l : List Work). map work_of (started ++ one ∷ []) ++ l) none
+      works = ap (λ l. map work_of l ++ left) c.push_reserved-else-is_short.ensures.items ∙ ap (λ (l : List (Work g.row.E.Denot)). map work_of (started ++ one ∷ []) ++ l) none
           ∙ append-nil (map work_of (started ++ one ∷ [])) ∙ map-append work_of started (one ∷ []) ∙ (λ i. before i ++ c.start-one.ensures.work i ∷ []);
-      ready = rw c.push_reserved-else-is_short.ensures.items (ready-more c.args.store.now c.args.pace.now (g.P.Pace.may_answer c.args.pace.now) started one inv.ready c.start-one.ensures.ready);
+      ready = rw c.push_reserved-else-is_short.ensures.items (ready-more g.E.Errand.fits g.E.Errand.did g.E.Errand.paced c.args.store.now c.args.pace.now (g.P.Pace.may_answer c.args.pace.now) started one inv.ready c.start-one.ensures.ready);
       all = λ short. none;
       rest = grind (arith, common_steps);
     }
