@@ -182,7 +182,12 @@ static void isal_global(long n) {
     static void v##_global_kernel(long n) { v##_timed_combine(made[0], width, recipe, DATA, others, DATA, n); }           \
     static void v##_global_to(long n) { seen = v##_timed_rebuild_to(made[0], width, stripe, FRAGMENTS, GLOBAL, 0, n); }   \
     static void v##_global(long n) { seen = v##_timed_rebuild(made[0], width, stripe, FRAGMENTS, GLOBAL, 0, false, n); }  \
-    static void v##_global_kept(long n) { seen = v##_timed_rebuild(made[0], width, stripe, FRAGMENTS, GLOBAL, 0, true, n); }
+    static void v##_global_kept(long n) { seen = v##_timed_rebuild(made[0], width, stripe, FRAGMENTS, GLOBAL, 0, true, n); } \
+    static void v##_rebuild_one(uint16_t gone, long n) {                                                                  \
+        for (long j = 0; j < n; j++) seen = v##_lrc_rebuild(DATA, stripe, gone, 0, 0, made[0], width);                    \
+    }                                                                                                                     \
+    static void v##_local_call(long n) { v##_rebuild_one(LOCAL, n); }                                                     \
+    static void v##_global_call(long n) { v##_rebuild_one(GLOBAL, n); }
 CALLS(v2)
 CALLS(v3)
 
@@ -264,7 +269,8 @@ typedef struct {
         ROW(#v " encode", v##_encode, 2), ROW(#v " encode_joined", v##_encode_joined, 2)
 #define REBUILD(v, work)                                                                                                  \
     ROW(#v " combine_lists", v##_##work##_kernel, 1), ROW(#v " rebuild_to", v##_##work##_to, 1),                          \
-        ROW(#v " rebuild", v##_##work, 2), ROW(#v " Plans::rebuild", v##_##work##_kept, 2)
+        ROW(#v " lrc_rebuild", v##_##work##_call, 1), ROW(#v " rebuild", v##_##work, 2),                                  \
+        ROW(#v " Plans::rebuild", v##_##work##_kept, 2)
 
 static Row encode_rows[] = {ROW("memcpy", copy_data, 1), ROW("ISA-L", isal_encode_to, 1), ROW("ISA-L, malloc", isal_encode, 2),
                             ENCODE(v2), ENCODE(v3)};

@@ -14,6 +14,7 @@ ghost use Rattle.gf256.specs.Field.{product};
 ghost use Rattle.lrc_code.specs.Code.{fragment_count, data_count, weight, is_lost, is_alone};
 ghost use Rattle.lrc_code.specs.Code.{is_only_lost_of, first_group, second_group, Open};
 ghost use Rattle.lrc_code.specs.Stripe.{IsStripe, list_at, is_absent, slot, bytes_of};
+ghost use Rattle.lrc_code.specs.Stripe.{HasRange, Rebuilds};
 ghost use Rattle.lrc_code.specs.Recipe.{IsRecipe, IsLeast, local_recipe};
 ghost use Rattle.decode.specs.Decoding.{HasOpen};
 ghost use Rattle.coder_c.specs.Call.{code_with, with_parities, FourHave, AddsData, IsLostIn};
@@ -22,7 +23,7 @@ ghost use Rattle.coder_c.specs.Call.{DecodesLost, chosen_by, chosen_of, terms_of
 
 use decode::decode_to;
 use gf256::add_scaled;
-use lrc_code::{Code, Left, LostSet, Term, encode_to, is_open_in, rebuild_to, recipe_in};
+use lrc_code::{Code, Left, LostSet, Term, encode_to, is_open_in, recipe_in};
 
 /// The call was done; or the answer is no.
 const DONE: u32 = 0;
@@ -238,6 +239,21 @@ fn left_of<'a>(code: Code, fragments: &[&'a [u8]; 16], lost: LostSet) -> Left<'a
     }
 }
 
+/// Writes the bytes `from..to` of an absent fragment, by its recipe or by the syndromes, whichever
+/// is faster. Returns false if and only if the fragment is unrecoverable; then `target` is
+/// unchanged.
+fn rebuild_left(left: &Left, f: u8, from: usize, to: usize, target: &mut [u8]) -> bool
+    requires absent { is_absent left.now.fragments f ≡ true }
+    requires inside { HasRange left.now.code left.now.fragments f from to }
+    requires room { length target.old ≡ to - from }
+    ensures open { (result ≡ false) ↔ Open left.now.code (is_absent left.now.fragments) f }
+    ensures kept { result ≡ false → target.new ≡ target.old }
+    ensures ok { result ≡ true → Rebuilds left.now.code left.now.fragments f from to target.new }
+{
+    let chosen = [Some(f), None, None, None];
+    decode_to(left, chosen, from, to, target, &mut [], &mut [], &mut [])
+}
+
 /// Writes the bytes of a lost fragment from index `from` on, as many as `target` has: those of
 /// every stripe that agrees with the remaining fragments. What is passed for a lost fragment is
 /// never read.
@@ -276,7 +292,7 @@ pub extern "C" fn lrc_rebuild(
     if !left.reaches(to) {
         return BAD_ARGUMENT;
     }
-    if rebuild_to(&left, usize::from(asked.number), from, to, target) {
+    if rebuild_left(&left, asked.number, from, to, target) {
         DONE
     } else {
         OPEN
