@@ -1,6 +1,7 @@
-// Times the coder beside ISA-L and memcpy: one process, one thread, the calls in turn, the best of many slots.
-// Each row is in GB of data per second: for encoding the twelve data fragments, for rebuilding the one fragment that is made.
-// In brackets is the ratio to ISA-L's row of the same kind: into lists that are given, or into memory that is asked for.
+// Times the coder beside ISA-L and memcpy: one process, one thread, the calls in turn, the best of
+// many slots. Each row is in GB of data per second: for encoding the twelve data fragments, for
+// rebuilding the one fragment that is made. In brackets is the ratio to ISA-L's row of the same
+// kind: into lists that are given, or into memory that is asked for.
 #define _GNU_SOURCE
 #include <isa-l.h>
 #include <malloc.h>
@@ -38,16 +39,20 @@ typedef struct {
 } Slice;
 
 #define PARITIES uint8_t *, size_t, uint8_t *, size_t, uint8_t *, size_t, uint8_t *, size_t
-#define DECLARE(v)                                                                                                        \
-    void v##_timed_encode_to(const Slice *, size_t, PARITIES, uint32_t);                                                  \
-    bool v##_timed_encode(const Slice *, size_t, PARITIES, uint32_t);                                                     \
-    bool v##_timed_encode_joined(const Slice *, size_t, PARITIES, uint32_t);                                              \
-    void v##_timed_combine(uint8_t *, size_t, const uint8_t *, size_t, const Slice *, size_t, uint32_t);                  \
-    bool v##_timed_rebuild_to(uint8_t *, size_t, const Slice *, size_t, uint16_t, size_t, uint32_t);                      \
-    bool v##_timed_rebuild(uint8_t *, size_t, const Slice *, size_t, uint16_t, size_t, bool, uint32_t);                   \
-    bool v##_timed_seal(const uint8_t *, size_t, uint8_t *, size_t, uint64_t, uint8_t, uint32_t);                         \
-    uint32_t v##_lrc_rebuild(size_t, const Slice *, uint16_t, uint8_t, size_t, uint8_t *, size_t);                        \
-    uint32_t v##_lrc_decode(size_t, const Slice *, uint16_t, const uint8_t *, size_t, size_t, PARITIES);
+#define DECLARE(v)                                                                                 \
+    void v##_timed_encode_to(const Slice *, size_t, PARITIES, uint32_t);                           \
+    bool v##_timed_encode(const Slice *, size_t, PARITIES, uint32_t);                              \
+    bool v##_timed_encode_joined(const Slice *, size_t, PARITIES, uint32_t);                       \
+    void v##_timed_combine(uint8_t *, size_t, const uint8_t *, size_t, const Slice *, size_t,      \
+                           uint32_t);                                                              \
+    bool v##_timed_rebuild_to(uint8_t *, size_t, const Slice *, size_t, uint16_t, size_t,          \
+                              uint32_t);                                                           \
+    bool v##_timed_rebuild(uint8_t *, size_t, const Slice *, size_t, uint16_t, size_t, bool,       \
+                           uint32_t);                                                              \
+    bool v##_timed_seal(const uint8_t *, size_t, uint8_t *, size_t, uint64_t, uint8_t, uint32_t);  \
+    uint32_t v##_lrc_rebuild(size_t, const Slice *, uint16_t, uint8_t, size_t, uint8_t *, size_t); \
+    uint32_t v##_lrc_decode(size_t, const Slice *, uint16_t, const uint8_t *, size_t, size_t,      \
+                            PARITIES);
 DECLARE(v2)
 DECLARE(v3)
 
@@ -57,7 +62,8 @@ static const size_t widths[WIDTHS] = {1, 64, 4096, WIDEST};
 static size_t width;
 static Slice stripe[FRAGMENTS]; // all of it
 static uint8_t *data[FRAGMENTS], *made[4], *copy;
-static Slice group[6], others[DATA]; // what fragment 0 is rebuilt from where it alone is lost, and where 0 and 1 are
+static Slice group[6],
+    others[DATA]; // what fragment 0 is rebuilt from where it alone is lost, and where 0 and 1 are
 static uint8_t *group_bytes[6], *other_bytes[DATA];
 static uint8_t ones[6] = {1, 1, 1, 1, 1, 1}, recipe[DATA];
 static uint8_t encode_tables[32 * 4 * DATA], recipe_tables[32 * DATA];
@@ -78,11 +84,13 @@ static uint8_t product(uint8_t a, uint8_t b) {
     return sum;
 }
 
-// Where fragments 0 and 1 are lost, 3 times fragment 0 is the sum of twice the first equation and the third.
+// Where fragments 0 and 1 are lost, 3 times fragment 0 is the sum of twice the first equation and
+// the third.
 static void make_recipe(void) {
     uint8_t third = 0;
     while (product(3, third) != 1) third++;
-    for (int i = 2; i < DATA; i++) recipe[i - 2] = product(third, product(2, coefficients[0][i]) ^ coefficients[2][i]);
+    for (int i = 2; i < DATA; i++)
+        recipe[i - 2] = product(third, product(2, coefficients[0][i]) ^ coefficients[2][i]);
     recipe[10] = product(third, 2);
     recipe[11] = third;
     for (int i = 0; i < 10; i++) other_bytes[i] = data[i + 2];
@@ -112,7 +120,8 @@ static void copy_one(long n) {
 }
 
 static void isal_encode_to(long n) {
-    for (long j = 0; j < n; j++) ec_encode_data(width, DATA, 4, encode_tables, data, made), use(made[0]);
+    for (long j = 0; j < n; j++)
+        ec_encode_data(width, DATA, 4, encode_tables, data, made), use(made[0]);
 }
 
 static void isal_encode(long n) {
@@ -146,7 +155,8 @@ static void isal_local(long n) {
 }
 
 static void isal_global_to(long n) {
-    for (long j = 0; j < n; j++) ec_encode_data(width, DATA, 1, recipe_tables, other_bytes, made), use(made[0]);
+    for (long j = 0; j < n; j++)
+        ec_encode_data(width, DATA, 1, recipe_tables, other_bytes, made), use(made[0]);
 }
 
 static void isal_global(long n) {
@@ -162,31 +172,51 @@ static void isal_global(long n) {
 #define LOCAL 1
 #define GLOBAL 3
 #define MADE made[0], width, made[1], width, made[2], width, made[3], width
-#define CALLS(v)                                                                                                          \
-    static void v##_encode_to(long n) { v##_timed_encode_to(stripe, DATA, MADE, n); }                                     \
-    static void v##_encode_malloc(long n) {                                                                               \
-        for (long j = 0; j < n; j++) {                                                                                    \
-            uint8_t *p[4];                                                                                                \
-            for (int i = 0; i < 4; i++) p[i] = malloc(width);                                                             \
-            v##_timed_encode_to(stripe, DATA, p[0], width, p[1], width, p[2], width, p[3], width, 1);                     \
-            use(p);                                                                                                       \
-            for (int i = 0; i < 4; i++) free(p[i]);                                                                       \
-        }                                                                                                                 \
-    }                                                                                                                     \
-    static void v##_encode(long n) { seen = v##_timed_encode(stripe, DATA, MADE, n); }                                    \
-    static void v##_encode_joined(long n) { seen = v##_timed_encode_joined(stripe, DATA, MADE, n); }                      \
-    static void v##_local_kernel(long n) { v##_timed_combine(made[0], width, ones, 6, group, 6, n); }                     \
-    static void v##_local_to(long n) { seen = v##_timed_rebuild_to(made[0], width, stripe, FRAGMENTS, LOCAL, 0, n); }     \
-    static void v##_local(long n) { seen = v##_timed_rebuild(made[0], width, stripe, FRAGMENTS, LOCAL, 0, false, n); }    \
-    static void v##_local_kept(long n) { seen = v##_timed_rebuild(made[0], width, stripe, FRAGMENTS, LOCAL, 0, true, n); } \
-    static void v##_global_kernel(long n) { v##_timed_combine(made[0], width, recipe, DATA, others, DATA, n); }           \
-    static void v##_global_to(long n) { seen = v##_timed_rebuild_to(made[0], width, stripe, FRAGMENTS, GLOBAL, 0, n); }   \
-    static void v##_global(long n) { seen = v##_timed_rebuild(made[0], width, stripe, FRAGMENTS, GLOBAL, 0, false, n); }  \
-    static void v##_global_kept(long n) { seen = v##_timed_rebuild(made[0], width, stripe, FRAGMENTS, GLOBAL, 0, true, n); } \
-    static void v##_rebuild_one(uint16_t gone, long n) {                                                                  \
-        for (long j = 0; j < n; j++) seen = v##_lrc_rebuild(DATA, stripe, gone, 0, 0, made[0], width);                    \
-    }                                                                                                                     \
-    static void v##_local_call(long n) { v##_rebuild_one(LOCAL, n); }                                                     \
+#define CALLS(v)                                                                                   \
+    static void v##_encode_to(long n) { v##_timed_encode_to(stripe, DATA, MADE, n); }              \
+    static void v##_encode_malloc(long n) {                                                        \
+        for (long j = 0; j < n; j++) {                                                             \
+            uint8_t *p[4];                                                                         \
+            for (int i = 0; i < 4; i++) p[i] = malloc(width);                                      \
+            v##_timed_encode_to(stripe, DATA, p[0], width, p[1], width, p[2], width, p[3], width,  \
+                                1);                                                                \
+            use(p);                                                                                \
+            for (int i = 0; i < 4; i++) free(p[i]);                                                \
+        }                                                                                          \
+    }                                                                                              \
+    static void v##_encode(long n) { seen = v##_timed_encode(stripe, DATA, MADE, n); }             \
+    static void v##_encode_joined(long n) {                                                        \
+        seen = v##_timed_encode_joined(stripe, DATA, MADE, n);                                     \
+    }                                                                                              \
+    static void v##_local_kernel(long n) {                                                         \
+        v##_timed_combine(made[0], width, ones, 6, group, 6, n);                                   \
+    }                                                                                              \
+    static void v##_local_to(long n) {                                                             \
+        seen = v##_timed_rebuild_to(made[0], width, stripe, FRAGMENTS, LOCAL, 0, n);               \
+    }                                                                                              \
+    static void v##_local(long n) {                                                                \
+        seen = v##_timed_rebuild(made[0], width, stripe, FRAGMENTS, LOCAL, 0, false, n);           \
+    }                                                                                              \
+    static void v##_local_kept(long n) {                                                           \
+        seen = v##_timed_rebuild(made[0], width, stripe, FRAGMENTS, LOCAL, 0, true, n);            \
+    }                                                                                              \
+    static void v##_global_kernel(long n) {                                                        \
+        v##_timed_combine(made[0], width, recipe, DATA, others, DATA, n);                          \
+    }                                                                                              \
+    static void v##_global_to(long n) {                                                            \
+        seen = v##_timed_rebuild_to(made[0], width, stripe, FRAGMENTS, GLOBAL, 0, n);              \
+    }                                                                                              \
+    static void v##_global(long n) {                                                               \
+        seen = v##_timed_rebuild(made[0], width, stripe, FRAGMENTS, GLOBAL, 0, false, n);          \
+    }                                                                                              \
+    static void v##_global_kept(long n) {                                                          \
+        seen = v##_timed_rebuild(made[0], width, stripe, FRAGMENTS, GLOBAL, 0, true, n);           \
+    }                                                                                              \
+    static void v##_rebuild_one(uint16_t gone, long n) {                                           \
+        for (long j = 0; j < n; j++)                                                               \
+            seen = v##_lrc_rebuild(DATA, stripe, gone, 0, 0, made[0], width);                      \
+    }                                                                                              \
+    static void v##_local_call(long n) { v##_rebuild_one(LOCAL, n); }                              \
     static void v##_global_call(long n) { v##_rebuild_one(GLOBAL, n); }
 CALLS(v2)
 CALLS(v3)
@@ -199,33 +229,39 @@ typedef struct {
     uint8_t numbers[4];
 } Loss;
 static const Loss losses[] = {
-    {"0, 1 lost", 2, {0, 1, NONE, NONE}},     {"0, 14 lost", 2, {0, 14, NONE, NONE}},   {"14, 15 lost", 2, {14, 15, NONE, NONE}},
-    {"0, 1, 2 lost", 3, {0, 1, 2, NONE}},     {"0, 1, 6 lost", 3, {0, 1, 6, NONE}},     {"0, 1, 14 lost", 3, {0, 1, 14, NONE}},
-    {"0, 1, 6, 7 lost", 4, {0, 1, 6, 7}},     {"0, 1, 2, 6 lost", 4, {0, 1, 2, 6}},     {"0, 6, 14, 15 lost", 4, {0, 6, 14, 15}},
+    {"0, 1 lost", 2, {0, 1, NONE, NONE}},     {"0, 14 lost", 2, {0, 14, NONE, NONE}},
+    {"14, 15 lost", 2, {14, 15, NONE, NONE}}, {"0, 1, 2 lost", 3, {0, 1, 2, NONE}},
+    {"0, 1, 6 lost", 3, {0, 1, 6, NONE}},     {"0, 1, 14 lost", 3, {0, 1, 14, NONE}},
+    {"0, 1, 6, 7 lost", 4, {0, 1, 6, 7}},     {"0, 1, 2, 6 lost", 4, {0, 1, 2, 6}},
+    {"0, 6, 14, 15 lost", 4, {0, 6, 14, 15}},
 };
 enum { LOSSES = sizeof losses / sizeof *losses };
 static const Loss *loss;
 static uint16_t lost;
 static uint8_t *left_bytes[DATA], decode_tables[32 * 4 * DATA];
 
-// The twelve of the fragments left whose numbers are `used`: whether they determine the others; then ISA-L's tables are made.
+// The twelve of the fragments left whose numbers are `used`: whether they determine the others;
+// then ISA-L's tables are made.
 static bool make_decode_tables(const int *used) {
     uint8_t square[DATA * DATA] = {0}, inverse[DATA * DATA], rows[4 * DATA] = {0};
     for (int i = 0; i < DATA; i++)
-        for (int k = 0; k < DATA; k++) square[i * DATA + k] = used[i] < DATA ? used[i] == k : coefficients[used[i] - DATA][k];
+        for (int k = 0; k < DATA; k++)
+            square[i * DATA + k] = used[i] < DATA ? used[i] == k : coefficients[used[i] - DATA][k];
     if (gf_invert_matrix(square, inverse, DATA) != 0) return false;
     for (int r = 0; r < loss->count; r++)
         for (int i = 0; i < DATA; i++)
             for (int k = 0; k < DATA; k++) {
                 int f = loss->numbers[r];
-                rows[r * DATA + i] ^= product(f < DATA ? f == k : coefficients[f - DATA][k], inverse[k * DATA + i]);
+                rows[r * DATA + i] ^=
+                    product(f < DATA ? f == k : coefficients[f - DATA][k], inverse[k * DATA + i]);
             }
     for (int i = 0; i < DATA; i++) left_bytes[i] = data[used[i]];
     ec_init_tables(DATA, loss->count, rows, decode_tables);
     return true;
 }
 
-// The first twelve of the fragments left that determine the others, by the sets that leave out the rest.
+// The first twelve of the fragments left that determine the others, by the sets that leave out the
+// rest.
 static void set_loss(const Loss *next) {
     loss = next;
     lost = 0;
@@ -240,17 +276,19 @@ static void set_loss(const Loss *next) {
 }
 
 static void isal_decode(long n) {
-    for (long j = 0; j < n; j++) ec_encode_data(width, DATA, loss->count, decode_tables, left_bytes, made), use(made[0]);
+    for (long j = 0; j < n; j++)
+        ec_encode_data(width, DATA, loss->count, decode_tables, left_bytes, made), use(made[0]);
 }
 
-#define DECODES(v)                                                                                                        \
-    static void v##_decode(long n) {                                                                                      \
-        for (long j = 0; j < n; j++) seen = v##_lrc_decode(DATA, stripe, lost, loss->numbers, 0, width, MADE);             \
-    }                                                                                                                     \
-    static void v##_rebuild_each(long n) {                                                                                \
-        for (long j = 0; j < n; j++)                                                                                      \
-            for (int r = 0; r < loss->count; r++)                                                                         \
-                seen = v##_lrc_rebuild(DATA, stripe, lost, loss->numbers[r], 0, made[r], width);                           \
+#define DECODES(v)                                                                                 \
+    static void v##_decode(long n) {                                                               \
+        for (long j = 0; j < n; j++)                                                               \
+            seen = v##_lrc_decode(DATA, stripe, lost, loss->numbers, 0, width, MADE);              \
+    }                                                                                              \
+    static void v##_rebuild_each(long n) {                                                         \
+        for (long j = 0; j < n; j++)                                                               \
+            for (int r = 0; r < loss->count; r++)                                                  \
+                seen = v##_lrc_rebuild(DATA, stripe, lost, loss->numbers[r], 0, made[r], width);   \
     }
 DECODES(v2)
 DECODES(v3)
@@ -263,24 +301,32 @@ typedef struct {
     double best[WIDTHS]; // seconds
 } Row;
 
-#define ROW(name, call, base) {name, call, base, 0, {0}}
-#define ENCODE(v)                                                                                                         \
-    ROW(#v " encode_to", v##_encode_to, 1), ROW(#v " encode_to, malloc", v##_encode_malloc, 2),                            \
+#define ROW(name, call, base)                                                                      \
+    {                                                                                              \
+        name, call, base, 0, { 0 }                                                                 \
+    }
+#define ENCODE(v)                                                                                  \
+    ROW(#v " encode_to", v##_encode_to, 1), ROW(#v " encode_to, malloc", v##_encode_malloc, 2),    \
         ROW(#v " encode", v##_encode, 2), ROW(#v " encode_joined", v##_encode_joined, 2)
-#define REBUILD(v, work)                                                                                                  \
-    ROW(#v " combine_lists", v##_##work##_kernel, 1), ROW(#v " rebuild_to", v##_##work##_to, 1),                          \
-        ROW(#v " lrc_rebuild", v##_##work##_call, 1), ROW(#v " rebuild", v##_##work, 2),                                  \
+#define REBUILD(v, work)                                                                           \
+    ROW(#v " combine_lists", v##_##work##_kernel, 1), ROW(#v " rebuild_to", v##_##work##_to, 1),   \
+        ROW(#v " lrc_rebuild", v##_##work##_call, 1), ROW(#v " rebuild", v##_##work, 2),           \
         ROW(#v " Plans::rebuild", v##_##work##_kept, 2)
 
-static Row encode_rows[] = {ROW("memcpy", copy_data, 1), ROW("ISA-L", isal_encode_to, 1), ROW("ISA-L, malloc", isal_encode, 2),
-                            ENCODE(v2), ENCODE(v3)};
-static Row local_rows[] = {ROW("memcpy", copy_one, 1), ROW("ISA-L", isal_local_to, 1), ROW("ISA-L, malloc", isal_local, 2),
-                           REBUILD(v2, local), REBUILD(v3, local)};
-static Row global_rows[] = {ROW("memcpy", copy_one, 1), ROW("ISA-L", isal_global_to, 1), ROW("ISA-L, malloc", isal_global, 2),
-                            REBUILD(v2, global), REBUILD(v3, global)};
+static Row encode_rows[] = {ROW("memcpy", copy_data, 1), ROW("ISA-L", isal_encode_to, 1),
+                            ROW("ISA-L, malloc", isal_encode, 2), ENCODE(v2), ENCODE(v3)};
+static Row local_rows[] = {ROW("memcpy", copy_one, 1), ROW("ISA-L", isal_local_to, 1),
+                           ROW("ISA-L, malloc", isal_local, 2), REBUILD(v2, local),
+                           REBUILD(v3, local)};
+static Row global_rows[] = {ROW("memcpy", copy_one, 1), ROW("ISA-L", isal_global_to, 1),
+                            ROW("ISA-L, malloc", isal_global, 2), REBUILD(v2, global),
+                            REBUILD(v3, global)};
 #define DECODE_ROWS 5
 static Row decode_rows[LOSSES][DECODE_ROWS];
-enum { ENCODE_ROWS = sizeof encode_rows / sizeof(Row), REBUILD_ROWS = sizeof local_rows / sizeof(Row) };
+enum {
+    ENCODE_ROWS = sizeof encode_rows / sizeof(Row),
+    REBUILD_ROWS = sizeof local_rows / sizeof(Row)
+};
 
 static double now(void) {
     struct timespec t;
@@ -288,7 +334,8 @@ static double now(void) {
     return t.tv_sec + 1e-9 * t.tv_nsec;
 }
 
-// The time of `reps` calls. ISA-L's AVX-512 code leaves the upper halves of registers in use, which slows down what follows.
+// The time of `reps` calls. ISA-L's AVX-512 code leaves the upper halves of registers in use, which
+// slows down what follows.
 static double time_of(Row *row, long reps) {
     double start = now();
     row->call(reps);
@@ -297,14 +344,16 @@ static double time_of(Row *row, long reps) {
     return taken;
 }
 
-// A slot's seconds, and the turns that it has at least: what a call into memory of its own has made in its last turn, it copies.
+// A slot's seconds, and the turns that it has at least: what a call into memory of its own has made
+// in its last turn, it copies.
 static const double SLOT = 0.0004;
 static const long TURNS = 32;
 
 static void run(Row *rows, int count, int w, int rounds) {
     for (int i = 0; i < count; i++) {
         double once = time_of(&rows[i], 1);
-        for (long reps = 1; once * reps < SLOT / 4; reps *= 2) once = time_of(&rows[i], reps) / reps;
+        for (long reps = 1; once * reps < SLOT / 4; reps *= 2)
+            once = time_of(&rows[i], reps) / reps;
         rows[i].reps = SLOT / once > TURNS ? (long)(SLOT / once) : TURNS;
         rows[i].best[w] = once;
     }
@@ -325,7 +374,8 @@ static void print_rows(const char *before, const Row *rows, int count, int lists
     for (int i = 0; i < count; i++) {
         printf("| %s%s |", before, rows[i].name);
         for (int w = 0; w < WIDTHS; w++)
-            printf(" %.3g (%.2f) |", lists * widths[w] / rows[i].best[w] / 1e9, rows[rows[i].base].best[w] / rows[i].best[w]);
+            printf(" %.3g (%.2f) |", lists * widths[w] / rows[i].best[w] / 1e9,
+                   rows[rows[i].base].best[w] / rows[i].best[w]);
         printf("\n");
     }
 }
@@ -352,7 +402,8 @@ static void check(const Row *rows, int count, int lists, const int *wanted) {
     }
 }
 
-// ---- blobs of at most 4,096 stripes and 48 MB: their parities go into memory that the system has just given
+// ---- blobs of at most 4,096 stripes and 48 MB: their parities go into memory that the system has
+// just given
 enum { MOST_STRIPES = 4096, BLOB = 61 * DATA * WIDEST };
 static uint8_t *blob;
 static size_t stripes;
@@ -376,10 +427,15 @@ static void isal_seal(void) {
 static void isal_blob(long n) {
     for (long j = 0; j < n; j++) isal_seal();
 }
-static void v2_blob(long n) { seen = v2_timed_seal(blob, stripes * DATA * width, copy, width, stripes - 1, 14, n); }
-static void v3_blob(long n) { seen = v3_timed_seal(blob, stripes * DATA * width, copy, width, stripes - 1, 14, n); }
+static void v2_blob(long n) {
+    seen = v2_timed_seal(blob, stripes * DATA * width, copy, width, stripes - 1, 14, n);
+}
+static void v3_blob(long n) {
+    seen = v3_timed_seal(blob, stripes * DATA * width, copy, width, stripes - 1, 14, n);
+}
 
-static Row blob_rows[] = {ROW("ISA-L, malloc", isal_blob, 0), ROW("v2 seal", v2_blob, 0), ROW("v3 seal", v3_blob, 0)};
+static Row blob_rows[] = {ROW("ISA-L, malloc", isal_blob, 0), ROW("v2 seal", v2_blob, 0),
+                          ROW("v3 seal", v3_blob, 0)};
 enum { BLOB_ROWS = sizeof blob_rows / sizeof(Row) };
 
 // The last stripe's fragment 14, as the calls show it, must be ISA-L's.
@@ -394,8 +450,9 @@ static void check_blob(void) {
     }
 }
 
-// The time of two calls in one, less that of one, so that what is made but once is left out: the coder copies the blob first.
-// Each is timed after the same call, since what was given back before changes how fast memory comes.
+// The time of two calls in one, less that of one, so that what is made but once is left out: the
+// coder copies the blob first. Each is timed after the same call, since what was given back before
+// changes how fast memory comes.
 static void run_blob(int w, int rounds) {
     double best[BLOB_ROWS][2];
     for (int round = 0; round < rounds; round++)
@@ -412,22 +469,27 @@ static void print_blob(void) {
     print_title("a blob, ms (of ISA-L's time), by width");
     for (int i = 0; i < BLOB_ROWS; i++) {
         printf("| %s |", blob_rows[i].name);
-        for (int w = 0; w < WIDTHS; w++) printf(" %.3g (%.2f) |", blob_rows[i].best[w] * 1e3, blob_rows[i].best[w] / blob_rows[0].best[w]);
+        for (int w = 0; w < WIDTHS; w++)
+            printf(" %.3g (%.2f) |", blob_rows[i].best[w] * 1e3,
+                   blob_rows[i].best[w] / blob_rows[0].best[w]);
         printf("\n");
     }
 }
 
 // Each set of lost fragments: ISA-L, all at once, and one after the other.
 static void run_losses(int w, int rounds) {
-    static const Row rows[DECODE_ROWS] = {ROW("ISA-L", isal_decode, 0), ROW("v2 lrc_decode", v2_decode, 0), ROW("v2 lrc_rebuild, each", v2_rebuild_each, 0),
-                                          ROW("v3 lrc_decode", v3_decode, 0), ROW("v3 lrc_rebuild, each", v3_rebuild_each, 0)};
+    static const Row rows[DECODE_ROWS] = {
+        ROW("ISA-L", isal_decode, 0), ROW("v2 lrc_decode", v2_decode, 0),
+        ROW("v2 lrc_rebuild, each", v2_rebuild_each, 0), ROW("v3 lrc_decode", v3_decode, 0),
+        ROW("v3 lrc_rebuild, each", v3_rebuild_each, 0)};
     for (int i = 0; i < LOSSES; i++) {
         int wanted[4];
         set_loss(&losses[i]);
         for (int r = 0; r < loss->count; r++) wanted[r] = loss->numbers[r];
         for (int k = 0; w == 0 && k < DECODE_ROWS; k++) decode_rows[i][k] = rows[k];
         isal_decode(1);
-        for (int r = 0; r < loss->count; r++) require_same("ISA-L's decode", made[r], data[wanted[r]]);
+        for (int r = 0; r < loss->count; r++)
+            require_same("ISA-L's decode", made[r], data[wanted[r]]);
         check(decode_rows[i], DECODE_ROWS, loss->count, wanted);
         run(decode_rows[i], DECODE_ROWS, w, rounds);
     }
@@ -444,7 +506,8 @@ static void print_losses(void) {
 
 int main(int argc, char **argv) {
     int rounds = argc > 1 ? atoi(argv[1]) : 1000;
-    const size_t apart = WIDEST + 320; // so that the fragments do not all fall into one set of the cache
+    const size_t apart =
+        WIDEST + 320; // so that the fragments do not all fall into one set of the cache
     uint8_t *bytes = aligned_alloc(4096, 4096 * ((FRAGMENTS + 4) * apart / 4096 + 1));
     copy = aligned_alloc(4096, DATA * WIDEST);
     if (!bytes || !copy) return fputs("bench: no memory\n", stderr), 1;
@@ -452,7 +515,8 @@ int main(int argc, char **argv) {
     memset(copy, 0, DATA * WIDEST);
     for (int i = 0; i < FRAGMENTS; i++) data[i] = bytes + i * apart;
     for (int i = 0; i < 4; i++) made[i] = bytes + (FRAGMENTS + i) * apart;
-    free(malloc(1 << 20)); // from now on malloc keeps what is given back, and asks the system for none of it again
+    free(malloc(1 << 20)); // from now on malloc keeps what is given back, and asks the system for
+                           // none of it again
     make_recipe();
     ec_init_tables(DATA, 4, (uint8_t *)coefficients, encode_tables);
     ec_init_tables(DATA, 1, recipe, recipe_tables);
@@ -474,6 +538,7 @@ int main(int argc, char **argv) {
     blob = malloc(BLOB);
     if (!blob) return fputs("bench: no memory\n", stderr), 1;
     for (size_t i = 0; i < BLOB; i++) blob[i] = i * 2654435761u >> 24;
-    for (int w = 0; w < WIDTHS; w++) set_blob(widths[w]), check_blob(), run_blob(w, rounds < 50 ? rounds : 50);
+    for (int w = 0; w < WIDTHS; w++)
+        set_blob(widths[w]), check_blob(), run_blob(w, rounds < 50 ? rounds : 50);
     print_blob();
 }

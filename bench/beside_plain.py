@@ -21,10 +21,21 @@ ROWS = 65535
 
 def mix(count, rng):
     """Calls of all kinds over a thousand names."""
-    kinds = ["read {},0,12", "put {},text,ABCDEFGHIJKL", "lose {},0,{}", "repair {},0,{}", "stat {},,", "delete {},,"]
+    kinds = [
+        "read {},0,12",
+        "put {},text,ABCDEFGHIJKL",
+        "lose {},0,{}",
+        "repair {},0,{}",
+        "stat {},,",
+        "delete {},,",
+    ]
     for _ in range(count):
-        operation, name, rest = rng.choices(kinds, [50, 20, 10, 10, 5, 5])[0].replace(" ", ",").partition("{}")
-        yield f"1,1,{operation}n{rng.randrange(1000)}{name}{rest}".replace("{}", str(rng.randrange(16)))
+        operation, name, rest = (
+            rng.choices(kinds, [50, 20, 10, 10, 5, 5])[0].replace(" ", ",").partition("{}")
+        )
+        yield f"1,1,{operation}n{rng.randrange(1000)}{name}{rest}".replace(
+            "{}", str(rng.randrange(16))
+        )
 
 
 def any_calls(count, rng):
@@ -32,16 +43,30 @@ def any_calls(count, rng):
     number = lambda: rng.randrange(70)
     for _ in range(count):
         name = rng.choice("abc")
-        yield "1,1," + rng.choice([
-            f"put,{name},text,{'x' * number()}", f"put6,{name},hex,{rng.randbytes(number()).hex()}", f"read,{name},{number()},{number() // 4}",
-            f"read,{name},{number() // 4},{number() // 8}", f"lose,{name},{number() // 30},{number() // 4}", f"lose,{name},0,{rng.randrange(16)}",
-            f"repair,{name},{number() // 30},{number() // 4}", f"stat,{name},,", f"delete,{name},," if rng.random() < 0.1 else f"stat,{name},,",
-            f"trim,,{number()}," if rng.random() < 0.2 else f"lose,{name},1,{rng.randrange(16)}"])
+        yield "1,1," + rng.choice(
+            [
+                f"put,{name},text,{'x' * number()}",
+                f"put6,{name},hex,{rng.randbytes(number()).hex()}",
+                f"read,{name},{number()},{number() // 4}",
+                f"read,{name},{number() // 4},{number() // 8}",
+                f"lose,{name},{number() // 30},{number() // 4}",
+                f"lose,{name},0,{rng.randrange(16)}",
+                f"repair,{name},{number() // 30},{number() // 4}",
+                f"stat,{name},,",
+                f"delete,{name},," if rng.random() < 0.1 else f"stat,{name},,",
+                f"trim,,{number()},"
+                if rng.random() < 0.2
+                else f"lose,{name},1,{rng.randrange(16)}",
+            ]
+        )
 
 
 def turns(stripes):
     """Losses and repairs in turn, in a blob of so many stripes."""
-    calls = (f"1,1,{('lose', 'repair')[k % 2]},a,{k // 2 % stripes},{k // 2 // stripes % 16}" for k in range(ROWS))
+    calls = (
+        f"1,1,{('lose', 'repair')[k % 2]},a,{k // 2 % stripes},{k // 2 // stripes % 16}"
+        for k in range(ROWS)
+    )
     return ["1,1,put,a,text," + "x" * (12 * stripes), *calls]
 
 
@@ -60,15 +85,23 @@ def scripts(rng):
     yield "65,535 reads of 12 bytes", [SMALL] + ["1,1,read,a,0,12"] * ROWS, FULL
     yield "the same, with the history", [SMALL] + ["1,1,read,a,0,12"] * ROWS, [*FULL, "--history"]
     yield "65,536 puts of one name", [SMALL] * (ROWS + 1), FULL
-    yield "65,536 puts of as many names", [f"1,1,put,n{k},text,ABCDEFGHIJKL" for k in range(ROWS + 1)], FULL
+    yield "65,536 puts of as many names", [
+        f"1,1,put,n{k},text,ABCDEFGHIJKL" for k in range(ROWS + 1)
+    ], FULL
     yield "all calls, 1,000 names", mixed, FULL
     yield "the same, with the history", mixed, [*FULL, "--history"]
     yield "65,535 stats of 4,096 stripes", [LONG] + ["1,1,stat,a,,"] * ROWS, FULL
     for stripes in (1, 64, 512, 4096):
         yield f"losses and repairs, {stripes:,} stripes", turns(stripes), FULL
     for workers in (1, 4, 16):
-        yield f"reads by {workers}", by_workers(lambda k: "read,a,0,12", workers), [*FULL, "--workers", str(workers)]
-        yield f"puts by {workers}", by_workers(lambda k: f"put,n{k % 1000},text,{'x' * 768}", workers), [*FULL, "--workers", str(workers), "--width", "64"]
+        yield f"reads by {workers}", by_workers(lambda k: "read,a,0,12", workers), [
+            *FULL,
+            "--workers",
+            str(workers),
+        ]
+        yield f"puts by {workers}", by_workers(
+            lambda k: f"put,n{k % 1000},text,{'x' * 768}", workers
+        ), [*FULL, "--workers", str(workers), "--width", "64"]
     yield "65,535 rounds", [SMALL] + [f"{k + 2},1,read,a,0,12" for k in range(ROWS)], FULL
     yield "48 MiB put", [blob], WIDE
     yield "48 MiB put and read", [blob, whole], WIDE
@@ -77,9 +110,15 @@ def scripts(rng):
     yield "20,000 reads of 100 bytes", [blob, *pieces], [*FULL, *WIDE]
     yield "the same, four of each stripe lost", [blob, *gone, *pieces], [*FULL, *WIDE]
     yield "256 fragments of 65,536 bytes mended", [blob, *gone, "2,0,mend,,,"], [*FULL, *WIDE]
-    lost = [f"1,1,lose,a,{stripe},{fragment}" for fragment in (0, 1, 6, 7) for stripe in range(4096)]
+    lost = [
+        f"1,1,lose,a,{stripe},{fragment}" for fragment in (0, 1, 6, 7) for stripe in range(4096)
+    ]
     for workers in (1, 4):
-        yield f"16,384 fragments of one byte mended by {workers}", [LONG, *lost, "2,0,mend,,,"], [*FULL, "--workers", str(workers)]
+        yield f"16,384 fragments of one byte mended by {workers}", [LONG, *lost, "2,0,mend,,,"], [
+            *FULL,
+            "--workers",
+            str(workers),
+        ]
 
 
 def compare(programs, folder, times):
@@ -89,8 +128,17 @@ def compare(programs, folder, times):
         path = os.path.join(folder, "calls.csv")
         with open(path, "w", encoding="ascii") as file:
             file.write("\n".join(any_calls(rng.randrange(1, 300), rng)) + "\n")
-        options = ["--history", "--width", str(rng.choice((1, 2, 3))), "--limit", str(rng.choice((40, 4096)))]
-        printed = {subprocess.run([program, path, *options], stdout=subprocess.PIPE, check=True).stdout for program in programs}
+        options = [
+            "--history",
+            "--width",
+            str(rng.choice((1, 2, 3))),
+            "--limit",
+            str(rng.choice((40, 4096))),
+        ]
+        printed = {
+            subprocess.run([program, path, *options], stdout=subprocess.PIPE, check=True).stdout
+            for program in programs
+        }
         if len(printed) != 1:
             sys.exit(f"the scripts of seed {seed} are printed differently")
     print(f"{times} scripts of random calls: the same bytes")
@@ -104,17 +152,36 @@ def main():
     given = parser.parse_args()
     with tempfile.TemporaryDirectory() as folder:
         plain = os.path.join(folder, "plain")
-        subprocess.run(["rustc", "-O", "--edition", "2021", "-o", plain, os.path.join(TOP, "bench", "plain.rs")], check=True)
+        subprocess.run(
+            [
+                "rustc",
+                "-O",
+                "--edition",
+                "2021",
+                "-o",
+                plain,
+                os.path.join(TOP, "bench", "plain.rs"),
+            ],
+            check=True,
+        )
         programs = [*given.programs, plain]
         compare(programs, folder, 200)
         for name, script, options in scripts(random.Random(1)):
             if given.only not in name:
                 continue
-            runs = [[run(program, script, options, folder)[0] for program in programs] for _ in range(given.times)]
+            runs = [
+                [run(program, script, options, folder)[0] for program in programs]
+                for _ in range(given.times)
+            ]
             times = [sorted(column) for column in zip(*runs)]
-            ratios = ", ".join(f"{one[0]:.3f} s ({one[0] / times[-1][0]:.2f})" for one in times[:-1])
+            ratios = ", ".join(
+                f"{one[0]:.3f} s ({one[0] / times[-1][0]:.2f})" for one in times[:-1]
+            )
             others = ", ".join(f"{statistics.median(one):.3f} and {one[-1]:.3f}" for one in times)
-            print(f"{name}: {ratios}; plain {times[-1][0]:.3f} s; medians and greatest {others}", flush=True)
+            print(
+                f"{name}: {ratios}; plain {times[-1][0]:.3f} s; medians and greatest {others}",
+                flush=True,
+            )
 
 
 if __name__ == "__main__":

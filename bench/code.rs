@@ -31,16 +31,24 @@ const fn products() -> [[u8; 256]; 256] {
 pub static PRODUCTS: [[u8; 256]; 256] = products();
 
 fn inverse(a: u8) -> u8 {
-    (1..=255).find(|&b| PRODUCTS[a as usize][b as usize] == 1).unwrap()
+    (1..=255)
+        .find(|&b| PRODUCTS[a as usize][b as usize] == 1)
+        .unwrap()
 }
 
 pub fn add_scaled(target: &mut [u8], scale: u8, source: &[u8]) {
     match scale {
         0 => {}
-        1 => target.iter_mut().zip(source).for_each(|(to, from)| *to ^= from),
+        1 => target
+            .iter_mut()
+            .zip(source)
+            .for_each(|(to, from)| *to ^= from),
         _ => {
             let row = &PRODUCTS[scale as usize];
-            target.iter_mut().zip(source).for_each(|(to, from)| *to ^= row[*from as usize]);
+            target
+                .iter_mut()
+                .zip(source)
+                .for_each(|(to, from)| *to ^= row[*from as usize]);
         }
     }
 }
@@ -56,7 +64,11 @@ pub enum Code {
 
 impl Code {
     pub fn data(self) -> usize {
-        if self == Code::Wide { 12 } else { 6 }
+        if self == Code::Wide {
+            12
+        } else {
+            6
+        }
     }
 
     pub fn fragments(self) -> usize {
@@ -70,17 +82,35 @@ impl Code {
             return std::array::from_fn(|sum| u8::from(sum == fragment - data));
         }
         let half = data / 2;
-        let third = if fragment < half { fragment as u8 + 1 } else { (fragment - half + 1) as u8 * 16 };
+        let third = if fragment < half {
+            fragment as u8 + 1
+        } else {
+            (fragment - half + 1) as u8 * 16
+        };
         let first = u8::from(fragment < half);
         [first, 1 - first, third, product(third, third)]
     }
 
     /// What each fragment that is left is multiplied by, for the sum to be the lost one; None where it can't be told.
-    pub fn recipe(self, is_lost: impl Fn(usize) -> bool, wanted: usize) -> Option<Vec<(usize, u8)>> {
-        let unknown: Vec<usize> = (0..self.fragments()).filter(|&f| f != wanted && is_lost(f)).collect();
-        let mut rows: Vec<Vec<u8>> = (0..4).map(|sum| (0..self.fragments()).map(|f| self.weights(f)[sum]).collect()).collect();
+    pub fn recipe(
+        self,
+        is_lost: impl Fn(usize) -> bool,
+        wanted: usize,
+    ) -> Option<Vec<(usize, u8)>> {
+        let unknown: Vec<usize> = (0..self.fragments())
+            .filter(|&f| f != wanted && is_lost(f))
+            .collect();
+        let mut rows: Vec<Vec<u8>> = (0..4)
+            .map(|sum| {
+                (0..self.fragments())
+                    .map(|f| self.weights(f)[sum])
+                    .collect()
+            })
+            .collect();
         for f in unknown {
-            let Some(at) = rows.iter().position(|row| row[f] != 0) else { continue };
+            let Some(at) = rows.iter().position(|row| row[f] != 0) else {
+                continue;
+            };
             let pivot = rows.swap_remove(at);
             for row in &mut rows {
                 let scale = PRODUCTS[row[f] as usize][inverse(pivot[f]) as usize];
@@ -89,7 +119,14 @@ impl Code {
         }
         let row = rows.into_iter().find(|row| row[wanted] != 0)?;
         let scale = inverse(row[wanted]) as usize;
-        let terms = row.iter().enumerate().filter(|&(f, &weight)| f != wanted && weight != 0);
-        Some(terms.map(|(f, &weight)| (f, PRODUCTS[weight as usize][scale])).collect())
+        let terms = row
+            .iter()
+            .enumerate()
+            .filter(|&(f, &weight)| f != wanted && weight != 0);
+        Some(
+            terms
+                .map(|(f, &weight)| (f, PRODUCTS[weight as usize][scale]))
+                .collect(),
+        )
     }
 }

@@ -77,7 +77,9 @@ def main():
     whole = [sum(row[kind] for row in sums.values()) for kind in KINDS]
     print("| all | " + " | ".join(f"{seconds:.0f}" for seconds in whole) + " |")
     minutes = (time.monotonic() - start) / 60
-    print(f"{sum(whole) / 60:.0f} minutes of the processors, {minutes:.0f} by the clock on {os.cpu_count()} processors")
+    print(
+        f"{sum(whole) / 60:.0f} minutes of the processors, {minutes:.0f} by the clock on {os.cpu_count()} processors"
+    )
     return run.returncode
 
 

@@ -23,16 +23,36 @@ SIXTEEN = ["--workers", "16"]
 
 # Each kind: what it is of, its sizes, the parts of the script of a size, and the program's other options.
 KINDS = {
-    "names": ("rows, each a put of a name of its own", COUNTS, lambda n: (f"1,1,put,n{k},text,ABCDEFGHIJKL\n" for k in range(n)), []),
-    "trims": ("rows, half of them trims of all", COUNTS, lambda n: (TRIM for _ in range(n // 2)), []),
+    "names": (
+        "rows, each a put of a name of its own",
+        COUNTS,
+        lambda n: (f"1,1,put,n{k},text,ABCDEFGHIJKL\n" for k in range(n)),
+        [],
+    ),
+    "trims": (
+        "rows, half of them trims of all",
+        COUNTS,
+        lambda n: (TRIM for _ in range(n // 2)),
+        [],
+    ),
     "trims of names": (
         "rows: half puts of names, a quarter trims of all",
         COUNTS,
         lambda n: [f"1,1,put,n{k},text,ABCDEFGHIJKL\n" for k in range(n // 2)] + [TRIM] * (n // 4),
         [],
     ),
-    "losses": ("losses in one blob of 4,096 stripes", (4096, 8192, 16384), lambda n: [PUT] + LOST[:n], []),
-    "rounds": ("rows, each a round of its own", COUNTS, lambda n: (f"{k},1,stat,a,,\n" for k in range(1, n + 1)), []),
+    "losses": (
+        "losses in one blob of 4,096 stripes",
+        (4096, 8192, 16384),
+        lambda n: [PUT] + LOST[:n],
+        [],
+    ),
+    "rounds": (
+        "rows, each a round of its own",
+        COUNTS,
+        lambda n: (f"{k},1,stat,a,,\n" for k in range(1, n + 1)),
+        [],
+    ),
     "rounds of 16": (
         "rows, sixteen to a round, each of its own worker",
         (2048, 4096, 8192),
@@ -54,7 +74,8 @@ KINDS = {
     "mends of names": (
         "rows, half of them puts of names, half mends",
         COUNTS,
-        lambda n: [f"1,1,put,n{k},text,ABCDEFGHIJKL\n" for k in range(n // 2)] + [f"{k + 2},0,mend,,,\n" for k in range(n // 2)],
+        lambda n: [f"1,1,put,n{k},text,ABCDEFGHIJKL\n" for k in range(n // 2)]
+        + [f"{k + 2},0,mend,,,\n" for k in range(n // 2)],
         [],
     ),
     "reads": (
@@ -72,16 +93,47 @@ KINDS = {
     "reads and losses": (
         "rows in turn a read of a byte, a loss, a read, a repair, in a blob of 4,096 stripes",
         (4096, 8192, 16384),
-        lambda n: [PUT] + ["1,1,read,a,0,1\n", LOST[0], "1,1,read,a,0,1\n", "1,1,repair,a,0,0\n"] * (n // 4),
+        lambda n: [PUT]
+        + ["1,1,read,a,0,1\n", LOST[0], "1,1,read,a,0,1\n", "1,1,repair,a,0,0\n"] * (n // 4),
         [],
     ),
-    "too many rows": ("rows, of which the 65,537th is refused", (131072, 262144, 524288), lambda n: ("1,1,stat,a,,\n" for _ in range(n)), []),
-    "empty lines": ("bytes of empty lines", BYTES, lambda n: ("\n" * MIB for _ in range(n // MIB)), []),
-    "commas": ("commas in one record", (8 * MIB, 16 * MIB, 32 * MIB), lambda n: ("," * MIB for _ in range(n // MIB)), []),
+    "too many rows": (
+        "rows, of which the 65,537th is refused",
+        (131072, 262144, 524288),
+        lambda n: ("1,1,stat,a,,\n" for _ in range(n)),
+        [],
+    ),
+    "empty lines": (
+        "bytes of empty lines",
+        BYTES,
+        lambda n: ("\n" * MIB for _ in range(n // MIB)),
+        [],
+    ),
+    "commas": (
+        "commas in one record",
+        (8 * MIB, 16 * MIB, 32 * MIB),
+        lambda n: ("," * MIB for _ in range(n // MIB)),
+        [],
+    ),
     "a field": ("bytes in one field", BYTES, lambda n: ("x" * MIB for _ in range(n // MIB)), []),
-    "quotes": ("bytes behind a quote that never ends", BYTES, lambda n: ['"'] + ["x" * MIB for _ in range(n // MIB)], []),
-    "doubled quotes": ("bytes of doubled quotes in quotes", BYTES, lambda n: ['"'] + ['""' * (MIB // 2) for _ in range(n // MIB)], []),
-    "a number": ("digits of a number", BYTES, lambda n: ["1,1,read,a,"] + ["9" * MIB for _ in range(n // MIB)] + [",1\n"], []),
+    "quotes": (
+        "bytes behind a quote that never ends",
+        BYTES,
+        lambda n: ['"'] + ["x" * MIB for _ in range(n // MIB)],
+        [],
+    ),
+    "doubled quotes": (
+        "bytes of doubled quotes in quotes",
+        BYTES,
+        lambda n: ['"'] + ['""' * (MIB // 2) for _ in range(n // MIB)],
+        [],
+    ),
+    "a number": (
+        "digits of a number",
+        BYTES,
+        lambda n: ["1,1,read,a,"] + ["9" * MIB for _ in range(n // MIB)] + [",1\n"],
+        [],
+    ),
     "a put": (
         "digits of a put in hexadecimal",
         BYTES,
@@ -112,13 +164,23 @@ def main():
             for size in sizes:
                 with open(path, "w", encoding="ascii") as file:
                     file.writelines(parts(size))
-                runs = [measured(given.program, [path, *FULL, *options]) for _ in range(given.times)]
+                runs = [
+                    measured(given.program, [path, *FULL, *options]) for _ in range(given.times)
+                ]
                 seconds.append(min(one.seconds for one in runs))
                 peaks.append(max(one.peak for one in runs))
                 statuses |= {one.status for one in runs}
-            texts = [f"{size:,}: {second:.3f} s, {peak / MIB:.0f} MiB" for size, second, peak in zip(sizes, seconds, peaks)]
+            texts = [
+                f"{size:,}: {second:.3f} s, {peak / MIB:.0f} MiB"
+                for size, second, peak in zip(sizes, seconds, peaks)
+            ]
             grows = [f"{after / before:.2f}" for before, after in zip(seconds, seconds[1:])]
-            print(f"{kind} ({what}): " + "; ".join(texts) + f"; times {' and '.join(grows)}; status {sorted(statuses)}", flush=True)
+            print(
+                f"{kind} ({what}): "
+                + "; ".join(texts)
+                + f"; times {' and '.join(grows)}; status {sorted(statuses)}",
+                flush=True,
+            )
 
 
 if __name__ == "__main__":

@@ -26,7 +26,9 @@ def copied(name, folder):
     """Proves a crate, where it isn't yet, and copies its files and its library."""
     build.build(name, False)
     for part in PARTS:
-        kept, to = os.path.join(TOP, "crates", name, part), os.path.join(folder, "crates", name, part)
+        kept, to = os.path.join(TOP, "crates", name, part), os.path.join(
+            folder, "crates", name, part
+        )
         shutil.rmtree(to, ignore_errors=True)
         if os.path.isdir(kept):
             shutil.copytree(kept, to)
@@ -51,7 +53,13 @@ def built(folder, crate, top, uses, files, words):
         rows = [line for line in lines if line.partition(":")[0].partition(" ")[0] in names]
     with open(os.path.join(folder, "crates.txt"), "w", encoding="utf-8") as lines:
         lines.writelines([*rows, f"{crate}: anyhow {uses}\n"])
-    ran = subprocess.run(["rt", "run", "--", *words], cwd=os.path.dirname(source), stdout=subprocess.PIPE, stderr=subprocess.STDOUT, text=True)
+    ran = subprocess.run(
+        ["rt", "run", "--", *words],
+        cwd=os.path.dirname(source),
+        stdout=subprocess.PIPE,
+        stderr=subprocess.STDOUT,
+        text=True,
+    )
     program = os.path.join(os.path.dirname(source), "out", crate)
     if ran.returncode != 0 or not os.path.exists(program):
         sys.exit(ran.stdout + f"{crate} is not built")
@@ -61,13 +69,18 @@ def built(folder, crate, top, uses, files, words):
 def plain(folder):
     """The plain store, compiled."""
     program = os.path.join(folder, "store")
-    subprocess.run(["rustc", "-O", "--edition", "2021", "-o", program, os.path.join(TOP, "bench", "store.rs")], check=True)
+    subprocess.run(
+        ["rustc", "-O", "--edition", "2021", "-o", program, os.path.join(TOP, "bench", "store.rs")],
+        check=True,
+    )
     return program
 
 
 def told(program, *words):
     """What a run prints, as numbers by their names."""
-    printed = subprocess.run([program, *words], stdout=subprocess.PIPE, check=True, text=True).stdout.split()
+    printed = subprocess.run(
+        [program, *words], stdout=subprocess.PIPE, check=True, text=True
+    ).stdout.split()
     return dict(zip(printed[::2], map(int, printed[1::2])))
 
 
@@ -91,15 +104,23 @@ def main():
     programs = [*given.clients, clients, plain(given.folder)]
     for calls in ("reads", "walks"):
         for threads in (1, 4):
-            runs = [[rate(program, calls, threads, given.millis) for program in programs] for _ in range(given.times)]
+            runs = [
+                [rate(program, calls, threads, given.millis) for program in programs]
+                for _ in range(given.times)
+            ]
             for word, of in (("at most", max), ("median", statistics.median)):
                 rates = [of(column) for column in zip(*runs)]
                 ratios = ", ".join(f"{one:.2f} ({one / rates[-1]:.2f})" for one in rates[:-1])
-                print(f"{calls} by {threads}, {word}: {ratios}; plain {rates[-1]:.2f} million a second", flush=True)
+                print(
+                    f"{calls} by {threads}, {word}: {ratios}; plain {rates[-1]:.2f} million a second",
+                    flush=True,
+                )
     for program in programs[:-1]:
         trims = [told(program, "trims") for _ in range(given.times)]
         mean, greatest = min(run["mean"] for run in trims), sorted(run["greatest"] for run in trims)
-        print(f"a trim among 30,000 names: {mean / 1000:.1f} microseconds in the mean, at most {greatest[0] / 1000:.1f} to {greatest[-1] / 1000:.1f}")
+        print(
+            f"a trim among 30,000 names: {mean / 1000:.1f} microseconds in the mean, at most {greatest[0] / 1000:.1f} to {greatest[-1] / 1000:.1f}"
+        )
 
 
 if __name__ == "__main__":

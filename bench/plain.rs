@@ -4,7 +4,7 @@
 
 mod code;
 
-use code::{Code, add_scaled};
+use code::{add_scaled, Code};
 use std::collections::{BTreeMap, VecDeque};
 use std::fmt::{self, Display, Write as _};
 use std::io::Write as _;
@@ -32,8 +32,17 @@ fn seal(code: Code, width: usize, bytes: &[u8]) -> Option<Blob> {
     if bytes.len().div_ceil(size) > MOST_STRIPES {
         return None;
     }
-    let stripes = bytes.chunks(size).map(|chunk| Arc::new(stripe(code, width, chunk))).collect();
-    Some(Blob { version: 0, len: bytes.len() as u64, code, lost: 0, stripes })
+    let stripes = bytes
+        .chunks(size)
+        .map(|chunk| Arc::new(stripe(code, width, chunk)))
+        .collect();
+    Some(Blob {
+        version: 0,
+        len: bytes.len() as u64,
+        code,
+        lost: 0,
+        stripes,
+    })
 }
 
 fn stripe(code: Code, width: usize, chunk: &[u8]) -> Stripe {
@@ -41,7 +50,10 @@ fn stripe(code: Code, width: usize, chunk: &[u8]) -> Stripe {
     let mut all = Vec::with_capacity(code.fragments());
     for f in 0..code.data() {
         let mut fragment = vec![0; width];
-        let (from, to) = ((f * width).min(chunk.len()), ((f + 1) * width).min(chunk.len()));
+        let (from, to) = (
+            (f * width).min(chunk.len()),
+            ((f + 1) * width).min(chunk.len()),
+        );
         fragment[..to - from].copy_from_slice(&chunk[from..to]);
         for (parity, weight) in parities.iter_mut().zip(code.weights(f)) {
             add_scaled(parity, weight, &fragment);
@@ -53,7 +65,13 @@ fn stripe(code: Code, width: usize, chunk: &[u8]) -> Stripe {
 }
 
 /// A part of a fragment that is lost, by what is left of its stripe.
-fn rebuild(code: Code, stripe: &Stripe, fragment: usize, from: usize, to: usize) -> Option<Vec<u8>> {
+fn rebuild(
+    code: Code,
+    stripe: &Stripe,
+    fragment: usize,
+    from: usize,
+    to: usize,
+) -> Option<Vec<u8>> {
     let recipe = code.recipe(|f| stripe[f].is_none(), fragment)?;
     let mut made = vec![0; to - from];
     for (f, scale) in recipe {
@@ -68,16 +86,32 @@ impl Blob {
     }
 
     fn set(&mut self, stripe: u64, fragment: u64, value: Option<Arc<[u8]>>) {
-        self.lost = if value.is_none() { self.lost + 1 } else { self.lost - 1 };
+        self.lost = if value.is_none() {
+            self.lost + 1
+        } else {
+            self.lost - 1
+        };
         Arc::make_mut(&mut self.stripes[stripe as usize])[fragment as usize] = value;
     }
 
     /// The parts of a range: stripe, fragment, from, to.
-    fn cut(&self, width: usize, start: u64, len: u64) -> impl Iterator<Item = (usize, usize, usize, usize)> + '_ {
+    fn cut(
+        &self,
+        width: usize,
+        start: u64,
+        len: u64,
+    ) -> impl Iterator<Item = (usize, usize, usize, usize)> + '_ {
         let (start, end) = (start as usize, (start + len) as usize);
-        let pieces = if start == end { 0..0 } else { start / width..(end - 1) / width + 1 };
+        let pieces = if start == end {
+            0..0
+        } else {
+            start / width..(end - 1) / width + 1
+        };
         pieces.map(move |k| {
-            let (from, to) = ((k * width).max(start) - k * width, ((k + 1) * width).min(end) - k * width);
+            let (from, to) = (
+                (k * width).max(start) - k * width,
+                ((k + 1) * width).min(end) - k * width,
+            );
             (k / self.code.data(), k % self.code.data(), from, to)
         })
     }
@@ -165,8 +199,12 @@ impl Book {
         let blob = self.names.get(&name).cloned();
         let note = match &blob {
             None => Note::NoName,
-            Some(blob) if start.checked_add(len).map_or(true, |end| end > blob.len) => Note::OutOfRange,
-            Some(blob) if !blob.is_readable(self.width, start, len) => Note::Unrecoverable(blob.version),
+            Some(blob) if start.checked_add(len).map_or(true, |end| end > blob.len) => {
+                Note::OutOfRange
+            }
+            Some(blob) if !blob.is_readable(self.width, start, len) => {
+                Note::Unrecoverable(blob.version)
+            }
             Some(blob) => Note::Granted(blob.version),
         };
         match (self.note(who, Call::Read(name, start, len), note), blob) {
@@ -179,7 +217,9 @@ impl Book {
         let note = match self.names.get_mut(&name) {
             None => Note::NoName,
             Some(blob) if !blob.has(stripe, fragment) => Note::NoFragment,
-            Some(blob) if blob.stripes[stripe as usize][fragment as usize].is_none() => Note::AlreadyLost,
+            Some(blob) if blob.stripes[stripe as usize][fragment as usize].is_none() => {
+                Note::AlreadyLost
+            }
             Some(blob) => {
                 Arc::make_mut(blob).set(stripe, fragment, None);
                 Note::Lost(blob.version)
@@ -189,15 +229,34 @@ impl Book {
     }
 
     /// Puts back a fragment that was rebuilt of this version.
-    fn repair(&mut self, name: String, stripe: u64, fragment: u64, made: Option<(u64, Vec<u8>)>, who: u32) -> Note {
+    fn repair(
+        &mut self,
+        name: String,
+        stripe: u64,
+        fragment: u64,
+        made: Option<(u64, Vec<u8>)>,
+        who: u32,
+    ) -> Note {
         let note = match self.names.get_mut(&name) {
             None => Note::NoName,
             Some(blob) if !blob.has(stripe, fragment) => Note::NoFragment,
-            Some(blob) if blob.stripes[stripe as usize][fragment as usize].is_some() => Note::NotLost,
+            Some(blob) if blob.stripes[stripe as usize][fragment as usize].is_some() => {
+                Note::NotLost
+            }
             Some(blob) => {
-                let made = made.filter(|made| made.0 == blob.version).map(|made| made.1);
+                let made = made
+                    .filter(|made| made.0 == blob.version)
+                    .map(|made| made.1);
                 let width = self.width;
-                match made.or_else(|| rebuild(blob.code, &blob.stripes[stripe as usize], fragment as usize, 0, width)) {
+                match made.or_else(|| {
+                    rebuild(
+                        blob.code,
+                        &blob.stripes[stripe as usize],
+                        fragment as usize,
+                        0,
+                        width,
+                    )
+                }) {
                     None => Note::Unrecoverable(blob.version),
                     Some(bytes) => {
                         Arc::make_mut(blob).set(stripe, fragment, Some(Arc::from(bytes)));
@@ -232,7 +291,8 @@ fn make(store: &Mutex<Book>, width: usize, who: u32, ask: Ask) -> Reply {
         if let Some(blob) = blob.filter(|blob| blob.has(*stripe, *fragment)) {
             let stripe = &blob.stripes[*stripe as usize];
             if stripe[*fragment as usize].is_none() {
-                made = rebuild(blob.code, stripe, *fragment as usize, 0, width).map(|bytes| (blob.version, bytes));
+                made = rebuild(blob.code, stripe, *fragment as usize, 0, width)
+                    .map(|bytes| (blob.version, bytes));
             }
         }
     }
@@ -249,11 +309,16 @@ fn make(store: &Mutex<Book>, width: usize, who: u32, ask: Ask) -> Reply {
         Ask::Lose(name, stripe, fragment) => book.lose(name, stripe, fragment, who),
         Ask::Repair(name, stripe, fragment) => book.repair(name, stripe, fragment, made, who),
         Ask::Delete(name) => {
-            let note = book.names.remove(&name).map_or(Note::NoName, |blob| Note::Deleted(blob.version));
+            let note = book
+                .names
+                .remove(&name)
+                .map_or(Note::NoName, |blob| Note::Deleted(blob.version));
             book.note(who, Call::Delete(name), note)
         }
         Ask::Stat(name) => {
-            let shape = |blob: &Arc<Blob>| Note::Shape(blob.version, blob.len, blob.stripes.len() as u64, blob.lost);
+            let shape = |blob: &Arc<Blob>| {
+                Note::Shape(blob.version, blob.len, blob.stripes.len() as u64, blob.lost)
+            };
             let note = book.names.get(&name).map_or(Note::NoName, shape);
             book.note(who, Call::Stat(name), note)
         }
@@ -290,7 +355,10 @@ fn records(text: &[u8]) -> Vec<Vec<Vec<u8>>> {
             }
             _ if quoted => field.push(byte),
             _ => {
-                let run = text[at..].iter().position(|b| matches!(b, b'"' | b',' | b'\n' | b'\r')).unwrap_or(text.len() - at);
+                let run = text[at..]
+                    .iter()
+                    .position(|b| matches!(b, b'"' | b',' | b'\n' | b'\r'))
+                    .unwrap_or(text.len() - at);
                 field.extend_from_slice(&text[at - 1..at + run]);
                 at += run;
             }
@@ -304,8 +372,20 @@ fn records(text: &[u8]) -> Vec<Vec<Vec<u8>>> {
 }
 
 fn bytes_of(kind: &[u8], text: &[u8]) -> Vec<u8> {
-    let digit = |byte: u8| if byte <= b'9' { byte - b'0' } else { byte - b'a' + 10 };
-    if kind == b"text" { text.to_vec() } else { text.chunks(2).map(|two| digit(two[0]) * 16 + digit(two[1])).collect() }
+    let digit = |byte: u8| {
+        if byte <= b'9' {
+            byte - b'0'
+        } else {
+            byte - b'a' + 10
+        }
+    };
+    if kind == b"text" {
+        text.to_vec()
+    } else {
+        text.chunks(2)
+            .map(|two| digit(two[0]) * 16 + digit(two[1]))
+            .collect()
+    }
 }
 
 fn task(row: &[Vec<u8>]) -> (u32, u32, Task) {
@@ -328,17 +408,28 @@ fn task(row: &[Vec<u8>]) -> (u32, u32, Task) {
 
 // ---- rounds
 
-fn run_round(store: &Mutex<Book>, width: usize, rows: Vec<(usize, u32, Ask)>) -> Vec<(usize, Reply)> {
+fn run_round(
+    store: &Mutex<Book>,
+    width: usize,
+    rows: Vec<(usize, u32, Ask)>,
+) -> Vec<(usize, Reply)> {
     let mut by_worker: BTreeMap<u32, Vec<(usize, Ask)>> = BTreeMap::new();
     for (number, worker, ask) in rows {
         by_worker.entry(worker).or_default().push((number, ask));
     }
     thread::scope(|scope| {
         let start = |(worker, rows): (u32, Vec<(usize, Ask)>)| {
-            scope.spawn(move || rows.into_iter().map(|(number, ask)| (number, make(store, width, worker, ask))).collect::<Vec<_>>())
+            scope.spawn(move || {
+                rows.into_iter()
+                    .map(|(number, ask)| (number, make(store, width, worker, ask)))
+                    .collect::<Vec<_>>()
+            })
         };
         let started: Vec<_> = by_worker.into_iter().map(start).collect();
-        started.into_iter().flat_map(|worker| worker.join().unwrap()).collect()
+        started
+            .into_iter()
+            .flat_map(|worker| worker.join().unwrap())
+            .collect()
     })
 }
 
@@ -346,7 +437,13 @@ fn mend(store: &Mutex<Book>, width: usize, workers: u32) -> Reply {
     let mut plan = Vec::new();
     for (name, blob) in &store.lock().unwrap().names {
         for (j, stripe) in blob.stripes.iter().enumerate() {
-            plan.extend(stripe.iter().enumerate().filter(|(_, f)| f.is_none()).map(|(f, _)| (name.clone(), j as u64, f as u64)));
+            plan.extend(
+                stripe
+                    .iter()
+                    .enumerate()
+                    .filter(|(_, f)| f.is_none())
+                    .map(|(f, _)| (name.clone(), j as u64, f as u64)),
+            );
         }
     }
     let tickets = AtomicUsize::new(0);
@@ -364,11 +461,20 @@ fn mend(store: &Mutex<Book>, width: usize, workers: u32) -> Reply {
         Some(counts)
     };
     let done: Vec<_> = thread::scope(|scope| {
-        let started: Vec<_> = (1..=workers).map(|who| scope.spawn(move || work(who))).collect();
-        started.into_iter().map(|worker| worker.join().unwrap()).collect()
+        let started: Vec<_> = (1..=workers)
+            .map(|who| scope.spawn(move || work(who)))
+            .collect();
+        started
+            .into_iter()
+            .map(|worker| worker.join().unwrap())
+            .collect()
     });
-    let add = |sum: [usize; 4], one: &Option<[usize; 4]>| one.map(|one| std::array::from_fn(|k| sum[k] + one[k]));
-    done.iter().try_fold([0; 4], add).map_or(Reply::Full, Reply::Mended)
+    let add = |sum: [usize; 4], one: &Option<[usize; 4]>| {
+        one.map(|one| std::array::from_fn(|k| sum[k] + one[k]))
+    };
+    done.iter()
+        .try_fold([0; 4], add)
+        .map_or(Reply::Full, Reply::Mended)
 }
 
 // ---- what is printed
@@ -418,7 +524,14 @@ fn push_hex(text: &mut String, bytes: &[u8]) {
 fn push_granted(text: &mut String, blob: &Blob, width: usize, start: u64, len: u64) {
     let is_there = |&(j, f, ..): &(usize, usize, usize, usize)| blob.stripes[j][f].is_some();
     let (lent, built): (Vec<_>, Vec<_>) = blob.cut(width, start, len).partition(is_there);
-    write!(text, "granted {} {} {} ", blob.version, lent.len(), built.len()).unwrap();
+    write!(
+        text,
+        "granted {} {} {} ",
+        blob.version,
+        lent.len(),
+        built.len()
+    )
+    .unwrap();
     text.reserve(2 * len as usize + 1);
     if len == 0 {
         text.push('-');
@@ -426,7 +539,10 @@ fn push_granted(text: &mut String, blob: &Blob, width: usize, start: u64, len: u
     for (j, f, from, to) in blob.cut(width, start, len) {
         match &blob.stripes[j][f] {
             Some(bytes) => push_hex(text, &bytes[from..to]),
-            None => push_hex(text, &rebuild(blob.code, &blob.stripes[j], f, from, to).unwrap()),
+            None => push_hex(
+                text,
+                &rebuild(blob.code, &blob.stripes[j], f, from, to).unwrap(),
+            ),
         }
     }
 }
@@ -446,11 +562,30 @@ fn push_line(text: &mut String, width: usize, number: usize, reply: &Reply) {
 
 fn main() {
     let words: Vec<String> = env::args().skip(1).collect();
-    let option = |name: &str, default: usize| words.iter().position(|word| word == name).map_or(default, |at| words[at + 1].parse().unwrap());
-    let (width, workers, limit) = (option("--width", 1), option("--workers", 1) as u32, option("--limit", 4096));
-    let tasks: Vec<_> = records(&fs::read(&words[0]).unwrap()).iter().map(|row| task(row)).collect();
+    let option = |name: &str, default: usize| {
+        words
+            .iter()
+            .position(|word| word == name)
+            .map_or(default, |at| words[at + 1].parse().unwrap())
+    };
+    let (width, workers, limit) = (
+        option("--width", 1),
+        option("--workers", 1) as u32,
+        option("--limit", 4096),
+    );
+    let tasks: Vec<_> = records(&fs::read(&words[0]).unwrap())
+        .iter()
+        .map(|row| task(row))
+        .collect();
     let names = BTreeMap::new();
-    let store = Mutex::new(Book { width, limit, puts: 0, trimmed: 0, names, journal: VecDeque::new() });
+    let store = Mutex::new(Book {
+        width,
+        limit,
+        puts: 0,
+        trimmed: 0,
+        names,
+        journal: VecDeque::new(),
+    });
     let (mut replies, mut round, mut ready) = (Vec::new(), 0, Vec::new());
     for (number, (next, worker, task)) in (1..).zip(tasks) {
         if next != round {
@@ -474,6 +609,11 @@ fn main() {
             writeln!(text, "h {number} {who} {call} {note}").unwrap();
         }
     }
-    write!(text, "calls {}\nlawful yes\n", book.trimmed + book.journal.len()).unwrap();
+    write!(
+        text,
+        "calls {}\nlawful yes\n",
+        book.trimmed + book.journal.len()
+    )
+    .unwrap();
     io::stdout().write_all(text.as_bytes()).unwrap();
 }

@@ -32,27 +32,37 @@ print(os.waitstatus_to_exitcode(status), used.ru_utime + used.ru_stime, time.mon
 
 def trims(names):
     """A put of each name, and half as many pairs of a stat and a trim that gives up all."""
-    return [f"1,1,put,n{k},text,ABCDEFGHIJKL" for k in range(names)] + ["1,1,stat,n0,,", "1,1,trim,,0,"] * (names // 2)
+    return [f"1,1,put,n{k},text,ABCDEFGHIJKL" for k in range(names)] + [
+        "1,1,stat,n0,,",
+        "1,1,trim,,0,",
+    ] * (names // 2)
 
 
 def losses(stripes):
     """16,384 losses, four in a stripe, in as many blobs of so many stripes as it takes."""
     put = "1,1,put,a,text," + "x" * (12 * stripes)
-    lost = [f"1,1,lose,a,{stripe},{fragment}" for fragment in (0, 1, 6, 7) for stripe in range(stripes)]
+    lost = [
+        f"1,1,lose,a,{stripe},{fragment}" for fragment in (0, 1, 6, 7) for stripe in range(stripes)
+    ]
     return ([put] + lost) * (16384 // len(lost))
 
 
 def reads(lost):
     """65,535 reads of 12 bytes in a blob with so many losses, and a trim at the end."""
     gone = [f"1,1,lose,a,{k % 4096},{(0, 1, 6, 7)[k // 4096]}" for k in range(lost)]
-    return [LONG] + gone + ["1,1,trim,,0,"] + ["1,1,read,a,0,12"] * (65533 - lost) + ["1,1,trim,,0,"]
+    return (
+        [LONG] + gone + ["1,1,trim,,0,"] + ["1,1,read,a,0,12"] * (65533 - lost) + ["1,1,trim,,0,"]
+    )
 
 
 def mend(width, is_mended):
     """4,096 losses, so many at a time as make four in each stripe of a blob of 48 MiB, and all of them mended each time."""
     stripes, rows = MIB_48 // (12 * width), ["1,1,put,a,hex," + "5a" * MIB_48]
     for turn in range(1024 // stripes):
-        rows += [f"{2 * turn + 1},1,lose,a,{k % stripes},{(0, 1, 6, 7)[k // stripes]}" for k in range(4 * stripes)]
+        rows += [
+            f"{2 * turn + 1},1,lose,a,{k % stripes},{(0, 1, 6, 7)[k // stripes]}"
+            for k in range(4 * stripes)
+        ]
         rows += [f"{2 * turn + 2},0,mend,,,"] * is_mended
     return rows
 
@@ -80,7 +90,12 @@ def measured(program, words):
 
     A process of its own starts the run, since what the system tells of a child's peak is no less than its parent had when it started it.
     """
-    told = subprocess.run([sys.executable, "-I", "-c", START, program, *words], stdout=subprocess.PIPE, check=True, text=True).stdout.split()
+    told = subprocess.run(
+        [sys.executable, "-I", "-c", START, program, *words],
+        stdout=subprocess.PIPE,
+        check=True,
+        text=True,
+    ).stdout.split()
     return Run(int(told[0]), float(told[1]), float(told[2]), int(told[3]) * 1024)
 
 
@@ -98,7 +113,9 @@ def run(program, script, options, folder):
 def least(programs, script, options, times, folder):
     """The least of each measure, for each program."""
     runs = [[run(program, script, options, folder) for program in programs] for _ in range(times)]
-    return [[min(one[k][measure] for one in runs) for measure in range(3)] for k in range(len(programs))]
+    return [
+        [min(one[k][measure] for one in runs) for measure in range(3)] for k in range(len(programs))
+    ]
 
 
 def show(what, programs, figures):
@@ -108,9 +125,16 @@ def show(what, programs, figures):
 
 def compare(what, programs, less, more, options, times, folder):
     """The processor time of one script as a ratio to that of another one, both run in turn."""
-    rounds = [[least(programs, script, options, 1, folder) for script in (less, more)] for _ in range(times)]
-    small, great = ([min(one[which][k][0] for one in rounds) for k in range(len(programs))] for which in (0, 1))
-    show(what, programs, [f"{a:.3f} and {b:.3f} s, {b / a:.2f} times" for a, b in zip(small, great)])
+    rounds = [
+        [least(programs, script, options, 1, folder) for script in (less, more)]
+        for _ in range(times)
+    ]
+    small, great = (
+        [min(one[which][k][0] for one in rounds) for k in range(len(programs))] for which in (0, 1)
+    )
+    show(
+        what, programs, [f"{a:.3f} and {b:.3f} s, {b / a:.2f} times" for a, b in zip(small, great)]
+    )
 
 
 def main():
@@ -120,22 +144,63 @@ def main():
     given = parser.parse_args()
     programs, times = given.programs, given.times
     with tempfile.TemporaryDirectory() as folder:
-        compare("4,000 and 8,000 names, with trims", programs, trims(4000), trims(8000), FULL, times, folder)
-        compare("16,384 losses in blobs of 64 and of 4,096 stripes", programs, losses(64), losses(4096), FULL, times, folder)
-        compare("reads of a blob with no loss and with 16,000", programs, reads(0), reads(16000), FULL, times, folder)
+        compare(
+            "4,000 and 8,000 names, with trims",
+            programs,
+            trims(4000),
+            trims(8000),
+            FULL,
+            times,
+            folder,
+        )
+        compare(
+            "16,384 losses in blobs of 64 and of 4,096 stripes",
+            programs,
+            losses(64),
+            losses(4096),
+            FULL,
+            times,
+            folder,
+        )
+        compare(
+            "reads of a blob with no loss and with 16,000",
+            programs,
+            reads(0),
+            reads(16000),
+            FULL,
+            times,
+            folder,
+        )
         wide = [*FULL, "--width", "65536"]
         compare("48 MiB put, and read", programs, whole(False), whole(True), wide, times, folder)
-        for is_read, what in ((False, "48 MiB put, peak memory"), (True, "48 MiB put, and read, peak memory")):
+        for is_read, what in (
+            (False, "48 MiB put, peak memory"),
+            (True, "48 MiB put, and read, peak memory"),
+        ):
             peaks = least(programs, whole(is_read), wide, 1, folder)
-            show(what, programs, [f"{one[2] / MIB_48:.2f} bytes for each of the blob" for one in peaks])
+            show(
+                what,
+                programs,
+                [f"{one[2] / MIB_48:.2f} bytes for each of the blob" for one in peaks],
+            )
         for width in (1, 64, 1024, 65536):
             wide, count = [*FULL, "--width", str(width)], MIB_12 // blob_size(width)
-            some, twice = (least(programs, blobs(width, number), wide, 1, folder) for number in (count, 2 * count))
-            show(f"a stored byte at width {width}", programs, [f"{(b[2] - a[2]) / MIB_12:.2f} bytes of memory" for a, b in zip(some, twice)])
+            some, twice = (
+                least(programs, blobs(width, number), wide, 1, folder)
+                for number in (count, 2 * count)
+            )
+            show(
+                f"a stored byte at width {width}",
+                programs,
+                [f"{(b[2] - a[2]) / MIB_12:.2f} bytes of memory" for a, b in zip(some, twice)],
+            )
         for width in (4096, 65536):
             for workers in (1, 2, 4):
                 options = [*FULL, "--width", str(width), "--workers", str(workers)]
-                base, mended = (least(programs, mend(width, is_mended), options, times, folder) for is_mended in (False, True))
+                base, mended = (
+                    least(programs, mend(width, is_mended), options, times, folder)
+                    for is_mended in (False, True)
+                )
                 walls = [f"{b[1] - a[1]:.3f} s of wall time" for a, b in zip(base, mended)]
                 show(f"4,096 fragments of {width} bytes mended by {workers}", programs, walls)
 

@@ -92,7 +92,9 @@ def table(rates):
     yield "| " + " | ".join(["Calls", "Names", "Threads", *heads]) + " |"
     yield "|---" * (3 + len(columns)) + "|"
     for calls, names, threads in itertools.product(CALLS, NAMES, THREADS):
-        ratios = (rates[(calls, names, threads, *column)] / base(rates, calls) for column in columns)
+        ratios = (
+            rates[(calls, names, threads, *column)] / base(rates, calls) for column in columns
+        )
         cells = [calls, NAMES[names], str(threads), *(f"{ratio:.2f}" for ratio in ratios)]
         yield "| " + " | ".join(cells) + " |"
 
@@ -118,6 +120,7 @@ def polyline(points, colour, is_dashed):
 
 def panel(rates, calls, left, most):
     """The rates of these calls by the number of threads, each thread on a name of its own."""
+
     def at(threads, ratio):
         return left + THREADS.index(threads) * WIDTH / 2, TOP_EDGE + HEIGHT * (1 - ratio / most)
 
@@ -153,6 +156,7 @@ def picture(rates):
 
 # ---- what is kept
 
+
 def read(path):
     with open(path, encoding="utf-8") as kept_text:
         return kept_text.read()
@@ -176,8 +180,10 @@ def kept():
     """The kept figures, and the machine that they are of."""
     with open(RESULTS, encoding="utf-8", newline="") as rows:
         found = list(csv.DictReader(rows))
+
     def case(row):
         return row["calls"], row["names"], int(row["threads"]), row["program"], int(row["shards"])
+
     rates = {case(row): float(row["rate"]) for row in found}
     return rates, found[0]["machine"]
 

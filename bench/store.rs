@@ -6,7 +6,7 @@
 
 mod code;
 
-use code::{Code, add_scaled};
+use code::{add_scaled, Code};
 use std::collections::HashMap;
 use std::hint::black_box;
 use std::sync::{Arc, Mutex};
@@ -39,7 +39,11 @@ struct Blob {
 
 /// The other fragments of a data fragment's group.
 fn others(fragment: usize) -> u16 {
-    let group = if fragment < 6 { 0b0001_0000_0011_1111 } else { 0b0010_1111_1100_0000 };
+    let group = if fragment < 6 {
+        0b0001_0000_0011_1111
+    } else {
+        0b0010_1111_1100_0000
+    };
     group & !(1 << fragment)
 }
 
@@ -47,17 +51,29 @@ impl Stripe {
     /// Whether a data fragment is there, or can be told from those that are.
     fn has(&self, fragment: usize) -> bool {
         let is_lost = |f: usize| self.lost >> f & 1 == 1;
-        !is_lost(fragment) || self.lost & others(fragment) == 0 || Code::Wide.recipe(is_lost, fragment).is_some()
+        !is_lost(fragment)
+            || self.lost & others(fragment) == 0
+            || Code::Wide.recipe(is_lost, fragment).is_some()
     }
 
     /// A part of a data fragment that is lost, by what is left.
     fn rebuild(&self, fragment: usize, from: usize, to: usize) -> Vec<u8> {
         let mut made = vec![0; to - from];
-        let mut add = |f: usize, scale| add_scaled(&mut made, scale, &self.fragments[f].as_ref().unwrap()[from..to]);
+        let mut add = |f: usize, scale| {
+            add_scaled(
+                &mut made,
+                scale,
+                &self.fragments[f].as_ref().unwrap()[from..to],
+            )
+        };
         if self.lost & others(fragment) == 0 {
-            (0..16).filter(|&f| others(fragment) >> f & 1 == 1).for_each(|f| add(f, 1));
+            (0..16)
+                .filter(|&f| others(fragment) >> f & 1 == 1)
+                .for_each(|f| add(f, 1));
         } else {
-            let recipe = Code::Wide.recipe(|f| self.lost >> f & 1 == 1, fragment).unwrap();
+            let recipe = Code::Wide
+                .recipe(|f| self.lost >> f & 1 == 1, fragment)
+                .unwrap();
             recipe.into_iter().for_each(|(f, scale)| add(f, scale));
         }
         made
@@ -67,8 +83,19 @@ impl Stripe {
 /// The parts of a range: stripe, fragment, from, to.
 fn cut(width: usize, start: u64, len: u64) -> impl Iterator<Item = (usize, usize, usize, usize)> {
     let (start, end) = (start as usize, (start + len) as usize);
-    let pieces = if start == end { 0..0 } else { start / width..(end - 1) / width + 1 };
-    pieces.map(move |k| (k / DATA, k % DATA, start.saturating_sub(k * width), width.min(end - k * width)))
+    let pieces = if start == end {
+        0..0
+    } else {
+        start / width..(end - 1) / width + 1
+    };
+    pieces.map(move |k| {
+        (
+            k / DATA,
+            k % DATA,
+            start.saturating_sub(k * width),
+            width.min(end - k * width),
+        )
+    })
 }
 
 impl Blob {
@@ -102,7 +129,12 @@ enum Note {
     Repaired(u64),
     NotLost,
     Deleted(u64),
-    Shape { version: u64, len: u64, stripes: u64, lost: u64 },
+    Shape {
+        version: u64,
+        len: u64,
+        stripes: u64,
+        lost: u64,
+    },
 }
 
 #[allow(dead_code)]
@@ -120,7 +152,13 @@ struct Book {
 }
 
 impl Book {
-    fn read(&mut self, who: u32, name: &Name, start: u64, len: u64) -> Result<Option<Arc<Blob>>, Full> {
+    fn read(
+        &mut self,
+        who: u32,
+        name: &Name,
+        start: u64,
+        len: u64,
+    ) -> Result<Option<Arc<Blob>>, Full> {
         if self.journal.len() == LIMIT {
             return Err(Full);
         }
@@ -132,7 +170,11 @@ impl Book {
         } else {
             (Note::Granted(blob.version), Some(blob.clone()))
         };
-        self.journal.push(Entry { who, call: Call::Read(*name, start, len), note });
+        self.journal.push(Entry {
+            who,
+            call: Call::Read(*name, start, len),
+            note,
+        });
         Ok(granted)
     }
 
@@ -148,12 +190,22 @@ impl Book {
             set(blob, fragment, None);
             Note::Lost(blob.version)
         };
-        self.journal.push(Entry { who, call: Call::Lose(*name, 0, fragment as u64), note });
+        self.journal.push(Entry {
+            who,
+            call: Call::Lose(*name, 0, fragment as u64),
+            note,
+        });
         Ok(())
     }
 
     /// Puts back a fragment of the first stripe that was rebuilt before.
-    fn repair(&mut self, who: u32, name: &Name, fragment: usize, made: Option<Vec<u8>>) -> Result<(), Full> {
+    fn repair(
+        &mut self,
+        who: u32,
+        name: &Name,
+        fragment: usize,
+        made: Option<Vec<u8>>,
+    ) -> Result<(), Full> {
         if self.journal.len() == LIMIT {
             return Err(Full);
         }
@@ -165,14 +217,22 @@ impl Book {
             set(blob, fragment, Some(made.into()));
             Note::Repaired(blob.version)
         };
-        self.journal.push(Entry { who, call: Call::Repair(*name, 0, fragment as u64), note });
+        self.journal.push(Entry {
+            who,
+            call: Call::Repair(*name, 0, fragment as u64),
+            note,
+        });
         Ok(())
     }
 }
 
 fn set(blob: &mut Arc<Blob>, fragment: usize, bytes: Option<Arc<[u8]>>) {
     let blob = Arc::make_mut(blob);
-    blob.lost = if bytes.is_none() { blob.lost + 1 } else { blob.lost - 1 };
+    blob.lost = if bytes.is_none() {
+        blob.lost + 1
+    } else {
+        blob.lost - 1
+    };
     let stripe = Arc::make_mut(&mut blob.stripes[0]);
     stripe.lost ^= 1 << fragment;
     stripe.fragments[fragment] = bytes;
@@ -184,10 +244,14 @@ struct Shard(Mutex<Book>);
 
 /// The shard of a name, by FxHash. A name's last byte is its length.
 fn find_shard(name: &Name, count: usize) -> usize {
-    let step = |hash: u64, number: u64| (hash.rotate_left(5) ^ number).wrapping_mul(0x517c_c1b7_2722_0a95);
+    let step =
+        |hash: u64, number: u64| (hash.rotate_left(5) ^ number).wrapping_mul(0x517c_c1b7_2722_0a95);
     let pieces = name[..usize::from(name[32])].chunks_exact(8);
     let rest = pieces.remainder().iter().map(|byte| u64::from(*byte));
-    let hash = pieces.map(|piece| u64::from_le_bytes(piece.try_into().unwrap())).chain(rest).fold(0, step);
+    let hash = pieces
+        .map(|piece| u64::from_le_bytes(piece.try_into().unwrap()))
+        .chain(rest)
+        .fold(0, step);
     ((hash >> 32) * count as u64 >> 32) as usize
 }
 
@@ -229,7 +293,9 @@ fn call(shards: &[Shard], who: u32, name: &Name, is_walk: bool, turn: u64) -> Re
         199 if is_walk => repair(store, who, name, 1)?,
         _ => {
             let granted = store.lock().unwrap().read(who, name, 0, LEN)?;
-            return Ok(granted.filter(|_| is_walk).map_or(0, |blob| walk(&blob, 0, LEN)));
+            return Ok(granted
+                .filter(|_| is_walk)
+                .map_or(0, |blob| walk(&blob, 0, LEN)));
         }
     }
     Ok(0)
@@ -279,19 +345,41 @@ fn names_of(threads: usize, is_own: bool, shards: usize) -> Vec<Name> {
 
 fn blob() -> Arc<Blob> {
     let width = black_box(64);
-    let stripe = Stripe { fragments: array::from_fn(|f| (f != 0).then(|| Arc::from(vec![7; width]))), lost: 1 };
-    Arc::new(Blob { version: 1, width, len: (DATA * width) as u64, lost: 1, stripes: vec![Arc::new(stripe)] })
+    let stripe = Stripe {
+        fragments: array::from_fn(|f| (f != 0).then(|| Arc::from(vec![7; width]))),
+        lost: 1,
+    };
+    Arc::new(Blob {
+        version: 1,
+        width,
+        len: (DATA * width) as u64,
+        lost: 1,
+        stripes: vec![Arc::new(stripe)],
+    })
 }
 
 fn main() {
     let words: Vec<String> = env::args().collect();
     let (is_walk, threads) = (words[1] == "walks", words[2].parse().unwrap());
     let count = words.get(5).map_or(1, |word| word.parse().unwrap());
-    let names = names_of(threads, words.get(4).is_some_and(|word| word == "own"), count);
-    let open = |_| Shard(Mutex::new(Book { names: HashMap::new(), journal: Vec::with_capacity(LIMIT) }));
+    let names = names_of(
+        threads,
+        words.get(4).is_some_and(|word| word == "own"),
+        count,
+    );
+    let open = |_| {
+        Shard(Mutex::new(Book {
+            names: HashMap::new(),
+            journal: Vec::with_capacity(LIMIT),
+        }))
+    };
     let shards: Vec<Shard> = (0..count).map(open).collect();
     for name in &names {
-        store_of(&shards, name).lock().unwrap().names.insert(*name, blob());
+        store_of(&shards, name)
+            .lock()
+            .unwrap()
+            .names
+            .insert(*name, blob());
     }
     let start = Instant::now();
     let until = start + Duration::from_millis(words[3].parse().unwrap());
@@ -299,8 +387,17 @@ fn main() {
         let shards = &shards[..];
         let run = |(who, name)| scope.spawn(move || work(shards, who, name, is_walk, until));
         let started: Vec<_> = (0..).zip(&names).map(run).collect();
-        started.into_iter().map(|client| client.join().unwrap()).collect()
+        started
+            .into_iter()
+            .map(|client| client.join().unwrap())
+            .collect()
     });
     let all: [u64; 3] = array::from_fn(|k| done.iter().map(|one| one[k]).sum());
-    println!("calls {} nanos {} bytes {} trims {} failed 0", all[0], start.elapsed().as_nanos(), all[1], all[2]);
+    println!(
+        "calls {} nanos {} bytes {} trims {} failed 0",
+        all[0],
+        start.elapsed().as_nanos(),
+        all[1],
+        all[2]
+    );
 }

@@ -15,7 +15,9 @@ from sources import CRATES, blanked, closing, files_of, functions_of, read
 
 ROOTS = {("shared", "Store"), ("shared", "Pass"), ("lent", "Grant"), ("play", ""), ("program", "")}
 HEAD = re.compile(r"^ *(?:(?:abbrev|unfoldable) pub |pub (?:record|data) )(\S+)", re.M)
-IMPORT = re.compile(r"use Rattle\.(\w+)\.specs\.([\w.]+?)(?:\.\{([^}]*)\}|\.TheVariants as (\w+)| as (\w+))")
+IMPORT = re.compile(
+    r"use Rattle\.(\w+)\.specs\.([\w.]+?)(?:\.\{([^}]*)\}|\.TheVariants as (\w+)| as (\w+))"
+)
 WORD = re.compile(r"[A-Za-z_][\w-]*(?:\.[A-Za-z_][\w-]*)*")
 
 
@@ -23,8 +25,16 @@ def definitions_of(text):
     """Each definition of a file: the names that it gives, of a `data` those of its cases too, and its lines."""
     heads = list(HEAD.finditer(text))
     for head, end in zip(heads, [head.start() for head in heads[1:]] + [len(text)]):
-        lines = [line for line in text[head.start():end].split("\n") if line.strip() and not line.lstrip().startswith(("--", "module "))]
-        cases = re.findall(r"^\s+([A-Za-z_]\w*) :", "\n".join(lines[1:]), re.M) if "pub data" in head.group() else []
+        lines = [
+            line
+            for line in text[head.start() : end].split("\n")
+            if line.strip() and not line.lstrip().startswith(("--", "module "))
+        ]
+        cases = (
+            re.findall(r"^\s+([A-Za-z_]\w*) :", "\n".join(lines[1:]), re.M)
+            if "pub data" in head.group()
+            else []
+        )
         yield [head.group(1), *cases], lines
 
 
@@ -66,11 +76,15 @@ class Definitions:
         for path in files_of(os.path.join(CRATES, crate, "src")):
             text = read(path)
             code, names = blanked(text), imports_of(text)
-            for found in re.finditer(r"(?:struct|enum) (\w+)[^;{]*\{|impl[^;{]* for (\w+)[^;{]*\{", code):
-                whole = text[found.start():closing(code, found.end() - 1)]
+            for found in re.finditer(
+                r"(?:struct|enum) (\w+)[^;{]*\{|impl[^;{]* for (\w+)[^;{]*\{", code
+            ):
+                whole = text[found.start() : closing(code, found.end() - 1)]
                 ghosts = re.findall(r"ghost (?!use)[^{}]*\{[^}]*\}", whole)
                 if ghosts and ("impl" not in found.group() or "Model" in found.group()):
-                    self.types[crate, found.group(1) or found.group(2)].append(("\n".join(ghosts), names))
+                    self.types[crate, found.group(1) or found.group(2)].append(
+                        ("\n".join(ghosts), names)
+                    )
 
     def cited(self, text, crate, module, names):
         """The definitions and types that a text cites."""
@@ -114,7 +128,7 @@ def roots(definitions):
             text = read(path)
             for function in functions_of(text):
                 if function.is_public and function.owner == owner:
-                    clauses = re.split(r"\n *\{\n", text[function.start:function.end])[0]
+                    clauses = re.split(r"\n *\{\n", text[function.start : function.end])[0]
                     yield from definitions.cited(clauses, crate, None, imports_of(text))
 
 
@@ -143,7 +157,9 @@ def main(arguments):
     print(", ".join(f"{crate} {count}" for crate, count in sorted(lines.items())))
     said = sentence(believed, definitions, lines)
     print(said)
-    if said not in " ".join(read(os.path.join(os.path.dirname(CRATES), "docs", "definitions.md")).split()):
+    if said not in " ".join(
+        read(os.path.join(os.path.dirname(CRATES), "docs", "definitions.md")).split()
+    ):
         sys.exit("docs/definitions.md says another number")
 
 

@@ -214,8 +214,9 @@ def trims():
         puts = [Row(1, 1, "put", name, "", data_of(49152)) for name in "abcd"]
         each = trimmed // 8
         spots = [(j, f) for f in (12, 13, 14, 15) for j in range(MOST_STRIPES)][:each]
-        rows = puts + [row for name in "abcd" for j, f in spots
-                       for row in calls(f"lose {j} {f}", name=name)]
+        rows = puts + [
+            row for name in "abcd" for j, f in spots for row in calls(f"lose {j} {f}", name=name)
+        ]
         rows += [Row(2, 0, "mend")] + calls(*["stat"] * (trimmed % 8), round=3)
         rows += [Row(3, 1, "trim", "", "4"), Row(3, 1, "trim", "", "4"), *calls("stat", round=3)]
         yield Case(f"a trim of {trimmed}", ["--limit", 1048576], rows)
@@ -276,10 +277,12 @@ def cases():
 
 def in_order(entries, mends_in):
     """The entries, those of a round by worker, and those of a mend by what they repair."""
+
     def key(entry):
         if entry.round not in mends_in:
             return (0, entry.who)
         return (1, *[int(n) if n.isdigit() else n for n in entry.call.split()])
+
     ordered = []
     for round, group in groupby(entries, lambda entry: entry.round):
         is_mend = round in mends_in
@@ -337,8 +340,9 @@ def faults(case):
     script = "".join(map(line_of, case.rows)).encode()
     for workers in case.workers:
         words = [PROGRAM, "/dev/stdin", "--workers", str(workers), *map(str, case.words)]
-        ran = subprocess.run(words, input=script, env={}, timeout=60,
-                             stdout=subprocess.PIPE, stderr=subprocess.PIPE)
+        ran = subprocess.run(
+            words, input=script, env={}, timeout=60, stdout=subprocess.PIPE, stderr=subprocess.PIPE
+        )
         if ran.returncode or ran.stderr:
             yield f"status {ran.returncode}, {ran.stderr}"
         else:

@@ -1,6 +1,7 @@
-// For tests, loaded before the C library: the request for memory of number REFUSE is refused, counted
-// from 1 over malloc, calloc and realloc, and the thread of number REFUSE_THREAD is not started. The
-// file REFUSED is made when either happens. Each thread that is started adds a byte to the file STARTED.
+// For tests, loaded before the C library: the request for memory of number REFUSE is refused,
+// counted from 1 over malloc, calloc and realloc, and the thread of number REFUSE_THREAD is not
+// started. The file REFUSED is made when either happens. Each thread that is started adds a byte to
+// the file STARTED.
 #define _GNU_SOURCE
 #include <dlfcn.h>
 #include <errno.h>
@@ -10,7 +11,8 @@
 #include <stdlib.h>
 #include <unistd.h>
 
-// A thing that is counted, and which of them is refused: 0 for none, and -1 as long as nobody has asked.
+// A thing that is counted, and which of them is refused: 0 for none, and -1 as long as nobody has
+// asked.
 struct counted {
     const char *variable;
     atomic_long count, wanted;
@@ -49,10 +51,15 @@ static void *no_memory(void) {
 }
 
 void *malloc(size_t size) { return refused(&memory) ? no_memory() : __libc_malloc(size); }
-void *calloc(size_t n, size_t size) { return refused(&memory) ? no_memory() : __libc_calloc(n, size); }
-void *realloc(void *old, size_t size) { return refused(&memory) ? no_memory() : __libc_realloc(old, size); }
+void *calloc(size_t n, size_t size) {
+    return refused(&memory) ? no_memory() : __libc_calloc(n, size);
+}
+void *realloc(void *old, size_t size) {
+    return refused(&memory) ? no_memory() : __libc_realloc(old, size);
+}
 
-int pthread_create(pthread_t *thread, const pthread_attr_t *attributes, void *(*start)(void *), void *argument) {
+int pthread_create(pthread_t *thread, const pthread_attr_t *attributes, void *(*start)(void *),
+                   void *argument) {
     static int (*_Atomic create)(pthread_t *, const pthread_attr_t *, void *(*)(void *), void *);
     if (refused(&threads)) {
         return EAGAIN;

@@ -50,8 +50,12 @@ def meeting_of(workers):
     """A script: two rounds with several rows of each worker over a blob of its own, and a mend."""
     rows = [f"1,1,put,n{k},text,HELLO" for k in range(1, workers + 1)]
     texts = ("read,{},0,5", "lose,{},0,0", "read,{},0,2", "stat,{},,")
-    rows += [f"{r},{k},{text.format(f'n{k}')}" for r in (2, 3)
-             for text in texts for k in range(1, workers + 1)]
+    rows += [
+        f"{r},{k},{text.format(f'n{k}')}"
+        for r in (2, 3)
+        for text in texts
+        for k in range(1, workers + 1)
+    ]
     return "\n".join(rows + ["4,0,mend,,,", "5,1,stat,n1,,", ""])
 
 
@@ -83,8 +87,14 @@ class Runs:
         refused, started = (os.path.join(self.folder, name) for name in ("refused", "started"))
         variables = {"LD_PRELOAD": self.library, what: str(number)}
         variables.update(REFUSED=refused, STARTED=started)
-        ran = subprocess.run(command, cwd=self.folder, env=variables, timeout=60,
-                             stdout=subprocess.PIPE, stderr=subprocess.PIPE)
+        ran = subprocess.run(
+            command,
+            cwd=self.folder,
+            env=variables,
+            timeout=60,
+            stdout=subprocess.PIPE,
+            stderr=subprocess.PIPE,
+        )
         threads = os.path.getsize(started) if os.path.exists(started) else 0
         is_refused = os.path.exists(refused)
         for path in (refused, started):

@@ -21,8 +21,10 @@ def read(path):
 
 def blanked(code):
     """The code with comments, strings, characters and the semicolons of array types as blanks, so that its brackets match."""
+
     def blank(found):
         return re.sub(r"[^\n]", " ", found.group())
+
     code = re.sub(r"//[^\n]*|b?\"(?:\\[\s\S]|[^\"\\])*\"|b?'(?:\\.[^']*|[^'\\\n])'", blank, code)
     return re.sub(r";(?=[^][{};]*\])", " ", code)
 
@@ -69,7 +71,9 @@ class Crate:
 
     def named(self, word):
         """The functions that a word names: `put`, or `Store::put` where several types have one."""
-        return [f for f in self.functions if f.path() == word] or [f for f in self.functions if f.name == word]
+        return [f for f in self.functions if f.path() == word] or [
+            f for f in self.functions if f.name == word
+        ]
 
 
 def owner_of(header):
@@ -101,7 +105,9 @@ def function_at(code, found, owner, is_test):
     end = closing(code, brace) if code[brace] == "{" else brace
     is_public = bool(re.match(r"pub\s", found.group()))
     is_exported = is_public and "extern" in found.group().split()
-    return Function(owner, found.group("name"), is_public, clauses, found.start(), end, is_test, is_exported)
+    return Function(
+        owner, found.group("name"), is_public, clauses, found.start(), end, is_test, is_exported
+    )
 
 
 def matching_angle(code, place):
@@ -129,7 +135,9 @@ def functions_of(text):
         elif item.group("impl"):
             owners.append(owner_of(item.group("impl")))
         elif item.group("fn"):
-            function = function_at(code, item, next((o for o in reversed(owners) if o), ""), is_test)
+            function = function_at(
+                code, item, next((o for o in reversed(owners) if o), ""), is_test
+            )
             found.append(function)
             place, is_test = function.end, False
         elif item.group("open"):
@@ -153,7 +161,9 @@ def exported(root):
     """The names that a library's root gives its callers."""
     names = set(re.findall(r"^pub (?:struct|enum|trait|fn|type) (\w+)", root, re.M))
     for path in re.findall(r"^pub use ([^;]+);", root, re.M):
-        names |= set(re.findall(r"\w+", path.split("::")[-1] if "{" not in path else path[path.index("{") :]))
+        names |= set(
+            re.findall(r"\w+", path.split("::")[-1] if "{" not in path else path[path.index("{") :])
+        )
     return names
 
 
@@ -185,13 +195,19 @@ def crate(name):
             result.tests += [f.name for f in functions[inner] if f.is_test]
             continue
         for function in functions[inner]:
-            function.is_public = function.is_exported or function.is_public and (function.owner or function.name) in names
+            function.is_public = (
+                function.is_exported
+                or function.is_public
+                and (function.owner or function.name) in names
+            )
             result.functions.append(function)
     edits = os.path.join(folder, "must-fail")
     for file in sorted(os.listdir(edits)) if os.path.isdir(edits) else []:
         if file.endswith(".edit"):
             place, _, name = file[: -len(".edit")].rpartition(".")
-            result.edits[name] = path, target, _ = edit_target(read(os.path.join(edits, file)), texts, functions)
+            result.edits[name] = path, target, _ = edit_target(
+                read(os.path.join(edits, file)), texts, functions
+            )
             if place != edit_place(path, target):
                 result.misnamed.append((file, f"{edit_place(path, target)}.{name}.edit"))
     return result

@@ -33,8 +33,9 @@ MOST_ROWS = 65536
 
 
 def run(folder, words, out=subprocess.PIPE, given=None, err=subprocess.PIPE):
-    return subprocess.run([PROGRAM, *words], cwd=folder, input=given, stdout=out, stderr=err, env={},
-                          timeout=60)
+    return subprocess.run(
+        [PROGRAM, *words], cwd=folder, input=given, stdout=out, stderr=err, env={}, timeout=60
+    )
 
 
 def ended(what, ran, status, out, err):
@@ -56,20 +57,52 @@ def main():
         too_many = b"1,1,stat,a,,\n" * (MOST_ROWS + 1)
         results = [
             ended("a script", run(folder, ["script.csv"]), 0, PRINTED, b""),
-            ended("the greatest numbers", run(folder, ["script.csv", *GREATEST]), 0, PRINTED_BY_GREATEST, b""),
+            ended(
+                "the greatest numbers",
+                run(folder, ["script.csv", *GREATEST]),
+                0,
+                PRINTED_BY_GREATEST,
+                b"",
+            ),
             ended("standard input", run(folder, ["/dev/stdin"], given=FIRST_PATH), 0, PRINTED, b""),
             ended("help", helped, 0, None, b""),
             all(word.encode() in helped.stdout for word in HELPS),
             ended("version", run(folder, ["--version"]), 0, b"lrcstore 0.1.0\n", b""),
-            ended("too many rows", run(folder, ["/dev/stdin"], given=too_many), 1, b"", b"lrcstore: row 65537: rows\n"),
+            ended(
+                "too many rows",
+                run(folder, ["/dev/stdin"], given=too_many),
+                1,
+                b"",
+                b"lrcstore: row 65537: rows\n",
+            ),
             ended("a cut script", run(folder, ["cut.csv"]), 1, b"", b"lrcstore: row 2: fields\n"),
-            ended("no script", run(folder, ["none.csv"]), 1, b"", b"lrcstore: cannot read the script\n"),
+            ended(
+                "no script",
+                run(folder, ["none.csv"]),
+                1,
+                b"",
+                b"lrcstore: cannot read the script\n",
+            ),
             ended("a folder", run(folder, ["."]), 1, b"", b"lrcstore: cannot read the script\n"),
-            ended("no UTF-8", run(folder, [b"\xff.csv"]), 2, b"", b"lrcstore: an argument is not UTF-8\n"),
+            ended(
+                "no UTF-8",
+                run(folder, [b"\xff.csv"]),
+                2,
+                b"",
+                b"lrcstore: an argument is not UTF-8\n",
+            ),
         ]
         with open("/dev/full", "wb") as full:
             for words in (["script.csv"], ["--help"], ["--version"]):
-                results.append(ended(f"{words[0]} to a full device", run(folder, words, full), 1, None, b"lrcstore: cannot write\n"))
+                results.append(
+                    ended(
+                        f"{words[0]} to a full device",
+                        run(folder, words, full),
+                        1,
+                        None,
+                        b"lrcstore: cannot write\n",
+                    )
+                )
             # Where the message can't be written, the status is that of the ending.
             for words, status in (([], 2), (["none.csv"], 1), (["cut.csv"], 1)):
                 ran = run(folder, words, err=full)

@@ -38,7 +38,13 @@ def below(program):
 def build(name, is_program, cpu="v2"):
     """Proves a crate and builds it, and gives how many of its functions are proved."""
     command = ["rt", "run", f"--cpu=x86-64-{cpu}", "--", "--help"] if is_program else ["rt", "lib"]
-    ran = subprocess.run(command, cwd=os.path.join(TOP, "crates", name), stdout=subprocess.PIPE, stderr=subprocess.STDOUT, text=True)
+    ran = subprocess.run(
+        command,
+        cwd=os.path.join(TOP, "crates", name),
+        stdout=subprocess.PIPE,
+        stderr=subprocess.STDOUT,
+        text=True,
+    )
     proved = re.findall(r"^logic=proved functions=(\d+)", ran.stdout, re.M)
     built = os.path.join(TOP, "crates", name, "out", name)
     if ran.returncode != 0 or is_program and not os.path.exists(built):
@@ -51,7 +57,10 @@ def build_all(program, cpu="v2"):
     names, start = below(program), time.monotonic()
     if not names or names[-1] != program:
         sys.exit(f"crates.txt has no crate {program}")
-    print(f"{len(names)} crates. From nothing they take some 15 minutes on 4 cores; after that, seconds.", flush=True)
+    print(
+        f"{len(names)} crates. From nothing they take some 15 minutes on 4 cores; after that, seconds.",
+        flush=True,
+    )
     for number, name in enumerate(names, 1):
         print(f"{number:2} of {len(names)}  {name:14}", end="", flush=True)
         proved = build(name, name == program, cpu)
@@ -62,7 +71,12 @@ def build_all(program, cpu="v2"):
 
 def main():
     parser = argparse.ArgumentParser(description=__doc__.splitlines()[0])
-    parser.add_argument("--cpu", choices=("v2", "v3"), default="v2", help="the processor's level: v2 (SSE) or v3 (AVX2)")
+    parser.add_argument(
+        "--cpu",
+        choices=("v2", "v3"),
+        default="v2",
+        help="the processor's level: v2 (SSE) or v3 (AVX2)",
+    )
     parser.add_argument("program", nargs="?", default="lrcstore")
     given = parser.parse_args()
     print(os.path.relpath(build_all(given.program, given.cpu), TOP))

@@ -31,9 +31,7 @@ from svg import (
 CODE = "Wide"
 DATA, ALL = lrc.data_fragments(CODE), lrc.fragments(CODE)
 HALF = DATA // 2
-GLOBALS = (
-    f"{DATA + 2} and {DATA + 3} sum both groups, each fragment times its weight, or its weight squared."
-)
+GLOBALS = f"{DATA + 2} and {DATA + 3} sum both groups, each fragment times its weight, or its weight squared."
 UNRECOVERABLE = (
     "unrecoverable: two stripes agree on all remaining fragments and differ in these."
     " All others can be read"

@@ -5,7 +5,9 @@ from dataclasses import dataclass, field
 
 import lrc
 
-ENTRY = re.compile(r"h (\d+) (\d+) (\S+) (\S+)((?: \d+)*) (no-name|no-fragment|out-of-range|already-lost|not-lost|[a-z]+(?: \d+)+)")
+ENTRY = re.compile(
+    r"h (\d+) (\d+) (\S+) (\S+)((?: \d+)*) (no-name|no-fragment|out-of-range|already-lost|not-lost|[a-z]+(?: \d+)+)"
+)
 CODES = {"put": "Wide", "put6": "Small"}
 
 
@@ -27,7 +29,9 @@ def entries(printed):
     for row in printed.splitlines():
         if row.startswith("h "):
             number, worker, word, name, numbers, note = ENTRY.fullmatch(row).groups()
-            found.append(Entry(int(number), int(worker), word, name, [int(n) for n in numbers.split()], note))
+            found.append(
+                Entry(int(number), int(worker), word, name, [int(n) for n in numbers.split()], note)
+            )
     return found
 
 
@@ -70,7 +74,9 @@ class Replay:
         """What an entry's note is by the rules, and the change that its call makes."""
         if entry.word in CODES:
             self.puts += 1
-            self.blobs[entry.name] = Blob(self.puts, entry.numbers[0], CODES[entry.word], self.width)
+            self.blobs[entry.name] = Blob(
+                self.puts, entry.numbers[0], CODES[entry.word], self.width
+            )
             return f"stored {self.puts}"
         blob = self.blobs.get(entry.name)
         if blob is None:

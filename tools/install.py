@@ -70,20 +70,26 @@ endif()
 
 def run(*command, **options):
     """Runs a command, and ends with what it printed if it fails."""
-    ran = subprocess.run(command, stdout=subprocess.PIPE, stderr=subprocess.STDOUT, text=True, **options)
+    ran = subprocess.run(
+        command, stdout=subprocess.PIPE, stderr=subprocess.STDOUT, text=True, **options
+    )
     if ran.returncode:
         sys.exit(f"{ran.stdout}{' '.join(command)} failed")
 
 
 def version():
     """The number that `lrcstore --version` prints."""
-    with open(os.path.join(TOP, "crates", "command_line", "src", "reading.rt"), encoding="utf-8") as lines:
+    with open(
+        os.path.join(TOP, "crates", "command_line", "src", "reading.rt"), encoding="utf-8"
+    ) as lines:
         return re.search(r'VERSION: &str = "([\d.]+)"', lines.read()).group(1)
 
 
 def kit_libc():
     """The kit's library by which the store takes memory from malloc."""
-    page = subprocess.run(["rt", "doc"], stdout=subprocess.PIPE, check=True, text=True).stdout.strip()
+    page = subprocess.run(
+        ["rt", "doc"], stdout=subprocess.PIPE, check=True, text=True
+    ).stdout.strip()
     return os.path.join(os.path.dirname(page), "c", "liblibc_c.a")
 
 
@@ -108,9 +114,18 @@ def shared(name, soname, folder):
     exports = os.path.join(folder, "exports")
     with open(exports, "w", encoding="utf-8") as file:
         file.write("{ global: lrc_*; local: *; };\n")
-    run("gcc", "-shared", "-Wl,--whole-archive", os.path.join(folder, f"lib{name}.a"), "-Wl,--no-whole-archive",
-        f"-Wl,--version-script={exports}", f"-Wl,-soname,{soname}", "-Wl,--no-undefined",
-        "-o", os.path.join(folder, f"lib{name}.so"))
+    run(
+        "gcc",
+        "-shared",
+        "-Wl,--whole-archive",
+        os.path.join(folder, f"lib{name}.a"),
+        "-Wl,--no-whole-archive",
+        f"-Wl,--version-script={exports}",
+        f"-Wl,-soname,{soname}",
+        "-Wl,--no-undefined",
+        "-o",
+        os.path.join(folder, f"lib{name}.so"),
+    )
 
 
 class Installation:
@@ -157,7 +172,9 @@ def install_library(installation, name, folder):
     installation.link(soname, f"lib/lib{name}.so")
     installation.write(PKG_CONFIG.format(**values), f"lib/pkgconfig/{name}.pc")
     installation.write(CMAKE.format(**values), f"lib/cmake/{name}/{name}Config.cmake")
-    installation.write(CMAKE_VERSION.format(**values), f"lib/cmake/{name}/{name}ConfigVersion.cmake")
+    installation.write(
+        CMAKE_VERSION.format(**values), f"lib/cmake/{name}/{name}ConfigVersion.cmake"
+    )
     modules = f"lib/python{sysconfig.get_python_version()}/site-packages"
     installation.copy(os.path.join(TOP, "bindings", "python", f"{name}.py"), f"{modules}/{name}.py")
     installation.link(f"../../{soname}", f"{modules}/lib{name}.so")
@@ -199,10 +216,19 @@ def uninstall(root):
 
 def main():
     parser = argparse.ArgumentParser(description=__doc__.splitlines()[0])
-    parser.add_argument("--prefix", required=True, help="where the files are looked for, as /usr/local")
+    parser.add_argument(
+        "--prefix", required=True, help="where the files are looked for, as /usr/local"
+    )
     parser.add_argument("--destdir", default="", help="put before the prefix, for making packages")
-    parser.add_argument("--cpu", choices=("v2", "v3"), default="v2", help="the processor's level: v2 (SSE) or v3 (AVX2)")
-    parser.add_argument("--reuse", action="store_true", help="take a program and a store that are built already")
+    parser.add_argument(
+        "--cpu",
+        choices=("v2", "v3"),
+        default="v2",
+        help="the processor's level: v2 (SSE) or v3 (AVX2)",
+    )
+    parser.add_argument(
+        "--reuse", action="store_true", help="take a program and a store that are built already"
+    )
     parser.add_argument("--uninstall", action="store_true", help="remove what was installed")
     given = parser.parse_args()
     root = given.destdir + os.path.abspath(given.prefix)

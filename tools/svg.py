@@ -3,7 +3,13 @@
 from html import escape
 
 INK, GREY, WHITE, RED, MADE = "#1d2733", "#6b7785", "#ffffff", "#c0392b", "#fff0b3"
-FIRST, SECOND, FIRST_PARITY, SECOND_PARITY, GLOBAL = "#cfe3f7", "#d8f0d2", "#9cc6ee", "#a5d79a", "#e2a9d3"
+FIRST, SECOND, FIRST_PARITY, SECOND_PARITY, GLOBAL = (
+    "#cfe3f7",
+    "#d8f0d2",
+    "#9cc6ee",
+    "#a5d79a",
+    "#e2a9d3",
+)
 FONT = "font-family='DejaVu Sans, Verdana, sans-serif'"
 
 
@@ -40,5 +46,12 @@ def drawing(width, height, title, shapes):
         f"<path d='M0,0 L10,5 L0,10 z' fill='{GREY}'/></marker></defs>"
     )
     start = f"<svg xmlns='http://www.w3.org/2000/svg' viewBox='0 0 {width:g} {height:g}' width='{width:g}' height='{height:g}' role='img'>"
-    parts = [start, f"<title>{escape(title)}</title>", head, f"<rect width='{width:g}' height='{height:g}' fill='white'/>", *shapes, "</svg>"]
+    parts = [
+        start,
+        f"<title>{escape(title)}</title>",
+        head,
+        f"<rect width='{width:g}' height='{height:g}' fill='white'/>",
+        *shapes,
+        "</svg>",
+    ]
     return "\n".join(parts) + "\n"

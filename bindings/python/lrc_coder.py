@@ -34,7 +34,10 @@ DECLARED = {
     "lrc_recipe": [_SIZE, _U16, _U8, _BYTES, _BYTES, ctypes.POINTER(_U32)],
     "lrc_add": [_BYTES, _SIZE, _U8, _BYTES, _SIZE],
 }
-_library = ctypes.CDLL(os.environ.get("LRC_CODER_SO") or os.path.join(os.path.dirname(os.path.abspath(__file__)), "liblrc_coder.so"))
+_library = ctypes.CDLL(
+    os.environ.get("LRC_CODER_SO")
+    or os.path.join(os.path.dirname(os.path.abspath(__file__)), "liblrc_coder.so")
+)
 for _name, _types in DECLARED.items():
     getattr(_library, _name).argtypes = _types
     getattr(_library, _name).restype = _U32
@@ -84,14 +87,25 @@ def encode(data):
         raise ValueError("bad argument")
     slices, _kept = _slices(data)
     parities = [bytearray(len(data[0])) for _ in range(4)]
-    _call("lrc_encode", slices, len(data), *[word for parity in parities for word in _target(parity)])
+    _call(
+        "lrc_encode", slices, len(data), *[word for parity in parities for word in _target(parity)]
+    )
     return [bytes(parity) for parity in parities]
 
 
 def encode_add(data_fragments, fragment, source, parities):
     """Adds a data fragment to the four parities, which are bytearrays."""
     first, second, third, fourth = map(_target, parities)
-    _call("lrc_encode_add", data_fragments, _number(fragment, "fragment", 8), *_source(source), *first, *second, *third, *fourth)
+    _call(
+        "lrc_encode_add",
+        data_fragments,
+        _number(fragment, "fragment", 8),
+        *_source(source),
+        *first,
+        *second,
+        *third,
+        *fourth,
+    )
 
 
 def is_open(data_fragments, lost, fragment):
@@ -117,7 +131,15 @@ def rebuild(data_fragments, left, fragment, start=0, length=None):
     slices, _kept = _slices(left.get(i, b"") for i in range(16))
     target = bytearray(_length(left, start, length))
     lost = 0xFFFF & ~_set(left)
-    _call("lrc_rebuild", data_fragments, slices, lost, _number(fragment, "fragment", 8), _number(start, "start", 64), *_target(target))
+    _call(
+        "lrc_rebuild",
+        data_fragments,
+        slices,
+        lost,
+        _number(fragment, "fragment", 8),
+        _number(start, "start", 64),
+        *_target(target),
+    )
     return bytes(target)
 
 
@@ -127,22 +149,40 @@ def decode(data_fragments, left, fragments, start=0, length=None):
     It takes less time than a rebuild of each. Raises Open if one of them is unrecoverable.
     """
     slices, _kept = _slices(left.get(i, b"") for i in range(16))
-    length, chosen = _length(left, start, length), [_number(fragment, "fragment", 4) for fragment in dict.fromkeys(fragments)]
+    length, chosen = _length(left, start, length), [
+        _number(fragment, "fragment", 4) for fragment in dict.fromkeys(fragments)
+    ]
     if len(chosen) > 4:  # one of them is open
         for fragment in chosen:
             rebuild(data_fragments, left, fragment, start, 0)
     targets = [bytearray(length if i < len(chosen) else 0) for i in range(4)]
     numbers = (_U8 * 4)(*(chosen + 4 * [NONE])[:4])
     lost = 0xFFFF & ~_set(left)
-    _call("lrc_decode", data_fragments, slices, lost, numbers, _number(start, "start", 64), _number(length, "length", 64),
-          *[word for target in targets for word in _target(target)])
+    _call(
+        "lrc_decode",
+        data_fragments,
+        slices,
+        lost,
+        numbers,
+        _number(start, "start", 64),
+        _number(length, "length", 64),
+        *[word for target in targets for word in _target(target)],
+    )
     return {fragment: bytes(target) for fragment, target in zip(chosen, targets)}
 
 
 def recipe(data_fragments, lost, fragment):
     """A recipe for a lost fragment: pairs of a remaining fragment and its coefficient."""
     fragments, coefficients, count = (_U8 * 16)(), (_U8 * 16)(), _U32()
-    _call("lrc_recipe", data_fragments, _set(lost), _number(fragment, "fragment", 8), fragments, coefficients, ctypes.byref(count))
+    _call(
+        "lrc_recipe",
+        data_fragments,
+        _set(lost),
+        _number(fragment, "fragment", 8),
+        fragments,
+        coefficients,
+        ctypes.byref(count),
+    )
     return list(zip(fragments, coefficients))[: count.value]
 
 

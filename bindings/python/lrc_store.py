@@ -63,7 +63,10 @@ class _Slice(ctypes.Structure):
 class _Entry(ctypes.Structure):
     _fields_ = [
         ("name", _Slice),
-        *((field, ctypes.c_uint64) for field in ("first", "second", "version", "len", "stripes", "lost")),
+        *(
+            (field, ctypes.c_uint64)
+            for field in ("first", "second", "version", "len", "stripes", "lost")
+        ),
         *((field, ctypes.c_uint32) for field in ("who", "call", "status")),
     ]
 
@@ -96,7 +99,9 @@ _path = os.environ.get("LRC_STORE_SO") or os.path.join(_HERE, "liblrc_store.so")
 try:
     _library = ctypes.CDLL(_path)
 except OSError as error:
-    raise ImportError(f"{error}: build it as docs/library.md says, or set LRC_STORE_SO to its path") from error
+    raise ImportError(
+        f"{error}: build it as docs/library.md says, or set LRC_STORE_SO to its path"
+    ) from error
 for _name, _types in DECLARED.items():
     getattr(_library, _name).argtypes = _types
     getattr(_library, _name).restype = _U32
@@ -109,7 +114,9 @@ def _status(function: str, *arguments) -> int:
     call = getattr(_library, function)
     for kind, argument in zip(call.argtypes, arguments):
         if kind in (_U32, _U64, _SIZE) and not 0 <= argument < 1 << 8 * ctypes.sizeof(kind):
-            raise ValueError(f"{function}: {argument} is not in 0 to 2**{8 * ctypes.sizeof(kind)} - 1")
+            raise ValueError(
+                f"{function}: {argument} is not in 0 to 2**{8 * ctypes.sizeof(kind)} - 1"
+            )
     for attempt in itertools.count():
         status = call(*arguments)
         if status != _BUSY:
@@ -213,7 +220,11 @@ def _entry(held: _Slot, index: int) -> Entry:
     raw.name.at = ctypes.cast(ctypes.c_char_p(b""), ctypes.POINTER(ctypes.c_uint8))
     _check(_status("lrc_slot_entry", held, index, raw), "entry", index)
     name, call = bytes(raw.name.at[: raw.name.len]).decode(), _CALLS[raw.call]
-    shape = Shape(raw.version, raw.len, raw.stripes, raw.lost) if call == "stat" and raw.status == _DONE else None
+    shape = (
+        Shape(raw.version, raw.len, raw.stripes, raw.lost)
+        if call == "stat" and raw.status == _DONE
+        else None
+    )
     return Entry(raw.who, call, name, raw.first, raw.second, raw.status, raw.version, shape)
 
 
@@ -258,35 +269,59 @@ class Session:
         """Closes the store, and returns the entries of its journal."""
         held, discarded, entries, lawful = _Slot(), _U64(), _U64(), _U32()
         _check(_status("lrc_store_close_to", self._slot, held, discarded, entries, lawful), "close")
-        return Journal(discarded.value, [_entry(held, index) for index in range(entries.value)], lawful.value == 1)
+        return Journal(
+            discarded.value,
+            [_entry(held, index) for index in range(entries.value)],
+            lawful.value == 1,
+        )
 
     def put(self, name: str, blob: bytes | bytearray | memoryview, data_fragments: int = 12) -> int:
         """Stores a copy of a blob, which may be any buffer, and returns its version."""
         version = _U64()
         view = memoryview(blob).cast("B")
-        source = (ctypes.c_uint8 * (len(view) or 1)).from_buffer(view) if view and not view.readonly else bytes(view)
+        source = (
+            (ctypes.c_uint8 * (len(view) or 1)).from_buffer(view)
+            if view and not view.readonly
+            else bytes(view)
+        )
         address = source if isinstance(source, bytes) else ctypes.addressof(source)
-        status = _status("lrc_store_put", self._slot, *_named(name), address, len(view), data_fragments, version)
+        status = _status(
+            "lrc_store_put", self._slot, *_named(name), address, len(view), data_fragments, version
+        )
         _check(status, "put", name, data_fragments)
         return version.value
 
     def read(self, name: str, start: int, length: int) -> Grant:
         """Lends `length` bytes of a blob, from the byte `start` on."""
         lent, version, pieces = _Slot(), _U64(), _U64()
-        status = _status("lrc_store_lend", self._slot, *_named(name), start, length, lent, version, pieces)
+        status = _status(
+            "lrc_store_lend", self._slot, *_named(name), start, length, lent, version, pieces
+        )
         _check(status, "read", name, start, length)
         return Grant(lent, version.value, pieces.value)
 
     def lose(self, name: str, stripe: int, fragment: int) -> int:
         """Loses a fragment of a stripe, as after a disk failure."""
         version = _U64()
-        _check(_status("lrc_store_lose", self._slot, *_named(name), stripe, fragment, version), "lose", name, stripe, fragment)
+        _check(
+            _status("lrc_store_lose", self._slot, *_named(name), stripe, fragment, version),
+            "lose",
+            name,
+            stripe,
+            fragment,
+        )
         return version.value
 
     def repair(self, name: str, stripe: int, fragment: int) -> int:
         """Repairs a lost fragment of a stripe."""
         version = _U64()
-        _check(_status("lrc_store_repair", self._slot, *_named(name), stripe, fragment, version), "repair", name, stripe, fragment)
+        _check(
+            _status("lrc_store_repair", self._slot, *_named(name), stripe, fragment, version),
+            "repair",
+            name,
+            stripe,
+            fragment,
+        )
         return version.value
 
     def delete(self, name: str) -> int:
@@ -311,7 +346,9 @@ class Session:
         """Repairs all lost fragments that can be rebuilt, and returns their number."""
         plan, items, version, repaired = _Slot(), _U64(), _U64(), 0
         _check(_status("lrc_store_plan", self._slot, plan, items), "mend")
-        while (status := _status("lrc_store_mend_step", self._slot, plan, version)) != _NOTHING_LEFT:
+        while (
+            status := _status("lrc_store_mend_step", self._slot, plan, version)
+        ) != _NOTHING_LEFT:
             if status in (_NO_MEMORY, _JOURNAL_FULL):
                 raise StoreError("mend", (), status)
             repaired += status == _DONE

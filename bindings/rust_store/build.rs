@@ -22,7 +22,12 @@ fn main() {
         "libstore_c.a",
         "build it by (cd crates/store_c && rt lib)",
     );
-    let libc = folder("LRC_LIBC_DIR", "/opt/rattle/c", "liblibc_c.a", "it is part of the Rattle kit");
+    let libc = folder(
+        "LRC_LIBC_DIR",
+        "/opt/rattle/c",
+        "liblibc_c.a",
+        "it is part of the Rattle kit",
+    );
     println!("cargo:rustc-link-search=native={store}");
     println!("cargo:rustc-link-search=native={libc}");
     println!("cargo:rustc-link-lib=static=store_c");

@@ -24,7 +24,10 @@ def is_whole(fragments, data_fragments, lost):
     for fragment in lost:
         is_open = lrc_coder.is_open(data_fragments, lost, fragment)
         try:
-            assert lrc_coder.rebuild(data_fragments, left, fragment) == fragments[fragment] and not is_open
+            assert (
+                lrc_coder.rebuild(data_fragments, left, fragment) == fragments[fragment]
+                and not is_open
+            )
             total = bytearray(len(fragments[fragment]))
             for source, coefficient in lrc_coder.recipe(data_fragments, lost, fragment):
                 lrc_coder.add(total, coefficient, left[source])
@@ -40,9 +43,13 @@ def decodes_whole(fragments, data_fragments, lost):
     left = {i: data for i, data in enumerate(fragments) if i not in lost}
     for fragment in lost:
         if not lrc_coder.is_open(data_fragments, lost, fragment):
-            assert lrc_coder.decode(data_fragments, left, [fragment]) == {fragment: fragments[fragment]}
+            assert lrc_coder.decode(data_fragments, left, [fragment]) == {
+                fragment: fragments[fragment]
+            }
     try:
-        assert lrc_coder.decode(data_fragments, left, lost) == {fragment: fragments[fragment] for fragment in lost}
+        assert lrc_coder.decode(data_fragments, left, lost) == {
+            fragment: fragments[fragment] for fragment in lost
+        }
     except lrc_coder.Open:
         assert any(lrc_coder.is_open(data_fragments, lost, fragment) for fragment in lost)
         return False
@@ -73,7 +80,9 @@ def test_bad_arguments():
         lambda: lrc_coder.encode(fragments[:11]),
         lambda: lrc_coder.encode(fragments[:11] + [b"x"]),
         lambda: lrc_coder.encode([]),
-        lambda: lrc_coder.encode_add(12, 12, fragments[0], [target] + [bytearray(4) for _ in range(3)]),
+        lambda: lrc_coder.encode_add(
+            12, 12, fragments[0], [target] + [bytearray(4) for _ in range(3)]
+        ),
         lambda: lrc_coder.is_open(12, [0], 16),
         lambda: lrc_coder.is_open(12, [16], 0),
         lambda: lrc_coder.is_open(12, [0], 256),
@@ -98,7 +107,10 @@ def test_bad_arguments():
             continue
         raise AssertionError(f"call {number} was not refused")
     assert target == b"\xee" * 4
-    assert lrc_coder.rebuild(12, left, 0, 1, 2) == fragments[0][1:3] and lrc_coder.rebuild(12, left, 0, 0, 0) == b""
+    assert (
+        lrc_coder.rebuild(12, left, 0, 1, 2) == fragments[0][1:3]
+        and lrc_coder.rebuild(12, left, 0, 0, 0) == b""
+    )
 
 
 def compare_vectors(data_fragments, name):
@@ -111,14 +123,19 @@ def compare_vectors(data_fragments, name):
             elif words[0] in ("data", "parity"):
                 fragments.append(b"" if words[2] == "-" else bytes.fromhex(words[2]))
                 if len(fragments) == data_fragments + 4:
-                    assert lrc_coder.encode(fragments[:data_fragments]) == fragments[data_fragments:]
+                    assert (
+                        lrc_coder.encode(fragments[:data_fragments]) == fragments[data_fragments:]
+                    )
                     compared += 1
             elif words[0] == "lost":
                 lost = [i for i in range(data_fragments + 4) if int(words[1], 16) >> i & 1]
             else:
                 left = {i: data for i, data in enumerate(fragments) if i not in lost}
                 fragment, width = int(words[1]), len(fragments[0])
-                for rebuild in (lrc_coder.rebuild, lambda *of: lrc_coder.decode(of[0], of[1], [of[2]], *of[3:])[of[2]]):
+                for rebuild in (
+                    lrc_coder.rebuild,
+                    lambda *of: lrc_coder.decode(of[0], of[1], [of[2]], *of[3:])[of[2]],
+                ):
                     try:
                         rebuilt = rebuild(data_fragments, left, fragment, 0, width).hex() or "-"
                     except lrc_coder.Open:
@@ -129,14 +146,36 @@ def compare_vectors(data_fragments, name):
 
 
 def main():
-    assert b"".join(lrc_coder.encode([bytes([letter]) for letter in b"ABCDEFGHIJKL"])).hex() == "070b139f"
-    assert [count_whole(12, size) for size in range(1, 6)] == [(16, 16), (120, 120), (560, 560), (1568, 1820), (0, 4368)]
-    assert [count_whole(6, size) for size in range(1, 6)] == [(10, 10), (45, 45), (120, 120), (180, 210), (0, 252)]
+    assert (
+        b"".join(lrc_coder.encode([bytes([letter]) for letter in b"ABCDEFGHIJKL"])).hex()
+        == "070b139f"
+    )
+    assert [count_whole(12, size) for size in range(1, 6)] == [
+        (16, 16),
+        (120, 120),
+        (560, 560),
+        (1568, 1820),
+        (0, 4368),
+    ]
+    assert [count_whole(6, size) for size in range(1, 6)] == [
+        (10, 10),
+        (45, 45),
+        (120, 120),
+        (180, 210),
+        (0, 252),
+    ]
     test_encode_add()
     test_bad_arguments()
-    files = [(12, "encode_wide.txt"), (6, "encode_small.txt"), (12, "decode_wide.txt"), (6, "decode_small.txt")]
+    files = [
+        (12, "encode_wide.txt"),
+        (6, "encode_small.txt"),
+        (12, "decode_wide.txt"),
+        (6, "decode_small.txt"),
+    ]
     compared = sum(compare_vectors(data_fragments, name) for data_fragments, name in files)
-    print(f"Python: the sets of up to five lost fragments, bad arguments, and {compared} vectors of other programs")
+    print(
+        f"Python: the sets of up to five lost fragments, bad arguments, and {compared} vectors of other programs"
+    )
 
 
 if __name__ == "__main__":

@@ -1,4 +1,5 @@
-// The coder as C++ uses it: the header compiles, and each lost set of LRC(6,2,2) is rebuilt as far as it can be.
+// The coder as C++ uses it: the header compiles, and each lost set of LRC(6,2,2) is rebuilt as far
+// as it can be.
 #include "lrc_coder.h"
 
 #include <array>
@@ -41,11 +42,10 @@ int rebuilt_whole(const Stripe &stripe, unsigned from, unsigned to) {
             left[i] = lost >> i & 1u ? nullptr : stripe[i].data();
         for (std::uint8_t f = 0; f < left.size(); f++) {
             Fragment rebuilt(width);
-            if (left[f] != nullptr)
-                continue;
-            const std::uint32_t status = lrc_rebuild_arrays(data_fragments, width, left.data(), f, rebuilt.data());
-            if (status == LRC_DONE && rebuilt != stripe[f])
-                return -1;
+            if (left[f] != nullptr) continue;
+            const std::uint32_t status =
+                lrc_rebuild_arrays(data_fragments, width, left.data(), f, rebuilt.data());
+            if (status == LRC_DONE && rebuilt != stripe[f]) return -1;
             whole = whole && status == LRC_DONE;
         }
         count += whole ? 1 : 0;
@@ -61,11 +61,9 @@ int main() {
     std::vector<std::thread> threads;
     for (unsigned i = 0; i < counts.size(); i++)
         threads.emplace_back([&, i] { counts[i] = rebuilt_whole(stripe, 256 * i, 256 * (i + 1)); });
-    for (std::thread &thread : threads)
-        thread.join();
+    for (std::thread &thread : threads) thread.join();
     int whole = 0;
-    for (const int count : counts)
-        whole += count < 0 ? -10000 : count;
+    for (const int count : counts) whole += count < 0 ? -10000 : count;
     std::printf("C++: %d of 1024 lost sets rebuilt whole, by four threads\n", whole);
     return whole == 356 ? 0 : 1;
 }

@@ -16,7 +16,9 @@ PROGRAMS = [
 
 def main():
     with open(os.path.join(TOP, "docs", "library.md"), encoding="utf-8") as document:
-        blocks = re.findall(r"^`(bindings/\S+)`:\n\n```\w+\n(.*?)^```$", document.read(), flags=re.S | re.M)
+        blocks = re.findall(
+            r"^`(bindings/\S+)`:\n\n```\w+\n(.*?)^```$", document.read(), flags=re.S | re.M
+        )
     for path, text in blocks:
         with open(os.path.join(TOP, path), encoding="utf-8") as file:
             assert file.read() == text, f"docs/library.md has another text of {path}"

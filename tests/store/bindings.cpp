@@ -3,11 +3,10 @@
 #include <algorithm>
 #include <iostream>
 
-int main()
-{
+int main() {
     lrc::session session = lrc::session::open(4, 100);
     lrc::buffer blob(54);
-    std::fill_n(blob.data(), blob.size(), uint8_t{ 'x' });
+    std::fill_n(blob.data(), blob.size(), uint8_t{'x'});
     uint32_t refused = 0;
     try {
         session.put("BAD", blob);
@@ -15,7 +14,8 @@ int main()
         refused = error.status;
     }
     const bool is_kept = refused == LRC_STORE_BAD_NAME && blob.size() == 0;
-    const bool is_put = session.put("fox", blob) == 1 && session.read("fox", 0, 54).str() == std::string(54, 'x');
+    const bool is_put =
+        session.put("fox", blob) == 1 && session.read("fox", 0, 54).str() == std::string(54, 'x');
     lrc::session other = session.split(3);
     other.lose("fox", 0, 7);
     bool is_alone = true;
@@ -27,8 +27,10 @@ int main()
     session.join(std::move(other));
     lrc::journal journal = session.close_to_journal();
     const lrc_entry last = journal.entry(journal.size() - 1);
-    const bool is_told = journal.size() == 3 && journal.discarded() == 0 && journal.is_checked() && last.call == LRC_CALL_LOSE
-        && last.who == 3 && last.second == 7 && last.name.len == 3;
-    std::cout << "C++: " << (is_kept && is_put && !is_alone && is_told ? "passed" : "failed") << '\n';
+    const bool is_told = journal.size() == 3 && journal.discarded() == 0 && journal.is_checked() &&
+                         last.call == LRC_CALL_LOSE && last.who == 3 && last.second == 7 &&
+                         last.name.len == 3;
+    std::cout << "C++: " << (is_kept && is_put && !is_alone && is_told ? "passed" : "failed")
+              << '\n';
     return is_kept && is_put && !is_alone && is_told ? 0 : 1;
 }

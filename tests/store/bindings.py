@@ -21,8 +21,16 @@ def errors(session):
     assert status_of(session.put, "a", b"x", 7) == 16
     assert status_of(session.stat, "none") == 2
     assert status_of(lrc_store.Session.open, 0, 10) == 12
-    assert status_of(session.join, session) == status_of(session.join, lrc_store.Session.open(4, 10)) == 16
-    for too_much in ((session.lose, "a", 2**64, 0), (session.lose, "a", -1, 0), (lrc_store.Session.open, 2**32 + 4, 10)):
+    assert (
+        status_of(session.join, session)
+        == status_of(session.join, lrc_store.Session.open(4, 10))
+        == 16
+    )
+    for too_much in (
+        (session.lose, "a", 2**64, 0),
+        (session.lose, "a", -1, 0),
+        (lrc_store.Session.open, 2**32 + 4, 10),
+    ):
         try:
             too_much[0](*too_much[1:])
         except ValueError as error:
@@ -37,7 +45,13 @@ def errors(session):
 
 def buffers(session):
     blob = bytes(range(200))
-    for source in (blob, bytearray(blob), memoryview(blob)[50:], memoryview(bytearray(blob))[3:], b""):
+    for source in (
+        blob,
+        bytearray(blob),
+        memoryview(blob)[50:],
+        memoryview(bytearray(blob))[3:],
+        b"",
+    ):
         session.put("a", source)
         with session.read("a", 0, len(source)) as grant:
             assert bytes(grant) == bytes(source)
@@ -76,7 +90,9 @@ def work(session, who, wrong):
 
 def threads(session):
     parts, wrong = [session.split(who) for who in range(1, 5)], []
-    running = [threading.Thread(target=work, args=(part, who, wrong)) for who, part in enumerate(parts, 1)]
+    running = [
+        threading.Thread(target=work, args=(part, who, wrong)) for who, part in enumerate(parts, 1)
+    ]
     for thread in running:
         thread.start()
     for thread, part in zip(running, parts):
@@ -96,7 +112,10 @@ def journal():
     session.join(other)
     told = session.close_to_journal()
     assert (told.discarded, told.is_checked) == (1, True)
-    assert told.entries == [(3, "read", "a", 8, 9, 3, 0, None), (3, "stat", "a", 0, 0, 0, 1, (1, 10, 1, 0))]
+    assert told.entries == [
+        (3, "read", "a", 8, 9, 3, 0, None),
+        (3, "stat", "a", 0, 0, 0, 1, (1, 10, 1, 0)),
+    ]
 
 
 def main():

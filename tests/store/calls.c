@@ -4,8 +4,7 @@
 static const char FOX[] = "the quick brown fox jumps over the lazy dog 0123456789";
 #define FOX_BYTES (const uint8_t *)FOX, sizeof FOX - 1
 
-static void open_and_close(void)
-{
+static void open_and_close(void) {
     lrc_slot slot = LRC_SLOT_EMPTY, other = LRC_SLOT_EMPTY;
     uint64_t entries = 9, version = 99;
     uint32_t lawful = 9;
@@ -28,8 +27,7 @@ static void open_and_close(void)
     EXPECT(lrc_store_close(&slot, &entries, &lawful), LRC_STORE_EMPTY);
 }
 
-static void two_stores_are_not_joined(void)
-{
+static void two_stores_are_not_joined(void) {
     lrc_slot first = LRC_SLOT_EMPTY, second = LRC_SLOT_EMPTY;
     uint64_t entries = 0;
     uint32_t lawful = 0;
@@ -40,10 +38,9 @@ static void two_stores_are_not_joined(void)
     EXPECT(lrc_store_close(&second, &entries, &lawful), LRC_STORE_DONE);
 }
 
-static void put_and_read(lrc_slot *slot)
-{
+static void put_and_read(lrc_slot *slot) {
     uint64_t version = 99, lent = 0, built = 0, len = 0, stripes = 0, lost = 0;
-    uint8_t got[64] = { 0 };
+    uint8_t got[64] = {0};
     EXPECT(lrc_store_put(slot, NAME("A"), FOX_BYTES, 12, &version), LRC_STORE_BAD_NAME);
     EXPECT(lrc_store_put(slot, NAME("fox"), FOX_BYTES, 7, &version), LRC_STORE_BAD_ARGUMENT);
     EXPECT(version, 99);
@@ -55,8 +52,10 @@ static void put_and_read(lrc_slot *slot)
     EXPECT(memcmp(got, FOX + 2, 20), 0);
     EXPECT(lent, 16);
     EXPECT(built, 4);
-    EXPECT(lrc_store_read(slot, NAME("fox"), 50, got, 20, &version, &lent, &built), LRC_STORE_OUT_OF_RANGE);
-    EXPECT(lrc_store_read(slot, NAME("none"), 0, got, 1, &version, &lent, &built), LRC_STORE_NO_NAME);
+    EXPECT(lrc_store_read(slot, NAME("fox"), 50, got, 20, &version, &lent, &built),
+           LRC_STORE_OUT_OF_RANGE);
+    EXPECT(lrc_store_read(slot, NAME("none"), 0, got, 1, &version, &lent, &built),
+           LRC_STORE_NO_NAME);
     EXPECT(lrc_store_stat(slot, NAME("fox"), &version, &len, &stripes, &lost), LRC_STORE_DONE);
     EXPECT(len, 54);
     EXPECT(stripes, 2);
@@ -66,14 +65,14 @@ static void put_and_read(lrc_slot *slot)
     EXPECT(lrc_store_repair(slot, NAME("fox"), 9, 1, &version), LRC_STORE_NO_FRAGMENT);
 }
 
-static void lend_and_change(lrc_slot *slot)
-{
+static void lend_and_change(lrc_slot *slot) {
     lrc_slot lent = LRC_SLOT_EMPTY;
-    lrc_slice one = { (const uint8_t *)"", 0 };
+    lrc_slice one = {(const uint8_t *)"", 0};
     uint64_t version = 0, pieces = 0, count = 0;
-    uint8_t got[64] = { 0 };
+    uint8_t got[64] = {0};
     EXPECT(lrc_store_lose(slot, NAME("fox"), 1, 0, &version), LRC_STORE_DONE);
-    EXPECT(lrc_store_lend(slot, NAME("fox"), 50, 9, &lent, &version, &pieces), LRC_STORE_OUT_OF_RANGE);
+    EXPECT(lrc_store_lend(slot, NAME("fox"), 50, 9, &lent, &version, &pieces),
+           LRC_STORE_OUT_OF_RANGE);
     EXPECT(lrc_slot_slices(&lent, &one, 1, &count), LRC_STORE_EMPTY);
     EXPECT(lrc_slot_slices(slot, &one, 1, &count), LRC_STORE_EMPTY);
     EXPECT(lrc_store_lend(slot, NAME("fox"), 1, 53, &lent, &version, &pieces), LRC_STORE_DONE);
@@ -83,7 +82,8 @@ static void lend_and_change(lrc_slot *slot)
     EXPECT(count, 1);
     EXPECT(one.len, 3);
     EXPECT(lrc_store_lose(slot, NAME("fox"), 0, 2, &version), LRC_STORE_DONE);
-    EXPECT(lrc_store_put(slot, NAME("fox"), (const uint8_t *)"other", 5, 6, &version), LRC_STORE_DONE);
+    EXPECT(lrc_store_put(slot, NAME("fox"), (const uint8_t *)"other", 5, 6, &version),
+           LRC_STORE_DONE);
     EXPECT(lrc_store_delete(slot, NAME("fox"), &version), LRC_STORE_DONE);
     EXPECT(lrc_store_delete(slot, NAME("fox"), &version), LRC_STORE_NO_NAME);
     EXPECT(gather(&lent, got), 53);
@@ -93,11 +93,11 @@ static void lend_and_change(lrc_slot *slot)
     EXPECT(lrc_slot_slices(&lent, &one, 1, &count), LRC_STORE_EMPTY);
 }
 
-/* Filled, refused, and then put: by the journal's limit of one entry, the second put is refused at first. */
-static void reserve_and_put(void)
-{
+/* Filled, refused, and then put: by the journal's limit of one entry, the second put is refused at
+ * first. */
+static void reserve_and_put(void) {
     lrc_slot slot = LRC_SLOT_EMPTY, other = LRC_SLOT_EMPTY;
-    lrc_buffer buffer = { (uint8_t *)"", 0 };
+    lrc_buffer buffer = {(uint8_t *)"", 0};
     uint64_t version = 9, lent = 0, built = 0, discarded = 0, entries = 0;
     uint32_t lawful = 0;
     uint8_t got[54];
@@ -129,10 +129,9 @@ static void reserve_and_put(void)
     EXPECT(lrc_store_close(&slot, &entries, &lawful), LRC_STORE_DONE);
 }
 
-static void close_to_journal(void)
-{
+static void close_to_journal(void) {
     lrc_slot slot = LRC_SLOT_EMPTY, other = LRC_SLOT_EMPTY;
-    lrc_entry entry = { { (const uint8_t *)"", 0 }, 9, 9, 9, 9, 9, 9, 9, 9, 9 };
+    lrc_entry entry = {{(const uint8_t *)"", 0}, 9, 9, 9, 9, 9, 9, 9, 9, 9};
     uint64_t version = 0, len = 0, stripes = 0, lost = 0, discarded = 9, entries = 9;
     uint32_t lawful = 9;
     EXPECT(lrc_store_open(4, 100, 7, &slot), LRC_STORE_DONE);
@@ -140,7 +139,8 @@ static void close_to_journal(void)
     EXPECT(lrc_store_split(&slot, 5, &other), LRC_STORE_DONE);
     EXPECT(lrc_store_close_to(&slot, &other, &discarded, &entries, &lawful), LRC_STORE_OCCUPIED);
     EXPECT(lrc_store_put(&other, NAME("fox"), FOX_BYTES, 6, &version), LRC_STORE_DONE);
-    EXPECT(lrc_store_read(&other, NAME("none"), 1, (uint8_t *)&len, 8, &version, &stripes, &lost), LRC_STORE_NO_NAME);
+    EXPECT(lrc_store_read(&other, NAME("none"), 1, (uint8_t *)&len, 8, &version, &stripes, &lost),
+           LRC_STORE_NO_NAME);
     EXPECT(lrc_store_lose(&other, NAME("fox"), 2, 9, &version), LRC_STORE_DONE);
     EXPECT(lrc_store_stat(&other, NAME("fox"), &version, &len, &stripes, &lost), LRC_STORE_DONE);
     EXPECT(lrc_store_trim(&slot, 3, &discarded), LRC_STORE_DONE);
@@ -169,8 +169,7 @@ static void close_to_journal(void)
     lrc_slot_release(&other);
 }
 
-static void plan_and_mend(lrc_slot *slot)
-{
+static void plan_and_mend(lrc_slot *slot) {
     lrc_slot plan = LRC_SLOT_EMPTY;
     uint64_t version = 0, items = 0, len = 0, stripes = 0, lost = 0;
     EXPECT(lrc_store_put(slot, NAME("fox"), FOX_BYTES, 12, &version), LRC_STORE_DONE);
@@ -178,7 +177,8 @@ static void plan_and_mend(lrc_slot *slot)
         EXPECT(lrc_store_lose(slot, NAME("fox"), 0, f, &version), LRC_STORE_DONE);
     uint8_t got[4];
     uint64_t lent = 0, built = 0;
-    EXPECT(lrc_store_read(slot, NAME("fox"), 0, got, 4, &version, &lent, &built), LRC_STORE_UNRECOVERABLE);
+    EXPECT(lrc_store_read(slot, NAME("fox"), 0, got, 4, &version, &lent, &built),
+           LRC_STORE_UNRECOVERABLE);
     EXPECT(lrc_store_put(slot, NAME("fox"), FOX_BYTES, 12, &version), LRC_STORE_DONE);
     EXPECT(lrc_store_lose(slot, NAME("fox"), 0, 3, &version), LRC_STORE_DONE);
     EXPECT(lrc_store_lose(slot, NAME("fox"), 1, 15, &version), LRC_STORE_DONE);
@@ -195,8 +195,7 @@ static void plan_and_mend(lrc_slot *slot)
     EXPECT(lost, 0);
 }
 
-static void all_sessions_of_a_store(void)
-{
+static void all_sessions_of_a_store(void) {
     static lrc_slot slots[65];
     uint64_t entries = 0;
     uint32_t lawful = 0;
@@ -211,8 +210,7 @@ static void all_sessions_of_a_store(void)
     EXPECT(lawful, 1);
 }
 
-static void limits_of_a_store(void)
-{
+static void limits_of_a_store(void) {
     static uint8_t big[12 * 4096 + 1];
     lrc_slot slot = LRC_SLOT_EMPTY;
     uint64_t version = 77, entries = 0, discarded = 0, len = 0, stripes = 0, lost = 0;
@@ -222,7 +220,8 @@ static void limits_of_a_store(void)
     EXPECT(lrc_store_put(&slot, NAME("big"), big, sizeof big - 1, 12, &version), LRC_STORE_DONE);
     EXPECT(lrc_store_delete(&slot, NAME("big"), &version), LRC_STORE_DONE);
     version = 77;
-    EXPECT(lrc_store_stat(&slot, NAME("big"), &version, &len, &stripes, &lost), LRC_STORE_JOURNAL_FULL);
+    EXPECT(lrc_store_stat(&slot, NAME("big"), &version, &len, &stripes, &lost),
+           LRC_STORE_JOURNAL_FULL);
     EXPECT(version, 77);
     EXPECT(lrc_store_trim(&slot, 1, &discarded), LRC_STORE_DONE);
     EXPECT(discarded, 1);
@@ -231,8 +230,7 @@ static void limits_of_a_store(void)
     EXPECT(lawful, 1);
 }
 
-int main(void)
-{
+int main(void) {
     lrc_slot slot = LRC_SLOT_EMPTY;
     uint64_t entries = 0;
     uint32_t lawful = 0;

@@ -18,7 +18,9 @@ def main():
     wrong = [entry for entry in entries if replay.note(entry) != entry.note]
     for entry in wrong[:10]:
         print(f"wrong: {entry}")
-    print(f"journal: {len(entries)} entries by {len({entry.worker for entry in entries})} threads, {len(wrong)} wrong")
+    print(
+        f"journal: {len(entries)} entries by {len({entry.worker for entry in entries})} threads, {len(wrong)} wrong"
+    )
     return 1 if wrong or len(entries) < 1000 else 0
 
 

@@ -23,7 +23,14 @@ WORDS = {
     9: "full",
     10: "too-long",
 }
-DONE = {"put": "stored", "read": "granted", "lose": "lost", "repair": "repaired", "delete": "deleted", "stat": "shape"}
+DONE = {
+    "put": "stored",
+    "read": "granted",
+    "lose": "lost",
+    "repair": "repaired",
+    "delete": "deleted",
+    "stat": "shape",
+}
 DATA_FRAGMENTS = {"put": 12, "put6": 6}
 
 

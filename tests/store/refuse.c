@@ -1,6 +1,6 @@
 /* Each request for memory is refused in turn. The call that meets the refusal answers NO_MEMORY or
- * NOT_REBUILT, leaves its slots as they were, and does what was asked when it is made again. Link with
- * -Wl,--wrap=malloc -Wl,--wrap=realloc. */
+ * NOT_REBUILT, leaves its slots as they were, and does what was asked when it is made again. Link
+ * with -Wl,--wrap=malloc -Wl,--wrap=realloc. */
 #include "store_test.h"
 
 void *__real_malloc(size_t size);
@@ -11,38 +11,29 @@ void *__wrap_realloc(void *old, size_t size);
 static long ahead = -1, refused;
 
 /* whether this request is the one to refuse */
-static int refuse(void)
-{
-    if (ahead < 0)
-        return 0;
+static int refuse(void) {
+    if (ahead < 0) return 0;
     return ahead-- == 0;
 }
 
-void *__wrap_malloc(size_t size)
-{
-    return refuse() ? NULL : __real_malloc(size);
-}
+void *__wrap_malloc(size_t size) { return refuse() ? NULL : __real_malloc(size); }
 
-void *__wrap_realloc(void *old, size_t size)
-{
-    return refuse() ? NULL : __real_realloc(old, size);
-}
+void *__wrap_realloc(void *old, size_t size) { return refuse() ? NULL : __real_realloc(old, size); }
 
 /* the call, and again if memory was refused */
-#define CALL(call)                                                              \
-    do {                                                                        \
-        uint32_t status = (call);                                               \
-        if (status == LRC_STORE_NO_MEMORY || status == LRC_STORE_NOT_REBUILT) { \
-            refused++;                                                          \
-            status = (call);                                                    \
-        }                                                                       \
-        EXPECT(status, LRC_STORE_DONE);                                         \
+#define CALL(call)                                                                                 \
+    do {                                                                                           \
+        uint32_t status = (call);                                                                  \
+        if (status == LRC_STORE_NO_MEMORY || status == LRC_STORE_NOT_REBUILT) {                    \
+            refused++;                                                                             \
+            status = (call);                                                                       \
+        }                                                                                          \
+        EXPECT(status, LRC_STORE_DONE);                                                            \
     } while (0)
 
 static const char FOX[] = "the quick brown fox jumps over the lazy dog 0123456789";
 
-static void reads(lrc_slot *slot)
-{
+static void reads(lrc_slot *slot) {
     lrc_slot lent = LRC_SLOT_EMPTY;
     uint64_t version = 0, copied = 0, built = 0, pieces = 0;
     uint8_t got[54];
@@ -55,10 +46,9 @@ static void reads(lrc_slot *slot)
     lrc_slot_release(&lent);
 }
 
-static void run(void)
-{
+static void run(void) {
     lrc_slot slot = LRC_SLOT_EMPTY, other = LRC_SLOT_EMPTY, plan = LRC_SLOT_EMPTY;
-    lrc_buffer buffer = { (uint8_t *)"", 0 };
+    lrc_buffer buffer = {(uint8_t *)"", 0};
     uint64_t version = 0, a = 0, b = 0, c = 0;
     uint32_t lawful = 0;
     CALL(lrc_store_open(4, 100, 1, &slot));
@@ -88,14 +78,12 @@ static void run(void)
     EXPECT(slot.at || other.at || plan.at, 0);
 }
 
-int main(void)
-{
+int main(void) {
     long at = 0;
     for (; at < 1000; at++) {
         ahead = at;
         run();
-        if (ahead >= 0)
-            break;
+        if (ahead >= 0) break;
     }
     EXPECT(at > 30 && at < 1000, 1);
     EXPECT(refused > 30, 1);

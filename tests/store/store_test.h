@@ -13,37 +13,34 @@ static long wrong;
 
 #define EXPECT(got, want) expect(__FILE__, __LINE__, #got, (uint64_t)(got), (uint64_t)(want))
 
-static inline void expect(const char *file, int line, const char *what, uint64_t got, uint64_t want)
-{
+static inline void expect(const char *file, int line, const char *what, uint64_t got,
+                          uint64_t want) {
     if (got != want) {
-        fprintf(stderr, "%s:%d: %s is %" PRIu64 ", expected %" PRIu64 "\n", file, line, what, got, want);
+        fprintf(stderr, "%s:%d: %s is %" PRIu64 ", expected %" PRIu64 "\n", file, line, what, got,
+                want);
         wrong++;
     }
 }
 
 /* bytes that differ from place to place and from seed to seed */
-static inline void fill(uint8_t *bytes, size_t len, unsigned seed)
-{
-    for (size_t i = 0; i < len; i++)
-        bytes[i] = (uint8_t)(i * 7 + i / 251 + seed * 13 + 1);
+static inline void fill(uint8_t *bytes, size_t len, unsigned seed) {
+    for (size_t i = 0; i < len; i++) bytes[i] = (uint8_t)(i * 7 + i / 251 + seed * 13 + 1);
 }
 
-/* Copies the first pieces of a range that is lent, at most 64, and gives how many bytes these are. */
-static inline size_t gather(lrc_slot *lent, uint8_t *target)
-{
+/* Copies the first pieces of a range that is lent, at most 64, and gives how many bytes these are.
+ */
+static inline size_t gather(lrc_slot *lent, uint8_t *target) {
     lrc_slice slices[64];
     uint64_t count = 0;
     size_t len = 0;
-    for (size_t i = 0; i < 64; i++)
-        slices[i] = (lrc_slice){ (const uint8_t *)"", 0 };
+    for (size_t i = 0; i < 64; i++) slices[i] = (lrc_slice){(const uint8_t *)"", 0};
     EXPECT(lrc_slot_slices(lent, slices, 64, &count), LRC_STORE_DONE);
     for (uint64_t i = 0; i < count; len += slices[i++].len)
         memcpy(target + len, slices[i].at, slices[i].len);
     return len;
 }
 
-static inline int report(const char *what)
-{
+static inline int report(const char *what) {
     printf("%s: %ld wrong\n", what, wrong);
     return wrong != 0;
 }

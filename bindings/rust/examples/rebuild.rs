@@ -1,4 +1,4 @@
-use lrc_coder::{Code, encode, rebuild};
+use lrc_coder::{encode, rebuild, Code};
 
 fn main() -> Result<(), lrc_coder::Error> {
     let data: Vec<&[u8]> = b"HELLO, FRAGMENTS OF DATA".chunks(2).collect();
@@ -6,7 +6,10 @@ fn main() -> Result<(), lrc_coder::Error> {
     let [a, b, c, d] = &mut parities;
     encode(&data, [a, b, c, d])?;
 
-    let fragments = data.iter().copied().chain(parities.iter().map(|parity| &parity[..]));
+    let fragments = data
+        .iter()
+        .copied()
+        .chain(parities.iter().map(|parity| &parity[..]));
     let mut left: Vec<Option<&[u8]>> = fragments.map(Some).collect();
     left[0] = None;
     left[1] = None;

@@ -17,7 +17,10 @@ struct Slice {
 
 impl From<&[u8]> for Slice {
     fn from(bytes: &[u8]) -> Slice {
-        Slice { at: bytes.as_ptr(), len: bytes.len() }
+        Slice {
+            at: bytes.as_ptr(),
+            len: bytes.len(),
+        }
     }
 }
 
@@ -93,20 +96,43 @@ pub fn encode(data: &[&[u8]], parities: [&mut [u8]; 4]) -> Result<(), Error> {
     // SAFETY: each address is a slice's with its length, and no `&mut` overlaps another reference.
     result_of(unsafe {
         lrc_encode(
-            slices.as_ptr(), data.len(), a.as_mut_ptr(), a.len(), b.as_mut_ptr(), b.len(),
-            c.as_mut_ptr(), c.len(), d.as_mut_ptr(), d.len(),
+            slices.as_ptr(),
+            data.len(),
+            a.as_mut_ptr(),
+            a.len(),
+            b.as_mut_ptr(),
+            b.len(),
+            c.as_mut_ptr(),
+            c.len(),
+            d.as_mut_ptr(),
+            d.len(),
         )
     })
 }
 
 /// Adds a data fragment to the four parities. All have one length.
-pub fn encode_add(code: Code, fragment: u8, source: &[u8], parities: [&mut [u8]; 4]) -> Result<(), Error> {
+pub fn encode_add(
+    code: Code,
+    fragment: u8,
+    source: &[u8],
+    parities: [&mut [u8]; 4],
+) -> Result<(), Error> {
     let [a, b, c, d] = parities;
     // SAFETY: as in `encode`.
     result_of(unsafe {
         lrc_encode_add(
-            code as usize, fragment, source.as_ptr(), source.len(), a.as_mut_ptr(), a.len(),
-            b.as_mut_ptr(), b.len(), c.as_mut_ptr(), c.len(), d.as_mut_ptr(), d.len(),
+            code as usize,
+            fragment,
+            source.as_ptr(),
+            source.len(),
+            a.as_mut_ptr(),
+            a.len(),
+            b.as_mut_ptr(),
+            b.len(),
+            c.as_mut_ptr(),
+            c.len(),
+            d.as_mut_ptr(),
+            d.len(),
         )
     })
 }
@@ -136,11 +162,25 @@ fn slices_of(fragments: &[Option<&[u8]>]) -> ([Slice; 16], u16) {
 
 /// Writes the bytes of a lost fragment from `from` on, as many as `target` has. `fragments` has the
 /// remaining ones at their numbers, and None elsewhere.
-pub fn rebuild(code: Code, fragments: &[Option<&[u8]>], fragment: u8, from: usize, target: &mut [u8]) -> Result<(), Error> {
+pub fn rebuild(
+    code: Code,
+    fragments: &[Option<&[u8]>],
+    fragment: u8,
+    from: usize,
+    target: &mut [u8],
+) -> Result<(), Error> {
     let (slices, lost) = slices_of(fragments);
     // SAFETY: sixteen slices are passed, and as in `encode`.
     result_of(unsafe {
-        lrc_rebuild(code as usize, slices.as_ptr(), lost, fragment, from, target.as_mut_ptr(), target.len())
+        lrc_rebuild(
+            code as usize,
+            slices.as_ptr(),
+            lost,
+            fragment,
+            from,
+            target.as_mut_ptr(),
+            target.len(),
+        )
     })
 }
 
@@ -150,10 +190,18 @@ pub type Target<'a> = (u8, &'a mut [u8]);
 /// Writes the bytes of several lost fragments from `from` on, in less time than a `rebuild` of
 /// each. All targets have one length. `Open` if one of the fragments is unrecoverable. Of more than
 /// four, one always is.
-pub fn decode(code: Code, fragments: &[Option<&[u8]>], from: usize, targets: &mut [Target]) -> Result<(), Error> {
+pub fn decode(
+    code: Code,
+    fragments: &[Option<&[u8]>],
+    from: usize,
+    targets: &mut [Target],
+) -> Result<(), Error> {
     let (slices, lost) = slices_of(fragments);
     let len = targets.first().map_or(0, |(_, target)| target.len());
-    if !targets.iter().all(|(f, _)| *f < code as u8 + 4 && lost >> f & 1 == 1) {
+    if !targets
+        .iter()
+        .all(|(f, _)| *f < code as u8 + 4 && lost >> f & 1 == 1)
+    {
         return Err(Error::BadArgument);
     }
     if targets.len() > 4 {
@@ -169,8 +217,20 @@ pub fn decode(code: Code, fragments: &[Option<&[u8]>], from: usize, targets: &mu
     // SAFETY: sixteen slices and four numbers are passed, and as in `encode`.
     result_of(unsafe {
         lrc_decode(
-            code as usize, slices.as_ptr(), lost, numbers.as_ptr(), from, len, a.as_mut_ptr(), a.len(),
-            b.as_mut_ptr(), b.len(), c.as_mut_ptr(), c.len(), d.as_mut_ptr(), d.len(),
+            code as usize,
+            slices.as_ptr(),
+            lost,
+            numbers.as_ptr(),
+            from,
+            len,
+            a.as_mut_ptr(),
+            a.len(),
+            b.as_mut_ptr(),
+            b.len(),
+            c.as_mut_ptr(),
+            c.len(),
+            d.as_mut_ptr(),
+            d.len(),
         )
     })
 }
@@ -180,15 +240,35 @@ pub fn recipe(code: Code, lost: u16, fragment: u8) -> Result<Vec<Term>, Error> {
     let (mut fragments, mut coefficients, mut count) = ([0; 16], [0; 16], 0);
     // SAFETY: both arrays have sixteen elements.
     result_of(unsafe {
-        lrc_recipe(code as usize, lost, fragment, fragments.as_mut_ptr(), coefficients.as_mut_ptr(), &mut count)
+        lrc_recipe(
+            code as usize,
+            lost,
+            fragment,
+            fragments.as_mut_ptr(),
+            coefficients.as_mut_ptr(),
+            &mut count,
+        )
     })?;
     let terms = fragments.into_iter().zip(coefficients).take(count as usize);
-    Ok(terms.map(|(fragment, coefficient)| Term { fragment, coefficient }).collect())
+    Ok(terms
+        .map(|(fragment, coefficient)| Term {
+            fragment,
+            coefficient,
+        })
+        .collect())
 }
 
 /// Adds a source times a coefficient to the target, byte by byte, in the field. Both have one
 /// length.
 pub fn add(target: &mut [u8], coefficient: u8, source: &[u8]) -> Result<(), Error> {
     // SAFETY: as in `encode`.
-    result_of(unsafe { lrc_add(target.as_mut_ptr(), target.len(), coefficient, source.as_ptr(), source.len()) })
+    result_of(unsafe {
+        lrc_add(
+            target.as_mut_ptr(),
+            target.len(),
+            coefficient,
+            source.as_ptr(),
+            source.len(),
+        )
+    })
 }

@@ -1,12 +1,17 @@
 //! Each lost set of both codes, and what is refused.
 
-use lrc_coder::{Code, Error, Target, add, decode, encode, encode_add, is_open, rebuild, recipe};
+use lrc_coder::{add, decode, encode, encode_add, is_open, rebuild, recipe, Code, Error, Target};
 
 const WIDTH: usize = 5;
 
 fn stripe(code: Code) -> Vec<Vec<u8>> {
-    let mut data: Vec<Vec<u8>> =
-        (0..code as u8).map(|f| (0..WIDTH as u8).map(|k| f.wrapping_mul(59).wrapping_add(k * 7)).collect()).collect();
+    let mut data: Vec<Vec<u8>> = (0..code as u8)
+        .map(|f| {
+            (0..WIDTH as u8)
+                .map(|k| f.wrapping_mul(59).wrapping_add(k * 7))
+                .collect()
+        })
+        .collect();
     let sources: Vec<&[u8]> = data.iter().map(Vec::as_slice).collect();
     let mut parities = [[0; WIDTH]; 4];
     let [a, b, c, d] = &mut parities;
@@ -24,7 +29,11 @@ fn stripe(code: Code) -> Vec<Vec<u8>> {
 /// Whether each lost fragment is rebuilt, as the sum of its recipe too.
 fn is_whole(code: Code, stripe: &[Vec<u8>], lost: u16) -> bool {
     let is_left = |i: usize| lost >> i & 1 == 0;
-    let left: Vec<Option<&[u8]>> = stripe.iter().enumerate().map(|(i, bytes)| is_left(i).then_some(&bytes[..])).collect();
+    let left: Vec<Option<&[u8]>> = stripe
+        .iter()
+        .enumerate()
+        .map(|(i, bytes)| is_left(i).then_some(&bytes[..]))
+        .collect();
     let mut whole = true;
     for (f, bytes) in stripe.iter().enumerate().filter(|(i, _)| !is_left(*i)) {
         let (mut rebuilt, mut sum) = ([0; WIDTH], [0; WIDTH]);
@@ -32,17 +41,31 @@ fn is_whole(code: Code, stripe: &[Vec<u8>], lost: u16) -> bool {
             Ok(terms) => {
                 rebuild(code, &left, f as u8, 0, &mut rebuilt).unwrap();
                 for term in terms {
-                    add(&mut sum, term.coefficient, left[term.fragment as usize].unwrap()).unwrap();
+                    add(
+                        &mut sum,
+                        term.coefficient,
+                        left[term.fragment as usize].unwrap(),
+                    )
+                    .unwrap();
                 }
-                assert_eq!((&rebuilt, &sum), (bytes[..].try_into().unwrap(), bytes[..].try_into().unwrap()));
+                assert_eq!(
+                    (&rebuilt, &sum),
+                    (bytes[..].try_into().unwrap(), bytes[..].try_into().unwrap())
+                );
             }
             Err(refused) => {
                 assert_eq!(refused, Error::Open);
-                assert_eq!(rebuild(code, &left, f as u8, 0, &mut rebuilt), Err(Error::Open));
+                assert_eq!(
+                    rebuild(code, &left, f as u8, 0, &mut rebuilt),
+                    Err(Error::Open)
+                );
                 whole = false;
             }
         }
-        assert_eq!(is_open(code, lost, f as u8), Ok(recipe(code, lost, f as u8).is_err()));
+        assert_eq!(
+            is_open(code, lost, f as u8),
+            Ok(recipe(code, lost, f as u8).is_err())
+        );
     }
     whole
 }
@@ -50,12 +73,23 @@ fn is_whole(code: Code, stripe: &[Vec<u8>], lost: u16) -> bool {
 /// Whether all lost fragments are decoded at once.
 fn decodes_whole(code: Code, stripe: &[Vec<u8>], lost: u16) -> bool {
     let is_left = |i: usize| lost >> i & 1 == 0;
-    let left: Vec<Option<&[u8]>> = stripe.iter().enumerate().map(|(i, bytes)| is_left(i).then_some(&bytes[..])).collect();
+    let left: Vec<Option<&[u8]>> = stripe
+        .iter()
+        .enumerate()
+        .map(|(i, bytes)| is_left(i).then_some(&bytes[..]))
+        .collect();
     let lost: Vec<usize> = (0..stripe.len()).filter(|i| !is_left(*i)).collect();
     let mut decoded = vec![[0xEE; WIDTH]; lost.len()];
-    let mut targets: Vec<Target> = lost.iter().zip(&mut decoded).map(|(f, bytes)| (*f as u8, &mut bytes[..])).collect();
+    let mut targets: Vec<Target> = lost
+        .iter()
+        .zip(&mut decoded)
+        .map(|(f, bytes)| (*f as u8, &mut bytes[..]))
+        .collect();
     match decode(code, &left, 0, &mut targets) {
-        Ok(()) => assert!(lost.iter().zip(&decoded).all(|(f, bytes)| stripe[*f] == bytes)),
+        Ok(()) => assert!(lost
+            .iter()
+            .zip(&decoded)
+            .all(|(f, bytes)| stripe[*f] == bytes)),
         Err(refused) => {
             assert_eq!(refused, Error::Open);
             assert!(decoded.iter().all(|bytes| *bytes == [0xEE; WIDTH]));
@@ -94,15 +128,33 @@ fn bad_arguments_are_refused() {
     let mut target = [0xEE; WIDTH];
     let [mut a, mut b, mut c, mut d] = [[0xEE; WIDTH]; 4];
     for count in [0, 5, 7, 11, 13, 16] {
-        assert_eq!(encode(&data[..count], [&mut a, &mut b, &mut c, &mut d]), Err(Error::BadArgument));
+        assert_eq!(
+            encode(&data[..count], [&mut a, &mut b, &mut c, &mut d]),
+            Err(Error::BadArgument)
+        );
     }
-    assert_eq!(encode_add(Code::Wide, 12, data[0], [&mut a, &mut b, &mut c, &mut d]), Err(Error::BadArgument));
-    assert_eq!(rebuild(Code::Wide, &left, 3, 0, &mut target), Err(Error::BadArgument));
-    assert_eq!(decode(Code::Wide, &left, 0, &mut [(3, &mut target)]), Err(Error::BadArgument));
-    assert_eq!(decode(Code::Wide, &left, 0, &mut [(255, &mut target)]), Err(Error::BadArgument));
+    assert_eq!(
+        encode_add(Code::Wide, 12, data[0], [&mut a, &mut b, &mut c, &mut d]),
+        Err(Error::BadArgument)
+    );
+    assert_eq!(
+        rebuild(Code::Wide, &left, 3, 0, &mut target),
+        Err(Error::BadArgument)
+    );
+    assert_eq!(
+        decode(Code::Wide, &left, 0, &mut [(3, &mut target)]),
+        Err(Error::BadArgument)
+    );
+    assert_eq!(
+        decode(Code::Wide, &left, 0, &mut [(255, &mut target)]),
+        Err(Error::BadArgument)
+    );
     assert_eq!(is_open(Code::Small, 0, 10), Err(Error::BadArgument));
     assert_eq!(recipe(Code::Wide, 1, 1), Err(Error::BadArgument));
     assert_eq!(add(&mut target, 1, &data[0][1..]), Err(Error::BadArgument));
     assert_eq!([target, a, b, c, d], [[0xEE; WIDTH]; 5]);
-    assert_eq!(Error::Open.to_string(), "nothing that is left tells the fragment");
+    assert_eq!(
+        Error::Open.to_string(),
+        "nothing that is left tells the fragment"
+    );
 }

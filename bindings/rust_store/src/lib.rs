@@ -72,7 +72,9 @@ extern "C" {
 
 impl Slot {
     fn empty() -> Slot {
-        Slot { at: std::ptr::null_mut() }
+        Slot {
+            at: std::ptr::null_mut(),
+        }
     }
 }
 
@@ -155,7 +157,9 @@ pub struct Refused {
 
 impl fmt::Debug for Refused {
     fn fmt(&self, f: &mut fmt::Formatter<'_>) -> fmt::Result {
-        f.debug_struct("Refused").field("error", &self.error).finish_non_exhaustive()
+        f.debug_struct("Refused")
+            .field("error", &self.error)
+            .finish_non_exhaustive()
     }
 }
 
@@ -263,9 +267,16 @@ impl Buffer {
         let mut slot = Slot::empty();
         done(unsafe { lrc_slot_reserve(len, &mut slot) })?;
         let none: &mut [u8] = &mut [];
-        let mut raw = RawBuffer { at: none.as_mut_ptr(), len: 0 };
+        let mut raw = RawBuffer {
+            at: none.as_mut_ptr(),
+            len: 0,
+        };
         done(unsafe { lrc_slot_buffer(&mut slot, &mut raw) })?;
-        Ok(Buffer { slot, at: raw.at, len: raw.len })
+        Ok(Buffer {
+            slot,
+            at: raw.at,
+            len: raw.len,
+        })
     }
 
     /// The bytes, for writing. There are none after a put.
@@ -330,14 +341,35 @@ impl Entry {
     fn of(raw: &RawEntry) -> Entry {
         let name = unsafe { std::slice::from_raw_parts(raw.name.at, raw.name.len) };
         let call = match raw.call {
-            0 => Call::Put { code: if raw.first == 6 { Code::Small } else { Code::Wide }, len: raw.second },
-            1 => Call::Read { start: raw.first, len: raw.second },
-            2 => Call::Lose { stripe: raw.first, fragment: raw.second },
-            3 => Call::Repair { stripe: raw.first, fragment: raw.second },
+            0 => Call::Put {
+                code: if raw.first == 6 {
+                    Code::Small
+                } else {
+                    Code::Wide
+                },
+                len: raw.second,
+            },
+            1 => Call::Read {
+                start: raw.first,
+                len: raw.second,
+            },
+            2 => Call::Lose {
+                stripe: raw.first,
+                fragment: raw.second,
+            },
+            3 => Call::Repair {
+                stripe: raw.first,
+                fragment: raw.second,
+            },
             4 => Call::Delete,
             _ => Call::Stat,
         };
-        let shape = Shape { version: raw.version, len: raw.len, stripes: raw.stripes, lost: raw.lost };
+        let shape = Shape {
+            version: raw.version,
+            len: raw.len,
+            stripes: raw.stripes,
+            lost: raw.lost,
+        };
         Entry {
             who: raw.who,
             name: String::from_utf8_lossy(name).into_owned(),
@@ -379,7 +411,9 @@ impl Grant {
 
     /// The pieces of the range, in order.
     pub fn pieces(&self) -> impl Iterator<Item = &[u8]> {
-        self.slices.iter().map(|slice| unsafe { std::slice::from_raw_parts(slice.at, slice.len) })
+        self.slices
+            .iter()
+            .map(|slice| unsafe { std::slice::from_raw_parts(slice.at, slice.len) })
     }
 
     /// A copy of the bytes of the range.
@@ -419,7 +453,10 @@ impl Session {
     pub fn join(&mut self, mut other: Session) -> Result<(), Refused> {
         match unsafe { lrc_store_join(&mut self.slot, &mut other.slot) } {
             DONE => Ok(()),
-            _ => Err(Refused { session: other, error: Error::TwoStores }),
+            _ => Err(Refused {
+                session: other,
+                error: Error::TwoStores,
+            }),
         }
     }
 
@@ -428,38 +465,91 @@ impl Session {
     pub fn close(mut self) -> Result<Closed, Refused> {
         let (mut entries, mut lawful) = (0, 0);
         match unsafe { lrc_store_close(&mut self.slot, &mut entries, &mut lawful) } {
-            DONE => Ok(Closed { entries, is_checked: lawful == 1 }),
-            _ => Err(Refused { session: self, error: Error::NotAlone }),
+            DONE => Ok(Closed {
+                entries,
+                is_checked: lawful == 1,
+            }),
+            _ => Err(Refused {
+                session: self,
+                error: Error::NotAlone,
+            }),
         }
     }
 
     /// Does the same, and returns the entries of the journal.
     pub fn close_to_journal(mut self) -> Result<Journal, Refused> {
         let (mut held, mut discarded, mut entries, mut lawful) = (Slot::empty(), 0, 0, 0);
-        match unsafe { lrc_store_close_to(&mut self.slot, &mut held, &mut discarded, &mut entries, &mut lawful) } {
+        match unsafe {
+            lrc_store_close_to(
+                &mut self.slot,
+                &mut held,
+                &mut discarded,
+                &mut entries,
+                &mut lawful,
+            )
+        } {
             DONE => {}
-            NO_MEMORY => return Err(Refused { session: self, error: Error::NoMemory }),
-            _ => return Err(Refused { session: self, error: Error::NotAlone }),
+            NO_MEMORY => {
+                return Err(Refused {
+                    session: self,
+                    error: Error::NoMemory,
+                })
+            }
+            _ => {
+                return Err(Refused {
+                    session: self,
+                    error: Error::NotAlone,
+                })
+            }
         }
         let entry = |index| {
             let none: &[u8] = &[];
-            let name = Slice { at: none.as_ptr(), len: 0 };
-            let mut raw =
-                RawEntry { name, first: 0, second: 0, version: 0, len: 0, stripes: 0, lost: 0, who: 0, call: 0, status: 0 };
+            let name = Slice {
+                at: none.as_ptr(),
+                len: 0,
+            };
+            let mut raw = RawEntry {
+                name,
+                first: 0,
+                second: 0,
+                version: 0,
+                len: 0,
+                stripes: 0,
+                lost: 0,
+                who: 0,
+                call: 0,
+                status: 0,
+            };
             let status = unsafe { lrc_slot_entry(&mut held, index, &mut raw) };
             (status == DONE).then(|| Entry::of(&raw))
         };
         let entries = (0..entries as usize).map_while(entry).collect();
-        Ok(Journal { discarded, entries, is_checked: lawful == 1 })
+        Ok(Journal {
+            discarded,
+            entries,
+            is_checked: lawful == 1,
+        })
     }
 
     /// Stores a buffer without a copy, and returns its version. After an error the same bytes can
     /// be put again.
-    pub fn put_buffer(&mut self, name: &str, buffer: &mut Buffer, code: Code) -> Result<u64, Error> {
+    pub fn put_buffer(
+        &mut self,
+        name: &str,
+        buffer: &mut Buffer,
+        code: Code,
+    ) -> Result<u64, Error> {
         let mut version = 0;
         buffer.len = 0; // no longer to be filled, whatever the reply
         done(wait(|| unsafe {
-            lrc_store_put_from(&mut self.slot, name.as_ptr(), name.len(), &mut buffer.slot, code as u32, &mut version)
+            lrc_store_put_from(
+                &mut self.slot,
+                name.as_ptr(),
+                name.len(),
+                &mut buffer.slot,
+                code as u32,
+                &mut version,
+            )
         }))?;
         Ok(version)
     }
@@ -468,7 +558,15 @@ impl Session {
     pub fn put(&mut self, name: &str, blob: &[u8], code: Code) -> Result<u64, Error> {
         let mut version = 0;
         done(wait(|| unsafe {
-            lrc_store_put(&mut self.slot, name.as_ptr(), name.len(), blob.as_ptr(), blob.len(), code as u32, &mut version)
+            lrc_store_put(
+                &mut self.slot,
+                name.as_ptr(),
+                name.len(),
+                blob.as_ptr(),
+                blob.len(),
+                code as u32,
+                &mut version,
+            )
         }))?;
         Ok(version)
     }
@@ -477,19 +575,47 @@ impl Session {
     pub fn read(&mut self, name: &str, start: u64, len: u64) -> Result<Grant, Error> {
         let (mut lent, mut version, mut pieces) = (Slot::empty(), 0, 0);
         done(wait(|| unsafe {
-            lrc_store_lend(&mut self.slot, name.as_ptr(), name.len(), start, len, &mut lent, &mut version, &mut pieces)
+            lrc_store_lend(
+                &mut self.slot,
+                name.as_ptr(),
+                name.len(),
+                start,
+                len,
+                &mut lent,
+                &mut version,
+                &mut pieces,
+            )
         }))?;
         let none: &[u8] = &[];
-        let mut slices = vec![Slice { at: none.as_ptr(), len: 0 }; pieces as usize];
-        done(unsafe { lrc_slot_slices(&mut lent, slices.as_mut_ptr(), slices.len(), &mut pieces) })?;
-        Ok(Grant { _lent: lent, version, slices })
+        let mut slices = vec![
+            Slice {
+                at: none.as_ptr(),
+                len: 0
+            };
+            pieces as usize
+        ];
+        done(unsafe {
+            lrc_slot_slices(&mut lent, slices.as_mut_ptr(), slices.len(), &mut pieces)
+        })?;
+        Ok(Grant {
+            _lent: lent,
+            version,
+            slices,
+        })
     }
 
     /// Loses a fragment of a stripe, as after a disk failure.
     pub fn lose(&mut self, name: &str, stripe: u64, fragment: u64) -> Result<u64, Error> {
         let mut version = 0;
         done(wait(|| unsafe {
-            lrc_store_lose(&mut self.slot, name.as_ptr(), name.len(), stripe, fragment, &mut version)
+            lrc_store_lose(
+                &mut self.slot,
+                name.as_ptr(),
+                name.len(),
+                stripe,
+                fragment,
+                &mut version,
+            )
         }))?;
         Ok(version)
     }
@@ -498,7 +624,14 @@ impl Session {
     pub fn repair(&mut self, name: &str, stripe: u64, fragment: u64) -> Result<u64, Error> {
         let mut version = 0;
         done(wait(|| unsafe {
-            lrc_store_repair(&mut self.slot, name.as_ptr(), name.len(), stripe, fragment, &mut version)
+            lrc_store_repair(
+                &mut self.slot,
+                name.as_ptr(),
+                name.len(),
+                stripe,
+                fragment,
+                &mut version,
+            )
         }))?;
         Ok(version)
     }
@@ -506,16 +639,29 @@ impl Session {
     /// Deletes a blob.
     pub fn delete(&mut self, name: &str) -> Result<u64, Error> {
         let mut version = 0;
-        done(wait(|| unsafe { lrc_store_delete(&mut self.slot, name.as_ptr(), name.len(), &mut version) }))?;
+        done(wait(|| unsafe {
+            lrc_store_delete(&mut self.slot, name.as_ptr(), name.len(), &mut version)
+        }))?;
         Ok(version)
     }
 
     /// The shape of a blob.
     pub fn stat(&mut self, name: &str) -> Result<Shape, Error> {
-        let mut shape = Shape { version: 0, len: 0, stripes: 0, lost: 0 };
+        let mut shape = Shape {
+            version: 0,
+            len: 0,
+            stripes: 0,
+            lost: 0,
+        };
         done(wait(|| unsafe {
             lrc_store_stat(
-                &mut self.slot, name.as_ptr(), name.len(), &mut shape.version, &mut shape.len, &mut shape.stripes, &mut shape.lost,
+                &mut self.slot,
+                name.as_ptr(),
+                name.len(),
+                &mut shape.version,
+                &mut shape.len,
+                &mut shape.stripes,
+                &mut shape.lost,
             )
         }))?;
         Ok(shape)
@@ -524,16 +670,21 @@ impl Session {
     /// Discards all journal entries except the last `keep`, and returns how many it discarded.
     pub fn trim(&mut self, keep: u64) -> Result<u64, Error> {
         let mut discarded = 0;
-        done(wait(|| unsafe { lrc_store_trim(&mut self.slot, keep, &mut discarded) }))?;
+        done(wait(|| unsafe {
+            lrc_store_trim(&mut self.slot, keep, &mut discarded)
+        }))?;
         Ok(discarded)
     }
 
     /// Repairs all lost fragments that can be rebuilt, and returns their number.
     pub fn mend(&mut self) -> Result<u64, Error> {
         let (mut plan, mut items, mut version, mut repaired) = (Slot::empty(), 0, 0, 0);
-        done(wait(|| unsafe { lrc_store_plan(&mut self.slot, &mut plan, &mut items) }))?;
+        done(wait(|| unsafe {
+            lrc_store_plan(&mut self.slot, &mut plan, &mut items)
+        }))?;
         loop {
-            let status = wait(|| unsafe { lrc_store_mend_step(&mut self.slot, &mut plan, &mut version) });
+            let status =
+                wait(|| unsafe { lrc_store_mend_step(&mut self.slot, &mut plan, &mut version) });
             match done(status) {
                 _ if status == NOTHING_LEFT => return Ok(repaired),
                 Ok(()) => repaired += 1,

@@ -10,7 +10,10 @@ fn sessions_come_back() {
     let join = first.join(part).unwrap_err();
     assert_eq!(join.to_string(), "the sessions are of two stores");
     let close = second.close().unwrap_err();
-    assert_eq!(close.to_string(), "the store has other sessions: join them first");
+    assert_eq!(
+        close.to_string(),
+        "the store has other sessions: join them first"
+    );
     let mut second = close.session;
     second.join(join.session).unwrap();
     assert_eq!(second.close().unwrap().entries, 0);
