@@ -78,8 +78,8 @@ pub extern "C" fn timed_encode(
     true
 }
 
-/// `encode_joined` of twelve data fragments, each turn's parities into memory of their own. The
-/// targets get those of the last turn. False if memory ran out, and then the targets are unchanged.
+/// As `timed_encode`, by `encode_joined`. A closure for the call that is timed would be timed with
+/// it.
 #[unsafe(no_mangle)]
 pub extern "C" fn timed_encode_joined(
     alloc: Global,

@@ -27,7 +27,7 @@ module _ (code : Code) (lost : ℕ → Bool) (f : ℕ) (shares : List ℕ) (c b 
   d-lt : (i : ℕ) → i < n → d i < 256
   d-lt i l = xor_of_8 _ _ (is.bytes i l) (remainder_bytes code lost c b is left i l)
 
-  -- an equation comes to the same for the lost bytes as for the remaining ones
+  -- an equation has the same sum over the lost bytes as over the remaining ones
   same_sum : (e : ℕ) → e < 4 → syndrome code e b ≡ xor_sum n (λ i. product (weight code e i) (d i))
   same_sum e l =
       sym (xor_sum_same n _ _ (λ i m. product-xor_right (weight code e i) (c i) (b i))

@@ -86,7 +86,7 @@ third = plus sum_s0 (twice (plus sum_s1 (twice (plus sum_s2 (four (plus sum_t0 (
 abbrev pub fourth : Term
 fourth = plus sum_s0 (four (plus sum_s1 (four (plus sum_s2 (four (four (plus sum_t0 (four (plus sum_t1 (four sum_t2))))))))))
 
--- the same, each group by itself
+-- the third and the fourth parity as a sum of two groups, each with its own doublings
 abbrev pub third_of_groups : Term
 third_of_groups = plus (plus sum_s0 (twice (plus sum_s1 (twice sum_s2)))) (times (num 0x10) (plus sum_t0 (twice (plus sum_t1 (twice sum_t2)))))
 

@@ -143,7 +143,8 @@ fn encode_place(
     fourth[at] = made[3];
 }
 
-/// Writes the parities of twelve lists, thirty-two places at a time.
+/// The body of `write_parities`, with its contract: a function of its own, so that the compiler
+/// keeps the caller's copies of the slices in registers.
 #[inline(always)]
 fn encode_lists(
     sources: &[&[u8]],
@@ -194,8 +195,7 @@ pub fn write_parities(
         AreParitiesOfTwelve (map (λ s. s.now) sources.now)
         (first.new ∷ second.new ∷ third.new ∷ fourth.new ∷ []) k }
 {
-    // copies, which a store to a parity cannot change: so the code for a block keeps them in
-    // registers
+    // copies, which a store to a parity cannot change
     let lists = [
         sources[0],
         sources[1],

@@ -50,7 +50,7 @@ fn third_of(wanted: bool, s: GroupSums, t: GroupSums, sources: &[&[u8]], at: usi
     }
 }
 
-/// The same for the fourth parity.
+/// As `third_of` for the fourth parity, which has other doublings.
 #[inline(always)]
 fn fourth_of(wanted: bool, s: GroupSums, t: GroupSums, sources: &[&[u8]], at: usize) -> u8x32
     requires count { length sources.now ≡ 16 }

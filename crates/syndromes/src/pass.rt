@@ -93,8 +93,7 @@ fn store_if(wanted: bool, block: u8x32, target: &mut [u8], at: usize)
     }
 }
 
-/// Writes the syndromes of all places of the lists; all but the first only if they are wanted.
-/// Each `COPY` is compiled by itself.
+/// The body of `write_taken`, with its contract. The compiler makes one function for each `COPY`.
 #[inline(always)]
 fn write_columns<const COPY: u8>(
     sources: &[&[u8]],
@@ -190,8 +189,8 @@ fn columns_of(lists: &[&[u8]], at: usize) -> Columns
     }
 }
 
-/// Makes the target the sum of the four lists, each times its factor. Each `COPY` is compiled by
-/// itself.
+/// Makes the target the sum of the four lists, each times its factor. The compiler makes one
+/// function for each `COPY`.
 #[inline(always)]
 fn sum_weighed<const COPY: u8>(
     target: &mut [u8],
