@@ -1,4 +1,5 @@
-//! The field and the codes in plain Rust, for plain.rs and store.rs: tables and rows of weights, nothing proved.
+//! The field and the codes in plain Rust, for plain.rs and store.rs: tables and rows of weights,
+//! nothing proved.
 
 // ---- the field, by a table of all products
 
@@ -91,7 +92,8 @@ impl Code {
         [first, 1 - first, third, product(third, third)]
     }
 
-    /// What each fragment that is left is multiplied by, for the sum to be the lost one; None where it can't be told.
+    /// What each fragment that is left is multiplied by, for the sum to be the lost one; None where
+    /// it can't be told.
     pub fn recipe(
         self,
         is_lost: impl Fn(usize) -> bool,

@@ -1,9 +1,10 @@
 #!/usr/bin/env python3
 """Runs rt ci, and says what each crate took of the processors: bench/gate_time.py [words for rt ci]
 
-Each second it reads the processor time of the provers that the run has started. At the end it prints
-for each crate the seconds for its proof, for that of its tests and for its must-fail edits, and their sum
-in minutes. What ends within a second of its start is not seen. The status is that of rt ci.
+Each second it reads the processor time of the provers that the run has started. At the end it
+prints for each crate the seconds for its proof, for that of its tests and for its must-fail edits,
+and their sum in minutes. What ends within a second of its start is not seen. The status is that of
+rt ci.
 """
 
 import os

@@ -1,8 +1,10 @@
 #!/usr/bin/env python3
-"""Measures what scripts cost that are made to cost much, and how that grows as they double: bench/hostile.py [--times N] [--only KIND] [PROGRAM]
+"""Measures what scripts cost that are made to cost much, and how that grows as they double:
+bench/hostile.py [--times N] [--only KIND] [PROGRAM]
 
-Each kind of script is made in three sizes, each twice the one before, and each is run N times (3 without the option); the least
-processor time and the greatest memory count. With no PROGRAM it is the one that tools/build.py makes.
+Each kind of script is made in three sizes, each twice the one before, and each is run N times (3
+without the option); the least processor time and the greatest memory count. With no PROGRAM it is
+the one that tools/build.py makes.
 """
 
 import argparse
@@ -21,7 +23,8 @@ BYTES = (32 * MIB, 64 * MIB, 128 * MIB)
 WIDE = ["--width", "65536"]
 SIXTEEN = ["--workers", "16"]
 
-# Each kind: what it is of, its sizes, the parts of the script of a size, and the program's other options.
+# Each kind: what it is of, its sizes, the parts of the script of a size, and the program's other
+# options.
 KINDS = {
     "names": (
         "rows, each a put of a name of its own",

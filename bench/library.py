@@ -1,9 +1,12 @@
 #!/usr/bin/env python3
-"""Measures the library beside the same in plain Rust: bench/library.py [--times N] [--millis M] [--folder FOLDER] [CLIENTS ..]
+"""Measures the library beside the same in plain Rust: bench/library.py [--times N] [--millis M]
+[--folder FOLDER] [CLIENTS ..]
 
-It needs rustc. The clients of bench/clients are a crate over `shared`: their files, and those of the crates below, are copied into FOLDER,
-where `rt` proves and builds them, at first in some 6 minutes. bench/store.rs is the plain store. Each is run N times (9 without the option) for M
-milliseconds (500), in turn; the greatest number of calls a second is told, and the median. CLIENTS are earlier builds of the clients, to be run beside.
+It needs rustc. The clients of bench/clients are a crate over `shared`: their files, and those of
+the crates below, are copied into FOLDER, where `rt` proves and builds them, at first in some 6
+minutes. bench/store.rs is the plain store. Each is run N times (9 without the option) for M
+milliseconds (500), in turn; the greatest number of calls a second is told, and the median. CLIENTS
+are earlier builds of the clients, to be run beside.
 """
 
 import argparse
@@ -40,7 +43,8 @@ def sources():
 
 
 def built(folder, crate, top, uses, files, words):
-    """Clients, proved and built in a repository of their own: a crate of these files, over `top` and the crates below it. It is run once with these words."""
+    """Clients, proved and built in a repository of their own: a crate of these files, over `top`
+    and the crates below it. It is run once with these words."""
     names = build.below(top)
     for name in names:
         copied(name, folder)

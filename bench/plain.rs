@@ -1,6 +1,8 @@
-//! The program lrcstore in plain Rust, to measure it by: one mutex, a map and reference counts, nothing proved, and a journal that is not judged.
+//! The program lrcstore in plain Rust, to measure it by: one mutex, a map and reference counts,
+//! nothing proved, and a journal that is not judged.
 //!
-//! plain SCRIPT [--width N] [--workers K] [--limit J] [--history]    It takes scripts that are not refused. rustc -O --edition 2021 plain.rs
+//! plain SCRIPT [--width N] [--workers K] [--limit J] [--history]    It takes scripts that are not
+//! refused. rustc -O --edition 2021 plain.rs
 
 mod code;
 

@@ -1,8 +1,9 @@
 #!/usr/bin/env python3
 """Measures what a script's run costs, and how it grows: bench/program.py [--times N] [PROGRAM ..]
 
-Each script is run N times (5 without the option), the programs in turn, and the least processor time counts, of a mend the least
-wall time. With no PROGRAM it is the one that tools/build.py makes. Nothing is fetched, and the scripts lie in a folder that is removed.
+Each script is run N times (5 without the option), the programs in turn, and the least processor
+time counts, of a mend the least wall time. With no PROGRAM it is the one that tools/build.py makes.
+Nothing is fetched, and the scripts lie in a folder that is removed.
 """
 
 import argparse
@@ -24,9 +25,10 @@ START = """
 import os, sys, time
 none = os.open(os.devnull, os.O_WRONLY)
 start = time.monotonic()
-child = os.posix_spawn(sys.argv[1], sys.argv[1:], os.environ, file_actions=[(os.POSIX_SPAWN_DUP2, none, 1), (os.POSIX_SPAWN_DUP2, none, 2)])
-_, status, used = os.wait4(child, 0)
-print(os.waitstatus_to_exitcode(status), used.ru_utime + used.ru_stime, time.monotonic() - start, used.ru_maxrss)
+child = os.posix_spawn(sys.argv[1], sys.argv[1:], os.environ, file_actions=[(os.POSIX_SPAWN_DUP2,
+none, 1), (os.POSIX_SPAWN_DUP2, none, 2)]) _, status, used = os.wait4(child, 0)
+print(os.waitstatus_to_exitcode(status), used.ru_utime + used.ru_stime, time.monotonic() - start,
+used.ru_maxrss)
 """
 
 
@@ -56,7 +58,8 @@ def reads(lost):
 
 
 def mend(width, is_mended):
-    """4,096 losses, so many at a time as make four in each stripe of a blob of 48 MiB, and all of them mended each time."""
+    """4,096 losses, so many at a time as make four in each stripe of a blob of 48 MiB, and all of
+    them mended each time."""
     stripes, rows = MIB_48 // (12 * width), ["1,1,put,a,hex," + "5a" * MIB_48]
     for turn in range(1024 // stripes):
         rows += [
@@ -88,7 +91,8 @@ Run = collections.namedtuple("Run", "status seconds wall peak")
 def measured(program, words):
     """The status of a run, its processor seconds, its wall seconds and its peak bytes.
 
-    A process of its own starts the run, since what the system tells of a child's peak is no less than its parent had when it started it.
+    A process of its own starts the run, since what the system tells of a child's peak is no less
+    than its parent had when it started it.
     """
     told = subprocess.run(
         [sys.executable, "-I", "-c", START, program, *words],

@@ -1,6 +1,7 @@
 #!/bin/sh
-# bench/run.sh [ROUNDS]: proves and builds the coder as a static library for x86-64-v2 and for x86-64-v3, and times it beside
-# ISA-L and memcpy. Prints five tables. It needs gcc, binutils and libisal-dev of Debian, and fetches nothing.
+# bench/run.sh [ROUNDS]: proves and builds the coder as a static library for x86-64-v2 and for
+# x86-64-v3, and times it beside ISA-L and memcpy. Prints five tables. It needs gcc, binutils and
+# libisal-dev of Debian, and fetches nothing.
 set -eu
 bench=$(cd "$(dirname "$0")" && pwd)
 for tool in gcc objcopy nm ar; do

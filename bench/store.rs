@@ -1,6 +1,8 @@
-//! The library's store in plain Rust, to measure it by, with the calls of bench/clients: a mutex, a hash map and reference counts, nothing proved, and a journal
-//! that is cleared when it is full, without being judged. Its width is given at run time, and its entries can hold each call and each note. With SHARDS it is so
-//! many such stores, as in bench/sharded_clients: all threads call one name, or each calls its own.
+//! The library's store in plain Rust, to measure it by, with the calls of bench/clients: a mutex, a
+//! hash map and reference counts, nothing proved, and a journal that is cleared when it is full,
+//! without being judged. Its width is given at run time, and its entries can hold each call and
+//! each note. With SHARDS it is so many such stores, as in bench/sharded_clients: all threads call
+//! one name, or each calls its own.
 //!
 //! store reads|walks THREADS MILLIS [one|own SHARDS]    rustc -O --edition 2021 store.rs
 

@@ -2,8 +2,9 @@
 """Which definitions a reader has to believe: tests/believed.py [--list]
 
 They are those that the clauses of `Store`, `Pass`, `Grant`, `play` and `run_words` cite, with what
-these stand on, all the way down to the kit's words. It prints how many lines of each crate they are, without comments, with --list their names, by file, and fails where
-docs/definitions.md says another number.
+these stand on, all the way down to the kit's words. It prints how many lines of each crate they
+are, without comments, with --list their names, by file, and fails where docs/definitions.md says
+another number.
 """
 
 import os
@@ -22,7 +23,8 @@ WORD = re.compile(r"[A-Za-z_][\w-]*(?:\.[A-Za-z_][\w-]*)*")
 
 
 def definitions_of(text):
-    """Each definition of a file: the names that it gives, of a `data` those of its cases too, and its lines."""
+    """Each definition of a file: the names that it gives, of a `data` those of its cases too, and
+    its lines."""
     heads = list(HEAD.finditer(text))
     for head, end in zip(heads, [head.start() for head in heads[1:]] + [len(text)]):
         lines = [
@@ -39,7 +41,8 @@ def definitions_of(text):
 
 
 def imports_of(text):
-    """What the names of a file stand for: (crate, module, name), the name "" for all of a module."""
+    """What the names of a file stand for: (crate, module, name), the name "" for all of a
+    module."""
     names = {}
     for crate, module, listed, variants, alias in IMPORT.findall(text):
         for one in filter(None, (word.strip() for word in listed.split(","))):
@@ -133,7 +136,8 @@ def roots(definitions):
 
 
 def counted():
-    """The definitions that are to be believed, all definitions, and how many lines of the first each crate has."""
+    """The definitions that are to be believed, all definitions, and how many lines of the first
+    each crate has."""
     definitions = Definitions()
     believed, lines = definitions.below(roots(definitions)), defaultdict(int)
     for key in believed:

@@ -1,11 +1,11 @@
 #!/usr/bin/env python3
 """The documents' code is the code: tests/documents.py
 
-Each block of Rattle is part of `demo_hello` or `demo_guide`, each block of C, C++ or Python part of a file in
-bindings/, and each block `text` a clause of a function, or what a program prints. Links lead to
-files and headings, paths exist, and pages that a script writes are what it writes. Every crate has
-a README.md, every page a line in docs/README.md, every status a place in docs/errors.md. Figures of
-the coder are those of bench/results/.
+Each block of Rattle is part of `demo_hello` or `demo_guide`, each block of C, C++ or Python part of
+a file in bindings/, and each block `text` a clause of a function, or what a program prints. Links
+lead to files and headings, paths exist, and pages that a script writes are what it writes. Every
+crate has a README.md, every page a line in docs/README.md, every status a place in docs/errors.md.
+Figures of the coder are those of bench/results/.
 """
 
 import glob

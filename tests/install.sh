@@ -1,5 +1,6 @@
 #!/usr/bin/env bash
-# Tests of tools/install.py: programs in C and Python over what it installs, by pkg-config and by CMake.
+# Tests of tools/install.py: programs in C and Python over what it installs, by pkg-config and by
+# CMake.
 set -u
 cd "$(dirname "$0")/.."
 # shellcheck source=tests/runner.sh

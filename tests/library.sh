@@ -1,7 +1,8 @@
 #!/usr/bin/env bash
 # Tests of the coder for C, C++, Rust and Python and of its use under liberasurecode and Ceph, which
 # `rt ci` proves and does not run.
-# The last line says how many passed, and what was skipped. A package that is missing is installed by its name where apt-get can.
+# The last line says how many passed, and what was skipped. A package that is missing is installed
+# by its name where apt-get can.
 set -u
 cd "$(dirname "$0")/.."
 # shellcheck source=tests/runner.sh
@@ -19,7 +20,8 @@ c_program() {
     "$compiler" -std="$standard" -O1 "${warnings[@]}" "$@" "$file" "$archive" -lpthread -o "$work/program" && "$work/program"
 }
 
-# The archive asks for no memory: for nothing but what compilers count on. Its names are those of the header.
+# The archive asks for no memory: for nothing but what compilers count on. Its names are those of
+# the header.
 symbols() {
     local wanted="lrc_add lrc_decode lrc_encode lrc_encode_add lrc_is_open lrc_rebuild lrc_recipe " names others
     names=$(nm -g --defined-only "$archive" | awk 'NF == 3 { print $3 }' | sort | tr '\n' ' ')
@@ -32,7 +34,8 @@ header() {
         && echo "header: as C99 and as C++11"
 }
 
-# The archive with the code for two processors: the same tests by either, chosen by the environment, and by itself the best.
+# The archive with the code for two processors: the same tests by either, chosen by the environment,
+# and by itself the best.
 choice() {
     local best=x86-64-v2
     grep -qw avx2 /proc/cpuinfo && best=x86-64-v3

@@ -244,7 +244,8 @@ def listed(names):
 
 
 def stubs_of(check):
-    """Rows for clauses, and for mutants and tests without one. A mutant goes to the first row of the
+    """Rows for clauses, and for mutants and tests without one. A mutant goes to the first row of
+    the
     function that it changes."""
     stubs = Stubs()
     for crate, function, lacking in check.uncovered:

@@ -1,12 +1,12 @@
 #!/usr/bin/env python3
 """Refuses each request for memory in turn, and then each thread: tests/refused_memory.py
 
-It runs the programs that the merge gate has built. `test_refused_memory` and `test_sharded` must print the
-same whichever request is refused. `lrcstore` must end with status 3, nothing on standard output and
-the message of what was refused, or print what it prints with ample memory. Where a thread is refused
-it must end so. In each run the threads are counted: with ample memory one for each worker that has
-rows in a round, and for each worker of a mend; where one is refused, those before it.
-`tests/programs.sh` runs it.
+It runs the programs that the merge gate has built. `test_refused_memory` and `test_sharded` must
+print the same whichever request is refused. `lrcstore` must end with status 3, nothing on standard
+output and the message of what was refused, or print what it prints with ample memory. Where a
+thread is refused it must end so. In each run the threads are counted: with ample memory one for
+each worker that has rows in a round, and for each worker of a mend; where one is refused, those
+before it. `tests/programs.sh` runs it.
 """
 
 import os

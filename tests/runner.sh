@@ -1,5 +1,6 @@
 # What the test scripts in tests/ share: `test_of` runs a test or skips it, and installs the package that it needs by its name where
-# apt-get can; `summary` is the last line. The script that sources this file stands at the top of the repository.
+# apt-get can; `summary` is the last line. The script that sources this file stands at the top of
+# the repository.
 work=$(mktemp -d)
 trap 'rm -rf "$work"' EXIT
 passed=0
@@ -10,7 +11,8 @@ install() {
     apt-get install -y --no-install-recommends "$1"
 }
 
-# Whether a command or a file is here, once the package that has it was asked for. On a new machine the lists of packages come first.
+# Whether a command or a file is here, once the package that has it was asked for. On a new machine
+# the lists of packages come first.
 has() {
     command -v "$1" > /dev/null || [ -e "$1" ] && return
     if [ "$(id -u)" = 0 ] && command -v apt-get > /dev/null; then
@@ -19,7 +21,8 @@ has() {
     command -v "$1" > /dev/null || [ -e "$1" ]
 }
 
-# test_of NAME COMMAND PACKAGE FUNCTION WORD..: calls the function with the words, or skips it where the command is missing.
+# test_of NAME COMMAND PACKAGE FUNCTION WORD..: calls the function with the words, or skips it where
+# the command is missing.
 test_of() {
     local name=$1 command=$2 package=$3
     shift 3

@@ -1,4 +1,5 @@
-"""What the crates have: public functions with their clauses, must-fail edits with the function that each changes, and tests."""
+"""What the crates have: public functions with their clauses, must-fail edits with the function that
+each changes, and tests."""
 
 import os
 import re
@@ -20,7 +21,8 @@ def read(path):
 
 
 def blanked(code):
-    """The code with comments, strings, characters and the semicolons of array types as blanks, so that its brackets match."""
+    """The code with comments, strings, characters and the semicolons of array types as blanks, so
+    that its brackets match."""
 
     def blank(found):
         return re.sub(r"[^\n]", " ", found.group())
@@ -42,7 +44,8 @@ def closing(code, start):
 
 @dataclass
 class Function:
-    """A function: its type, where it is a method, its name, its clauses in order, and which part of the file it is."""
+    """A function: its type, where it is a method, its name, its clauses in order, and which part of
+    the file it is."""
 
     owner: str
     name: str
@@ -77,7 +80,8 @@ class Crate:
 
 
 def owner_of(header):
-    """The type of an `impl`: what stands behind `for`, or else behind `impl`, without its parameters."""
+    """The type of an `impl`: what stands behind `for`, or else behind `impl`, without its
+    parameters."""
     header = re.sub(r"^impl\s*(<(?:[^<>]|<[^<>]*>)*>)?", "", header).strip(" {\n")
     header = header.split(" for ")[-1].strip()
     named = re.match(r"[&\w:' ]*?(\w+)\s*(?:<|$|\swhere)", header)
@@ -168,7 +172,8 @@ def exported(root):
 
 
 def edit_target(edit, texts, functions):
-    """The function that an edit changes first, as its file and path; and each change as its old and new text."""
+    """The function that an edit changes first, as its file and path; and each change as its old and
+    new text."""
     pairs = re.findall(r"^old:[ \t]?(.*)\nnew:[ \t]?(.*)$", edit, re.M)
     path = re.search(r"^file: *(\S+)", edit, re.M).group(1)
     place = texts.get(path, "").find(pairs[0][0])

@@ -1,5 +1,6 @@
 #!/usr/bin/env python3
-"""Runs lrcstore to each of its statuses, and compares the status, what it prints, and its line on standard error."""
+"""Runs lrcstore to each of its statuses, and compares the status, what it prints, and its line on
+standard error."""
 
 import os
 import subprocess

@@ -30,8 +30,8 @@ journal() {
     done
 }
 
-# ThreadSanitizer sees what the C side does. It knows nothing of the locks of a library that it did not compile, so that it is told to
-# leave out what that calls.
+# ThreadSanitizer sees what the C side does. It knows nothing of the locks of a library that it did
+# not compile, so that it is told to leave out what that calls.
 threads_sanitized() {
     local TSAN_OPTIONS=ignore_noninstrumented_modules=1
     export TSAN_OPTIONS

@@ -2,7 +2,8 @@
 """Draws the pictures of the documents: tools/draw_pictures.py [FOLDER], else into docs/pictures.
 
 The codes come from the crate `lrc_code`; which fragments a lost one is rebuilt from is what the
-program `demo_guide` prints; the layers are those of crates.txt, the plan's numbers those of `demo_survey`.
+program `demo_guide` prints; the layers are those of crates.txt, the plan's numbers those of
+`demo_survey`.
 """
 
 import os
@@ -47,7 +48,8 @@ CALLS = [
 
 
 def place(f, left, step, gap=14):
-    """Where a fragment's box begins: gaps separate the groups, the local and the global parities."""
+    """Where a fragment's box begins: gaps separate the groups, the local and the global
+    parities."""
     return left + f * step + gap * sum(f >= border for border in (HALF, DATA, DATA + 2))
 
 
@@ -150,7 +152,8 @@ def stripe_row(y, title, below, lost, built_from):
 
 
 def recipes():
-    """The fragments that the first lost one is rebuilt from, by the lost ones, as `demo_guide` prints."""
+    """The fragments that the first lost one is rebuilt from, by the lost ones, as `demo_guide`
+    prints."""
     printed = lrc.definition("demo_guide", "stdout")
     found = {}
     for lost, built in re.findall(r"^lost ([\d ]+): 0 is (open|built from [\d ]+)$", printed, re.M):

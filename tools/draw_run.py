@@ -86,7 +86,8 @@ def call_of(entry, is_mend):
 
 
 class Panel:
-    """The calls of one blob from its put on, with the first stripe and those that lost something."""
+    """The calls of one blob from its put on, with the first stripe and those that lost
+    something."""
 
     def __init__(self, blob, name, is_mend):
         self.blob, self.name, self.is_mend, self.calls = blob, name, is_mend, []

@@ -1,4 +1,5 @@
-"""The history of a run: read from what `lrcstore --history` prints, and replayed call by call over which fragments are lost."""
+"""The history of a run: read from what `lrcstore --history` prints, and replayed call by call over
+which fragments are lost."""
 
 import re
 from dataclasses import dataclass, field
@@ -13,7 +14,8 @@ CODES = {"put": "Wide", "put6": "Small"}
 
 @dataclass
 class Entry:
-    """A line of the history: its number, its worker, the call's word, name and numbers, and the note."""
+    """A line of the history: its number, its worker, the call's word, name and numbers, and the
+    note."""
 
     number: int
     worker: int
@@ -37,7 +39,8 @@ def entries(printed):
 
 @dataclass
 class Blob:
-    """What is known of a blob without its bytes: version, length, code, width of a fragment, and the lost ones as (stripe, fragment)."""
+    """What is known of a blob without its bytes: version, length, code, width of a fragment, and
+    the lost ones as (stripe, fragment)."""
 
     version: int
     length: int

@@ -7,8 +7,8 @@
 Under P it leaves bin/lrcstore, the headers, and for `lrc_coder` and `lrc_store` each a static
 library, a shared one with a soname, a pkg-config file, a CMake package and a Python module. The
 coder has the code for x86-64-v2 and x86-64-v3 and chooses when it is loaded; the program and the
-store are for the processor that --cpu names. With --reuse a program and a store that were built before
-are taken as they are. It needs `rt`, gcc and binutils.
+store are for the processor that --cpu names. With --reuse a program and a store that were built
+before are taken as they are. It needs `rt`, gcc and binutils.
 """
 
 import argparse

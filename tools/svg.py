@@ -33,7 +33,8 @@ def line(x1, y1, x2, y2, stroke=GREY, thick=1.3, arrow=False):
 
 
 def group_fill(code_data, f):
-    """The colour of a fragment: those of the first group, of the second, their local parities, and the two global ones."""
+    """The colour of a fragment: those of the first group, of the second, their local parities, and
+    the two global ones."""
     half = code_data // 2
     if f < code_data:
         return FIRST if f < half else SECOND

@@ -1,8 +1,8 @@
 #!/bin/sh
-# bench/store_c/run.sh [FOLDER]: proves and builds the store for C, many reads in one call of Rattle, and
-# clients in Rattle that wait, in a clone in FOLDER. It prints what a read costs from C and inside Rattle,
-# and how many reads four threads make. It needs gcc and git. From nothing it takes half an hour; a FOLDER
-# that is kept is used again.
+# bench/store_c/run.sh [FOLDER]: proves and builds the store for C, many reads in one call of
+# Rattle, and clients in Rattle that wait, in a clone in FOLDER. It prints what a read costs from C
+# and inside Rattle, and how many reads four threads make. It needs gcc and git. From nothing it
+# takes half an hour; a FOLDER that is kept is used again.
 set -eu
 bench=$(cd "$(dirname "$0")" && pwd)
 folder=${1:-$(mktemp -d)/store}

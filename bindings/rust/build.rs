@@ -1,4 +1,5 @@
-//! Links libcoder_c.a, from the folder that LRC_CODER_DIR names, or else from where `rt lib` leaves it.
+//! Links libcoder_c.a, from the folder that LRC_CODER_DIR names, or else from where `rt lib` leaves
+//! it.
 
 fn main() {
     let folder = std::env::var("LRC_CODER_DIR").unwrap_or_else(|_| {

@@ -1,5 +1,6 @@
-//! Links libstore_c.a, from the folder that LRC_STORE_DIR names, or else from where `rt lib` leaves it, and
-//! the kit's liblibc_c.a, from the folder that LRC_LIBC_DIR names, or else from /opt/rattle/c.
+//! Links libstore_c.a, from the folder that LRC_STORE_DIR names, or else from where `rt lib` leaves
+//! it, and the kit's liblibc_c.a, from the folder that LRC_LIBC_DIR names, or else from
+//! /opt/rattle/c.
 
 use std::env;
 use std::path::Path;

@@ -1,4 +1,5 @@
-"""The Python module: lost sets of both codes, recipes, bad arguments, and what other programs computed (crates/test_vectors/data/ORIGIN.md)."""
+"""The Python module: lost sets of both codes, recipes, bad arguments, and what other programs
+computed (crates/test_vectors/data/ORIGIN.md)."""
 
 import itertools
 import os

@@ -1,4 +1,5 @@
-"""Compares what crates/coder_c/src/lib.rt exports with what the header, the Rust crate and the Python module declare: names, types, statuses."""
+"""Compares what crates/coder_c/src/lib.rt exports with what the header, the Rust crate and the
+Python module declare: names, types, statuses."""
 
 import ctypes
 import os

@@ -1,8 +1,9 @@
 #!/usr/bin/env python3
-"""Makes the calls of tests/limits.py at their limits with ample memory, through the library of the store.
+"""Makes the calls of tests/limits.py at their limits with ample memory, through the library of the
+store.
 
-Each worker's calls are made by a session of its own, in the order of the script. Each answer, each byte
-of a read and each entry of the journal is compared with those of the model in tests/limits.py.
+Each worker's calls are made by a session of its own, in the order of the script. Each answer, each
+byte of a read and each entry of the journal is compared with those of the model in tests/limits.py.
 """
 
 import os
