@@ -1,6 +1,7 @@
 #!/usr/bin/env python3
-"""Measures the program beside the same in plain Rust, bench/plain.rs: bench/beside_plain.py
-[--times N] [--only WORD] [PROGRAM ..]
+"""Measures the program beside the same in plain Rust, bench/plain.rs.
+
+    bench/beside_plain.py [--times N] [--only WORD] [PROGRAM ..]
 
 It needs rustc. Each script whose name has WORD in it is run N times (5 without the option), the
 programs in turn, the plain one last, and the least processor time counts; the medians and the

@@ -1,6 +1,7 @@
 #!/usr/bin/env python3
-"""Measures what scripts cost that are made to cost much, and how that grows as they double:
-bench/hostile.py [--times N] [--only KIND] [PROGRAM]
+"""Measures what scripts cost that are made to cost much, and how that grows as they double.
+
+    bench/hostile.py [--times N] [--only KIND] [PROGRAM]
 
 Each kind of script is made in three sizes, each twice the one before, and each is run N times (3
 without the option); the least processor time and the greatest memory count. With no PROGRAM it is

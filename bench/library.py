@@ -1,6 +1,7 @@
 #!/usr/bin/env python3
-"""Measures the library beside the same in plain Rust: bench/library.py [--times N] [--millis M]
-[--folder FOLDER] [CLIENTS ..]
+"""Measures the library beside the same in plain Rust.
+
+    bench/library.py [--times N] [--millis M] [--folder FOLDER] [CLIENTS ..]
 
 It needs rustc. The clients of bench/clients are a crate over `shared`: their files, and those of
 the crates below, are copied into FOLDER, where `rt` proves and builds them, at first in some 6

@@ -1,5 +1,7 @@
 #!/usr/bin/env python3
-"""Measures what a script's run costs, and how it grows: bench/program.py [--times N] [PROGRAM ..]
+"""Measures what a script's run costs, and how it grows.
+
+    bench/program.py [--times N] [PROGRAM ..]
 
 Each script is run N times (5 without the option), the programs in turn, and the least processor
 time counts, of a mend the least wall time. With no PROGRAM it is the one that tools/build.py makes.
