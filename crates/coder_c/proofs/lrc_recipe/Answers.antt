@@ -1,4 +1,5 @@
-use Rattle.std.proofs.Common.{◌≡◌, true, length, sym, ap, ◌∙◌}
+use Rattle.std.proofs.Common.{◌≡◌, ℕ, List, true, IfSome, length, sym, ap, ◌∙◌}
+use Rattle.lrc_code.specs.declared.Code.{Code}
 use Rattle.lrc_code.specs.Code.{is_lost, is_alone, is_only_lost_of, first_group, second_group}
 use Rattle.lrc_code.specs.Recipe.{IsLeast, local_recipe}
 use Rattle.coder_c.specs.Call.{code_with, terms_of}
@@ -12,25 +13,22 @@ written c =
     let count : c.len.result ≡ length c.as_slice.result.now = c.len.ensures.value ∙ ap length (sym c.as_slice.ensures.value) in
     ap (terms_of new.fragments new.coefficients) count ∙ c.write_terms.ensures ∙ c.as_slice.ensures.value
 
-pub returns-clause-first : goal.returns-clause-first
-returns-clause-first c =
+-- where a fragment alone is lost in its group, the terms are those of the group
+alone_in : (c : goal.After-len) (group : Code → List ℕ) → (is_only_lost_of (is_lost c.in-Some.asked.lost) (group c.in-Some.asked.code) c.in-Some.asked.number ≡ true → c.in-Some-recipe_in.recipe.items ≡ local_recipe (group c.in-Some.asked.code) c.in-Some.asked.number)
+    → IfSome (code_with c.args.data_fragments) (λ code. is_only_lost_of (is_lost c.args.lost) (group code) c.args.fragment ≡ true → terms_of c.write_terms.new.fragments c.write_terms.new.coefficients c.len.result ≡ local_recipe (group code) c.args.fragment)
+alone_in c group local =
     let asked = c.in-Some.asked in
     let new = c.write_terms.new in
-    let recipe = c.in-Some-recipe_in in
-    λ _. at_code (code_with c.args.data_fragments) asked.code
-    (λ code. is_only_lost_of (is_lost c.args.lost) (first_group code) c.args.fragment ≡ true → terms_of new.fragments new.coefficients c.len.result ≡ local_recipe (first_group code) c.args.fragment)
+    at_code (code_with c.args.data_fragments) asked.code
+    (λ code. is_only_lost_of (is_lost c.args.lost) (group code) c.args.fragment ≡ true → terms_of new.fragments new.coefficients c.len.result ≡ local_recipe (group code) c.args.fragment)
     c.in-Some.ensures.0
-    (local_there (is_lost asked.lost) (is_lost c.args.lost) asked.number c.args.fragment recipe.recipe.items _ (first_group asked.code) c.in-Some.ensures.1 c.in-Some.ensures.2 (written c) recipe.ensures.first)
+    (local_there (is_lost asked.lost) (is_lost c.args.lost) asked.number c.args.fragment c.in-Some-recipe_in.recipe.items _ (group asked.code) c.in-Some.ensures.1 c.in-Some.ensures.2 (written c) local)
+
+pub returns-clause-first : goal.returns-clause-first
+returns-clause-first c = λ _. alone_in c first_group c.in-Some-recipe_in.ensures.first
 
 pub returns-clause-second : goal.returns-clause-second
-returns-clause-second c =
-    let asked = c.in-Some.asked in
-    let new = c.write_terms.new in
-    let recipe = c.in-Some-recipe_in in
-    λ _. at_code (code_with c.args.data_fragments) asked.code
-    (λ code. is_only_lost_of (is_lost c.args.lost) (second_group code) c.args.fragment ≡ true → terms_of new.fragments new.coefficients c.len.result ≡ local_recipe (second_group code) c.args.fragment)
-    c.in-Some.ensures.0
-    (local_there (is_lost asked.lost) (is_lost c.args.lost) asked.number c.args.fragment recipe.recipe.items _ (second_group asked.code) c.in-Some.ensures.1 c.in-Some.ensures.2 (written c) recipe.ensures.second)
+returns-clause-second c = λ _. alone_in c second_group c.in-Some-recipe_in.ensures.second
 
 pub returns-clause-least : goal.returns-clause-least
 returns-clause-least c =

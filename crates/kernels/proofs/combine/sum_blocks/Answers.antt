@@ -3,6 +3,8 @@ use Rattle.kernels.specs.Lists.{bytes_at, combined}
 use Rattle.kernels.proofs.GroupLemmas.{facts_more}
 use Rattle.kernels.proofs.combine.sum_blocks.Goals as goal
 
+-- The steps of `plain_blocks`, from the clauses of other calls: a proof names its own calls.
+
 -- at place k the list has the sum
 abbrev IsSum : List ℕ → List (List ℕ) → List ℕ → ℕ → Type 0
 IsSum coefficients sources target k = get_or target k 0 ≡ combined coefficients (bytes_at sources k)
