@@ -1,11 +1,10 @@
 -- A loss or a repair carries histories on.
-use Rattle.std.proofs.Common.{◌≡◌, ℕ, Bool, true, false, List, [], ◌∷◌, ◌++◌, Option, None, Some, Result, Ok, Err, IfOk, OnErr, IsSome, cond, rules, refl, sym, ap, ◌∙◌, subst}
+use Rattle.std.proofs.Common.{◌≡◌, ℕ, Bool, true, false, List, [], ◌∷◌, ◌++◌, Option, None, Some, cond, refl, sym, ap, ◌∙◌, subst}
 use Rattle.std.specs.FinMap as finite
 use Rattle.std.specs.FinSet as set
 use Rattle.std.specs.BTreeMap.{is_at}
 use Rattle.std.specs.Cmp.{Equal-is}
 use Rattle.std.specs.Cmp.Lexicographic.{nat_list_cmp_total}
-use Rattle.std.specs.Map.{lookup, set_value}
 use Rattle.std.proofs.lemmas.Cmp.{eq_by_cmp_equiv}
 use Rattle.sealed.specs.declared.value.Sealed.{Sealed}
 use Rattle.sealed.specs.Blob.{Lost}
@@ -27,35 +26,6 @@ use Rattle.book.proofs.Answering.{replied}
 use Rattle.book.proofs.Carrying.{carried}
 use Rattle.history.proofs.Replies.{reply_is}
 use Rattle.book.proofs.Storing.{corresponds}
-
--- a value that is written over itself leaves the catalogue as it is
-written_over : (b : Bool) (e : List ℕ × Sealed) (rest again : Catalogue) (s : Sealed) (later : Option Sealed) → cond b (Some e.1) later ≡ Some s → (later ≡ Some s → again ≡ rest) → cond b ((e.0, s) ∷ rest) (e ∷ again) ≡ e ∷ rest
-written_over true e rest again s later is same = let value : e.1 ≡ s = let some : Some e.1 ≡ Some s = is in cc in λ i. (e.0, sym value i) ∷ rest
-written_over false e rest again s later is same = ap (λ (es : Catalogue). e ∷ es) (same is)
-
-pub same_value : (test : List ℕ → Bool) (es : Catalogue) (s : Sealed) → lookup test es ≡ Some s → set_value test es s ≡ es
-same_value test [] s is = refl
-same_value test (e ∷ es) s is = written_over (test e.0) e es (set_value test es s) s (lookup test es) is (same_value test es s)
-
-pub is_some_at : (found : Option Sealed) (s : Sealed) → Some s ≡ found → IsSome found
-is_some_at found s e = search rules
-
-pub replaced_by : (reply : ℕ → Option View → Note) (Becomes : Sealed → Sealed → Type 0) (old new : Catalogue) (n : List ℕ) (m : Note) (s t : Sealed) → Some s ≡ value_at old n → m ≡ reply_for reply (Some s) → Becomes s t
-    → ((q : List ℕ) → value_at new q ≡ cond (is_at (name_cmp n) q) (Some t) (value_at old q)) → Replaces reply Becomes old new n m
-replaced_by reply Becomes old new n m s t here is becomes updates =
-    record {
-      note_is = is ∙ ap (reply_for reply) here;
-      absent = λ none. absurd (let no : Some s ≡ None = here ∙ none in cc);
-      present = λ other there. (t, (let same : Some s ≡ Some other = here ∙ there in let P : Sealed → Type 0 = λ v. Becomes v t in subst P (let value : s ≡ other = cc in value) becomes), updates);
-    }
-
-pub at_both : {A E : Type 0} (r : Result A E) (P Q R : A → Type 0) → ((a : A) → P a → Q a → R a) → IfOk r P → IfOk r Q → IfOk r R
-at_both (Ok a) P Q R h p q = h a p q
-at_both (Err e) P Q R h p q = tt
-
-pub at_err : {A E : Type 0} (r : Result A E) (P Q : Type 0) → (P → Q) → OnErr r P → OnErr r Q
-at_err (Ok a) P Q h p = tt
-at_err (Err e) P Q h p = h p
 
 -- ---- the value of a name is replaced by one with other lost fragments
 with_represents : (w : ℕ) (change : Lost → Lost) (s t : Sealed) (blob : Blob) → Represents w s blob → IsWith change s t → Represents w t (record blob { lost = change blob.lost })

@@ -6,9 +6,9 @@ ghost use Rattle.history.specs.Step.{delete as delete_of};
 ghost use Rattle.book.specs.Tells.{CarriesOn, KeepsBase};
 ghost use Rattle.history.specs.Views.{delete_reply};
 
-use crate::book::Book;
+use crate::book::{Book, note_call};
 use crate::stored_blob::StoredBlob;
-use crate::{Answer, Call, Entry, Fault, Name};
+use crate::{Answer, Call, Fault, Name};
 
 impl Book {
     /// Removes a name and its blob. Does not allocate.
@@ -29,10 +29,8 @@ impl Book {
             return Err(Fault::JournalFull);
         }
         let answer = answer_delete(self.catalogue.remove(&name));
-        let note = answer.note();
         let call = Call::Delete { name };
-        self.journal.push(Entry { who, call, note });
-        Ok(answer)
+        Ok(note_call(&mut self.journal, who, call, answer))
     }
 }
 

@@ -9,9 +9,9 @@ ghost use Rattle.book.specs.Losing.{Mends, Replaces, value_at};
 ghost use Rattle.book.specs.Notes.{note_of};
 ghost use Rattle.book.specs.Tells.{HoldsHistory, CarriesOn, IsCallFault, KeepsBase};
 
-use crate::book::Book;
+use crate::book::{Book, note_call};
 use crate::stored_blob::StoredBlob;
-use crate::{Answer, Call, Entry, Fault, Name};
+use crate::{Answer, Call, Fault, Name};
 use bytes::Bytes;
 use std::alloc::Global;
 use std::collections::BTreeMap;
@@ -48,21 +48,15 @@ impl Book {
         if self.is_full() {
             return Err(Fault::JournalFull);
         }
-        let answer = match self
+        let answer = self
             .catalogue
-            .install(alloc, &name, version, stripe, fragment, bytes)
-        {
-            Ok(answer) => answer,
-            Err(error) => return Err(error),
-        };
-        let note = answer.note();
+            .install(alloc, &name, version, stripe, fragment, bytes)?;
         let call = Call::Repair {
             name,
             stripe,
             fragment,
         };
-        self.journal.push(Entry { who, call, note });
-        Ok(answer)
+        Ok(note_call(&mut self.journal, who, call, answer))
     }
 }
 

@@ -6,9 +6,9 @@ ghost use Rattle.history.specs.Step.{lose as lose_of};
 ghost use Rattle.book.specs.Tells.{CarriesOn, IsCallFault, KeepsBase};
 ghost use Rattle.history.specs.Views.{lose_reply};
 
-use crate::book::Book;
+use crate::book::{Book, note_call};
 use crate::stored_blob::StoredBlob;
-use crate::{Answer, Call, Entry, Fault, Name};
+use crate::{Answer, Call, Fault, Name};
 use std::alloc::Global;
 use std::collections::BTreeMap;
 
@@ -40,18 +40,13 @@ impl Book {
         if self.is_full() {
             return Err(Fault::JournalFull);
         }
-        let answer = match self.catalogue.lose(alloc, &name, stripe, fragment) {
-            Ok(answer) => answer,
-            Err(error) => return Err(error),
-        };
-        let note = answer.note();
+        let answer = self.catalogue.lose(alloc, &name, stripe, fragment)?;
         let call = Call::Lose {
             name,
             stripe,
             fragment,
         };
-        self.journal.push(Entry { who, call, note });
-        Ok(answer)
+        Ok(note_call(&mut self.journal, who, call, answer))
     }
 }
 

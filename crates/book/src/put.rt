@@ -6,8 +6,8 @@ ghost use Rattle.history.specs.History.{is_put};
 ghost use Rattle.history.specs.Step.{put as put_of};
 ghost use Rattle.book.specs.Tells.{CarriesOn, IsCallFault, KeepsBase};
 
-use crate::book::Book;
-use crate::{Answer, Call, Entry, Fault, Name, Note};
+use crate::book::{Book, note_call};
+use crate::{Answer, Call, Fault, Name};
 use sealed::Sealed;
 use std::alloc::Global;
 use std::sync::Arc;
@@ -51,8 +51,7 @@ impl Book {
         };
         self.puts = version;
         let call = Call::Put { name, code, len };
-        let note = Note::Stored(version);
-        self.journal.push(Entry { who, call, note });
-        Ok(Answer::Stored(version))
+        let answer = Answer::Stored(version);
+        Ok(note_call(&mut self.journal, who, call, answer))
     }
 }

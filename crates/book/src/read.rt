@@ -6,8 +6,8 @@ ghost use Rattle.book.specs.Contents.{sealed_at};
 ghost use Rattle.history.specs.Step.{read as read_of};
 ghost use Rattle.book.specs.Tells.{CarriesOn, IsCallFault, KeepsBase};
 
-use crate::book::Book;
-use crate::{Answer, Call, Entry, Fault, Name};
+use crate::book::{Book, note_call};
+use crate::{Answer, Call, Fault, Name};
 use lent::{Asked, Grant};
 use sealed::Sealed;
 use std::alloc::AllocError;
@@ -41,10 +41,8 @@ impl Book {
             Ok(answer) => answer,
             Err(_) => return Err(Fault::NoMemory),
         };
-        let note = answer.note();
         let call = Call::Read { name, start, len };
-        self.journal.push(Entry { who, call, note });
-        Ok(answer)
+        Ok(note_call(&mut self.journal, who, call, answer))
     }
 }
 

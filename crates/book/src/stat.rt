@@ -7,9 +7,9 @@ ghost use Rattle.history.specs.Step.{stat as stat_of};
 ghost use Rattle.book.specs.Tells.{CarriesOn, KeepsBase};
 ghost use Rattle.history.specs.Views.{stat_reply};
 
-use crate::book::Book;
+use crate::book::{Book, note_call};
 use crate::stored_blob::StoredBlob;
-use crate::{Answer, Call, Entry, Fault, Name};
+use crate::{Answer, Call, Fault, Name};
 
 impl Book {
     /// Asks for the shape of a name's blob. Does not allocate, and takes the same time for each
@@ -31,10 +31,8 @@ impl Book {
             return Err(Fault::JournalFull);
         }
         let answer = answer_stat(self.catalogue.get(&name));
-        let note = answer.note();
         let call = Call::Stat { name };
-        self.journal.push(Entry { who, call, note });
-        Ok(answer)
+        Ok(note_call(&mut self.journal, who, call, answer))
     }
 }
 

@@ -28,7 +28,7 @@ use Rattle.sealed.proofs.Changing.{pairs_total}
 use Rattle.history.proofs.Rising.{insert_next, keys_rise, same_found, entries_back, same_pairs, pairs_of-has, pairs_of-length, pairs_rise}
 
 -- the entry after those that are in goes to the end
-pub kept_next : (all es rest : List (List ℕ × BlobMetadata)) (n : List ℕ) (k : BlobMetadata) → IsStrictlySortedBy name_cmp (keys_of all) → es ++ (n, k) ∷ rest ≡ all
+kept_next : (all es rest : List (List ℕ × BlobMetadata)) (n : List ℕ) (k : BlobMetadata) → IsStrictlySortedBy name_cmp (keys_of all) → es ++ (n, k) ∷ rest ≡ all
     → insert_entry name_cmp es n k ++ rest ≡ all
 kept_next all es rest n k s whole =
     let ks = keys_of all in
@@ -38,6 +38,13 @@ kept_next all es rest n k s whole =
     let inside : i < length ks = omega (arith, ap length parts, length-append (keys_of es) (n ∷ keys_of rest)) in
     let at : n ≡ get_or ks i n = sym (ap (λ (l : List (List ℕ)). get_or l i n) parts ∙ get_or-append_seam (keys_of es) n (keys_of rest) n) in
     ap (λ (l : List (List ℕ × BlobMetadata)). l ++ rest) (insert_next nat_list_cmp_total ks s i n k inside at es before) ∙ append_assoc es ((n, k) ∷ []) rest ∙ whole
+
+-- and also if it is inserted as copies of its name and metadata
+pub copied_next : (all es rest new : List (List ℕ × BlobMetadata)) (n m : List ℕ) (k l : BlobMetadata) → IsStrictlySortedBy name_cmp (map (λ (o : Outline). o.name) (map outline_kept all))
+    → es ++ (n, k) ∷ rest ≡ all → new ≡ insert_entry name_cmp es m l → m ≡ n → l ≡ k → new ++ rest ≡ all
+copied_next all es rest new n m k l rises whole inserted same_name same =
+    let sorted : IsStrictlySortedBy name_cmp (keys_of all) = subst (IsStrictlySortedBy name_cmp) (map-map (λ (o : Outline). o.name) outline_kept all) rises in
+    ap (λ (es : List (List ℕ × BlobMetadata)). es ++ rest) (inserted ∙ (λ i. insert_entry name_cmp es (same_name i) (same i))) ∙ kept_next all es rest n k sorted whole
 
 -- ---- what outlines show
 abbrev shown_by : Outline → View

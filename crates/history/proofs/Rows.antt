@@ -1,4 +1,5 @@
 -- Worked examples, computed: each list of operations has these replies, at width 1 and from the empty state.
+-- Each example states its whole list, so that a reader can compare it with the specification alone.
 use Rattle.std.proofs.Common.{◌≡◌, ℕ, ◌<◌, ◌≤◌, Bool, true, ◌&&◌, List, [], ◌∷◌, length, refl, sym, ap, subst, arith}
 use Rattle.std.specs.Prelude.{All, nat_le, nat_lt, slice_index_or}
 use Rattle.std.specs.List.{range_with_len, list_all}

@@ -1,4 +1,6 @@
 //! The sequential specification without bytes: its reply to each call, and its state afterwards.
+//!
+//! Each reply is a function of its own, because its clause names the specification's reply.
 ghost use Rattle.std.specs.Prelude.{◌≡◌, ◌≤◌, ◌+◌, ◌↔◌, IsTrue, IfOk, OnOk, None, cond, map};
 ghost use Rattle.std.specs.Prelude.{replicate};
 ghost use Rattle.std.specs.Option.{option_map};

@@ -37,21 +37,6 @@ pub fn inspect(
     ensures kept { KeepsBase kept.old.0.value kept.new.0.value }
 {
     let book: &mut Book = &mut kept.0;
-    inspect_book(book, alloc, who, name, stripe, fragment)
-}
-
-/// Inspects a book, and makes the repair there if its answer is not `Repaired`.
-fn inspect_book(
-    book: &mut Book,
-    alloc: Global,
-    who: u32,
-    name: &Name,
-    stripe: u64,
-    fragment: u64,
-) -> Inspection
-    ensures found { FoundIn book.old book.new who name.now stripe fragment result }
-    ensures kept { KeepsBase book.old book.new }
-{
     if book.is_full() {
         return Inspection::Refused(Fault::JournalFull);
     }

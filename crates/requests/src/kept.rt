@@ -37,8 +37,7 @@ impl Kept {
         ensures { IfOk result (λ p. (h : History) → HoldsHistory self.now.0.value h
             → p.items.items ≡ plan_of (state_of h)) }
     {
-        let book: &Book = &self.0;
-        book.plan(alloc)
+        self.0.plan(alloc)
     }
 
     /// Discards all entries except the last `keep`, as `Book::trim` does.
@@ -54,7 +53,6 @@ impl Kept {
         ensures faults { IfErr result (λ e. e ≡ Fault.NoMemory) }
         ensures err { OnErr result (self.new.0.value ≡ self.old.0.value) }
     {
-        let book: &mut Book = &mut self.0;
-        book.trim(alloc, keep)
+        self.0.trim(alloc, keep)
     }
 }

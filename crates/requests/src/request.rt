@@ -70,21 +70,6 @@ impl Request {
         ensures err { OnErr result (kept.new.0.value ≡ kept.old.0.value) }
     {
         let book: &mut Book = &mut kept.0;
-        self.make_on_book(book, who)
-    }
-
-    /// Makes the call on a book.
-    fn make_on_book(self, book: &mut Book, who: u32) -> Result<Answer, Fault>
-        requires { CanMake book.old self }
-        ensures ok { IfOk result (CarriesOn book.old book.new who (operation_of self)) }
-        ensures answer { IfOk result (IsAnswerTo book.old self) }
-        ensures no_memory { result ≡ Err Fault.NoMemory → MayWant book.old self }
-        ensures full { (result ≡ Err Fault.JournalFull)
-            ↔ (length book.old.entries ≡ book.old.limit) }
-        ensures kept { KeepsBase book.old book.new }
-        ensures faults { IfErr result (IsFaultOf self) }
-        ensures err { OnErr result (book.new ≡ book.old) }
-    {
         match self {
             Request::Put {
                 alloc,

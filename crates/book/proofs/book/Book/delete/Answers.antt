@@ -10,9 +10,10 @@ use Rattle.book.proofs.book.Book.delete.Goals as goal
 pub returns-clause-ok : goal.returns-clause-ok
 returns-clause-ok c =
     let entries : c.self.inside.journal.entries.items ≡ c.args.self.now.entries = ap (λ (s : Contents). s.entries) c.self.view_is in
+    rw c.note_call.ensures.answer (
     carries_delete c.args.self.now _ c.args.who c.args.name c.answer_delete-answer.result
     (c.answer_delete-answer.ensures ∙ ap (reply_for delete_reply) c.remove.ensures.value ∙ ap (λ s. reply_for delete_reply (sealed_at s c.args.name)) c.self.view_is)
     (ap (λ (s : Contents). s.width) c.self.view_is)
     (ap (λ (s : Contents). s.base) c.self.view_is)
     (λ q. c.remove.ensures.updates q ∙ ap (λ s. cond (is_at (name_cmp c.args.name) q) None (sealed_at s q)) c.self.view_is)
-    (cc)
+    (cc))

@@ -12,12 +12,13 @@ use Rattle.book.proofs.book.Book.install.Goals as goal
 pub returns-clause-ok : goal.returns-clause-ok
 returns-clause-ok c =
     let entries : c.self.inside.journal.entries.items ≡ c.args.self.now.entries = ap (λ (s : Contents). s.entries) c.self.view_is in
-    let P : Catalogue → Type 0 = λ old. Replaces (λ w x. repair_reply w x c.args.stripe c.args.fragment) (Mends c.args.stripe c.args.fragment (note_of c.in-Ok.answer)) old c.install.new.self c.args.name (note_of c.in-Ok.answer) in
-    carries_repair c.args.self.now _ c.args.who c.args.name c.args.stripe c.args.fragment c.in-Ok.answer
-    (subst P (ap (λ (s : Contents). s.catalogue) c.self.view_is) c.in-Ok.ensures.ok)
+    let P : Catalogue → Type 0 = λ old. Replaces (λ w x. repair_reply w x c.args.stripe c.args.fragment) (Mends c.args.stripe c.args.fragment (note_of c.in_ok-answer.answer)) old c.install.new.self c.args.name (note_of c.in_ok-answer.answer) in
+    rw c.note_call.ensures.answer (
+    carries_repair c.args.self.now _ c.args.who c.args.name c.args.stripe c.args.fragment c.in_ok-answer.answer
+    (subst P (ap (λ (s : Contents). s.catalogue) c.self.view_is) c.in_ok-answer.ensures.ok)
     (ap (λ (s : Contents). s.width) c.self.view_is)
     (ap (λ (s : Contents). s.base) c.self.view_is)
-    (cc)
+    (cc))
 
 pub install-requires : goal.install-requires
 install-requires c =

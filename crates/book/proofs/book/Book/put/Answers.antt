@@ -31,9 +31,10 @@ returns-clause-ok c b stands =
     let counted : count_by is_put c.self.inside.journal.entries.items ≡ count_by is_put c.args.self.now.entries = ap (count_by is_put) entries in
     let base : c.self.inside.base ≡ c.args.self.now.base = ap (λ (s : Contents). s.base) c.self.view_is in
     let puts : c.self.inside.base.puts ≡ c.args.self.now.base.puts = ap (λ (b : Checkpoint). b.puts) base in
+    rw c.note_call.ensures.answer (
     carries_put c.args.self.now _ c.args.who c.args.name c.args.sealed b (c.self.inside.puts + 1) c.requires.width stands
     (omega (arith, c.self.invariant.0))
     (ap (λ (s : Contents). s.width) c.self.view_is)
     base
     (cc)
-    (λ q. c.in-Ok-insert.ensures.ok q ∙ (λ i. cond (is_at (name_cmp c.args.name) q) (Some ((c.in-Ok.ensures.ok ∙ c.with_version.ensures) i)) (sealed_at (c.self.view_is i) q)))
+    (λ q. c.in-Ok-insert.ensures.ok q ∙ (λ i. cond (is_at (name_cmp c.args.name) q) (Some ((c.in-Ok.ensures.ok ∙ c.with_version.ensures) i)) (sealed_at (c.self.view_is i) q))))
