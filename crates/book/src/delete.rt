@@ -12,11 +12,6 @@ use crate::{Answer, Call, Fault, Name};
 
 impl Book {
     /// Removes a name and its blob. Does not allocate.
-    ///
-    /// The answer is `NoName` if the name has no blob. Otherwise it is `Deleted`, with the version
-    /// of the removed blob.
-    ///
-    /// `JournalFull` if the journal holds as many entries as its limit; the book is then unchanged.
     pub fn delete(&mut self, who: u32, name: Name) -> Result<Answer, Fault>
         ensures ok { IfOk result (CarriesOn self.old self.new who (delete_of name)) }
         ensures full { (result ≡ Err Fault.JournalFull)

@@ -22,9 +22,7 @@ impl Book {
     ///
     /// The answer is that of `repair` for the book's present state. If the name has another version
     /// by now, the book ignores `bytes` and rebuilds the fragment itself, if it can be rebuilt.
-    ///
-    /// `JournalFull` if the journal holds as many entries as its limit; it has then not allocated.
-    /// Otherwise `NoMemory` if memory runs out. On either error the book is unchanged.
+    /// Does not allocate if the journal is full.
     pub fn install(
         &mut self,
         alloc: Global,

@@ -13,15 +13,7 @@ use std::alloc::Global;
 use std::collections::BTreeMap;
 
 impl Book {
-    /// Loses a fragment of a name's blob. Only earlier grants still lend its bytes; their memory is
-    /// freed with the last owner of the blob.
-    ///
-    /// The answer is `NoName` if the name has no blob. It is `NoFragment` if the blob lacks this
-    /// stripe, or the stripe this fragment. It is `AlreadyLost` if the fragment was lost before.
-    /// Otherwise it is `Lost`, with the version.
-    ///
-    /// `JournalFull` if the journal holds as many entries as its limit; it has then not allocated.
-    /// Otherwise `NoMemory` if memory runs out. On either error the book is unchanged.
+    /// Loses a fragment of a name's blob. Does not allocate if the journal is full.
     pub fn lose(
         &mut self,
         alloc: Global,

@@ -13,11 +13,8 @@ use std::alloc::Global;
 use std::sync::Arc;
 
 impl Book {
-    /// Stores a sealed blob under a name, and drops the blob that the name had. The answer is
-    /// `Stored`, with the number of this put as version.
-    ///
-    /// `JournalFull` if the journal holds as many entries as its limit; it has then not allocated.
-    /// Otherwise `NoMemory` if memory runs out. On either error the book is unchanged.
+    /// Stores a sealed blob under a name, and drops the blob that the name had. The version is the
+    /// number of this put. Does not allocate if the journal is full.
     pub fn put(
         &mut self,
         alloc: Global,

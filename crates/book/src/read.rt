@@ -14,15 +14,8 @@ use std::alloc::AllocError;
 use std::sync::Arc;
 
 impl Book {
-    /// Grants `len` bytes of a name's blob, from the byte `start` on.
-    ///
-    /// The answer is `NoName` if the name has no blob. It is `OutOfRange` if the range does not lie
-    /// inside the blob. It is `Unrecoverable`, with the version, if some byte of the range lies in
-    /// an unrecoverable fragment. Otherwise it is `Granted`.
-    ///
-    /// `JournalFull` if the journal holds as many entries as its limit. `NoMemory` comes only in
-    /// place of `Granted`, if the count of the blob's owners can't grow. On either error the book
-    /// is unchanged.
+    /// Grants `len` bytes of a name's blob, from the byte `start` on. Does not allocate: `NoMemory`
+    /// comes only in place of `Granted`, if the count of the blob's owners can't grow.
     pub fn read(&mut self, who: u32, name: Name, start: u64, len: u64) -> Result<Answer, Fault>
         ensures ok { IfOk result (CarriesOn self.old self.new who (read_of name start len)) }
         ensures answer { IfOk result (IsReadAnswer (sealed_at self.old name) start len) }

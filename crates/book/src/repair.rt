@@ -14,15 +14,8 @@ use std::alloc::Global;
 use std::collections::BTreeMap;
 
 impl Book {
-    /// Rebuilds a lost fragment of a name's blob from the remaining fragments of its stripe.
-    ///
-    /// The answer is `NoName` if the name has no blob. It is `NoFragment` if the blob lacks this
-    /// stripe, or the stripe this fragment. It is `NotLost` if the fragment is present. It is
-    /// `Unrecoverable`, with the version, if the remaining fragments do not determine it. Otherwise
-    /// it is `Repaired`, with the version.
-    ///
-    /// `JournalFull` if the journal holds as many entries as its limit; it has then not allocated.
-    /// Otherwise `NoMemory` if memory runs out. On either error the book is unchanged.
+    /// Rebuilds a lost fragment of a name's blob from the remaining fragments of its stripe. Does
+    /// not allocate if the journal is full.
     pub fn repair(
         &mut self,
         alloc: Global,

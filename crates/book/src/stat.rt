@@ -14,11 +14,6 @@ use crate::{Answer, Call, Fault, Name};
 impl Book {
     /// Asks for the shape of a name's blob. Does not allocate, and takes the same time for each
     /// blob.
-    ///
-    /// The answer is `NoName` if the name has no blob. Otherwise it is `Shape`, with the version,
-    /// the length in bytes, and the numbers of stripes and lost fragments.
-    ///
-    /// `JournalFull` if the journal holds as many entries as its limit; the book is then unchanged.
     pub fn stat(&mut self, who: u32, name: Name) -> Result<Answer, Fault>
         ensures ok { IfOk result (CarriesOn self.old self.new who (stat_of name)) }
         ensures full { (result ≡ Err Fault.JournalFull)
