@@ -3,9 +3,11 @@
 
 Each block of Rattle is part of `demo_hello` or `demo_guide`, each block of C, C++ or Python part of
 a file in bindings/, and each block `text` a clause of a function, or what a program prints. Links
-lead to files and headings, paths exist, and pages that a script writes are what it writes. Every
-crate has a README.md, every page a line in docs/README.md, every status a place in docs/errors.md.
-Figures of the coder are those of bench/results/.
+lead to files and headings, paths exist, and scripts can be executed. Pages that a script writes are
+what it writes. Each step of a walk in docs/architecture.md is a function of the named crate and
+file, which the step above calls, and each form a type. Every crate has a README.md, every page a
+line in docs/README.md, every status a place in docs/errors.md. Figures of the coder are those of
+bench/results/.
 """
 
 import glob
@@ -31,6 +33,11 @@ FOLDERS = "bench|bindings|crates|docs|examples|include|integrations|tests|tools"
 PATH = re.compile(rf"`((?:{FOLDERS})/[\w./-]*\w)`")
 COMMAND = re.compile(rf"(?<![\w./$-])((?:{FOLDERS})/[\w./-]*\w)")
 FIGURE = re.compile(r"\b\d[\d.]* \(\d+\.\d+\)")
+FLOW = "docs/architecture.md"
+WALKS, FORMS = ("A script", "A put", "A degraded read"), ("Forms",)
+STEP = re.compile(r"( *)(\w+)::(\w+(?:::\w+)?) +(\w+\.rt) +\S")
+NAME = re.compile(r"`(\w+)::(\w+(?:::\w+)?)`")
+TYPE = re.compile(r"^pub(?:\(\w+\))? (?:struct|enum) (\w+)", re.M)
 MOST_LINES, LONGEST = 110, 100
 CHECKED_CLAUSES = ("README.md", "docs/theorem.md", "docs/proof.md", "docs/codes.md")
 
@@ -158,6 +165,69 @@ def wrong_links(name, text):
                 yield f"{name}: no file is {path}"
 
 
+class Named:
+    """What a crate's files name: the text of each function, by its path and file, and the types."""
+
+    def __init__(self, crate):
+        source = os.path.join(CRATES, crate, "src")
+        self.bodies, self.types = {}, set()
+        for path in sources.files_of(source):
+            text, file = read(path), os.path.basename(path)
+            self.types |= set(TYPE.findall(text))
+            for f in sources.functions_of(text):
+                self.bodies[f.path(), file] = text[f.start : f.end]
+
+    def has(self, name):
+        return name in self.types or any(name == path for path, _ in self.bodies)
+
+
+def section(text, heading):
+    """What stands below a heading, up to the next one; empty if the page has no such heading."""
+    found = re.search(rf"^## {re.escape(heading)}\n(.*?)(?=^## |\Z)", text, re.M | re.S)
+    return found.group(1) if found else ""
+
+
+def wrong_steps(walk, named):
+    """The steps that are no function of their file, or that the step above does not call."""
+    above = []
+    for line in filter(str.strip, walk.splitlines()):
+        step = STEP.match(line)
+        if not step:
+            yield f"no step: {line.strip()}"
+            continue
+        depth, crate, name, file = len(step[1]), step[2], step[3], step[4]
+        body = named[crate].bodies.get((name, file)) if crate in named else None
+        if body is None:
+            yield f"{crate} has no function {name} in {file}"
+            continue
+        above = [(at, caller, text) for at, caller, text in above if at < depth]
+        called = re.compile(rf"\b{name.split('::')[-1]}\b")
+        if above and not called.search(sources.blanked(above[-1][2])):
+            yield f"{above[-1][1]} does not call {crate}::{name}"
+        above.append((depth, f"{crate}::{name}", body))
+
+
+def wrong_walks(name, text, code):
+    """The steps and forms of a page about the flow of a call that the code doesn't have."""
+    named = {crate: Named(crate) for crate in sources.crates()}
+    for heading in WALKS:
+        walks = [block for language, block in FENCE.findall(section(text, heading)) if not language]
+        if not walks:
+            yield f"{name}: no walk is below {heading}"
+        for walk in walks:
+            yield from (f"{name}: {wrong}" for wrong in wrong_steps(walk, named))
+    for heading in FORMS:
+        forms = NAME.findall(section(text, heading))
+        if not forms:
+            yield f"{name}: no form is below {heading}"
+        for crate, form in forms:
+            if crate in named and not named[crate].has(form):
+                yield f"{name}: {crate} has no {form}"
+            used = re.compile(rf"^use {crate}::[^;]*\b{form}\b", re.M)
+            if crate not in named and not any(used.search(one) for one, _ in code.functions):
+                yield f"{name}: no crate uses {form} of {crate}"
+
+
 def wrong_readme(text):
     lines = text.splitlines()
     if len(lines) > MOST_LINES:
@@ -213,6 +283,7 @@ def main():
         if name not in reference.PAGES:
             wrong += wrong_blocks(name, text, code)
         wrong += wrong_links(name, text)
+    wrong += wrong_walks(FLOW, read(os.path.join(TOP, FLOW)), code)
     wrong += wrong_readme(read(os.path.join(TOP, "README.md")))
     wrong += [*unlisted(), *reference.wrong_pages(), *sharded.wrong_pages()]
     print(*wrong, f"{len(names)} documents, {len(wrong)} wrong", sep="\n")

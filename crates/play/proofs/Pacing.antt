@@ -25,9 +25,9 @@ use Rattle.rounds.specs.Rounds.{ArePaced, Effect}
 use Rattle.gate.specs.Places.{TableId}
 use Rattle.book.specs.declared.plan.Item.{Item}
 use Rattle.script.specs.declared.rows.Row.{Row}
-use Rattle.play.specs.declared.calls.RowCall.{RowCall}
+use Rattle.play.specs.declared.calls.WorkerJob.{WorkerJob}
 use Rattle.play.specs.Accounts.{IsCallOf}
-use Rattle.play.specs.Jobs.{job_of, jobs_for, HaveJobs}
+use Rattle.play.specs.Jobs.{jobs_for, HaveJobs}
 use Rattle.play.specs.Lists.{Each}
 use Rattle.play.specs.Mends.{AreMenders, AreForRow}
 use Rattle.play.specs.Paced.{HoldsBack}
@@ -97,11 +97,11 @@ round_held A did paced lacks_memory is_paused AreWorks may_answer rows held with
     works_held A paced is_paused may_answer rows held round.works round.rans (within round.works round.are) round.are_paced (paused_of _ (list_any is_paused (outcomes_of round.rans)) round.ends)
 
 -- ---- of calls, and of a mend
-jobs_within : (rows who : ℕ) (calls : List RowCall) (jobs : List Job) → Each (λ (c : RowCall). IsWithin rows c.number) calls → jobs ≡ jobs_for who calls → Each (λ (job : Job). IsWithin rows job.row) jobs
+jobs_within : (rows who : ℕ) (calls : List WorkerJob) (jobs : List Job) → Each (λ (c : WorkerJob). IsWithin rows c.job.row) calls → jobs ≡ jobs_for who calls → Each (λ (job : Job). IsWithin rows job.row) jobs
 jobs_within rows who calls jobs all has =
-    subst (λ js. Each (λ (job : Job). IsWithin rows job.row) js) (sym has) (each-map job_of (λ (job : Job). IsWithin rows job.row) (filter (λ (c : RowCall). c.worker == who) calls) (each-filter (λ (c : RowCall). IsWithin rows c.number) (λ (c : RowCall). c.worker == who) calls all))
+    subst (λ js. Each (λ (job : Job). IsWithin rows job.row) js) (sym has) (each-map (λ (c : WorkerJob). c.job) (λ (job : Job). IsWithin rows job.row) (filter (λ (c : WorkerJob). c.worker == who) calls) (each-filter (λ (c : WorkerJob). IsWithin rows c.job.row) (λ (c : WorkerJob). c.worker == who) calls all))
 
-pub calls_within : (rows who : ℕ) (calls : List RowCall) (works : List (Work Calls)) → Each (λ (c : RowCall). IsWithin rows c.number) calls → HaveJobs who calls works → AskWithin (CallsWithin rows) works
+pub calls_within : (rows who : ℕ) (calls : List WorkerJob) (works : List (Work Calls)) → Each (λ (c : WorkerJob). IsWithin rows c.job.row) calls → HaveJobs who calls works → AskWithin (CallsWithin rows) works
 calls_within rows who calls [] all have = tt
 calls_within rows who calls (w ∷ ws) all have = (jobs_within rows who calls w.errand.0.items all have.0, calls_within rows (who + 1) calls ws all have.1)
 
@@ -110,19 +110,19 @@ row_within rows row [] within are = tt
 row_within rows row (w ∷ ws) within are = (subst (IsWithin rows) (sym are.0) within, row_within rows row ws within are.1)
 
 -- the calls of the rows up to one that the script has
-pub calls_of_rows : (workers round top many : ℕ) (rows : List Row) (calls : List RowCall) → top ≤ many → Each (IsCallOf workers rows round top) calls → Each (λ (c : RowCall). IsWithin many c.number) calls
+pub calls_of_rows : (workers round top many : ℕ) (rows : List Row) (calls : List WorkerJob) → top ≤ many → Each (IsCallOf workers rows round top) calls → Each (λ (c : WorkerJob). IsWithin many c.job.row) calls
 calls_of_rows workers round top many rows [] le are = tt
 calls_of_rows workers round top many rows (c ∷ calls) le are =
     let number = are.0.number in
-    let few : c.number ≤ top = are.0.few in
+    let few : c.job.row ≤ top = are.0.few in
     ((omega (arith, number), omega (arith, few, le)), calls_of_rows workers round top many rows calls le are.1)
 
-pub calls_held : (may_answer : ℕ → Bool → Type 0) (passes : List Shows) (workers round top many : ℕ) (rows : List Row) (calls ready : List RowCall) → top ≤ many → Each (IsCallOf workers rows round top) calls → ready ≡ calls
+pub calls_held : (may_answer : ℕ → Bool → Type 0) (passes : List Shows) (workers round top many : ℕ) (rows : List Row) (calls ready : List WorkerJob) → top ≤ many → Each (IsCallOf workers rows round top) calls → ready ≡ calls
     → HasCallRound (λ works. (passes_of works ≡ passes) × HaveJobs 1 ready works) may_answer (Some halt.Paused) → HoldsBack may_answer many
 calls_held may_answer passes workers round top many rows calls ready le are same round_is =
     round_held (CallsWithin many) DidCalls ArePacedCalls called_lacks called_paused (λ works. (passes_of works ≡ passes) × HaveJobs 1 ready works) may_answer many
     (λ v e o w within paced paused. jobs_held may_answer many v e.0.items o.0 w within paced paused)
-    (λ works is. calls_within many 1 ready works (subst (λ cs. Each (λ (c : RowCall). IsWithin many c.number) cs) (sym same) (calls_of_rows workers round top many rows calls le are)) is.1) round_is
+    (λ works is. calls_within many 1 ready works (subst (λ cs. Each (λ (c : WorkerJob). IsWithin many c.job.row) cs) (sym same) (calls_of_rows workers round top many rows calls le are)) is.1) round_is
 
 pub mend_held : (may_answer : ℕ → Bool → Type 0) (row many : ℕ) → 1 ≤ row → row ≤ many
     → HasMendRound (λ works. (plan : List Item) × (tickets : TableId) × AreMenders plan tickets works × AreForRow row works) may_answer (Some halt.Paused) → HoldsBack may_answer many

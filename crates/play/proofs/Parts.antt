@@ -9,7 +9,7 @@ use Rattle.script.specs.declared.rows.Row.{Row}
 use Rattle.play.specs.Runs.{IsAsked, round_in}
 use Rattle.play.specs.Accounts.{Placed, Stands, own_places, Account, dones_in, numbers_in, steps_in, Settles, IsAccount, IsCallOf, RiseFrom, IsBefore, IsOfWorker}
 use Rattle.play.proofs.Noting.{number_replies}
-use Rattle.play.specs.declared.calls.RowCall.{RowCall}
+use Rattle.play.specs.declared.calls.WorkerJob.{WorkerJob}
 use Rattle.transcript.specs.declared.outcome.NumberedOutcome.{NumberedOutcome}
 use Rattle.transcript.specs.declared.outcome.RowOutcome.TheVariants.{Replied}
 use Rattle.play.proofs.Buckets.{each-weaker, each-both}
@@ -23,10 +23,10 @@ pub record IsCallPast (base top : ℕ) (a : Account) : Type 0 where
   pub none : a.found ≡ None
 
 -- what one worker did in a round
-pub record Part (w l workers : ℕ) (rows : List Row) (round top : ℕ) (acts : List Act) (who base low : ℕ) (mine : List RowCall) (turns : List Turn) : Type 0 where
+pub record Part (w l workers : ℕ) (rows : List Row) (round top : ℕ) (acts : List Act) (who base low : ℕ) (mine : List WorkerJob) (turns : List Turn) : Type 0 where
   pub accounts : List Account
-  pub dones : dones_in accounts ≡ number_replies (map (λ (c : RowCall). c.number) mine) (map (λ (t : Turn). t.reply) turns)
-  pub numbers : numbers_in (dones_in accounts) ≡ map (λ (c : RowCall). c.number) mine
+  pub dones : dones_in accounts ≡ number_replies (map (λ (c : WorkerJob). c.job.row) mine) (map (λ (t : Turn). t.reply) turns)
+  pub numbers : numbers_in (dones_in accounts) ≡ map (λ (c : WorkerJob). c.job.row) mine
   pub right : Each (IsAccount w workers rows) accounts
   pub are_calls : Each (IsCallPast base top) accounts
   pub places : own_places (steps_in accounts) ≡ places_of who turns
@@ -35,26 +35,26 @@ pub record Part (w l workers : ℕ) (rows : List Row) (round top : ℕ) (acts : 
   pub order : Pairs IsBefore (steps_in accounts)
 
 module _ (w l workers : ℕ) (rows : List Row) (round top : ℕ) (acts : List Act) (who : ℕ) where
-  pub part : (base low : ℕ) (mine : List RowCall) (turns : List Turn) → map (λ (t : Turn). t.ask) turns ≡ map (λ (c : RowCall). c.ask) mine → AreServed w l acts who low turns
-      → Each (λ (c : RowCall). IsCallOf workers rows round top c × (c.worker ≡ who)) mine → RiseFrom base mine → Part w l workers rows round top acts who base low mine turns
+  pub part : (base low : ℕ) (mine : List WorkerJob) (turns : List Turn) → map (λ (t : Turn). t.ask) turns ≡ map (λ (c : WorkerJob). c.job.ask) mine → AreServed w l acts who low turns
+      → Each (λ (c : WorkerJob). IsCallOf workers rows round top c × (c.worker ≡ who)) mine → RiseFrom base mine → Part w l workers rows round top acts who base low mine turns
   part base low [] [] same served calls rise = record { accounts = []; dones = refl; numbers = refl; right = tt; are_calls = tt; places = refl; stand = tt; are_of = tt; order = tt }
   part base low [] (t ∷ turns) same served calls rise = absurd (cc (same))
   part base low (c ∷ mine) [] same served calls rise = absurd (cc (same))
   part base low (c ∷ mine) (t ∷ turns) same served calls rise =
       let s : IsServed w l acts who t = served.1 in
       let call : IsCallOf workers rows round top c = calls.0.0 in
-      let ask : t.ask ≡ c.ask = cc (same) in
+      let ask : t.ask ≡ c.job.ask = cc (same) in
       let act : act_in who t ≡ act_of who s.deed = ap (act_if who) s.told in
-      let rest = part c.number (t.place + length (act_in who t)) mine turns (cc (same)) served.2 calls.1 rise.1 in
-      let p : Placed = record { before = s.before; step = record { row = c.number; who = who; deed = s.deed } } in
-      let one : Account = record { done = record { number = c.number; outcome = Replied t.reply }; steps = p ∷ []; found = None } in
+      let rest = part c.job.row (t.place + length (act_in who t)) mine turns (cc (same)) served.2 calls.1 rise.1 in
+      let p : Placed = record { before = s.before; step = record { row = c.job.row; who = who; deed = s.deed } } in
+      let one : Account = record { done = record { number = c.job.row; outcome = Replied t.reply }; steps = p ∷ []; found = None } in
       let at : length s.before ≡ t.place = s.place_is in
       let first : low ≤ t.place = served.0 in
-      let low_row : base < c.number = rise.0 in
+      let low_row : base < c.job.row = rise.0 in
       record {
         accounts = one ∷ rest.accounts;
         dones = ap (λ (l : List NumberedOutcome). one.done ∷ l) rest.dones;
-        numbers = ap (λ (l : List ℕ). c.number ∷ l) rest.numbers;
+        numbers = ap (λ (l : List ℕ). c.job.row ∷ l) rest.numbers;
         right = (
           record {
             before = call.before;
@@ -74,19 +74,19 @@ module _ (w l workers : ℕ) (rows : List Row) (round top : ℕ) (acts : List Ac
         );
         are_calls = (
           record { past = low_row; few = call.few; none = refl },
-          each-weaker (IsCallPast c.number top) (IsCallPast base top) (λ a is. let past : c.number < a.done.number = is.past in record { past = omega arith; few = is.few; none = is.none }) rest.accounts rest.are_calls,
+          each-weaker (IsCallPast c.job.row top) (IsCallPast base top) (λ a is. let past : c.job.row < a.done.number = is.past in record { past = omega arith; few = is.few; none = is.none }) rest.accounts rest.are_calls,
         );
         places = (λ i. number_if (at i) (sym act i) ++ rest.places i);
         stand = (record { does = s.does; stands = s.stands }, rest.stand);
         are_of = (
           record { label = refl; row = low_row; few = call.few; place = omega arith; in_round = call.in_round },
-          each-weaker (IsOfWorker rows round top who c.number (t.place + length (act_in who t))) (IsOfWorker rows round top who base low)
-              (λ q is. let a : c.number < q.step.row = is.row in let b : t.place + length (act_in who t) ≤ length q.before = is.place in
+          each-weaker (IsOfWorker rows round top who c.job.row (t.place + length (act_in who t))) (IsOfWorker rows round top who base low)
+              (λ q is. let a : c.job.row < q.step.row = is.row in let b : t.place + length (act_in who t) ≤ length q.before = is.place in
               record { label = is.label; row = omega arith; few = is.few; place = omega arith; in_round = is.in_round }) (steps_in rest.accounts) rest.are_of,
         );
         order = (
-          each-weaker (IsOfWorker rows round top who c.number (t.place + length (act_in who t))) (IsBefore p)
-              (λ q is. let a : c.number < q.step.row = is.row in let b : t.place + length (act_in who t) ≤ length q.before = is.place in
+          each-weaker (IsOfWorker rows round top who c.job.row (t.place + length (act_in who t))) (IsBefore p)
+              (λ q is. let a : c.job.row < q.step.row = is.row in let b : t.place + length (act_in who t) ≤ length q.before = is.place in
               let e : length (act_in who t) ≡ length (act_of who s.deed) = ap length act in (omega arith, omega arith)) (steps_in rest.accounts) rest.are_of,
           rest.order,
         );

@@ -20,7 +20,7 @@ use Rattle.rounds.specs.declared.pool.Pool.{Pool}
 use Rattle.play.specs.Runs.{round_in}
 use Rattle.play.specs.Lists.{Each, Pairs}
 use Rattle.play.specs.Accounts.{Placed, act_at, Stands, own_places, Account, dones_in, numbers_in, steps_in, earlier, HasDone, IsAccount, IsCallOf, IsMendOf, RiseFrom, IsGood, IsLater, IsNext, IsDone, IsRound, IsPlayed}
-use Rattle.play.specs.declared.calls.RowCall.{RowCall}
+use Rattle.play.specs.declared.calls.WorkerJob.{WorkerJob}
 use Rattle.transcript.specs.declared.outcome.NumberedOutcome.{NumberedOutcome}
 use Rattle.play.proofs.Buckets.{each-append, each-across, each-both, each-weaker, pairs-append}
 
@@ -113,20 +113,20 @@ abbrev pub AreTold : ℕ → List ℕ → List ℕ → Type 0
 AreTold top told waiting = (k : ℕ) → times k told + times k waiting ≡ once_later (top + 1) k
 
 -- ---- the calls that wait for the round's end
-pub rise_more : (base : ℕ) (calls : List RowCall) (c : RowCall) → RiseFrom base calls → base < c.number → Each (λ (d : RowCall). d.number < c.number) calls → RiseFrom base (calls ++ c ∷ [])
+pub rise_more : (base : ℕ) (calls : List WorkerJob) (c : WorkerJob) → RiseFrom base calls → base < c.job.row → Each (λ (d : WorkerJob). d.job.row < c.job.row) calls → RiseFrom base (calls ++ c ∷ [])
 rise_more base [] c rise less all = (less, tt)
-rise_more base (d ∷ calls) c rise less all = (rise.0, rise_more d.number calls c rise.1 all.0 all.1)
+rise_more base (d ∷ calls) c rise less all = (rise.0, rise_more d.job.row calls c rise.1 all.0 all.1)
 
 -- the calls of a round, up to a later row
-pub calls_longer : (workers : ℕ) (rows : List Row) (round top later : ℕ) (calls : List RowCall) → top ≤ later → Each (IsCallOf workers rows round top) calls → Each (IsCallOf workers rows round later) calls
+pub calls_longer : (workers : ℕ) (rows : List Row) (round top later : ℕ) (calls : List WorkerJob) → top ≤ later → Each (IsCallOf workers rows round top) calls → Each (IsCallOf workers rows round later) calls
 calls_longer workers rows round top later calls le are = each-weaker (IsCallOf workers rows round top) (IsCallOf workers rows round later)
-    (λ c is. let few : c.number ≤ top = is.few in record { before = is.before; row = is.row; number = is.number; there = is.there; worker = is.worker; worker_is = is.worker_is; task = is.task; few = omega arith; in_round = is.in_round }) calls are
+    (λ c is. let few : c.job.row ≤ top = is.few in record { before = is.before; row = is.row; number = is.number; there = is.there; worker = is.worker; worker_is = is.worker_is; task = is.task; few = omega arith; in_round = is.in_round }) calls are
 
-abbrev pub numbers_of : List RowCall → List ℕ
-numbers_of calls = map (λ (c : RowCall). c.number) calls
+abbrev pub numbers_of : List WorkerJob → List ℕ
+numbers_of calls = map (λ (c : WorkerJob). c.job.row) calls
 
 -- the rows up to some row are done, and the calls of the rows behind it, up to this one, wait
-pub record Waits (w l workers : ℕ) (rows : List Row) (round number : ℕ) (acts : List Act) (did : List ℕ) (done : List NumberedOutcome) (calls : List RowCall) : Type 0 where
+pub record Waits (w l workers : ℕ) (rows : List Row) (round number : ℕ) (acts : List Act) (did : List ℕ) (done : List NumberedOutcome) (calls : List WorkerJob) : Type 0 where
   pub base : ℕ
   pub le : base ≤ number
   pub played : IsPlayed w l workers rows base acts did done
@@ -135,12 +135,12 @@ pub record Waits (w l workers : ℕ) (rows : List Row) (round number : ℕ) (act
   pub once : AreTold number (numbers_in done) (numbers_of calls)
 
 -- the property of a round of calls that were made
-abbrev pub MakesRound : ℕ → ℕ → ℕ → List RowCall → List Act → List Act → List ℕ → List ℕ → List NumberedOutcome → List NumberedOutcome → Type 0
+abbrev pub MakesRound : ℕ → ℕ → ℕ → List WorkerJob → List Act → List Act → List ℕ → List ℕ → List NumberedOutcome → List NumberedOutcome → Type 0
 MakesRound w l workers calls before acts old_did new_did old new =
     (rows : List Row) (round top base : ℕ) → Each (IsCallOf workers rows round top) calls → RiseFrom base calls → IsRound w l workers rows round top base (numbers_of calls) before acts old_did new_did old new
 
 -- they are made
-pub made_all : (w l workers : ℕ) (rows : List Row) (round number : ℕ) (before acts : List Act) (old_did new_did : List ℕ) (old new : List NumberedOutcome) (calls : List RowCall) → Waits w l workers rows round number before old_did old calls
+pub made_all : (w l workers : ℕ) (rows : List Row) (round number : ℕ) (before acts : List Act) (old_did new_did : List ℕ) (old new : List NumberedOutcome) (calls : List WorkerJob) → Waits w l workers rows round number before old_did old calls
     → IsPrefix before acts → MakesRound w l workers calls before acts old_did new_did old new → IsPlayed w l workers rows number acts new_did new × AreTold number (numbers_in new) []
 made_all w l workers rows round number before acts old_did new_did old new calls waits more ran =
     let r = ran rows round number waits.base waits.are waits.rise in (
@@ -153,7 +153,7 @@ made_all w l workers rows round number before acts old_did new_did old new calls
     )
 
 -- the same, by a pool of this many workers
-pub made_last : (w l workers : ℕ) (rows : List Row) (round number : ℕ) (before acts : List Act) (old_did new_did : List ℕ) (old new : List NumberedOutcome) (pool : ℕ) (calls : List RowCall)
+pub made_last : (w l workers : ℕ) (rows : List Row) (round number : ℕ) (before acts : List Act) (old_did new_did : List ℕ) (old new : List NumberedOutcome) (pool : ℕ) (calls : List WorkerJob)
     → Waits w l workers rows round number before old_did old calls → IsPrefix before acts → pool ≡ workers → MakesRound w l pool calls before acts old_did new_did old new
     → IsPlayed w l workers rows number acts new_did new × AreTold number (numbers_in new) []
 made_last w l workers rows round number before acts old_did new_did old new pool calls waits more same ran =
@@ -165,8 +165,8 @@ pub waits_none : (w l workers : ℕ) (rows : List Row) (round base number : ℕ)
 waits_none w l workers rows round base number acts did done le played once = record { base = base; le = le; played = played; are = tt; rise = tt; once = once }
 
 -- one more waits
-pub waits_more : (w l workers : ℕ) (rows : List Row) (round number : ℕ) (acts : List Act) (did : List ℕ) (done : List NumberedOutcome) (calls : List RowCall) (c : RowCall) → Waits w l workers rows round number acts did done calls
-    → IsCallOf workers rows round (number + 1) c → c.number ≡ number + 1 → Waits w l workers rows round (number + 1) acts did done (calls ++ c ∷ [])
+pub waits_more : (w l workers : ℕ) (rows : List Row) (round number : ℕ) (acts : List Act) (did : List ℕ) (done : List NumberedOutcome) (calls : List WorkerJob) (c : WorkerJob) → Waits w l workers rows round number acts did done calls
+    → IsCallOf workers rows round (number + 1) c → c.job.row ≡ number + 1 → Waits w l workers rows round (number + 1) acts did done (calls ++ c ∷ [])
 waits_more w l workers rows round number acts did done calls c waits is at =
     let le : waits.base ≤ number = waits.le in
     record {
@@ -174,10 +174,10 @@ waits_more w l workers rows round number acts did done calls c waits is at =
       le = omega arith;
       played = waits.played;
       are = each-append (IsCallOf workers rows round (number + 1)) calls (c ∷ []) (calls_longer workers rows round number (number + 1) calls (omega arith) waits.are) (is, tt);
-      rise = rise_more waits.base calls c waits.rise (omega arith) (each-weaker (IsCallOf workers rows round number) (λ (d : RowCall). d.number < c.number) (λ d d_is. let few : d.number ≤ number = d_is.few in omega arith) calls waits.are);
+      rise = rise_more waits.base calls c waits.rise (omega arith) (each-weaker (IsCallOf workers rows round number) (λ (d : WorkerJob). d.job.row < c.job.row) (λ d d_is. let few : d.job.row ≤ number = d_is.few in omega arith) calls waits.are);
       once = λ k.
-          let one = ap (times k) (map-append (λ (d : RowCall). d.number) calls (c ∷ [])) ∙ times-append k (numbers_of calls) (c.number ∷ []) ∙ ap (λ n. times k (numbers_of calls) + n) (times-one k c.number) in
-          let here : cond {A = ℕ} (c.number == k) 1 0 ≡ cond (number + 1 == k) 1 0 = ap (λ n. cond {A = ℕ} (n == k) 1 0) at in
+          let one = ap (times k) (map-append (λ (d : WorkerJob). d.job.row) calls (c ∷ [])) ∙ times-append k (numbers_of calls) (c.job.row ∷ []) ∙ ap (λ n. times k (numbers_of calls) + n) (times-one k c.job.row) in
+          let here : cond {A = ℕ} (c.job.row == k) 1 0 ≡ cond (number + 1 == k) 1 0 = ap (λ n. cond {A = ℕ} (n == k) 1 0) at in
           let more = once_later-suc (number + 1) k (omega arith) in
           let all = waits.once k in
           omega (arith, one, here, more, all);
@@ -207,7 +207,7 @@ round_there done rest row rows number all is =
     at (x ∷ done) = at done
 
 -- what a row finds, once the calls of an earlier round are made
-pub record Finds (store : Which) (workers : ℕ) (rows : List Row) (row : Row) (number : ℕ) (round : ℕ) (pool : Pool) (done : List NumberedOutcome) (calls : List RowCall) : Type 0 where
+pub record Finds (store : Which) (workers : ℕ) (rows : List Row) (row : Row) (number : ℕ) (round : ℕ) (pool : Pool) (done : List NumberedOutcome) (calls : List WorkerJob) : Type 0 where
   pub ready : IsFresh store pool
   pub many : length pool.passes.items ≡ workers
   pub waits : Waits store.width store.limit workers rows row.round number pool.first.acts pool.first.did done calls
@@ -215,47 +215,47 @@ pub record Finds (store : Which) (workers : ℕ) (rows : List Row) (row : Row) (
   pub mends : row.task ≡ Mend → calls ≡ []
 
 -- the calls of the round before are made
-pub finds_made : (store : Which) (workers : ℕ) (rows : List Row) (row : Row) (number round current : ℕ) (old pool joined : Pool) (before done joined_done : List NumberedOutcome) (calls ready now : List RowCall)
+pub finds_made : (store : Which) (workers : ℕ) (rows : List Row) (row : Row) (number round current : ℕ) (old pool joined : Pool) (before done joined_done : List NumberedOutcome) (calls ready now : List WorkerJob)
     → Waits store.width store.limit workers rows round number old.first.acts old.first.did before calls → ready ≡ calls → IsFresh store pool → length old.passes.items ≡ workers
     → length pool.passes.items ≡ length old.passes.items → IsPrefix old.first.acts pool.first.acts
     → MakesRound store.width store.limit (length old.passes.items) ready old.first.acts pool.first.acts old.first.did pool.first.did before done
     → joined ≡ pool → joined_done ≡ done → now ≡ [] → current ≡ row.round → Finds store workers rows row number current joined joined_done now
 finds_made store workers rows row number round current old pool joined before done joined_done calls ready now waits same is_ready old_many new_many more ran pool_is done_is none current_is =
     let made = made_all store.width store.limit workers rows round number old.first.acts pool.first.acts old.first.did pool.first.did before done calls waits more
-    (subst (λ (u : ℕ × List RowCall). MakesRound store.width store.limit u.0 u.1 old.first.acts pool.first.acts old.first.did pool.first.did before done) (λ i. (old_many i, same i)) ran) in
+    (subst (λ (u : ℕ × List WorkerJob). MakesRound store.width store.limit u.0 u.1 old.first.acts pool.first.acts old.first.did pool.first.did before done) (λ i. (old_many i, same i)) ran) in
     record {
       ready = subst (IsFresh store) (sym pool_is) is_ready;
       many = ap (λ (c : Pool). length c.passes.items) pool_is ∙ new_many ∙ old_many;
-      waits = subst (λ (u : Pool × (List NumberedOutcome × List RowCall)). Waits store.width store.limit workers rows row.round number u.0.first.acts u.0.first.did u.1.0 u.1.1) (λ i. (sym pool_is i, (sym done_is i, sym none i)))
+      waits = subst (λ (u : Pool × (List NumberedOutcome × List WorkerJob)). Waits store.width store.limit workers rows row.round number u.0.first.acts u.0.first.did u.1.0 u.1.1) (λ i. (sym pool_is i, (sym done_is i, sym none i)))
           (waits_none store.width store.limit workers rows row.round number number pool.first.acts pool.first.did done (omega arith) made.0 made.1);
       current = current_is;
       mends = λ task. none;
     }
 
 -- the round goes on
-pub finds_same : (store : Which) (workers : ℕ) (rows : List Row) (row : Row) (number round current : ℕ) (pool joined : Pool) (done joined_done : List NumberedOutcome) (calls now : List RowCall)
+pub finds_same : (store : Which) (workers : ℕ) (rows : List Row) (row : Row) (number round current : ℕ) (pool joined : Pool) (done joined_done : List NumberedOutcome) (calls now : List WorkerJob)
     → Waits store.width store.limit workers rows round number pool.first.acts pool.first.did done calls → IsFresh store pool → length pool.passes.items ≡ workers → joined ≡ pool → joined_done ≡ done → now ≡ calls
     → current ≡ round → round ≡ row.round → (row.task ≡ Mend → ⊥) → Finds store workers rows row number current joined joined_done now
 finds_same store workers rows row number round current pool joined done joined_done calls now waits is_ready many pool_is done_is calls_is current_is same no_mend = record {
   ready = subst (IsFresh store) (sym pool_is) is_ready;
   many = ap (λ (c : Pool). length c.passes.items) pool_is ∙ many;
-  waits = subst (λ (u : Pool × (List NumberedOutcome × (List RowCall × ℕ))). Waits store.width store.limit workers rows u.1.1.1 number u.0.first.acts u.0.first.did u.1.0 u.1.1.0) (λ i. (sym pool_is i, (sym done_is i, (sym calls_is i, same i)))) waits;
+  waits = subst (λ (u : Pool × (List NumberedOutcome × (List WorkerJob × ℕ))). Waits store.width store.limit workers rows u.1.1.1 number u.0.first.acts u.0.first.did u.1.0 u.1.1.0) (λ i. (sym pool_is i, (sym done_is i, (sym calls_is i, same i)))) waits;
   current = current_is ∙ same;
   mends = λ task. absurd (no_mend task);
 }
 
 -- a call's row
-pub makes_call : (store : Which) (workers : ℕ) (rows done_rows rest : List Row) (row : Row) (ask : Ask) (number next round : ℕ) (pool : Pool) (done : List NumberedOutcome) (calls pushed : List RowCall)
+pub makes_call : (store : Which) (workers : ℕ) (rows done_rows rest : List Row) (row : Row) (ask : Ask) (number next round : ℕ) (pool : Pool) (done : List NumberedOutcome) (calls pushed : List WorkerJob)
     → Finds store workers rows row number round pool done calls → number ≡ length done_rows → next ≡ number + 1 → rows ≡ done_rows ++ row ∷ rest → row.task ≡ Make ask → HasWorker workers row
-    → pushed ≡ calls ++ record { number = next; worker = row.worker; ask = ask } ∷ [] → Waits store.width store.limit workers rows round next pool.first.acts pool.first.did done pushed
+    → pushed ≡ calls ++ record { worker = row.worker; job = record { row = next; ask = ask } } ∷ [] → Waits store.width store.limit workers rows round next pool.first.acts pool.first.did done pushed
 makes_call store workers rows done_rows rest row ask number next round pool done calls pushed f at next_is all task one is =
-    let c : RowCall = record { number = next; worker = row.worker; ask = ask } in
+    let c : WorkerJob = record { worker = row.worker; job = record { row = next; ask = ask } } in
     let here : round_in rows next ≡ row.round = round_there done_rows rest row rows next all (omega arith) in
     let by_one = subst (IsWorkerOf workers row.worker) task one in
     let call : IsCallOf workers rows row.round (number + 1) c =
     record { before = length done_rows; row = row; number = omega arith; there = row_there done_rows rest row rows all; worker = refl; worker_is = by_one; task = task; few = omega arith; in_round = here } in
     let more = waits_more store.width store.limit workers rows row.round number pool.first.acts pool.first.did done calls c f.waits call next_is in
-    subst (λ (u : ℕ × (ℕ × List RowCall)). Waits store.width store.limit workers rows u.0 u.1.0 pool.first.acts pool.first.did done u.1.1) (λ i. (sym f.current i, (sym next_is i, sym is i))) more
+    subst (λ (u : ℕ × (ℕ × List WorkerJob)). Waits store.width store.limit workers rows u.0 u.1.0 pool.first.acts pool.first.did done u.1.1) (λ i. (sym f.current i, (sym next_is i, sym is i))) more
 
 -- the property of a mend
 abbrev pub MakesMend : ℕ → ℕ → ℕ → ℕ → List Act → List Act → List ℕ → List ℕ → List NumberedOutcome → List NumberedOutcome → Type 0
@@ -263,7 +263,7 @@ MakesMend w l workers number before acts old_did new_did old new =
     (rows : List Row) (round top base : ℕ) → IsMendOf rows round top base number → IsRound w l workers rows round top base (number ∷ []) before acts old_did new_did old new
 
 -- a mend's row
-pub makes_mend : (store : Which) (workers : ℕ) (rows done_rows rest : List Row) (row : Row) (number next round : ℕ) (pool mended : Pool) (done new : List NumberedOutcome) (calls : List RowCall)
+pub makes_mend : (store : Which) (workers : ℕ) (rows done_rows rest : List Row) (row : Row) (number next round : ℕ) (pool mended : Pool) (done new : List NumberedOutcome) (calls : List WorkerJob)
     → Finds store workers rows row number round pool done calls → number ≡ length done_rows → next ≡ number + 1 → rows ≡ done_rows ++ row ∷ rest → row.task ≡ Mend → IsPrefix pool.first.acts mended.first.acts
     → MakesMend store.width store.limit (length pool.passes.items) next pool.first.acts mended.first.acts pool.first.did mended.first.did done new
     → Waits store.width store.limit workers rows round next mended.first.acts mended.first.did new calls
@@ -280,7 +280,7 @@ makes_mend store workers rows done_rows rest row number next round pool mended d
     let both = ap (times k) (ap numbers_in r.dones ∙ map-append (λ (d : NumberedOutcome). d.number) done (dones_in r.accounts)) ∙ times-append k (numbers_in done) (numbers_in (dones_in r.accounts)) in
     let mine = r.once k ∙ times-one k next in
     let before = w.once k in
-    let no_calls : times k (numbers_of calls) ≡ 0 = ap (λ (l : List RowCall). times k (numbers_of l)) none in
+    let no_calls : times k (numbers_of calls) ≡ 0 = ap (λ (l : List WorkerJob). times k (numbers_of l)) none in
     let last = once_later-suc next k (omega arith) in
     let same : once_later next k ≡ once_later (number + 1) k = ap (λ n. once_later n k) next_is in
     omega (arith, both, mine, before, no_calls, last, same) in

@@ -14,7 +14,7 @@ use Rattle.play.specs.Lists.{Each, Pairs}
 use Rattle.play.specs.Runs.{IsAsked, MayPrecede, IsMend, round_in}
 use Rattle.transcript.specs.Lines.{IsLineFor, line_text}
 use Rattle.play.specs.Printed.{deed_text, mend_text}
-use Rattle.play.specs.declared.calls.RowCall.{RowCall}
+use Rattle.play.specs.declared.calls.WorkerJob.{WorkerJob}
 use Rattle.transcript.specs.declared.outcome.NumberedOutcome.{NumberedOutcome}
 use Rattle.transcript.specs.declared.outcome.RowOutcome.{RowOutcome}
 use Rattle.transcript.specs.declared.line.Line.{Line}
@@ -93,21 +93,21 @@ pub record HasDone (w limit : ℕ) (acts : List Act) (steps : List Placed) : Typ
 -- ---- a round
 -- the call is that of a row of the script, by one of this many workers, of this round, and no later
 -- than `top`
-pub record IsCallOf (workers : ℕ) (rows : List Row) (round top : ℕ) (call : RowCall) : Type 0 where
+pub record IsCallOf (workers : ℕ) (rows : List Row) (round top : ℕ) (call : WorkerJob) : Type 0 where
   pub before : ℕ
   pub row : Row
-  pub number : call.number ≡ before + 1
+  pub number : call.job.row ≡ before + 1
   pub there : slice_get rows before ≡ Some row
   pub worker : row.worker ≡ call.worker
   pub worker_is : (1 ≤ call.worker) × (call.worker ≤ workers)
-  pub task : row.task ≡ Make call.ask
-  pub few : call.number ≤ top
-  pub in_round : round_in rows call.number ≡ round
+  pub task : row.task ≡ Make call.job.ask
+  pub few : call.job.row ≤ top
+  pub in_round : round_in rows call.job.row ≡ round
 
 -- the calls' numbers rise, and all are above this one
-abbrev pub RiseFrom : ℕ → List RowCall → Type 0
+abbrev pub RiseFrom : ℕ → List WorkerJob → Type 0
 RiseFrom base [] = Unit {0}
-RiseFrom base (c ∷ calls) = (base < c.number) × RiseFrom c.number calls
+RiseFrom base (c ∷ calls) = (base < c.job.row) × RiseFrom c.job.row calls
 
 -- one is done before the other begins, and its row is no later
 abbrev pub IsBefore : Placed → Placed → Type 0
