@@ -1,4 +1,7 @@
 //! Repair of one fragment, and a mend of the others.
+
+// Each example stands alone, so that a reader can copy it: its set-up repeats that of others.
+
 ghost use Rattle.std.specs.Prelude.{◌≡◌};
 ghost use Rattle.shared.specs.Passes.{Stays};
 

@@ -1,4 +1,7 @@
 //! Reads without a copy, and without the lock.
+
+// Each example stands alone, so that a reader can copy it: its set-up repeats that of others.
+
 ghost use Rattle.std.specs.Prelude.{◌≡◌};
 ghost use Rattle.shared.specs.Passes.{Stays};
 

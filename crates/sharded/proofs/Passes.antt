@@ -30,11 +30,6 @@ module _ {X : Type 0} where
   taken_next g (y ∷ xs) zero x e = let same : y ≡ x = cc in ap (λ z. g z ∷ []) (sym same)
   taken_next g (y ∷ xs) (suc n) x e = ap (λ l. g y ∷ l) (taken_next g xs n x e)
 
-  pub length-mapped : (f : X → X) (n : ℕ) (xs : List X) → length (mapped f n xs) ≡ length xs
-  length-mapped f zero xs = refl
-  length-mapped f (suc n) [] = refl
-  length-mapped f (suc n) (x ∷ xs) = ap suc (length-mapped f n xs)
-
 pub room_next : (vs : List Shows) (n : ℕ) (v : Shows) → slice_get vs n ≡ Some v → 1 ≤ v.room → HaveRoom (take n vs) → HaveRoom (take (suc n) vs)
 room_next [] n v e l have = absurd (cc)
 room_next (x ∷ vs) zero v e l have = let same : x ≡ v = cc in (subst (λ (y : Shows). 1 ≤ y.room) (sym same) l, tt)
@@ -305,9 +300,6 @@ split_stopped who n vs ws given later v w s same less = (
   less ∙ s.given_is,
   s.room,
 )
-
-pub same_own : {X : Type 0} (xs : List X) (n : ℕ) (x y : X) → n < length xs → x ≡ get_or xs n x → y ≡ get_or xs n y → x ≡ y
-same_own xs n x y l e f = same_some x y (slice_get xs n) (slice_get_read xs (length xs) n x refl l e) (slice_get_read xs (length xs) n y refl l f)
 
 pub on_err : {A E : Type 0} (r : Result A E) (P : Type 0) → P → OnErr r P
 on_err (Ok a) P p = tt

@@ -1,5 +1,9 @@
 //! The calls that wait, each at the shard of its name. Each answers as the call of `Store` with its
 //! name does there, and leaves the passes to all other shards as they were.
+
+// Contracts repeat, since a caller sees only that of the call that it makes. Bodies repeat, since a
+// function that lent the shard's pass could not show the invariant of all passes at its return.
+
 ghost use Rattle.std.specs.Prelude.{◌≡◌, ◌⊎◌, ◌↔◌, ◌<◌, length, IfOk, IfErr};
 ghost use Rattle.sealed.specs.Layout.{stripe_count};
 ghost use Rattle.history.specs.Step.{put as put_of, read as read_of, lose as lose_of};
@@ -35,10 +39,7 @@ impl ShardedStore {
             ↔ (4096 < stripe_count Code.Wide (width_for self.now name) (length bytes)) }
         ensures faults { IfErr result (λ e. IsCallFault e ⊎ (e ≡ Fault.TooLong)) }
     {
-        let shard = self.find_shard(&name);
-        let store = &self.shards[shard];
-        let own = &mut pass.passes[shard];
-        store.put(rt, alloc, own, name, bytes)
+        self.put_as(rt, alloc, pass, name, bytes, Code::Wide)
     }
 
     /// Stores a blob under a name in this code, as `Store::put_as` does.

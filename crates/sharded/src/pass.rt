@@ -79,10 +79,11 @@ fn split_all(
         if given.reserve(1).is_err() {
             return Err(Fault::NoMemory);
         }
-        if passes[shard].room() <= 1 {
+        let own = &mut passes[shard];
+        if own.room() <= 1 {
             return Err(Fault::NoPass);
         }
-        let pass = passes[shard].split(&stores[shard], who)?;
+        let pass = own.split(&stores[shard], who)?;
         given.push_reserved(pass);
     }
     Ok(())

@@ -1,5 +1,8 @@
 //! The calls that do not wait, each at the shard of its name: `Busy` if another caller is inside
 //! that shard. Each answers as the call of `Store` with its name does there.
+
+// Contracts and bodies repeat for the reasons that `calls` gives.
+
 ghost use Rattle.std.specs.Prelude.{◌≡◌, ◌≢◌, ◌⊎◌, ◌↔◌, ◌<◌, length, IfOk, IfErr};
 ghost use Rattle.sealed.specs.Layout.{stripe_count};
 ghost use Rattle.history.specs.Step.{put as put_of, read as read_of, lose as lose_of};
@@ -37,10 +40,7 @@ impl ShardedStore {
             → IsBusyAt pass.old (put_of name Code.Wide bytes) pass.new }
         ensures lone { AreLone pass.old → result ≢ Err Fault.Busy }
     {
-        let shard = self.find_shard(&name);
-        let store = &self.shards[shard];
-        let own = &mut pass.passes[shard];
-        store.try_put(alloc, own, name, bytes)
+        self.try_put_as(alloc, pass, name, bytes, Code::Wide)
     }
 
     /// Stores a blob under a name in this code, as `Store::try_put_as` does.

@@ -26,8 +26,11 @@ use Rattle.requests.specs.declared.inspection.Inspection.TheVariants.{Done, Refu
 use Rattle.shared.specs.Passes.{Which, Shows, seen_of, width_of, trimmed_of, shows}
 use Rattle.shared.specs.Deeds.{deed_of, act_if, Takes}
 use Rattle.shared.specs.Calls.{Called}
+use Rattle.shared.specs.Requests.{CanAsk}
+use Rattle.requests.specs.declared.request.Request.{Request}
+use Rattle.requests.specs.Requests.{operation_of}
 use Rattle.requests.specs.Inspections.{FoundIn}
-use Rattle.shared.specs.Mends.{IsKnown, InspectionGives}
+use Rattle.shared.specs.Mends.{IsKnown, CanMend, InspectionGives, IsInstallFrom}
 use Rattle.requests.proofs.Between.{GoesOn}
 use Rattle.shared.proofs.Steps.{event, Stepped, told_history, takes, IsFullIf, call_goes_on, same_goes_on, room_seen, called}
 
@@ -94,6 +97,9 @@ known_fragment h w n s j f bytes k m is = record {
   is = is k.blob.bytes k.blob.lost k.represents.stands ∙ (λ i. fragment (k.represents.code i) (k.represents.width i) k.blob.bytes j f);
 }
 
+pub can_install : (v : Shows) (n : List ℕ) (s : Sealed) (j f : ℕ) (request : Request) → IsKnown v.seen v.store.width n s → IsRebuildable s j f → IsInstallFrom s n j f request → CanAsk v request
+can_install v n s j f request known can from = subst (CanAsk v) (sym from.is) (known_fragment v.seen v.store.width n s j f from.bytes known can from.rebuilt)
+
 -- an inspection, and then a deed
 pub takes_later : (u v w : Shows) (deed : Option Deed) → Takes u None v → Takes v deed w → Takes u deed w
 takes_later u v w deed first then =
@@ -116,3 +122,7 @@ looks_then_called u v w n j f r first then = record {
   no_memory = then.no_memory;
   outside = λ long. absurd (subst (λ (s : Result Answer Fault). IfSome (deed_of (repair n j f) s) (Does v.store.width v.store.limit (standing_of (v.acts ++ then.takes.others)))) long then.takes.does);
 }
+
+-- an inspection, and then the install
+pub looks_then_installed : (u v w : Shows) (n : List ℕ) (s : Sealed) (j f : ℕ) (request : Request) (r : Result Answer Fault) → CanMend u n j f s v → IsInstallFrom s n j f request → Called v (operation_of request) r w → Called u (repair n j f) r w
+looks_then_installed u v w n s j f request r first from then = looks_then_called u v w n j f r first.takes (subst (λ (q : Request). Called v (operation_of q) r w) from.is then)

@@ -1,13 +1,16 @@
 -- What the inspection before a repair finds.
 use Rattle.std.specs.Prelude.{◌≡◌, ◌⊎◌, ℕ, ◌+◌, List, None, Ok, Err}
+use Rattle.std.specs.Global.{Global}
 use Rattle.sealed.specs.declared.value.Sealed.{Sealed}
-use Rattle.sealed.specs.Rebuilding.{IsRebuildable}
+use Rattle.sealed.specs.Rebuilding.{IsRebuildable, IsFragmentOf}
 use Rattle.history.specs.State.{Blob}
 use Rattle.history.specs.Step.{repair}
 use Rattle.history.specs.History.{History, HasPut}
 use Rattle.book.specs.Tells.{Represents}
 use Rattle.requests.specs.declared.inspection.Inspection.{Inspection}
 use Rattle.requests.specs.declared.inspection.Inspection.TheVariants.{Done, Refused, Rebuildable}
+use Rattle.requests.specs.declared.request.Request.{Request}
+use Rattle.requests.specs.declared.request.Request.TheVariants.{Install}
 use Rattle.shared.specs.Passes.{Shows, FindsBusy}
 use Rattle.shared.specs.Deeds.{Takes}
 use Rattle.shared.specs.Calls.{Called, HasJournalRoom}
@@ -37,3 +40,10 @@ abbrev pub InspectionGives : Shows → List ℕ → ℕ → ℕ → Inspection �
 InspectionGives v n j f (Done a) w = Called v (repair n j f) (Ok a) w
 InspectionGives v n j f (Refused e) w = Called v (repair n j f) (Err e) w
 InspectionGives v n j f (Rebuildable s) w = CanMend v n j f s.value w
+
+-- the request installs a fragment that was rebuilt from this value, under its version
+pub record IsInstallFrom (s : Sealed) (n : List ℕ) (j f : ℕ) (request : Request) : Type 0 where
+  pub alloc : Global
+  pub bytes : List ℕ
+  pub is : request ≡ Install alloc n s.version j f bytes
+  pub rebuilt : IsFragmentOf s j f bytes

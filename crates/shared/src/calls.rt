@@ -1,5 +1,8 @@
 //! The calls that wait until no thread is in the critical section. After a fault the call is in no
 //! history, and the pass may have seen more.
+
+// Contracts repeat, here and in `mending`, since a caller sees only that of the call that it makes.
+
 ghost use Rattle.std.specs.Prelude.{◌≡◌, ◌⊎◌, ◌↔◌, ◌<◌, length, IfOk, IfErr};
 ghost use Rattle.sealed.specs.Layout.{stripe_count};
 ghost use Rattle.history.specs.Step.{put as put_of, read as read_of, lose as lose_of};

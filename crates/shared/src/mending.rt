@@ -1,17 +1,19 @@
 //! Repairs. Fragments are rebuilt outside the critical section, while other threads may enter it.
-ghost use Rattle.std.specs.Prelude.{◌≡◌, ◌≢◌, ◌⊎◌, ◌+◌, IfErr};
+ghost use Rattle.std.specs.Prelude.{◌≡◌, ◌≢◌, ◌⊎◌, ◌+◌, IfOk, IfErr};
+ghost use Rattle.sealed.specs.Rebuilding.{IsRebuildable};
 ghost use Rattle.history.specs.Step.{repair as repair_of};
 ghost use Rattle.book.specs.Tells.{IsCallFault};
 ghost use Rattle.shared.specs.Calls.{Called};
 ghost use Rattle.shared.specs.Passes.{FindsBusy, VisitsOnce};
 ghost use Rattle.requests.specs.Inspections.{IfRefused};
-ghost use Rattle.shared.specs.Mends.{InspectionGives, FoundBusy};
+ghost use Rattle.shared.specs.Mends.{InspectionGives, FoundBusy, IsInstallFrom};
 
 use crate::{Pass, Store};
 use book::{Answer, Fault, Name};
 use requests::{Inspection, Request, inspect};
+use sealed::Sealed;
 use std::alloc::Global;
-use std::sync::Wait;
+use std::sync::{Arc, Wait};
 
 impl Store {
     /// Rebuilds a lost fragment of a name's blob. If the fragment can be rebuilt, it enters the
@@ -42,24 +44,10 @@ impl Store {
             Inspection::Refused(fault) => return Err(fault),
             Inspection::Rebuildable(sealed) => sealed,
         };
-        let Ok(bytes) = sealed.rebuild_fragment(alloc, stripe, fragment) else {
+        let Ok(install) = rebuild(alloc, sealed, name, stripe, fragment) else {
             return Err(Fault::NoMemory);
         };
-        let version = sealed.version;
-        // So the install changes the value in place, where no grant holds it.
-        drop(sealed);
-        self.make(
-            rt,
-            pass,
-            Request::Install {
-                alloc,
-                name,
-                version,
-                stripe,
-                fragment,
-                bytes,
-            },
-        )
+        self.make(rt, pass, install)
     }
 
     /// As `repair`, if no other thread is in the critical section at either time. Else `Busy`,
@@ -86,23 +74,10 @@ impl Store {
             Inspection::Refused(fault) => return Err(fault),
             Inspection::Rebuildable(sealed) => sealed,
         };
-        let Ok(bytes) = sealed.rebuild_fragment(alloc, stripe, fragment) else {
+        let Ok(install) = rebuild(alloc, sealed, name, stripe, fragment) else {
             return Err(Fault::NoMemory);
         };
-        let version = sealed.version;
-        // So the install changes the value in place, where no grant holds it.
-        drop(sealed);
-        self.try_make(
-            pass,
-            Request::Install {
-                alloc,
-                name,
-                version,
-                stripe,
-                fragment,
-                bytes,
-            },
-        )
+        self.try_make(pass, install)
     }
 
     /// Enters the critical section, inspects and leaves.
@@ -148,4 +123,30 @@ impl Store {
         self.gate.leave(&mut pass.seat, inside);
         inspection
     }
+}
+
+/// Rebuilds a lost fragment from a value, and gives the request to install it. It drops the value,
+/// so that the install changes the book's in place if no grant holds it.
+///
+/// `NoMemory` if out of memory.
+fn rebuild(
+    alloc: Global,
+    sealed: Arc<Sealed>,
+    name: Name,
+    stripe: u64,
+    fragment: u64,
+) -> Result<Request, Fault>
+    requires { IsRebuildable sealed.value stripe fragment }
+    ensures ok { IfOk result (IsInstallFrom sealed.value name stripe fragment) }
+    ensures err { IfErr result (λ e. e ≡ Fault.NoMemory) }
+{
+    let bytes = sealed.rebuild_fragment(alloc, stripe, fragment)?;
+    Ok(Request::Install {
+        alloc,
+        name,
+        version: sealed.version,
+        stripe,
+        fragment,
+        bytes,
+    })
 }

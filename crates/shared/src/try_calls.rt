@@ -3,6 +3,9 @@
 //! since the pass was, or is there now. Every other answer is given from the critical section,
 //! except if a put could not be sealed. After another fault the call is in no history, and the pass
 //! may have seen more.
+
+// Contracts repeat, since a caller sees only that of the call that it makes.
+
 ghost use Rattle.std.specs.Prelude.{◌≡◌, ◌≢◌, ◌⊎◌, ◌↔◌, ◌+◌, ◌<◌, length, IfOk, IfErr};
 ghost use Rattle.sealed.specs.Layout.{stripe_count};
 ghost use Rattle.history.specs.Step.{put as put_of, read as read_of, lose as lose_of};

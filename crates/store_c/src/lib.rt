@@ -9,7 +9,6 @@ mod buffers;
 mod calls;
 mod journal;
 mod lending;
-mod on_session;
 mod repairs;
 mod sessions;
 mod status;
@@ -29,6 +28,22 @@ use crate::journal::JournalEntry;
 use crate::status::{DONE, EMPTY, OCCUPIED};
 use session::{Held, LentBuffer, LentSlice, Slot};
 use std::alloc::Global;
+
+/// Runs an expression with the session in a slot, and gives its status. If the slot holds no
+/// session, the status is `EMPTY`.
+macro_rules! with_session {
+    ($alloc:ident, $slot:ident, $session:ident => $status:expr) => {{
+        let Some(mut held) = $slot.take($alloc) else {
+            return EMPTY;
+        };
+        let status = match &mut *held {
+            Some(Held::Session { session: $session, .. }) => $status,
+            _ => EMPTY,
+        };
+        $slot.put(held);
+        status
+    }};
+}
 
 /// Opens a store whose fragments have `width` bytes and whose journal holds at most `limit`
 /// entries. It puts the first session into an empty slot. `lrc_store_join` tells stores apart by
@@ -58,7 +73,7 @@ pub extern "C" fn lrc_store_split(alloc: Global, slot: &mut Slot, who: u32, othe
     let Some(mut held) = slot.take(alloc) else {
         return EMPTY;
     };
-    let status = on_session::split(alloc, &mut held, who, other);
+    let status = sessions::split(alloc, &mut held, who, other);
     slot.put(held);
     status
 }
@@ -198,12 +213,8 @@ pub extern "C" fn lrc_store_put_from(
         (λ v w. IsPutFrom v other.old.held name.now data_fragments result (version.old, version.new)
         w other.new.held) }
 {
-    let Some(mut held) = slot.take(alloc) else {
-        return EMPTY;
-    };
-    let status = on_session::put_from(alloc, &mut held, name, other, data_fragments, version);
-    slot.put(held);
-    status
+    with_session!(alloc, slot, session =>
+        buffers::put_from(alloc, session, name, other, data_fragments, version))
 }
 
 /// Stores a copy of a blob under a name, in the code with this many data fragments.
@@ -219,12 +230,8 @@ pub extern "C" fn lrc_store_put(
     ensures { IsOnSession slot.old.held result slot.new.held (version.new ≡ version.old)
         (λ v w. IsPutCall v name.now blob.now data_fragments result version.old version.new w) }
 {
-    let Some(mut held) = slot.take(alloc) else {
-        return EMPTY;
-    };
-    let status = on_session::put(alloc, &mut held, name, blob, data_fragments, version);
-    slot.put(held);
-    status
+    with_session!(alloc, slot, session =>
+        calls::put(alloc, session, name, blob, data_fragments, version))
 }
 
 /// Copies bytes of a name's blob to `target`, as many as it has, from the byte `start` on. It
@@ -246,17 +253,9 @@ pub extern "C" fn lrc_store_read(
         (λ v w. IsReadCall v name.now start target.old target.new result version.old version.new
         (lent.old, built.old) (lent.new, built.new) w) }
 {
-    let Some(mut held) = slot.take(alloc) else {
-        return EMPTY;
-    };
-    let status = match &mut *held {
-        Some(Held::Session { session, .. }) => calls::read(
-            alloc, session, name, start, target, version, lent, built,
-        ),
-        _ => EMPTY,
-    };
-    slot.put(held);
-    status
+    with_session!(alloc, slot, session => calls::read(
+        alloc, session, name, start, target, version, lent, built,
+    ))
 }
 
 /// Loses a fragment of a stripe of a name's blob.
@@ -273,17 +272,8 @@ pub extern "C" fn lrc_store_lose(
         (λ v w. IsNamedCall v name.now (λ n. lose_of n stripe fragment) result version.old
         version.new w) }
 {
-    let Some(mut held) = slot.take(alloc) else {
-        return EMPTY;
-    };
-    let status = match &mut *held {
-        Some(Held::Session { session, .. }) => calls::lose(
-            alloc, session, name, stripe, fragment, version,
-        ),
-        _ => EMPTY,
-    };
-    slot.put(held);
-    status
+    with_session!(alloc, slot, session =>
+        calls::lose(alloc, session, name, stripe, fragment, version))
 }
 
 /// Repairs a lost fragment of a stripe of a name's blob.
@@ -300,17 +290,8 @@ pub extern "C" fn lrc_store_repair(
         (λ v w. IsNamedCall v name.now (λ n. repair_of n stripe fragment) result version.old
         version.new w) }
 {
-    let Some(mut held) = slot.take(alloc) else {
-        return EMPTY;
-    };
-    let status = match &mut *held {
-        Some(Held::Session { session, .. }) => calls::repair(
-            alloc, session, name, stripe, fragment, version,
-        ),
-        _ => EMPTY,
-    };
-    slot.put(held);
-    status
+    with_session!(alloc, slot, session =>
+        calls::repair(alloc, session, name, stripe, fragment, version))
 }
 
 /// Deletes a name's blob.
@@ -324,15 +305,7 @@ pub extern "C" fn lrc_store_delete(
     ensures { IsOnSession slot.old.held result slot.new.held (version.new ≡ version.old)
         (λ v w. IsNamedCall v name.now (λ n. delete_of n) result version.old version.new w) }
 {
-    let Some(mut held) = slot.take(alloc) else {
-        return EMPTY;
-    };
-    let status = match &mut *held {
-        Some(Held::Session { session, .. }) => calls::delete(session, name, version),
-        _ => EMPTY,
-    };
-    slot.put(held);
-    status
+    with_session!(alloc, slot, session => calls::delete(session, name, version))
 }
 
 /// Writes the shape of a name's blob: its length in bytes, and the numbers of stripes and lost
@@ -353,12 +326,7 @@ pub extern "C" fn lrc_store_stat(
         (λ v w. IsStatCall v name.now result version.old version.new
         (len.old, stripes.old, lost.old) (len.new, stripes.new, lost.new) w) }
 {
-    let Some(mut held) = slot.take(alloc) else {
-        return EMPTY;
-    };
-    let status = on_session::stat(&mut held, name, version, len, stripes, lost);
-    slot.put(held);
-    status
+    with_session!(alloc, slot, session => calls::stat(session, name, version, len, stripes, lost))
 }
 
 /// Discards all journal entries except the last `keep`, and writes how many it discarded.
@@ -372,15 +340,7 @@ pub extern "C" fn lrc_store_trim(
     ensures { IsOnSession slot.old.held result slot.new.held (discarded.new ≡ discarded.old)
         (λ v w. IsTrimCall v keep result discarded.old discarded.new w) }
 {
-    let Some(mut held) = slot.take(alloc) else {
-        return EMPTY;
-    };
-    let status = match &mut *held {
-        Some(Held::Session { session, .. }) => calls::trim(alloc, session, keep, discarded),
-        _ => EMPTY,
-    };
-    slot.put(held);
-    status
+    with_session!(alloc, slot, session => calls::trim(alloc, session, keep, discarded))
 }
 
 /// Lends `len` bytes of a name's blob, from the byte `start` on. It puts the range into an empty
@@ -402,12 +362,8 @@ pub extern "C" fn lrc_store_lend(
         (λ v w. IsLendTo v other.old.held name.now start len result (version.old, version.new)
         (pieces.old, pieces.new) w other.new.held) }
 {
-    let Some(mut held) = slot.take(alloc) else {
-        return EMPTY;
-    };
-    let status = on_session::lend(alloc, &mut held, name, start, len, other, version, pieces);
-    slot.put(held);
-    status
+    with_session!(alloc, slot, session =>
+        lending::lend_to(alloc, session, name, start, len, other, version, pieces))
 }
 
 /// Writes the pieces of a lent range to `target`, in order, as many as there are and `target`
@@ -446,12 +402,7 @@ pub extern "C" fn lrc_store_plan(
         ((items.new ≡ items.old) × (other.new.held ≡ other.old.held))
         (λ v w. IsPlanTo v other.old.held result (items.old, items.new) w other.new.held) }
 {
-    let Some(mut held) = slot.take(alloc) else {
-        return EMPTY;
-    };
-    let status = on_session::plan(alloc, &mut held, other, items);
-    slot.put(held);
-    status
+    with_session!(alloc, slot, session => repairs::plan_to(alloc, session, other, items))
 }
 
 /// Repairs the next fragment of a plan. A fragment with an answer leaves the plan, and one with an

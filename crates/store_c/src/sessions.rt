@@ -1,8 +1,8 @@
 //! Opening, splitting, joining and closing.
 ghost use Rattle.std.specs.Prelude.{◌≡◌, ◌⊎◌, None, Some};
 ghost use Rattle.store_c.specs.Journal.{IsCloseTo, IsCloseToCall};
-ghost use Rattle.store_c.specs.Sessions.{IsOpening, IsSplitTo, IsJoinCall, AreOfOneStore};
-ghost use Rattle.store_c.specs.Sessions.{IsCloseCall, HasHistory};
+ghost use Rattle.store_c.specs.Sessions.{IsOpening, IsSplitTo, IsSplitCall, IsJoinCall};
+ghost use Rattle.store_c.specs.Sessions.{AreOfOneStore, IsCloseCall, HasHistory};
 
 use crate::answers::number_of;
 use crate::status::{BAD_ARGUMENT, DONE, EMPTY, NO_MEMORY, NOT_ALONE, OCCUPIED};
@@ -30,13 +30,28 @@ pub(crate) fn open(alloc: Global, width: u32, limit: u32, number: u64, slot: &mu
     }
 }
 
-pub(crate) fn split_to(
-    alloc: Global,
-    session: &mut Session,
-    number: u64,
-    who: u32,
-    other: &mut Slot,
-) -> u32
+pub(crate) fn split(alloc: Global, held: &mut Option<Held>, who: u32, other: &mut Slot) -> u32
+    ensures { IsSplitCall held.old other.old.held who result held.new other.new.held }
+{
+    match held.take() {
+        Some(
+            Held::Session {
+                mut session,
+                number,
+            },
+        ) => {
+            let status = split_to(alloc, &mut session, number, who, other);
+            *held = Some(Held::Session { session, number });
+            status
+        }
+        kept => {
+            *held = kept;
+            EMPTY
+        }
+    }
+}
+
+fn split_to(alloc: Global, session: &mut Session, number: u64, who: u32, other: &mut Slot) -> u32
     ensures { IsSplitTo session.old number other.old.held who result session.new other.new.held }
 {
     if !other.is_vacant(alloc) {

@@ -1,22 +1,11 @@
-use Rattle.std.proofs.Common.{ℕ, ap, sym, subst, ◌∙◌}
-use Rattle.sealed.specs.declared.value.Sealed.{Sealed}
-use Rattle.sealed.specs.Rebuilding.{IsRebuildable}
-use Rattle.book.specs.Known.{IsFragmentIn}
-use Rattle.shared.specs.Mends.{IsKnown}
-use Rattle.shared.proofs.Mends.{known_fragment, looks_then_called}
+use Rattle.shared.proofs.Mends.{can_install, looks_then_installed}
 use Rattle.shared.proofs.store.Store.repair.Goals as goal
 
 pub make-requires-clause-can : goal.make-requires-clause-can
 make-requires-clause-can g c =
-    let is = c.in-Rebuildable.ensures.found in
-    let w = c.inspect.new.pass.store.width in
-    subst (λ (v : ℕ). IsFragmentIn c.inspect.new.pass.seen w c.args.name v c.args.stripe c.args.fragment c.in-Ok.bytes) (ap (λ (s : Sealed). s.version) (c.deref.ensures ∙ sym c.deref-2.ensures))
-    (known_fragment c.inspect.new.pass.seen w c.args.name c.deref.result.now c.args.stripe c.args.fragment c.in-Ok.bytes
-    (subst (IsKnown c.inspect.new.pass.seen w c.args.name) (sym c.deref.ensures) is.known)
-    (subst (λ (s : Sealed). IsRebuildable s c.args.stripe c.args.fragment) (sym c.deref.ensures) is.rebuildable)
-    c.in-Ok.ensures.ok)
+    let found = c.in-Rebuildable.ensures.found in
+    can_install c.inspect.new.pass c.args.name c.in-Rebuildable.sealed.value c.args.stripe c.args.fragment c.in-Ok.install found.known found.rebuildable c.in-Ok.ensures.ok
 
 pub returns-clause-called : goal.returns-clause-called
 returns-clause-called g c =
-    let is = c.in-Rebuildable.ensures.found in
-    looks_then_called c.args.pass.now c.inspect.new.pass c.make.new.pass c.args.name c.args.stripe c.args.fragment c.make.result is.takes c.make.ensures.called
+    looks_then_installed c.args.pass.now c.inspect.new.pass c.make.new.pass c.args.name c.in-Rebuildable.sealed.value c.args.stripe c.args.fragment c.in-Ok.install c.make.result c.in-Rebuildable.ensures.found c.in-Ok.ensures.ok c.make.ensures.called
