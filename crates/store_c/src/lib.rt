@@ -1,7 +1,8 @@
 //! The store for C: `include/lrc_store.h` declares these functions.
 //!
 //! C lends a slot to each call. A call checks its arguments and returns a status. If the status
-//! does not say that something was done, the slots and all outputs are unchanged.
+//! does not say that something was done, the slots and all outputs are unchanged. Each call states
+//! its whole contract, also where two, as a loss and a repair, differ in one word.
 #![tactic(auto)]
 
 mod answers;

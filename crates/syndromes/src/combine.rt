@@ -172,7 +172,8 @@ fn make_target(
     }
 }
 
-/// Writes the syndromes of the places `at..end`; all but the first only if they are taken.
+/// As `write_syndromes`, with its conditions, but all syndromes except the first only if they are
+/// taken.
 fn write_block(
     lists: &[Option<&[u8]>; 16],
     at: usize,
