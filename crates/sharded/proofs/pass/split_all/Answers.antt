@@ -1,4 +1,4 @@
-use Rattle.std.proofs.Common.{◌≡◌, refl, ◌∙◌, arith}
+use Rattle.std.proofs.Common.{refl, ◌∙◌, arith}
 use Rattle.sharded.specs.Passes.{AreSplitInPart}
 use Rattle.sharded.proofs.Passes.{SplitAt, split_next, split_stopped, on_err}
 use Rattle.sharded.proofs.pass.split_all.Goals.{After-split}
