@@ -21,9 +21,11 @@ ghost use Rattle.coder_c.specs.Call.{code_with, with_parities, FourHave, AddsDat
 ghost use Rattle.coder_c.specs.Call.{LeftReach, RebuildsLost, AreLostIn, HasRoomFor, HaveRoomFor};
 ghost use Rattle.coder_c.specs.Call.{DecodesLost, chosen_by, chosen_of, terms_of};
 
-use decode::decode_to;
+use decode::{SYNDROME_WIDTH, decode_to};
 use gf256::add_scaled;
-use lrc_code::{Code, Left, LostSet, Term, encode_to, is_open_in, recipe_in};
+use lrc_code::{
+    Code, Left, LostSet, Term, encode_to, is_alone_in, is_open_in, rebuild_to, recipe_in,
+};
 
 /// The call was done; or the answer is no.
 const DONE: u32 = 0;
@@ -242,7 +244,14 @@ fn left_of<'a>(code: Code, fragments: &[&'a [u8]; 16], lost: LostSet) -> Left<'a
 /// Writes the bytes `from..to` of an absent fragment, by its recipe or by the syndromes, whichever
 /// is faster. Returns false if and only if the fragment is unrecoverable; then `target` is
 /// unchanged.
-fn rebuild_left(left: &Left, f: u8, from: usize, to: usize, target: &mut [u8]) -> bool
+fn rebuild_left(
+    left: &Left,
+    lost: LostSet,
+    f: u8,
+    from: usize,
+    to: usize,
+    target: &mut [u8],
+) -> bool
     requires absent { is_absent left.now.fragments f ≡ true }
     requires inside { HasRange left.now.code left.now.fragments f from to }
     requires room { length target.old ≡ to - from }
@@ -250,6 +259,9 @@ fn rebuild_left(left: &Left, f: u8, from: usize, to: usize, target: &mut [u8]) -
     ensures kept { result ≡ false → target.new ≡ target.old }
     ensures ok { result ≡ true → Rebuilds left.now.code left.now.fragments f from to target.new }
 {
+    if target.len() < SYNDROME_WIDTH || is_alone_in(left.code, lost, f) {
+        return rebuild_to(left, usize::from(f), from, to, target);
+    }
     let chosen = [Some(f), None, None, None];
     decode_to(left, chosen, from, to, target, &mut [], &mut [], &mut [])
 }
@@ -292,7 +304,7 @@ pub extern "C" fn lrc_rebuild(
     if !left.reaches(to) {
         return BAD_ARGUMENT;
     }
-    if rebuild_left(&left, asked.number, from, to, target) {
+    if rebuild_left(&left, asked.lost, asked.number, from, to, target) {
         DONE
     } else {
         OPEN

@@ -180,6 +180,10 @@ fn far_count(code: Code, lost: LostSet, chosen: &[Option<u8>; 4]) -> u32
         + is_far(code, lost, chosen[3])
 }
 
+/// The width from which the syndromes rebuild one fragment faster than a recipe with as many terms
+/// as the code has data fragments, as measured.
+pub const SYNDROME_WIDTH: usize = 4096;
+
 /// Whether the syndromes are faster than recipes, as measured: the wider the fragments are, and the
 /// more of them are not alone lost in their groups.
 fn are_syndromes_faster(code: Code, lost: LostSet, chosen: &[Option<u8>; 4], width: usize) -> bool
@@ -193,7 +197,7 @@ fn are_syndromes_faster(code: Code, lost: LostSet, chosen: &[Option<u8>; 4], wid
     let are_globals_lost = !lost.left(last) && !lost.left(last - 1);
     match far_count(code, lost, chosen) {
         0 => false,
-        1 => width >= 4096,
+        1 => width >= SYNDROME_WIDTH,
         2 if are_globals_lost => width >= 1024,
         2 => width >= 256,
         _ => true,

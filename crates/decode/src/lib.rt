@@ -11,6 +11,6 @@ mod decoding;
 mod reads;
 mod shares;
 
-pub use decoding::decode_to;
+pub use decoding::{SYNDROME_WIDTH, decode_to};
 pub use reads::least_reads;
 pub use shares::shares_of;
