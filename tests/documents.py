@@ -161,8 +161,11 @@ def wrong_links(name, text):
             and "/out" not in path
             and "liblrc_" not in path
         ):
-            if not os.path.exists(os.path.join(TOP, path)):
+            file = os.path.join(TOP, path)
+            if not os.path.exists(file):
                 yield f"{name}: no file is {path}"
+            elif f"\n    {path}" in text and not os.access(file, os.X_OK):
+                yield f"{name}: {path} can't be executed"
 
 
 class Named:

@@ -1,3 +1,4 @@
+#!/usr/bin/env python3
 """Times LRC(12,2,2) beside liberasurecode's own codes by PyECLib, in one run.
 
     integrations/liberasurecode/build.sh /tmp
