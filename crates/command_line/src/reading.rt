@@ -1,9 +1,9 @@
 //! The parser of the command line.
 
-ghost use Rattle.std.specs.Prelude.{◌≡◌, ◌↔◌, IfErr, IfOk, IfSome, IsSome, Some, false, map};
-ghost use Rattle.clap.specs.Words.{app_of, found_of, rows_of, rule_of};
+ghost use Rattle.std.specs.Prelude.{◌≡◌, ◌↔◌, IfErr, IfOk, IfSome, IsSome, Some, codes, false, map};
+ghost use Rattle.clap.specs.Words.{app_of, found_of, rows_of, rule_of, with_rule};
 ghost use Rattle.command_line.specs.Line.{HasNumber, Says, Refuses, number_of, refusal_of};
-ghost use Rattle.command_line.specs.Program.{history_rule, number_rule, program, script_rule};
+ghost use Rattle.command_line.specs.Program.{bare, history_rule, number_rule, program, script_rule};
 ghost use Rattle.play.specs.Ranges.{InRange};
 
 use crate::help::{ABOUT, MORE};
@@ -77,9 +77,10 @@ fn number_option<'a>(
         .default_value(default)
 }
 
-/// The program's command.
-fn command<'a>(alloc: Global) -> Result<Command<'a>, AllocError>
-    ensures { IfOk result (λ command. app_of command ≡ program) }
+/// The program's command with its first two arguments, the script and `--width`.
+fn begun_command<'a>(alloc: Global) -> Result<Command<'a>, AllocError>
+    ensures { IfOk result (λ command. app_of command ≡ with_rule (with_rule bare script_rule)
+        (number_rule (codes "width") 65536 (codes "1"))) }
 {
     let width = number_option(
         alloc,
@@ -89,6 +90,20 @@ fn command<'a>(alloc: Global) -> Result<Command<'a>, AllocError>
         "1",
         "bytes of a fragment, 1 to 65536",
     );
+    let command = Command::new(alloc, "lrcstore")
+        .no_binary_name(true)
+        .version(VERSION)
+        .about(ABOUT)
+        .after_help(MORE)
+        .arg(script_argument(alloc))?
+        .arg(width)?;
+    Ok(command)
+}
+
+/// The program's command.
+fn command<'a>(alloc: Global) -> Result<Command<'a>, AllocError>
+    ensures { IfOk result (λ command. app_of command ≡ program) }
+{
     let workers = number_option(
         alloc,
         "workers",
@@ -105,13 +120,7 @@ fn command<'a>(alloc: Global) -> Result<Command<'a>, AllocError>
         "4096",
         "most entries of the journal, 1 to 1048576",
     );
-    let command = Command::new(alloc, "lrcstore")
-        .no_binary_name(true)
-        .version(VERSION)
-        .about(ABOUT)
-        .after_help(MORE)
-        .arg(script_argument(alloc))?
-        .arg(width)?
+    let command = begun_command(alloc)?
         .arg(workers)?
         .arg(limit)?
         .arg(history_option(alloc))?;
