@@ -11,17 +11,9 @@ use lrc_code::Plans;
 use std::alloc::{AllocError, Global};
 
 /// A line for each row: its number, from 1, and its reply. It walks grants here, with one table of
-/// recipes. Then a line for each entry: its number, which also counts the discarded calls, the
-/// label of its caller, its call and its note.
-fn lines_of(
-    alloc: Global,
-    done: Vec<NumberedOutcome>,
-    trimmed: u64,
-    entries: &[Entry],
-) -> Result<String, AllocError>
-    requires { trimmed + length entries.now < 2 ^ 64 }
-    ensures { IfOk result (λ text. (lines : List ℕ) × AreLines done.items lines
-        × (string_bytes text ≡ lines ++ entry_lines (trimmed + 1) entries.now)) }
+/// recipes.
+fn row_lines(alloc: Global, done: Vec<NumberedOutcome>) -> Result<String, AllocError>
+    ensures { IfOk result (λ text. AreLines done.items (string_bytes text)) }
 {
     let mut text = String::new(alloc);
     let mut plans = Plans::new(alloc);
@@ -31,12 +23,22 @@ fn lines_of(
         text.reserve(line.room())?;
         writeln!(text, "{number} {line}")?;
     }
+    Ok(text)
+}
+
+/// Adds a line for each entry: its number, which also counts the discarded calls, the label of its
+/// caller, its call and its note.
+fn add_entries(text: &mut String, trimmed: u64, entries: &[Entry]) -> Result<(), AllocError>
+    requires { trimmed + length entries.now < 2 ^ 64 }
+    ensures { IfOk result (λ _. string_bytes text.new
+        ≡ string_bytes text.old ++ entry_lines (trimmed + 1) entries.now) }
+{
     let mut number = trimmed;
     for entry in entries {
         number = number.saturating_add(1);
         writeln!(text, "h {number} {entry}")?;
     }
-    Ok(text)
+    Ok(())
 }
 
 /// The printed word for whether the journal's entries are lawful from its base. They always are.
@@ -70,7 +72,8 @@ pub fn print(
     let entries = book.entries();
     let shown = if history { entries } else { &[] };
     let trimmed = book.base().trimmed;
-    let mut text = lines_of(alloc, done, trimmed, shown)?;
+    let mut text = row_lines(alloc, done)?;
+    add_entries(&mut text, trimmed, shown)?;
     let calls = trimmed.saturating_add(entries.len() as u64);
     let lawful = lawful_text(alloc, book)?;
     write!(text, "calls {calls}\nlawful {lawful}\n")?;

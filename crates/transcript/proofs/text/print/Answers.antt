@@ -10,14 +10,14 @@ returns c =
     let book = c.args.book.now in
     let n = book.base.trimmed + length book.entries in
     let shown = if c.args.history then entry_lines (book.base.trimmed + 1) book.entries else [] in
-    let told = c.in_ok-text.ensures in
+    let rows = string_bytes c.in_ok-text.text in
     let calls : c.saturating_add-calls.result ≡ n = grind (arith, common_steps) in
     let tail = codes "calls " ++ (decimal n ++ codes "\nlawful yes\n") in
-    let written : string_bytes c.write.new.self ≡ string_bytes c.in_ok-text.text ++ (codes "calls " ++ (decimal c.saturating_add-calls.result ++ (codes "\nlawful " ++ (c.in_ok-lawful.lawful.now ++ codes "\n")))) =
+    let written : string_bytes c.write.new.self ≡ string_bytes c.add_entries.new.text ++ (codes "calls " ++ (decimal c.saturating_add-calls.result ++ (codes "\nlawful " ++ (c.in_ok-lawful.lawful.now ++ codes "\n")))) =
     first_of (search rules, grind (arith, common_steps)) in
-    let whole : string_bytes c.write.new.self ≡ string_bytes c.in_ok-text.text ++ tail = rw calls at (rw c.in_ok-lawful.ensures at written) in
-    let lines : string_bytes c.in_ok-text.text ≡ told.0 ++ shown = elim c.if-history.branch [
-      | then-history w ↦ rw w.if-history.true (grind (arith, common_steps, told.2))
-      | else-history w ↦ rw w.if-history.false (grind (arith, common_steps, told.2))
+    let whole : string_bytes c.write.new.self ≡ string_bytes c.add_entries.new.text ++ tail = rw calls at (rw c.in_ok-lawful.ensures at written) in
+    let lines : string_bytes c.add_entries.new.text ≡ rows ++ shown = elim c.if-history.branch [
+      | then-history w ↦ rw w.if-history.true (grind (arith, common_steps, c.in_ok-add_entries.ensures))
+      | else-history w ↦ rw w.if-history.false (grind (arith, common_steps, c.in_ok-add_entries.ensures))
     ] in
-    (told.0, told.1, whole ∙ ap (λ (l : List ℕ). l ++ tail) lines ∙ append_assoc told.0 shown tail)
+    (rows, c.in_ok-text.ensures, whole ∙ ap (λ (l : List ℕ). l ++ tail) lines ∙ append_assoc rows shown tail)
