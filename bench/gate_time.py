@@ -41,11 +41,11 @@ def work_of(pid):
     try:
         with open(f"/proc/{pid}/cmdline") as file:
             words = file.read().split("\0")
+        is_edit = "/rt-edit-" in os.readlink(f"/proc/{pid}/cwd")
     except OSError:
         return None
     if not words[0].endswith("/rattle") or "--crate-name" not in words:
         return None
-    is_edit = any("/rt-edits-" in word for word in words)
     kind = KINDS[2] if is_edit else KINDS[1] if "--test" in words else KINDS[0]
     return words[words.index("--crate-name") + 1], kind
 
@@ -79,7 +79,8 @@ def main():
     print("| all | " + " | ".join(f"{seconds:.0f}" for seconds in whole) + " |")
     minutes = (time.monotonic() - start) / 60
     print(
-        f"{sum(whole) / 60:.0f} minutes of the processors, {minutes:.0f} by the clock on {os.cpu_count()} processors"
+        f"{sum(whole) / 60:.0f} minutes of the processors, "
+        f"{minutes:.0f} by the clock on {os.cpu_count()} processors"
     )
     return run.returncode
 
