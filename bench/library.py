@@ -28,7 +28,15 @@ PARTS = ("src", "specs", "proofs", os.path.join("out", "rlib"))
 
 def copied(name, folder):
     """Proves a crate, where it isn't yet, and copies its files and its library."""
-    build.build(name, False)
+    ran = subprocess.run(
+        ["rt", "lib"],
+        cwd=os.path.join(TOP, "crates", name),
+        stdout=subprocess.PIPE,
+        stderr=subprocess.STDOUT,
+        text=True,
+    )
+    if ran.returncode != 0:
+        sys.exit(ran.stdout + f"{name} is not built")
     for part in PARTS:
         kept, to = os.path.join(TOP, "crates", name, part), os.path.join(
             folder, "crates", name, part

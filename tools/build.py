@@ -1,13 +1,15 @@
 #!/usr/bin/env python3
-"""Proves and builds the program lrcstore with all crates below it, and says how far it is.
+"""Proves and builds a program with all crates below it, and says how far it is.
 
     tools/build.py [--cpu v2|v3] [CRATE]
 
-CRATE is another program. What was proved before, and has not changed, is taken as it is. A program
-for v3 (AVX2) ends with status 127 on a processor without it.
+CRATE is lrcstore if none is given. A program that was built from the same files is taken as it is,
+and so is each crate that was proved before. A program for v3 (AVX2) ends with status 127 on a
+processor without it.
 """
 
 import argparse
+import hashlib
 import os
 import re
 import subprocess
@@ -15,6 +17,7 @@ import sys
 import time
 
 TOP = os.path.dirname(os.path.dirname(os.path.abspath(__file__)))
+PARTS = ("src", "specs", "proofs")
 
 
 def dependencies():
@@ -35,38 +38,71 @@ def below(program):
     return [name for name in uses if name in wanted]
 
 
-def build(name, is_program, cpu="v2"):
-    """Proves a crate and builds it, and gives how many of its functions are proved."""
-    command = ["rt", "run", f"--cpu=x86-64-{cpu}", "--", "--help"] if is_program else ["rt", "lib"]
-    ran = subprocess.run(
-        command,
-        cwd=os.path.join(TOP, "crates", name),
-        stdout=subprocess.PIPE,
-        stderr=subprocess.STDOUT,
-        text=True,
-    )
-    proved = re.findall(r"^logic=proved functions=(\d+)", ran.stdout, re.M)
-    built = os.path.join(TOP, "crates", name, "out", name)
-    if ran.returncode != 0 or is_program and not os.path.exists(built):
-        sys.exit(ran.stdout + f"{name} is not built")
-    return int(proved[-1]) if proved else None
+def files_of(names):
+    """The files that the crates are made from, in a fixed order."""
+    found = [os.path.join(TOP, "crates.txt")]
+    for name in names:
+        for part in PARTS:
+            for folder, _, files in os.walk(os.path.join(TOP, "crates", name, part)):
+                found += [os.path.join(folder, file) for file in files]
+    return sorted(found)
+
+
+def sum_of(names, cpu):
+    """A checksum of the kit, the processor and the files of the crates."""
+    kit = subprocess.run(["rt", "version"], stdout=subprocess.PIPE, check=True).stdout
+    total = hashlib.sha256(kit + cpu.encode())
+    for path in files_of(names):
+        with open(path, "rb") as file:
+            total.update(os.path.relpath(path, TOP).encode() + b"\0" + file.read() + b"\0")
+    return total.hexdigest()
+
+
+def follow(lines, names):
+    """Says which crate is proved as its line comes, and gives all lines."""
+    start, seen, crate = time.monotonic(), [], ""
+    for line in lines:
+        seen.append(line)
+        named = re.match(r"crate (\w+): modules ", line)
+        crate = named.group(1) if named else crate
+        proved = re.match(r"logic=proved functions=(\d+)", line)
+        if proved and crate in names:
+            place = f"{names.index(crate) + 1:2} of {len(names)}  {crate:14}"
+            seconds = time.monotonic() - start
+            print(
+                f"{place}{proved.group(1):>4} functions proved, {seconds:5.0f} s from the start",
+                flush=True,
+            )
+    return seen
 
 
 def build_all(program, cpu="v2"):
     """Builds a program with the crates below it, and gives its path."""
-    names, start = below(program), time.monotonic()
+    names = below(program)
     if not names or names[-1] != program:
         sys.exit(f"crates.txt has no crate {program}")
-    print(
-        f"{len(names)} crates. From nothing they take some 15 minutes on 4 cores; after that, seconds.",
-        flush=True,
-    )
-    for number, name in enumerate(names, 1):
-        print(f"{number:2} of {len(names)}  {name:14}", end="", flush=True)
-        proved = build(name, name == program, cpu)
-        what = f"{proved:4} functions proved" if proved else "as it was proved before"
-        print(f"{what}, {time.monotonic() - start:5.0f} s from the start", flush=True)
-    return os.path.join(TOP, "crates", program, "out", program)
+    built = os.path.join(TOP, "crates", program, "out", program)
+    kept, wanted = built + ".sum", sum_of(names, cpu)
+    if os.path.exists(built) and os.path.exists(kept):
+        with open(kept, encoding="utf-8") as file:
+            if file.read() == wanted:
+                print(f"{program} is as it was built before")
+                return built
+    print(f"{len(names)} crates. From nothing they take about 20 minutes on 4 cores.", flush=True)
+    with subprocess.Popen(
+        ["rt", "run", f"--cpu=x86-64-{cpu}", "--", "--help"],
+        cwd=os.path.join(TOP, "crates", program),
+        env={**os.environ, "PYTHONUNBUFFERED": "1"},
+        stdout=subprocess.PIPE,
+        stderr=subprocess.STDOUT,
+        text=True,
+    ) as run:
+        seen = follow(run.stdout, names)
+    if run.returncode != 0 or not os.path.exists(built):
+        sys.exit("".join(seen) + f"{program} is not built")
+    with open(kept, "w", encoding="utf-8") as file:
+        file.write(wanted)
+    return built
 
 
 def main():
