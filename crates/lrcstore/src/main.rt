@@ -12,22 +12,30 @@ fn fail<E: io::Write>(fail: Fail, errors: &mut E) -> ExitCode {
     ExitCode::from(report(fail, errors).ending.status())
 }
 
+/// The words of the command line, or the exit status if they can't be had.
+fn words_of<E: io::Write>(rt: &HostRuntime, errors: &mut E) -> Result<Vec<String>, ExitCode> {
+    match env::args(rt) {
+        Ok(words) => match words.collect(rt.alloc()) {
+            Ok(words) => Ok(words),
+            Err(_) => Err(fail(Fail::Memory, errors)),
+        },
+        Err(error) if error.kind() == io::ErrorKind::OutOfMemory => {
+            Err(fail(Fail::Memory, errors))
+        }
+        Err(_) => {
+            let _ = eprintln!(rt; "lrcstore: an argument is not UTF-8");
+            Err(ExitCode::from(2))
+        }
+    }
+}
+
 fn main(rt: HostRuntime) -> ExitCode {
     let alloc = rt.alloc();
     let stderr = rt.stderr();
     let mut errors = io::writer(&stderr);
-    let words: Vec<String> = match env::args(&rt) {
-        Ok(words) => match words.collect(alloc) {
-            Ok(words) => words,
-            Err(_) => return fail(Fail::Memory, &mut errors),
-        },
-        Err(error) if error.kind() == io::ErrorKind::OutOfMemory => {
-            return fail(Fail::Memory, &mut errors);
-        }
-        Err(_) => {
-            let _ = eprintln!(rt; "lrcstore: an argument is not UTF-8");
-            return ExitCode::from(2);
-        }
+    let words = match words_of(&rt, &mut errors) {
+        Ok(words) => words,
+        Err(status) => return status,
     };
     let mut texts = Vec::new(alloc);
     for word in words.iter().skip(1) {
