@@ -29,14 +29,11 @@ fn fill_and_trim<R: Print + Wait>(
     Ok(())
 }
 
-/// Fills a journal of two entries, discards the older one, makes another call, and closes the
-/// store.
-pub(crate) fn trim_and_close<R: Print + Wait>(rt: &R, alloc: Global) -> Result<()> {
-    let name = Name::new("a")?;
-    let limit = Limit::new(2).context("a limit")?;
-    let (store, mut pass) = Store::open(alloc, 1, limit)?;
-    fill_and_trim(rt, alloc, &store, &mut pass, &name)?;
-    store.stat(rt, &mut pass, name)?;
+/// Closes a store, and checks the journal against its base.
+fn close<R: Print>(rt: &R, alloc: Global, store: Store, pass: Pass) -> Result<()>
+    requires store { pass.store ≡ store }
+    requires room { pass.room ≡ 64 }
+{
     let book = store.close(pass);
     let (base, entries) = (book.base(), book.entries());
     println!(rt; "{} given up, {} kept", base.trimmed, entries.len())?;
@@ -45,4 +42,15 @@ pub(crate) fn trim_and_close<R: Print + Wait>(rt: &R, alloc: Global) -> Result<(
         "what is kept is lawful"
     );
     Ok(())
+}
+
+/// Fills a journal of two entries, discards the older one, makes another call, and closes the
+/// store.
+pub(crate) fn trim_and_close<R: Print + Wait>(rt: &R, alloc: Global) -> Result<()> {
+    let name = Name::new("a")?;
+    let limit = Limit::new(2).context("a limit")?;
+    let (store, mut pass) = Store::open(alloc, 1, limit)?;
+    fill_and_trim(rt, alloc, &store, &mut pass, &name)?;
+    store.stat(rt, &mut pass, name)?;
+    close(rt, alloc, store, pass)
 }

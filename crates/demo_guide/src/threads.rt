@@ -24,6 +24,14 @@ fn put<R: Wait>(
     (pass, answer)
 }
 
+/// Whether one put stored the first version, and the other the second.
+fn are_first_and_second(one: &Answer, other: &Answer) -> bool {
+    match (one, other) {
+        (Answer::Stored(1), Answer::Stored(2)) | (Answer::Stored(2), Answer::Stored(1)) => true,
+        _ => false,
+    }
+}
+
 /// Opens a store, gives a second thread a pass, and takes the pass back.
 pub(crate) fn share<R: Print + Threads + Wait + Sync>(rt: &R, alloc: Global) -> Result<()> {
     let limit = Limit::new(1_000).context("a limit")?;
@@ -43,10 +51,7 @@ pub(crate) fn share<R: Print + Threads + Wait + Sync>(rt: &R, alloc: Global) -> 
     );
     first.join(&store, second);
     ensure!(
-        matches!(
-            (one?, other?),
-            (Answer::Stored(1), Answer::Stored(2)) | (Answer::Stored(2), Answer::Stored(1))
-        ),
+        are_first_and_second(&one?, &other?),
         "one put is the first, and one the second"
     );
     let book = store.close(first);
