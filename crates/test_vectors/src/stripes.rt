@@ -57,6 +57,29 @@ fn is_decoded(
     Ok(did && one.as_slice() == wanted && two.as_slice() == wanted)
 }
 
+/// Compares the bytes of a rebuilt fragment, and decodes it too.
+fn compare_rebuilt(
+    alloc: Global,
+    left: &Left,
+    f: u8,
+    width: usize,
+    rebuilt: &[u8],
+    bytes: &str,
+) -> Result<()>
+    requires inside { f < fragment_count left.now.code }
+    requires absent { is_absent left.now.fragments f ≡ true }
+    requires reach { (i : ℕ) → i < fragment_count left.now.code
+        → is_absent left.now.fragments i ≡ false → Reaches left.now.fragments width i }
+{
+    let wanted = bytes_of(alloc, bytes)?;
+    ensure!(rebuilt == wanted.as_slice(), "other bytes");
+    ensure!(
+        is_decoded(alloc, left, f, width, wanted.as_slice())?,
+        "other bytes by decoding"
+    );
+    Ok(())
+}
+
 impl Comparison {
     /// Nothing was read yet.
     pub fn new(alloc: Global, code: Code) -> Comparison {
@@ -138,12 +161,7 @@ impl Comparison {
         match rebuild(alloc, &left, usize::from(f), 0, self.width) {
             Ok(rebuilt) => {
                 ensure!(!is_open_in(left.code, self.lost, f), "expected to be open");
-                let wanted = bytes_of(alloc, bytes)?;
-                ensure!(rebuilt.as_slice() == wanted.as_slice(), "other bytes");
-                ensure!(
-                    is_decoded(alloc, &left, f, self.width, wanted.as_slice())?,
-                    "other bytes by decoding"
-                );
+                compare_rebuilt(alloc, &left, f, self.width, rebuilt.as_slice(), bytes)?;
                 self.rebuilt = self.rebuilt.saturating_add(1);
             }
             Err(Rebuild::Open) => {
