@@ -239,14 +239,14 @@ impl fmt::Display for Row {
 }
 
 fn main(rt: HostRuntime) -> Result<()> {
-    for code in [Code::Wide, Code::Small] {
+    for code in &[Code::Wide, Code::Small] {
         let k = code.data_fragments();
         println!(rt;
             "LRC({k},2,2), beside Reed-Solomon of {k} data fragments and 4 parities, which reads {k} to make one"
         )?;
         println!(rt; "lost   sets  whole percent    mean  most  RS whole")?;
         for size in 1..=5 {
-            println!(rt; "{}", row_for(code, size))?;
+            println!(rt; "{}", row_for(*code, size))?;
         }
     }
     Ok(())

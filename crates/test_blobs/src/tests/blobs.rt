@@ -169,15 +169,15 @@ fn a_lost_fragment_is_rebuilt(rt: HostRuntime) -> Result<(), Fail> {
     ];
     assert!(rt; has == [true, false, false]);
     assert!(rt; !value.is_rebuildable(0, 11));
-    for f in [11u8, 4, 5] {
-        take_out(&rt, alloc, &mut value, 0, f);
+    for f in &[11u8, 4, 5] {
+        take_out(&rt, alloc, &mut value, 0, *f);
     }
     let can_be_rebuilt = value.is_rebuildable(0, 11);
     assert!(rt; can_be_rebuilt);
     let bytes = value.rebuild_fragment(alloc, 0, 11).expect(&rt, "memory");
     assert!(rt; bytes.as_slice() == b"stuv".as_slice());
-    for f in [12u8, 13] {
-        take_out(&rt, alloc, &mut value, 0, f);
+    for f in &[12u8, 13] {
+        take_out(&rt, alloc, &mut value, 0, *f);
     }
     assert!(rt; !value.is_rebuildable(0, 4));
     assert!(rt; !value.is_rebuildable(1, 0));

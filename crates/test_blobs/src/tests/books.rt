@@ -10,7 +10,6 @@ use lrc_code::Code;
 use sealed::{Width, seal};
 use std::alloc::{AllocError, Global};
 use std::process::Abort;
-use std::test::Fail;
 
 /// A book of width 1, and the name `a`.
 fn beginning(rt: &impl Abort, alloc: Global, entries: u32) -> (Book, Name)
@@ -39,26 +38,47 @@ fn store(rt: &impl Abort, alloc: Global, book: &mut Book, name: &Name, bytes: &'
         .note()
 }
 
+/// The version, start and length of a grant of three bytes, read by the second caller.
+fn read_three(rt: &impl Abort, book: &mut Book, name: &Name) -> (u64, u64, u64) {
+    match book.read(2, name.duplicate(), 1, 3).expect(rt, "room") {
+        Answer::Granted(grant) => (grant.version(), grant.start, grant.len),
+        _ => panic!(rt; "not granted"),
+    }
+}
+
+/// Whether the book finds a blob of this version and length.
+fn finds(book: &Book, name: &Name, version: u64, len: u64) -> bool {
+    match book.find(name) {
+        Some(found) => found.version == version && found.len == len,
+        None => false,
+    }
+}
+
+/// The callers of a lawful journal.
+fn callers(rt: &impl Abort, alloc: Global, book: &Book) -> Vec<u32> {
+    let mut callers = Vec::new(alloc);
+    for entry in book.entries() {
+        callers.push(entry.who).expect(rt, "memory");
+    }
+    let lawful = is_lawful(alloc, book.entries(), book.width());
+    assert!(rt; lawful.expect(rt, "memory"));
+    callers
+}
+
 #[test]
-fn put_and_read(rt: HostRuntime) -> Result<(), Fail> {
+fn put_and_read(rt: HostRuntime) {
     let alloc = rt.alloc();
     let (mut book, name) = beginning(&rt, alloc, 2);
-    let hello = seal(alloc, Bytes::from_static(b"HELLO"), book.width())?;
-    let stored = book.put(alloc, 1, name.duplicate(), hello)?;
-    assert!(rt; matches!(stored, Answer::Stored(1)));
-    let Answer::Granted(grant) = book.read(2, name.duplicate(), 1, 3)? else {
-        panic!(rt; "not granted");
-    };
-    assert_eq!(rt; (grant.version(), grant.start, grant.len), (1, 1, 3));
-    let found = book.find(&name).expect(&rt, "a blob");
-    assert_eq!(rt; (found.version, found.len), (1, 5));
+    assert_eq!(rt;
+        store(&rt, alloc, &mut book, &name, b"HELLO"),
+        Note::Stored(1)
+    );
+    assert_eq!(rt; read_three(&rt, &mut book, &name), (1, 1, 3));
+    assert!(rt; finds(&book, &name, 1, 5));
     assert!(rt; book.is_full());
     assert!(rt; matches!(book.read(2, name, 0, 1), Err(Fault::JournalFull)));
     assert_eq!(rt; (book.limit().get(), book.base().trimmed), (2, 0));
-    let whos = (book.entries()[0].who, book.entries()[1].who);
-    assert_eq!(rt; whos, (1, 2));
-    assert!(rt; is_lawful(alloc, book.entries(), book.width())?);
-    Ok(())
+    assert!(rt; callers(&rt, alloc, &book).as_slice() == [1, 2].as_slice());
 }
 
 /// A call for the name `a`.

@@ -9,15 +9,15 @@ use std::test::Fail;
 fn another_version_is_not_lawful(rt: HostRuntime) -> Result<(), Fail> {
     let alloc = rt.alloc();
     let (width, name) = (Width::new(1).expect(&rt, "a width"), Name::new("a")?);
-    for (version, lawful) in [(1, true), (2, false)] {
+    for (version, lawful) in &[(1, true), (2, false)] {
         let mut entries = Vec::new(alloc);
         let put = Call::Put {
             name: name.duplicate(),
             code: Code::Wide,
             len: 5,
         };
-        note(&mut entries, put, Note::Stored(version))?;
-        assert_eq!(rt; is_lawful(alloc, &entries, width)?, lawful);
+        note(&mut entries, put, Note::Stored(*version))?;
+        assert_eq!(rt; is_lawful(alloc, &entries, width)?, *lawful);
     }
     Ok(())
 }
@@ -41,11 +41,11 @@ fn losses(alloc: Global, name: &Name) -> Result<Vec<Entry>, Fault> {
         len: 12,
     };
     note(&mut entries, put, Note::Stored(1))?;
-    for fragment in [0, 1, 6, 14, 15] {
+    for fragment in &[0, 1, 6, 14, 15] {
         let lose = Call::Lose {
             name: name(),
             stripe: 0,
-            fragment,
+            fragment: *fragment,
         };
         note(&mut entries, lose, Note::Lost(1))?;
     }
@@ -165,13 +165,13 @@ fn a_base_knows_what_was_lost(rt: HostRuntime) -> Result<(), Fail> {
     advance(&rt, alloc, &mut lost, &put, width)?;
     advance(&rt, alloc, &mut lost, &loss, width)?;
     assert_eq!(rt; (lost.trimmed, lost.puts, lost.names.len()), (2, 1, 1));
-    for (noted, first, again) in [
+    for (noted, first, again) in &[
         (Note::Lost(1), true, false),
         (Note::AlreadyLost, false, true),
     ] {
-        let entries = first_loss(alloc, &name, noted)?;
-        assert_eq!(rt; is_lawful_from(alloc, &stored, &entries, width)?, first);
-        assert_eq!(rt; is_lawful_from(alloc, &lost, &entries, width)?, again);
+        let entries = first_loss(alloc, &name, *noted)?;
+        assert_eq!(rt; is_lawful_from(alloc, &stored, &entries, width)?, *first);
+        assert_eq!(rt; is_lawful_from(alloc, &lost, &entries, width)?, *again);
     }
     Ok(())
 }

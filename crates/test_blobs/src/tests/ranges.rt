@@ -246,15 +246,15 @@ fn spans_are_the_cut(rt: HostRuntime) -> Result<(), Fail> {
     let sealed = blob(&rt, rt.alloc(), letters, 4);
     let range = grant(&rt, &without(&rt, rt.alloc(), &sealed, 0, &[1]), 3, 6);
     let mut spans = range.spans();
-    for (fragment, from, to, bytes) in [
+    for (fragment, from, to, bytes) in &[
         (0u8, 3usize, 4usize, Some(b"D".as_slice())),
         (1, 0, 4, None),
         (2, 0, 1, Some(b"I".as_slice())),
     ] {
         let span = spans.next().expect(&rt, "a span");
-        assert_eq!(rt; (span.stripe, span.fragment), (0, fragment));
-        assert_eq!(rt; (span.from, span.to), (from, to));
-        assert!(rt; span.bytes == bytes);
+        assert_eq!(rt; (span.stripe, span.fragment), (0, *fragment));
+        assert_eq!(rt; (span.from, span.to), (*from, *to));
+        assert!(rt; span.bytes == *bytes);
     }
     assert!(rt; spans.next().is_none());
     let empty = grant(&rt, &sealed, 5, 0);
@@ -318,7 +318,7 @@ fn two_absent_of_each_small_group(rt: HostRuntime) -> Result<(), Fail> {
     let letters = b"ABCDEFGHIJKLMNOPQRSTUVWXYZabcdefghijklmnopqrstu";
     let mut sealed = blob_in(&rt, rt.alloc(), Code::Small, letters, 2);
     let lost = [[0, 1, 3, 4], [0, 2, 4, 5], [1, 2, 3, 5], [1, 2, 3, 5]];
-    for (stripe, fragments) in (0u64..4).zip(lost) {
+    for (stripe, fragments) in (0u64..4).zip(&lost) {
         sealed = without(&rt, rt.alloc(), &sealed, stripe, fragments.as_slice());
         assert_eq!(rt; excess(&rt, &sealed, stripe), 2);
     }

@@ -208,29 +208,33 @@ fn lost_alone(rt: HostRuntime) -> Result<(), Fail> {
     Ok(())
 }
 
+/// That each of these fragments is rebuilt as this byte.
+fn are_rebuilt(rt: &impl Abort, alloc: Global, left: &Left, bytes: &[(usize, u8)]) {
+    for (f, byte) in bytes {
+        assert_eq!(rt; rebuilt(rt, alloc, left, *f), Some(*byte));
+    }
+}
+
 #[test]
-fn lost_together(rt: HostRuntime) -> Result<(), Fail> {
+fn lost_together(rt: HostRuntime) {
     let left = left_of(&LETTERS, LostSet::empty().with(0).with(1).with(6).with(7));
-    for (f, byte) in [(0, 0x41), (1, 0x42), (6, 0x47), (7, 0x48)] {
-        assert_eq!(rt; rebuilt(&rt, rt.alloc(), &left, f), Some(byte));
-    }
+    let bytes = [(0, 0x41), (1, 0x42), (6, 0x47), (7, 0x48)];
+    are_rebuilt(&rt, rt.alloc(), &left, &bytes);
     let left = left_of(&LETTERS, set_of(0xf000));
-    for (f, byte) in [(12, 0x07), (13, 0x0b), (14, 0x13), (15, 0x9f)] {
-        assert_eq!(rt; rebuilt(&rt, rt.alloc(), &left, f), Some(byte));
-    }
+    let bytes = [(12, 0x07), (13, 0x0b), (14, 0x13), (15, 0x9f)];
+    are_rebuilt(&rt, rt.alloc(), &left, &bytes);
     assert_eq!(rt; rebuilt_to(&rt, &left, 14), (true, 0x13));
     let left = left_of(&LETTERS, set_of(0x000f));
     assert_eq!(rt; rebuilt(&rt, rt.alloc(), &left, 0), None);
     assert_eq!(rt; rebuilt_to(&rt, &left, 0), (false, 0xee));
-    Ok(())
 }
 
 #[test]
 fn recipes_of_a_group(rt: HostRuntime) -> Result<(), Fail> {
     let terms = recipe(LostSet::empty().with(0), 0).ok_or("open")?;
     assert_eq!(rt; terms.len(), 6);
-    for (term, fragment) in terms.iter().zip([1, 2, 3, 4, 5, 12]) {
-        assert_eq!(rt; (term.fragment, term.coefficient), (fragment, 1));
+    for (term, fragment) in terms.iter().zip(&[1, 2, 3, 4, 5, 12]) {
+        assert_eq!(rt; (term.fragment, term.coefficient), (*fragment, 1));
     }
     Ok(())
 }
@@ -240,10 +244,10 @@ fn kept_recipes(rt: HostRuntime) -> Result<(), Fail> {
     let left = left_of(&LETTERS, LostSet::empty().with(0).with(1));
     let mut plans = Plans::new(rt.alloc());
     for _ in 0..3 {
-        for (f, byte) in [(0, 0x41), (1, 0x42)] {
+        for (f, byte) in &[(0, 0x41), (1, 0x42)] {
             assert_eq!(rt;
-                rebuilt_with(&rt, rt.alloc(), &mut plans, &left, f),
-                Some(byte)
+                rebuilt_with(&rt, rt.alloc(), &mut plans, &left, *f),
+                Some(*byte)
             );
         }
     }
@@ -260,13 +264,13 @@ fn kept_recipes(rt: HostRuntime) -> Result<(), Fail> {
 #[test]
 fn coefficients_in_order(rt: HostRuntime) -> Result<(), Fail> {
     // what the four weigh in each equation
-    for [a, b, c, d] in [
+    for [a, b, c, d] in &[
         [1, 1, 0, 0],
         [0, 0, 1, 1],
         [1, 6, 7, 0],
         [gf256::square(1), gf256::square(6), gf256::square(7), 0],
     ] {
-        assert_eq!(rt; a ^ b ^ c ^ d, 0);
+        assert_eq!(rt; *a ^ *b ^ *c ^ *d, 0);
     }
     let lost = LostSet::empty().with(0).with(5).with(6).with(13);
     assert_eq!(rt; lost.excess(), 2);

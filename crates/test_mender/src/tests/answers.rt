@@ -2,10 +2,11 @@
 ghost use Rattle.std.specs.Prelude.{◌≡◌};
 
 use super::{Call, make, opened};
-use book::{Fault, Name};
-use mender::{Gather, Report, gather, scrub, work};
+use book::{Fault, Name, Plan};
+use mender::{Done, Gather, Report, WorkFault, gather, scrub, work};
 use shared::{Pass, Store};
 use std::alloc::Global;
+use std::process::Abort;
 use std::sync::Wait;
 use std::test::Fail;
 
@@ -14,7 +15,7 @@ fn four_lost<R: Wait>(rt: &R, alloc: Global, store: &Store, pass: &mut Pass) -> 
     requires { pass.old.store ≡ store.now }
     ensures { pass.new.store ≡ store.now }
 {
-    for text in ["a", "b", "c", "d"] {
+    for text in &["a", "b", "c", "d"] {
         let name = Name::new(text)?;
         make(rt, alloc, store, pass, &name, Call::Put(b"ABCDEFGHIJKL"))?;
         make(rt, alloc, store, pass, &name, Call::Lose(0))?;
@@ -31,10 +32,25 @@ fn change<R: Wait>(rt: &R, alloc: Global, store: &Store, pass: &mut Pass) -> Res
     make(rt, alloc, store, pass, &Name::new("b")?, Call::Repair(0))?;
     make(rt, alloc, store, pass, &Name::new("c")?, Call::Delete)?;
     let d = Name::new("d")?;
-    for f in [1, 2, 3] {
-        make(rt, alloc, store, pass, &d, Call::Lose(f))?;
+    for f in &[1, 2, 3] {
+        make(rt, alloc, store, pass, &d, Call::Lose(*f))?;
     }
     Ok(())
+}
+
+/// That a worker came to its end with one of each of the four answers.
+fn has_each(rt: &impl Abort, alloc: Global, plan: &Plan, ended: Result<Vec<Done>, WorkFault>) {
+    let Ok(done) = ended else {
+        panic!(rt; "the worker stopped")
+    };
+    let report: Result<Report, Gather> = gather(alloc, plan, done);
+    let each = Report {
+        repaired: 1,
+        not_lost: 1,
+        gone: 1,
+        unrecoverable: 1,
+    };
+    assert_eq!(rt; report, Ok(each));
 }
 
 /// One of each of the four answers, which no script can bring about: there a mend is alone.
@@ -46,16 +62,7 @@ fn a_mend_has_each_answer(rt: HostRuntime) -> Result<(), Fail> {
     let (plan, tickets, mut drawer) = scrub(&rt, alloc, &store, &mut pass)?;
     assert_eq!(rt; plan.items.len(), 4);
     change(&rt, alloc, &store, &mut pass)?;
-    let Ok(done) = work(&rt, alloc, &store, &mut pass, &plan, &tickets, &mut drawer) else {
-        panic!(rt; "the worker stopped")
-    };
-    let report: Result<Report, Gather> = gather(alloc, &plan, done);
-    let each = Report {
-        repaired: 1,
-        not_lost: 1,
-        gone: 1,
-        unrecoverable: 1,
-    };
-    assert_eq!(rt; report, Ok(each));
+    let result = work(&rt, alloc, &store, &mut pass, &plan, &tickets, &mut drawer);
+    has_each(&rt, alloc, &plan, result);
     Ok(())
 }

@@ -4,8 +4,9 @@ ghost use Rattle.std.specs.List.{All};
 
 use mender::{Drawer, Tickets};
 use std::alloc::{AllocError, Global};
+use std::sync::Wait;
 use std::test::Fail;
-use std::thread::map_vec;
+use std::thread::{Threads, map_vec};
 
 /// A drawer, and the numbers that were drawn with it.
 #[derive(Drop)]
@@ -69,22 +70,30 @@ fn joined(
     Ok(numbers)
 }
 
+/// All numbers that so many threads draw, a hundred each, rising.
+fn numbers_by<R: Threads + Wait + Sync>(
+    rt: &R,
+    alloc: Global,
+    count: u64,
+) -> Result<Vec<u64>, Fail> {
+    let (tickets, mut first) = Tickets::open(alloc)?;
+    let drawers = drawers(alloc, count, &tickets, &mut first)?;
+    let all = map_vec(
+        rt,
+        drawers,
+        &|drawer: Drawer| -> Result<Drawn, AllocError>
+            requires { drawer.tickets ≡ tickets }
+            ensures { IfOk result (λ drawn. drawn.drawer.tickets ≡ tickets) }
+        { draw_hundred(alloc, &tickets, drawer) },
+    )?;
+    Ok(joined(alloc, &tickets, &mut first, all)?)
+}
+
 #[test]
 fn each_number_is_drawn_once(rt: HostRuntime) -> Result<(), Fail> {
-    let alloc = rt.alloc();
-    for count in [1, 2, 16] {
-        let (tickets, mut first) = Tickets::open(alloc)?;
-        let drawers = drawers(alloc, count, &tickets, &mut first)?;
-        let all = map_vec(
-            &rt,
-            drawers,
-            &|drawer: Drawer| -> Result<Drawn, AllocError>
-                requires { drawer.tickets ≡ tickets }
-                ensures { IfOk result (λ drawn. drawn.drawer.tickets ≡ tickets) }
-            { draw_hundred(alloc, &tickets, drawer) },
-        )?;
-        let numbers = joined(alloc, &tickets, &mut first, all)?;
-        assert_eq!(rt; numbers.len() as u64, 100 * count);
+    for count in &[1, 2, 16] {
+        let numbers = numbers_by(&rt, rt.alloc(), *count)?;
+        assert_eq!(rt; numbers.len() as u64, 100 * *count);
         assert!(rt;
             numbers
                 .iter()

@@ -175,8 +175,8 @@ fn put_and_lose_two<R: Wait>(
     requires { pass.old.store ≡ store.now }
     ensures { pass.new.store ≡ store.now }
 {
-    for call in [Call::Put(bytes), Call::Lose(0), Call::Lose(6)] {
-        make(rt, alloc, store, pass, name, call)?;
+    for call in &[Call::Put(bytes), Call::Lose(0), Call::Lose(6)] {
+        make(rt, alloc, store, pass, name, *call)?;
     }
     Ok(())
 }
@@ -195,34 +195,60 @@ fn two_lost<R: Wait + Abort>(
     Ok((store, pass, name))
 }
 
+/// The book of a store, whose journal is lawful.
+fn lawful_book(rt: &impl Abort, alloc: Global, store: Store, pass: Pass) -> Result<Book, Fail>
+    requires { pass.store ≡ store }
+{
+    let book = closed(rt, store, pass);
+    assert!(rt; is_lawful(alloc, book.entries(), book.width())?);
+    Ok(book)
+}
+
+/// The book of a store in which so many workers mended two lost fragments.
+fn mended<R: Threads + Wait + Sync + Abort>(rt: &R, alloc: Global, count: u32) -> Result<Book, Fail>
+    requires { count < 64 }
+{
+    let (store, mut pass, name) = two_lost(rt, alloc, 100)?;
+    let report = mend(rt, alloc, count, false, &store, &mut pass)?;
+    let two = Report {
+        repaired: 2,
+        not_lost: 0,
+        gone: 0,
+        unrecoverable: 0,
+    };
+    assert_eq!(rt; report, Ok(two));
+    let whole = Note::Shape {
+        version: 1,
+        len: 12,
+        stripes: 1,
+        lost: 0,
+    };
+    assert_eq!(rt;
+        make(rt, alloc, &store, &mut pass, &name, Call::Stat)?,
+        whole
+    );
+    lawful_book(rt, alloc, store, pass)
+}
+
 #[test]
 fn any_number_of_workers_mends_all(rt: HostRuntime) -> Result<(), Fail> {
     let alloc = rt.alloc();
-    for count in [1, 2, 16] {
-        let (store, mut pass, name) = two_lost(&rt, alloc, 100)?;
-        let report = mend(&rt, alloc, count, false, &store, &mut pass)?;
-        let two = Report {
-            repaired: 2,
-            not_lost: 0,
-            gone: 0,
-            unrecoverable: 0,
-        };
-        assert_eq!(rt; report, Ok(two));
-        let whole = Note::Shape {
-            version: 1,
-            len: 12,
-            stripes: 1,
-            lost: 0,
-        };
-        assert_eq!(rt;
-            make(&rt, alloc, &store, &mut pass, &name, Call::Stat)?,
-            whole
-        );
-        let book = closed(&rt, store, pass);
+    for count in &[1, 2, 16] {
+        let book = mended(&rt, alloc, *count)?;
         assert_eq!(rt; book.entries().len(), 6);
-        assert!(rt; is_lawful(alloc, book.entries(), book.width())?);
     }
     Ok(())
+}
+
+/// The one result of a worker that met a full journal.
+fn done_till_full(rt: &impl Abort, ended: Result<Vec<Done>, WorkFault>) -> Vec<Done> {
+    let Err(WorkFault { fault, done }) = ended else {
+        panic!(rt; "the journal was not full")
+    };
+    assert_eq!(rt; fault, Fault::JournalFull);
+    assert_eq!(rt; done.len(), 1);
+    assert!(rt; done[0].ticket == 0 && matches!(done[0].answer, Answer::Repaired(1)));
+    done
 }
 
 #[test]
@@ -231,12 +257,7 @@ fn a_full_journal_stops_a_worker(rt: HostRuntime) -> Result<(), Fail> {
     let (store, mut pass, _) = two_lost(&rt, alloc, 4)?;
     let (plan, tickets, mut drawer) = scrub(&rt, alloc, &store, &mut pass)?;
     let result = work(&rt, alloc, &store, &mut pass, &plan, &tickets, &mut drawer);
-    let Err(WorkFault { fault, done }) = result else {
-        panic!(rt; "the journal was not full")
-    };
-    assert_eq!(rt; fault, Fault::JournalFull);
-    assert_eq!(rt; done.len(), 1);
-    assert!(rt; done[0].ticket == 0 && matches!(done[0].answer, Answer::Repaired(1)));
+    let done = done_till_full(&rt, result);
     assert_eq!(rt; gather(alloc, &plan, done), Err(Gather::Missing));
     Ok(())
 }
@@ -282,8 +303,8 @@ fn put_often<R: Wait>(
     ensures { pass.new.store ≡ store.now }
 {
     let done = Vec::new(alloc);
-    for first in [9, 17, 25, 33] {
-        if let Err(fault) = put_all(rt, alloc, store, pass, first) {
+    for first in &[9, 17, 25, 33] {
+        if let Err(fault) = put_all(rt, alloc, store, pass, *first) {
             return Err(WorkFault { fault, done });
         }
     }
@@ -321,8 +342,7 @@ fn work_beside_puts(rt: HostRuntime) -> Result<(), Fail> {
     put_all(&rt, alloc, &store, &mut pass, 1)?;
     let report = mend(&rt, alloc, 2, true, &store, &mut pass)??;
     assert_eq!(rt; (report.gone, report.unrecoverable), (0, 0));
-    let book = closed(&rt, store, pass);
-    assert!(rt; is_lawful(alloc, book.entries(), book.width())?);
+    let book = lawful_book(&rt, alloc, store, pass)?;
     assert!(rt; are_their_own(&rt, alloc, &book)?);
     Ok(())
 }

@@ -47,6 +47,22 @@ fn has_each<R: Wait + Abort>(
     Ok(())
 }
 
+/// Closes the store: of its calls, so many were discarded and so many are entries, and it has `a`.
+fn ends_with<R: Wait + Abort>(
+    rt: &R,
+    alloc: Global,
+    store: Store,
+    pass: Pass,
+    calls: (u64, usize),
+    first_is_lost: bool,
+) -> Result<(), Fail>
+    requires { pass.store ≡ store }
+{
+    let book = closed(rt, store, pass);
+    assert_eq!(rt; (book.base().trimmed, book.entries().len()), calls);
+    has_each(rt, alloc, &book, first_is_lost)
+}
+
 /// Each of the six calls, a repair and a deletion among them.
 const ALL: [Call; 6] = [
     Call::Put(b"MNOPQRSTUVWX"),
@@ -72,9 +88,7 @@ fn a_full_journal_leaves_all_as_it_was(rt: HostRuntime) -> Result<(), Fail> {
         lost: 1,
     };
     assert_eq!(rt; make(&rt, alloc, &store, &mut pass, &a, Call::Stat)?, shape);
-    let book = closed(&rt, store, pass);
-    assert_eq!(rt; (book.base().trimmed, book.entries().len()), (1, 2));
-    has_each(&rt, alloc, &book, true)
+    ends_with(&rt, alloc, store, pass, (1, 2), true)
 }
 
 /// Calls of a name that there is not are entered, and leave the other name's blob as it was.
@@ -86,9 +100,7 @@ fn another_name_leaves_all_as_it_was(rt: HostRuntime) -> Result<(), Fail> {
     let but_put = &ALL[1..];
     assert!(rt; all_give(&rt, alloc, &store, &mut pass, &b, but_put, Ok(Note::NoName)));
     assert!(rt; matches!(Name::new("B"), Err(Fault::BadName)));
-    let book = closed(&rt, store, pass);
-    assert_eq!(rt; book.entries().len(), 7);
-    has_each(&rt, alloc, &book, true)
+    ends_with(&rt, alloc, store, pass, (0, 7), true)
 }
 
 /// Whether these calls lose fragments, and those repair them.
@@ -132,9 +144,7 @@ fn each_fragment_comes_back(rt: HostRuntime) -> Result<(), Fail> {
         Call::Repair(15),
     ];
     assert!(rt; come_back(&rt, alloc, &store, &mut pass, &a, &losses, &repairs));
-    let book = closed(&rt, store, pass);
-    assert_eq!(rt; book.entries().len(), 33);
-    has_each(&rt, alloc, &book, false)
+    ends_with(&rt, alloc, store, pass, (0, 33), false)
 }
 
 /// The text of each fault.

@@ -53,31 +53,33 @@ fn cut_anywhere(rt: HostRuntime) -> Result<(), Fail> {
     Ok(())
 }
 
-/// Single rows after a put of twelve letters, and what refuses them.
+/// Rows that are refused, and why.
+const ROWS: [(&str, Word); 15] = [
+    ("4294967296,1,stat,a,,", Word::Round),
+    ("1,0,stat,a,,", Word::Worker),
+    ("1,2,stat,a,,", Word::Worker),
+    ("1,1,mend,,,", Word::Worker),
+    ("1,0,mend,,,", Word::Mend),
+    ("2,0,mend,a,,", Word::Name),
+    ("2,0,mend,,0,", Word::Argument),
+    ("1,1,move,a,,", Word::Op),
+    ("1,1,stat,A,,", Word::Name),
+    ("1,1,read,a,18446744073709551616,0", Word::Argument),
+    ("1,1,read,a,00,1", Word::Argument),
+    ("1,1,put,a,hex,0", Word::Argument),
+    ("1,1,put,a,hex,0F", Word::Argument),
+    ("1,1,trim,a,0,", Word::Name),
+    ("1,1,trim,,0,0", Word::Argument),
+];
+
+/// Each alone, after a put of twelve letters.
 #[test]
 fn bent_rows(rt: HostRuntime) -> Result<(), Fail> {
     let alloc = rt.alloc();
-    let rows: [(&str, Word); 15] = [
-        ("4294967296,1,stat,a,,", Word::Round),
-        ("1,0,stat,a,,", Word::Worker),
-        ("1,2,stat,a,,", Word::Worker),
-        ("1,1,mend,,,", Word::Worker),
-        ("1,0,mend,,,", Word::Mend),
-        ("2,0,mend,a,,", Word::Name),
-        ("2,0,mend,,0,", Word::Argument),
-        ("1,1,move,a,,", Word::Op),
-        ("1,1,stat,A,,", Word::Name),
-        ("1,1,read,a,18446744073709551616,0", Word::Argument),
-        ("1,1,read,a,00,1", Word::Argument),
-        ("1,1,put,a,hex,0", Word::Argument),
-        ("1,1,put,a,hex,0F", Word::Argument),
-        ("1,1,trim,a,0,", Word::Name),
-        ("1,1,trim,,0,0", Word::Argument),
-    ];
-    for (row, word) in rows {
+    for (row, word) in &ROWS {
         let text = format!(in alloc; "1,1,put,a,text,ABCDEFGHIJKL\n{row}\n")?;
         assert!(rt;
-            ends(&rt, alloc, text.as_bytes(), End::Refuses(2, word))?,
+            ends(&rt, alloc, text.as_bytes(), End::Refuses(2, *word))?,
             "{row}"
         );
     }

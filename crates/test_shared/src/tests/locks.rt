@@ -6,6 +6,7 @@ use gate::{Follows, Gate, NoMemory, Seat};
 use std::alloc::Global;
 use std::collections::BTreeMap;
 use std::marker::Model;
+use std::process::Abort;
 use std::sync::Wait;
 use std::test::Fail;
 use std::thread::{join, map_vec};
@@ -35,6 +36,25 @@ impl Tally {
     }
 }
 
+/// A gate over an empty tally, and its first seat.
+fn opened(rt: &impl Abort, alloc: Global) -> (Gate<Tally>, Seat<Tally>)
+    ensures { (result.1.gate ≡ result.0) × (result.1.inside ≡ false) × (result.1.room ≡ 64) }
+{
+    let opening = Tally {
+        counts: BTreeMap::new(alloc),
+        hits: Vec::new(alloc),
+    };
+    match Gate::new(alloc, opening) {
+        Ok(opened) => opened,
+        Err(_) => panic!(rt; "there was no memory"),
+    }
+}
+
+/// Whether a tally has so many hits, and so many of one number.
+fn has(tally: &Tally, hits: usize, who: u32, count: u64) -> bool {
+    tally.hits.len() == hits && tally.counts.get(&who).copied() == Some(count)
+}
+
 fn count_many<R: Wait>(rt: &R, gate: &Gate<Tally>, seat: Seat<Tally>, who: u32) -> Seat<Tally>
     requires { (seat.gate ≡ gate.now) × (seat.inside ≡ false) }
     ensures { (result.gate ≡ gate.now) × (result.inside ≡ false) × (result.room ≡ seat.room) }
@@ -50,13 +70,7 @@ fn count_many<R: Wait>(rt: &R, gate: &Gate<Tally>, seat: Seat<Tally>, who: u32) 
 
 #[test]
 fn two_threads_count(rt: HostRuntime) -> Result<(), Fail> {
-    let opening = Tally {
-        counts: BTreeMap::new(rt.alloc()),
-        hits: Vec::new(rt.alloc()),
-    };
-    let Ok((gate, mut first)) = Gate::new(rt.alloc(), opening) else {
-        panic!(rt; "there was no memory")
-    };
+    let (gate, mut first) = opened(&rt, rt.alloc());
     let Ok(second) = first.split(&gate) else {
         panic!(rt; "there was no memory")
     };
@@ -73,9 +87,8 @@ fn two_threads_count(rt: HostRuntime) -> Result<(), Fail> {
     );
     first.join(&gate, second);
     let tally = gate.close(first);
-    assert_eq!(rt; tally.hits.len(), 2000);
-    assert_eq!(rt; tally.counts.get(&1).copied(), Some(1000));
-    assert_eq!(rt; tally.counts.get(&2).copied(), Some(1000));
+    assert!(rt; has(&tally, 2000, 1, 1000));
+    assert!(rt; has(&tally, 2000, 2, 1000));
     Ok(())
 }
 
@@ -110,13 +123,7 @@ fn join_all(gate: &Gate<Tally>, first: &mut Seat<Tally>, seats: Vec<Seat<Tally>>
 
 #[test]
 fn sixteen_threads_count(rt: HostRuntime) -> Result<(), Fail> {
-    let opening = Tally {
-        counts: BTreeMap::new(rt.alloc()),
-        hits: Vec::new(rt.alloc()),
-    };
-    let Ok((gate, mut first)) = Gate::new(rt.alloc(), opening) else {
-        panic!(rt; "there was no memory")
-    };
+    let (gate, mut first) = opened(&rt, rt.alloc());
     let seats = sixteen_seats(rt.alloc(), &gate, &mut first)?;
     let seats = map_vec(
         &rt,
@@ -129,38 +136,35 @@ fn sixteen_threads_count(rt: HostRuntime) -> Result<(), Fail> {
     join_all(&gate, &mut first, seats);
     assert_eq!(rt; first.room(), 64);
     let tally = gate.close(first);
-    assert_eq!(rt; tally.hits.len(), 16000);
-    assert_eq!(rt; tally.counts.get(&3).copied(), Some(16000));
+    assert!(rt; has(&tally, 16000, 3, 16000));
     Ok(())
+}
+
+/// How many hits a seat finds, or `None` if the gate is entered.
+fn hits_found(gate: &Gate<Tally>, seat: &mut Seat<Tally>) -> Option<usize>
+    requires { (seat.old.gate ≡ gate.now) × (seat.old.inside ≡ false) }
+    ensures { (seat.new.gate ≡ gate.now) × (seat.new.inside ≡ false)
+        × (seat.new.room ≡ seat.old.room) }
+{
+    let inside = gate.try_enter(seat)?;
+    let hits = inside.value.hits.len();
+    gate.leave(seat, inside);
+    Some(hits)
 }
 
 #[test]
 fn who_is_second_finds_it_entered(rt: HostRuntime) -> Result<(), Fail> {
-    let opening = Tally {
-        counts: BTreeMap::new(rt.alloc()),
-        hits: Vec::new(rt.alloc()),
-    };
-    let Ok((gate, mut first)) = Gate::new(rt.alloc(), opening) else {
-        panic!(rt; "there was no memory")
-    };
+    let (gate, mut first) = opened(&rt, rt.alloc());
     let Ok(mut second) = first.split(&gate) else {
         panic!(rt; "there was no memory")
     };
     let Some(mut inside) = gate.try_enter(&mut first) else {
         panic!(rt; "the gate was free")
     };
-    if let Some(other) = gate.try_enter(&mut second) {
-        gate.leave(&mut second, other);
-        panic!(rt; "the gate was entered")
-    }
+    assert_eq!(rt; hits_found(&gate, &mut second), None);
     inside.value.count(7);
     gate.leave(&mut first, inside);
-    let Some(inside) = gate.try_enter(&mut second) else {
-        panic!(rt; "the gate was free again")
-    };
-    let hits = inside.value.hits.len();
-    gate.leave(&mut second, inside);
-    assert_eq!(rt; hits, 1);
+    assert_eq!(rt; hits_found(&gate, &mut second), Some(1));
     assert_eq!(rt; first.room() + second.room(), 64);
     Ok(())
 }

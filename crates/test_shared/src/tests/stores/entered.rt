@@ -33,6 +33,18 @@ fn walk_beside(
     seat
 }
 
+/// The number of entries that a seat finds at a free gate.
+fn entries_found(rt: &impl Abort, gate: &Gate<Kept>, seat: &mut Seat<Kept>) -> usize
+    requires { (seat.old.gate ≡ gate.now) × (seat.old.inside ≡ false) }
+{
+    let Some(inside) = gate.try_enter(seat) else {
+        panic!(rt; "the gate was free again");
+    };
+    let entries = inside.value.0.entries().len();
+    gate.leave(seat, inside);
+    entries
+}
+
 /// A book with a blob under one name, and a grant of it.
 fn begun(rt: &impl Abort, alloc: Global) -> Result<(Book, Grant), Fail> {
     let width = Width::new(1).expect(rt, "a width");
@@ -62,10 +74,6 @@ fn walk_while_entered(rt: HostRuntime) -> Result<(), Fail> {
         || (),
     );
     gate.leave(&mut first, inside);
-    let Some(inside) = gate.try_enter(&mut second) else {
-        panic!(rt; "the gate was free again");
-    };
-    assert_eq!(rt; inside.value.0.entries().len(), 2);
-    gate.leave(&mut second, inside);
+    assert_eq!(rt; entries_found(&rt, &gate, &mut second), 2);
     Ok(())
 }

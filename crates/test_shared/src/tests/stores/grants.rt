@@ -6,6 +6,7 @@ use book::{Answer, Name, Note, is_lawful_from};
 use lrc_code::Code;
 use shared::{Pass, Store};
 use std::alloc::Global;
+use std::process::Abort;
 use std::sync::Wait;
 use std::test::Fail;
 use std::thread::join;
@@ -59,6 +60,17 @@ fn overwrite<R: Wait>(rt: &R, alloc: Global, store: &Store, pass: Pass, name: &N
     (pass, done)
 }
 
+/// The number of entries in the lawful journal of a store whose passes are all joined to this one.
+fn entries_of(rt: &impl Abort, alloc: Global, store: Store, pass: Pass) -> usize
+    requires { pass.store ≡ store }
+{
+    assert_eq!(rt; pass.room(), 64);
+    let book = store.close(pass);
+    let lawful = is_lawful_from(alloc, book.base(), book.entries(), book.width());
+    assert!(rt; lawful.expect(rt, "memory"));
+    book.entries().len()
+}
+
 #[test]
 fn grants_outlive_their_blob(rt: HostRuntime) -> Result<(), Fail> {
     let alloc = rt.alloc();
@@ -77,9 +89,6 @@ fn grants_outlive_their_blob(rt: HostRuntime) -> Result<(), Fail> {
     assert_eq!(rt; done, 18);
     gives(&rt, alloc, &grant, b"ABCDEFGHIJKL", 0);
     p.join(&store, q);
-    assert_eq!(rt; p.room(), 64);
-    let book = store.close(p);
-    assert_eq!(rt; book.entries().len(), 20);
-    assert!(rt; is_lawful_from(alloc, book.base(), book.entries(), book.width())?);
+    assert_eq!(rt; entries_of(&rt, alloc, store, p), 20);
     Ok(())
 }

@@ -22,18 +22,29 @@ fn split_some(alloc: Global, store: &Store, first: &mut Pass, count: u32) -> Res
     Ok(passes)
 }
 
+/// The last of 63 passes that are split off the first, which then has no other left.
+fn last_of_all(
+    rt: &impl Abort,
+    alloc: Global,
+    store: &Store,
+    first: &mut Pass,
+) -> Result<Pass, Fail>
+    requires { first.old.store ≡ store.now }
+    ensures { (first.new.store ≡ store.now) × IfOk result (λ last. last.store ≡ store.now) }
+{
+    let mut passes = split_some(alloc, store, first, 63)?;
+    assert!(rt; matches!(first.split(store, 64), Err(Fault::NoPass)));
+    Ok(passes.pop().expect(rt, "a pass"))
+}
+
 #[test]
 fn at_most_64_passes(rt: HostRuntime) -> Result<(), Fail> {
     let alloc = rt.alloc();
     let (store, mut first, a) = beginning(&rt, alloc, 16);
     answers(&rt, store.try_stat(&mut first, a), Note::NoName);
-    let mut passes = split_some(alloc, &store, &mut first, 63)?;
-    assert!(rt; matches!(first.split(&store, 64), Err(Fault::NoPass)));
-    let last = passes.pop().expect(&rt, "a pass");
-    assert_eq!(rt;
-        (first.who(), first.room(), last.who(), last.room()),
-        (0, 1, 63, 1)
-    );
+    let last = last_of_all(&rt, alloc, &store, &mut first)?;
+    assert_eq!(rt; (first.who(), first.room()), (0, 1));
+    assert_eq!(rt; (last.who(), last.room()), (63, 1));
     first.join(&store, last);
     assert_eq!(rt; (first.who(), first.room()), (0, 2));
     assert!(rt; first.split(&store, 64).is_ok());
@@ -43,11 +54,11 @@ fn at_most_64_passes(rt: HostRuntime) -> Result<(), Fail> {
 #[test]
 fn widths_from_1_to_65536(rt: HostRuntime) {
     let limit = Limit::new(1).expect(&rt, "a limit");
-    for width in [0, 65537] {
-        assert!(rt; matches!(Store::open(rt.alloc(), width, limit), Err(Fault::BadWidth)));
+    for width in &[0, 65537] {
+        assert!(rt; matches!(Store::open(rt.alloc(), *width, limit), Err(Fault::BadWidth)));
     }
-    for width in [1, 65536] {
-        assert!(rt; Store::open(rt.alloc(), width, limit).is_ok());
+    for width in &[1, 65536] {
+        assert!(rt; Store::open(rt.alloc(), *width, limit).is_ok());
     }
 }
 
@@ -83,6 +94,27 @@ fn repair_and_delete(
     answers(rt, deleted, Note::Deleted(1));
 }
 
+/// One pass discards all entries, and the other plans a mend and puts another blob.
+fn trim_and_put(
+    rt: &impl Abort,
+    alloc: Global,
+    store: &Store,
+    p: &mut Pass,
+    q: &mut Pass,
+    name: Name,
+) -> Result<(), Fail>
+    requires { (p.old.store ≡ store.now) × (q.old.store ≡ store.now) }
+{
+    assert_eq!(rt; store.try_trim(alloc, p, 0)?, 6);
+    assert_eq!(rt; store.try_plan(alloc, q)?.items.len(), 0);
+    answers(
+        rt,
+        store.try_put(alloc, q, name, letters()),
+        Note::Stored(2),
+    );
+    Ok(())
+}
+
 /// Two passes take turns beside so many others.
 fn take_turns(rt: &impl Abort, alloc: Global, others: u32) -> Result<(), Fail> {
     let (store, mut p, a) = beginning(rt, alloc, 16);
@@ -90,18 +122,14 @@ fn take_turns(rt: &impl Abort, alloc: Global, others: u32) -> Result<(), Fail> {
     let _idle = split_some(alloc, &store, &mut p, others)?;
     put_and_read(rt, alloc, &store, &mut p, &mut q, &a);
     repair_and_delete(rt, alloc, &store, &mut q, &mut p, &a);
-    assert_eq!(rt; store.try_trim(alloc, &mut p, 0)?, 6);
-    assert_eq!(rt; store.try_plan(alloc, &mut q)?.items.len(), 0);
-    let stored = store.try_put(alloc, &mut q, a, letters());
-    answers(rt, stored, Note::Stored(2));
-    Ok(())
+    trim_and_put(rt, alloc, &store, &mut p, &mut q, a)
 }
 
 /// Nobody is inside, so no call is refused as busy, however many passes there are.
 #[test]
 fn passes_take_turns_and_never_find_the_other_inside(rt: HostRuntime) -> Result<(), Fail> {
-    for others in [0, 1, 3, 62] {
-        take_turns(&rt, rt.alloc(), others)?;
+    for others in &[0, 1, 3, 62] {
+        take_turns(&rt, rt.alloc(), *others)?;
     }
     Ok(())
 }
