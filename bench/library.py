@@ -125,14 +125,16 @@ def main():
                 rates = [of(column) for column in zip(*runs)]
                 ratios = ", ".join(f"{one:.2f} ({one / rates[-1]:.2f})" for one in rates[:-1])
                 print(
-                    f"{calls} by {threads}, {word}: {ratios}; plain {rates[-1]:.2f} million a second",
+                    f"{calls} by {threads}, {word}: {ratios}; "
+                    f"plain {rates[-1]:.2f} million a second",
                     flush=True,
                 )
     for program in programs[:-1]:
         trims = [told(program, "trims") for _ in range(given.times)]
         mean, greatest = min(run["mean"] for run in trims), sorted(run["greatest"] for run in trims)
         print(
-            f"a trim among 30,000 names: {mean / 1000:.1f} microseconds in the mean, at most {greatest[0] / 1000:.1f} to {greatest[-1] / 1000:.1f}"
+            f"a trim among 30,000 names: {mean / 1000:.1f} microseconds in the mean, "
+            f"at most {greatest[0] / 1000:.1f} to {greatest[-1] / 1000:.1f}"
         )
 
 

@@ -191,8 +191,9 @@ def kept():
 def section(rates, where):
     """The section of docs/performance.md."""
     words = (
-        "Each figure is in times the calls that one thread makes of a plain store, by the greatest of many"
-        f" short runs. The machine: {where}. [Threads](threads.md#when-to-shard) says when to shard."
+        "Each figure is in times the calls that one thread makes of a plain store, by the greatest "
+        f"of many short runs. The machine: {where}. [Threads](threads.md#when-to-shard) says when to "
+        "shard."
     )
     yield from (
         HEADING,

@@ -147,7 +147,10 @@ def counted():
 
 def sentence(believed, definitions, lines):
     """What docs/definitions.md says of it."""
-    return f"{len(believed)} of {len(definitions.lines)} definitions, {sum(lines.values()):,} of {sum(definitions.lines.values()):,} lines"
+    return (
+        f"{len(believed)} of {len(definitions.lines)} definitions, "
+        f"{sum(lines.values()):,} of {sum(definitions.lines.values()):,} lines"
+    )
 
 
 def main(arguments):

@@ -32,7 +32,10 @@ from svg import (
 CODE = "Wide"
 DATA, ALL = lrc.data_fragments(CODE), lrc.fragments(CODE)
 HALF = DATA // 2
-GLOBALS = f"{DATA + 2} and {DATA + 3} sum both groups, each fragment times its weight, or its weight squared."
+GLOBALS = (
+    f"{DATA + 2} and {DATA + 3} sum both groups, each fragment times its weight, "
+    "or its weight squared."
+)
 UNRECOVERABLE = (
     "unrecoverable: two stripes agree on all remaining fragments and differ in these."
     " All others can be read"
@@ -110,7 +113,8 @@ def blob_in_stripes():
         text(
             left,
             399,
-            "Dashed: the last stripe is filled up with zero bytes, which are stored and can be lost.",
+            "Dashed: the last stripe is filled up with zero bytes, "
+            "which are stored and can be lost.",
             12,
         ),
     ]

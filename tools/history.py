@@ -7,7 +7,8 @@ from dataclasses import dataclass, field
 import lrc
 
 ENTRY = re.compile(
-    r"h (\d+) (\d+) (\S+) (\S+)((?: \d+)*) (no-name|no-fragment|out-of-range|already-lost|not-lost|[a-z]+(?: \d+)+)"
+    r"h (\d+) (\d+) (\S+) (\S+)((?: \d+)*) "
+    r"(no-name|no-fragment|out-of-range|already-lost|not-lost|[a-z]+(?: \d+)+)"
 )
 CODES = {"put": "Wide", "put6": "Small"}
 

@@ -15,7 +15,10 @@ FONT = "font-family='DejaVu Sans, Verdana, sans-serif'"
 
 def text(x, y, words, size=13, anchor="start", fill=INK, bold=False):
     weight = " font-weight='bold'" if bold else ""
-    return f"<text x='{x:g}' y='{y:g}' font-size='{size}' text-anchor='{anchor}' fill='{fill}'{weight} {FONT}>{escape(str(words))}</text>"
+    return (
+        f"<text x='{x:g}' y='{y:g}' font-size='{size}' text-anchor='{anchor}' fill='{fill}'{weight} "
+        f"{FONT}>{escape(str(words))}</text>"
+    )
 
 
 def middle(x, y, words, size=13, fill=INK, bold=False):
@@ -24,12 +27,18 @@ def middle(x, y, words, size=13, fill=INK, bold=False):
 
 def box(x, y, width, height, fill, stroke=INK, thick=1.2, dashed=False):
     dash = " stroke-dasharray='4 3'" if dashed else ""
-    return f"<rect x='{x:g}' y='{y:g}' width='{width:g}' height='{height:g}' rx='3' fill='{fill}' stroke='{stroke}' stroke-width='{thick}'{dash}/>"
+    return (
+        f"<rect x='{x:g}' y='{y:g}' width='{width:g}' height='{height:g}' rx='3' fill='{fill}' "
+        f"stroke='{stroke}' stroke-width='{thick}'{dash}/>"
+    )
 
 
 def line(x1, y1, x2, y2, stroke=GREY, thick=1.3, arrow=False):
     head = " marker-end='url(#head)'" if arrow else ""
-    return f"<line x1='{x1:g}' y1='{y1:g}' x2='{x2:g}' y2='{y2:g}' stroke='{stroke}' stroke-width='{thick}'{head}/>"
+    return (
+        f"<line x1='{x1:g}' y1='{y1:g}' x2='{x2:g}' y2='{y2:g}' stroke='{stroke}' "
+        f"stroke-width='{thick}'{head}/>"
+    )
 
 
 def group_fill(code_data, f):
@@ -43,10 +52,14 @@ def group_fill(code_data, f):
 
 def drawing(width, height, title, shapes):
     head = (
-        "<defs><marker id='head' viewBox='0 0 10 10' refX='9' refY='5' markerWidth='7' markerHeight='7' orient='auto'>"
+        "<defs><marker id='head' viewBox='0 0 10 10' refX='9' refY='5' markerWidth='7' "
+        "markerHeight='7' orient='auto'>"
         f"<path d='M0,0 L10,5 L0,10 z' fill='{GREY}'/></marker></defs>"
     )
-    start = f"<svg xmlns='http://www.w3.org/2000/svg' viewBox='0 0 {width:g} {height:g}' width='{width:g}' height='{height:g}' role='img'>"
+    start = (
+        f"<svg xmlns='http://www.w3.org/2000/svg' viewBox='0 0 {width:g} {height:g}' "
+        f"width='{width:g}' height='{height:g}' role='img'>"
+    )
     parts = [
         start,
         f"<title>{escape(title)}</title>",

@@ -12,7 +12,7 @@ int main(void) {
         || lrc_store_put(&store, GREETING, (const uint8_t *)"HELLO, WORLD", 12, 12, &version)
         || lrc_store_lose(&store, GREETING, 0, 0, &version) /* fragments 0 and 2 of stripe 0 fail */
         || lrc_store_lose(&store, GREETING, 0, 2, &version)
-        || lrc_store_read(&store, GREETING, 0, text, 12, &version, &lent, &built) /* a degraded read */
+        || lrc_store_read(&store, GREETING, 0, text, 12, &version, &lent, &built) /* degraded */
         || lrc_store_repair(&store, GREETING, 0, 0, &version)
         || lrc_store_repair(&store, GREETING, 0, 2, &version)
         || lrc_store_close(&store, &entries, &lawful))

@@ -175,7 +175,8 @@ def main():
     ]
     compared = sum(compare_vectors(data_fragments, name) for data_fragments, name in files)
     print(
-        f"Python: the sets of up to five lost fragments, bad arguments, and {compared} vectors of other programs"
+        "Python: the sets of up to five lost fragments, bad arguments, "
+        f"and {compared} vectors of other programs"
     )
 
 

@@ -138,7 +138,8 @@ def main():
         r"#\[repr\(C\)\]\n.*\nstruct Slice \{\s*at: \*const u8,\s*len: usize,\s*\}", rust
     ), "the Rust crate's slice"
     print(
-        f"declarations: {len(wanted)} functions, the same in lib.rt, the header, the Rust crate and the Python module"
+        f"declarations: {len(wanted)} functions, the same in lib.rt, the header, the Rust crate "
+        "and the Python module"
     )
 
 

@@ -19,7 +19,8 @@ def main():
     for entry in wrong[:10]:
         print(f"wrong: {entry}")
     print(
-        f"journal: {len(entries)} entries by {len({entry.worker for entry in entries})} threads, {len(wrong)} wrong"
+        f"journal: {len(entries)} entries by {len({entry.worker for entry in entries})} threads, "
+        f"{len(wrong)} wrong"
     )
     return 1 if wrong or len(entries) < 1000 else 0
 

@@ -1,8 +1,8 @@
 //! The text of `--help`, apart from the options.
 
 /// The purpose of the program, in the first line of the help.
-pub(crate) const ABOUT: &str =
-    "Runs a script of calls over an in-memory blob store that reads and mends blobs with lost fragments.";
+pub(crate) const ABOUT: &str = "Runs a script of calls over an in-memory blob store that reads \
+    and mends blobs with lost fragments.";
 
 /// The text below the options.
 pub(crate) const MORE: &str = "A row of SCRIPT is round,worker,op,name,a,b, with no header row:

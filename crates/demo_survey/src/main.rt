@@ -242,7 +242,8 @@ fn main(rt: HostRuntime) -> Result<()> {
     for code in &[Code::Wide, Code::Small] {
         let k = code.data_fragments();
         println!(rt;
-            "LRC({k},2,2), beside Reed-Solomon of {k} data fragments and 4 parities, which reads {k} to make one"
+            "LRC({k},2,2), beside Reed-Solomon of {k} data fragments and 4 parities, \
+                which reads {k} to make one"
         )?;
         println!(rt; "lost   sets  whole percent    mean  most  RS whole")?;
         for size in 1..=5 {

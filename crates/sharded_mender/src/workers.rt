@@ -1,7 +1,7 @@
 //! The scrub, and the workers.
 
-// `mender` has these functions over one store. They repeat here, since no common contract could name
-// what a pass to a store and passes to all shards show.
+// `mender` has these functions over one store. They repeat here, since no common contract could
+// name what a pass to a store and passes to all shards show.
 
 ghost use Rattle.std.specs.Prelude.{◌≡◌, ◌^◌, [], IfOk, IfErr, OnOk, OnErr};
 ghost use Rattle.book.specs.Tells.{IsCallFault};

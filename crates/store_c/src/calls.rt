@@ -1,5 +1,5 @@
-//! The calls on a session, with the arguments that C passed. Each is a function of its own, with the
-//! contract that the function for C hands on.
+//! The calls on a session, with the arguments that C passed. Each is a function of its own, with
+//! the contract that the function for C hands on.
 ghost use Rattle.std.specs.Prelude.{◌≡◌};
 ghost use Rattle.history.specs.Step.{lose as lose_of, repair as repair_of, delete as delete_of};
 ghost use Rattle.store_c.specs.OnSession.{IsNamedCall, IsPutCall, IsReadCall, IsStatCall};
