@@ -8,7 +8,7 @@ ghost use Rattle.play.specs.Ranges.{InRange};
 
 use anyhow::{Result, bail, ensure};
 use command_line::{BadLine, CommandLine, parse_line};
-use play::{Always, Fail, play};
+use play::{Always, play};
 use std::fs;
 use std::fs::File;
 
@@ -96,47 +96,44 @@ fn line_of(rt: &HostRuntime, words: &[&str]) -> Result<CommandLine>
     }
 }
 
-/// Runs the program with these words, and returns how it ended and what it printed.
-fn run_with(rt: &HostRuntime, words: &[&str]) -> Result<(std::result::Result<(), Fail>, Vec<u8>)> {
-    let line = line_of(rt, words)?;
-    let script = File::open(rt, line.script.as_str())?;
-    let mut printed: Vec<u8> = Vec::new(rt.alloc());
-    let ended = play(rt, rt.alloc(), &line.options, script, &mut printed, &Always);
-    Ok((ended, printed))
-}
-
-/// Prints the words of a run, and compares its text.
-fn compare(rt: &HostRuntime, run: &Run) -> Result<()> {
-    for word in run.words {
-        print!(rt; "{word} ")?;
-    }
-    let (ended, printed) = run_with(rt, run.words)?;
-    ended?;
-    ensure!(
-        is_one_of(rt, printed.as_slice(), run.texts)?,
-        "another text is printed"
-    );
-    println!(rt; "prints its text")?;
-    Ok(())
-}
-
-/// Prints why a script is refused.
-fn refuse(rt: &HostRuntime, path: &str) -> Result<()> {
-    let (ended, printed) = run_with(rt, &[path])?;
-    match ended {
-        Ok(()) => bail!("{path} is not refused"),
-        Err(fail) => println!(rt; "{path}: {fail}")?,
-    }
-    ensure!(printed.is_empty(), "something is printed");
-    Ok(())
-}
-
 fn main(rt: HostRuntime) -> Result<()> {
     for run in &RUNS {
-        compare(&rt, run)?;
+        for word in run.words {
+            print!(rt; "{word} ")?;
+        }
+        let line = line_of(&rt, run.words)?;
+        let script = File::open(&rt, line.script.as_str())?;
+        let mut printed: Vec<u8> = Vec::new(rt.alloc());
+        play(
+            &rt,
+            rt.alloc(),
+            &line.options,
+            script,
+            &mut printed,
+            &Always,
+        )?;
+        ensure!(
+            is_one_of(&rt, printed.as_slice(), run.texts)?,
+            "another text is printed"
+        );
+        println!(rt; "prints its text")?;
     }
-    for path in &REFUSED {
-        refuse(&rt, path)?;
+    for path in REFUSED {
+        let line = line_of(&rt, &[path])?;
+        let script = File::open(&rt, path)?;
+        let mut printed: Vec<u8> = Vec::new(rt.alloc());
+        match play(
+            &rt,
+            rt.alloc(),
+            &line.options,
+            script,
+            &mut printed,
+            &Always,
+        ) {
+            Ok(()) => bail!("{path} is not refused"),
+            Err(fail) => println!(rt; "{path}: {fail}")?,
+        }
+        ensure!(printed.is_empty(), "something is printed");
     }
     Ok(())
 }
