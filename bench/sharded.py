@@ -192,8 +192,8 @@ def section(rates, where):
     """The section of docs/performance.md."""
     words = (
         "Each figure is in times the calls that one thread makes of a plain store, by the greatest "
-        f"of many short runs. The machine: {where}. [Threads](threads.md#when-to-shard) says when to "
-        "shard."
+        f"of many short runs. The machine: {where}. "
+        "[Threads](threads.md#when-to-shard) says when to shard."
     )
     yield from (
         HEADING,

@@ -16,8 +16,8 @@ FONT = "font-family='DejaVu Sans, Verdana, sans-serif'"
 def text(x, y, words, size=13, anchor="start", fill=INK, bold=False):
     weight = " font-weight='bold'" if bold else ""
     return (
-        f"<text x='{x:g}' y='{y:g}' font-size='{size}' text-anchor='{anchor}' fill='{fill}'{weight} "
-        f"{FONT}>{escape(str(words))}</text>"
+        f"<text x='{x:g}' y='{y:g}' font-size='{size}' text-anchor='{anchor}' "
+        f"fill='{fill}'{weight} {FONT}>{escape(str(words))}</text>"
     )
 
 
