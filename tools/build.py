@@ -81,6 +81,8 @@ def build_all(program, cpu="v2"):
     names = below(program)
     if not names or names[-1] != program:
         sys.exit(f"crates.txt has no crate {program}")
+    if not os.path.exists(os.path.join(TOP, "crates", program, "src", "main.rt")):
+        sys.exit(f"{program} is no program: run `rt lib` in crates/{program}")
     built = os.path.join(TOP, "crates", program, "out", program)
     kept, wanted = built + ".sum", sum_of(names, cpu)
     if os.path.exists(built) and os.path.exists(kept):
