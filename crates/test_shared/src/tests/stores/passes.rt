@@ -51,6 +51,23 @@ fn at_most_64_passes(rt: HostRuntime) -> Result<(), Fail> {
     Ok(())
 }
 
+/// Two readers get a receipt of a put each, and ask for the blob.
+#[test]
+fn receipts_order_two_callers(rt: HostRuntime) -> Result<(), Fail> {
+    let alloc = rt.alloc();
+    let (store, mut first, a) = beginning(&rt, alloc, 16);
+    let mut second = first.split(&store, 1)?;
+    let stored = store.try_put(alloc, &mut first, a.duplicate(), letters());
+    answers(&rt, stored, Note::Stored(1));
+    let mut receipt = first.receipt(&store);
+    let other = receipt.duplicate(&store);
+    second.accept(&store, receipt);
+    first.accept(&store, other);
+    let grant = granted(&rt, store.try_read(&mut second, a, 0, 12));
+    gives(&rt, alloc, &grant, b"ABCDEFGHIJKL", 1);
+    Ok(())
+}
+
 #[test]
 fn widths_from_1_to_65536(rt: HostRuntime) {
     let limit = Limit::new(1).expect(&rt, "a limit");
