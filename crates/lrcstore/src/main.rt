@@ -1,9 +1,10 @@
-//! The program `lrcstore`. It passes its words, the file system and both outputs to `program`.
+//! The program `lrcstore`. It reads the script, and passes its words, the script's bytes and both
+//! outputs to `program`.
 #![tactic(auto)]
 
 use play::Fail;
-use program::{report, run_words};
-use std::fs::File;
+use program::{finish, read_words, report, run_line, unread};
+use std::fs;
 use std::process::ExitCode;
 use std::{env, io};
 
@@ -43,13 +44,15 @@ fn main(rt: HostRuntime) -> ExitCode {
             return fail(Fail::Memory, &mut errors);
         }
     }
-    let exit = run_words(
-        &rt,
-        alloc,
-        texts.as_slice(),
-        |path| File::open(&rt, path),
-        &mut io::writer(&rt),
-        &mut errors,
-    );
+    let mut output = io::writer(&rt);
+    let line = match read_words(alloc, texts.as_slice(), &mut output, &mut errors) {
+        Ok(line) => line,
+        Err(exit) => return ExitCode::from(exit.ending.status()),
+    };
+    let ran = match fs::read(&rt, line.script.as_str()) {
+        Ok(script) => run_line(&rt, alloc, &line, script),
+        Err(error) => Err(unread(&error)),
+    };
+    let exit = finish(ran, &mut output, &mut errors);
     ExitCode::from(exit.ending.status())
 }
