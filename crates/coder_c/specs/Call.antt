@@ -36,14 +36,16 @@ IsLostIn code lost fragment = (fragment < fragment_count code) × (is_lost lost 
 abbrev pub LeftReach : Code → List (List ℕ) → ℕ → ℕ → Type 0
 LeftReach code fragments lost to = (i : ℕ) → i < fragment_count code → is_lost lost i ≡ false → to ≤ length (list_at fragments i)
 
--- the stripe has these bytes at each remaining fragment
-abbrev pub AgreesWithLeft : Code → List (List ℕ) → ℕ → (ℕ → List ℕ) → Type 0
-AgreesWithLeft code fragments lost s = (i : ℕ) → i < fragment_count code → is_lost lost i ≡ false → s i ≡ list_at fragments i
+-- the stripe has the bytes from..to of each remaining fragment
+abbrev pub AgreesWithLeft : Code → List (List ℕ) → ℕ → ℕ → ℕ → (ℕ → List ℕ) → Type 0
+AgreesWithLeft code fragments lost from to s =
+    (i : ℕ) → i < fragment_count code → is_lost lost i ≡ false → slice_range (s i) from to ≡ slice_range (list_at fragments i) from to
 
--- each stripe that agrees with the remaining fragments has these bytes at the fragment, from..to
+-- each stripe that agrees with the remaining fragments at from..to has these bytes there at the
+-- fragment
 abbrev pub RebuildsLost : Code → List (List ℕ) → ℕ → ℕ → ℕ → ℕ → List ℕ → Type 0
 RebuildsLost code fragments lost fragment from to bytes =
-    (w : ℕ) (s : ℕ → List ℕ) → to ≤ w → IsStripe code w s → AgreesWithLeft code fragments lost s → bytes ≡ slice_range (s fragment) from to
+    (w : ℕ) (s : ℕ → List ℕ) → to ≤ w → IsStripe code w s → AgreesWithLeft code fragments lost from to s → bytes ≡ slice_range (s fragment) from to
 
 -- ---- decoding
 -- the fragment that a number chooses; 255 chooses none

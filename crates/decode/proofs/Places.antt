@@ -16,6 +16,7 @@ use Rattle.lrc_code.specs.Code.{fragment_count, xor_sum, weight, weights, IsColu
 use Rattle.lrc_code.specs.Column.{parity_of}
 use Rattle.lrc_code.specs.Stripe.{slot, bytes_of, is_absent, byte_at, Rebuilds}
 use Rattle.lrc_code.proofs.Columns.{equation}
+use Rattle.lrc_code.proofs.Stripes.{same_inside}
 use Rattle.syndromes.specs.Syndromes.{column_at, HasSums}
 use Rattle.syndromes.specs.Syndromes.{syndrome as syndrome_of_lists}
 use Rattle.decode.specs.Syndrome.{syndrome, AreShares}
@@ -84,9 +85,10 @@ placed_syndrome Small w b at bytes e l =
     ∙ sym (equation Small b bytes e l)
 
 -- a fragment that is present has the stripe's byte, and one that is absent none
-byte_left : (o : Option (Bor (List ℕ))) (xs : List ℕ) (k : ℕ) → IfSome o (λ x. xs ≡ x.now) → slice_index (bytes_of o) k ≡ cond (is_none o) 0 (slice_index xs k)
-byte_left None xs k agrees = refl
-byte_left (Some x) xs k agrees = ap (λ ys. slice_index ys k) (sym agrees)
+byte_left : (o : Option (Bor (List ℕ))) (xs : List ℕ) (from to k : ℕ) → from + k < to → IfSome o (λ x. slice_range xs from to ≡ slice_range x.now from to)
+    → slice_index (bytes_of o) (from + k) ≡ cond (is_none o) 0 (slice_index xs (from + k))
+byte_left None xs from to k inside agrees = refl
+byte_left (Some x) xs from to k inside agrees = same_inside x.now xs from to k inside (sym agrees)
 
 -- sums of the syndromes by the shares of an absent fragment are its bytes
 pub rebuilt_by : (code : Code) (fragments lists : List (Option (Bor (List ℕ)))) (f from to : ℕ) (shares bytes : List ℕ) → f < fragment_count code → from ≤ to
@@ -101,7 +103,7 @@ rebuilt_by code fragments lists f from to shares bytes fl order are long sums at
     let column : ℕ → ℕ = λ i. slice_index (s i) (from + k) in
     let left : ℕ → ℕ = byte_at fragments (from + k) in
     let is_column : IsColumn code column = is.columns (from + k) (omega arith) in
-    let remains = λ (i : ℕ) (il : i < fragment_count code). byte_left (slot fragments i) (s i) (from + k) (agrees i il) in
+    let remains = λ (i : ℕ) (il : i < fragment_count code). byte_left (slot fragments i) (s i) from to k (omega (arith, here)) (agrees i il) in
     sums k here
     ∙ xor_sum_same 4 _ _ (λ e el. ap (product (get_or shares e 0)) (placed_syndrome code (column_at lists k) left (λ p pl. at p k pl here) (remainder_bytes code (is_absent fragments) column left is_column remains) e el))
     ∙ sym (are column left is_column remains)

@@ -44,10 +44,10 @@ pub record HasRange (code : Code) (fragments : List (Option (Bor (List ℕ)))) (
   pub range : from ≤ to
   pub long : (i : ℕ) → i < fragment_count code → is_absent fragments i ≡ false → Reaches fragments to i
 
--- the stripe has the present bytes
-abbrev pub Agrees : Code → List (Option (Bor (List ℕ))) → (ℕ → List ℕ) → Type 0
-Agrees code fragments s = (i : ℕ) → i < fragment_count code → IfSome (slot fragments i) (λ x. s i ≡ x.now)
+-- the stripe has the bytes from..to of each fragment that is present
+abbrev pub Agrees : Code → List (Option (Bor (List ℕ))) → ℕ → ℕ → (ℕ → List ℕ) → Type 0
+Agrees code fragments from to s = (i : ℕ) → i < fragment_count code → IfSome (slot fragments i) (λ x. slice_range (s i) from to ≡ slice_range x.now from to)
 
--- each stripe that has the present bytes has these at f, from..to
+-- each stripe that agrees with the present fragments at from..to has these bytes there at f
 abbrev pub Rebuilds : Code → List (Option (Bor (List ℕ))) → ℕ → ℕ → ℕ → List ℕ → Type 0
-Rebuilds code fragments f from to bytes = (w : ℕ) (s : ℕ → List ℕ) → to ≤ w → IsStripe code w s → Agrees code fragments s → bytes ≡ slice_range (s f) from to
+Rebuilds code fragments f from to bytes = (w : ℕ) (s : ℕ → List ℕ) → to ≤ w → IsStripe code w s → Agrees code fragments from to s → bytes ≡ slice_range (s f) from to
