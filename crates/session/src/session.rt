@@ -1,5 +1,5 @@
 //! Sessions: a pass with its store.
-ghost use Rattle.std.specs.Prelude.{◌≡◌, ◌⊎◌, ◌↔◌, ◌≤◌, ◌+◌, ◌-◌, ◌++◌, ℕ, [], length, IfOk, IfErr};
+ghost use Rattle.std.specs.Prelude.{◌≡◌, ◌≢◌, ◌⊎◌, ◌↔◌, ◌≤◌, ◌+◌, ◌-◌, ◌++◌, ℕ, [], length, IfOk, IfErr};
 ghost use Rattle.std.specs.Prelude.{OnOk, OnErr};
 ghost use mathlib.Core.List.{IsPrefix};
 ghost use Rattle.gate.specs.Places.{AreApart, times};
@@ -92,15 +92,12 @@ impl Session {
     /// error returns the session unchanged.
     pub fn close(self) -> Result<Book, Session>
         ensures ok { IfOk result (IsClosing self) }
-        ensures err { IfErr result (λ s. s ≡ self) }
+        ensures err { IfErr result (λ s. (s ≡ self) × (self.room ≢ 64)) }
     {
         let Session { store, pass } = self;
         if pass.room() != 64 {
             return Err(Session { store, pass });
         }
-        match Arc::try_unwrap(store) {
-            Ok(store) => Ok(store.close(pass)),
-            Err(store) => Err(Session { store, pass }),
-        }
+        Ok(store.take_book(pass))
     }
 }

@@ -84,9 +84,25 @@ impl Store {
         ensures entries { result.base.trimmed + length result.entries ≡ length pass.made }
         ensures kept { (result.width ≡ self.width) × (result.limit ≡ self.limit) }
     {
-        let Store { gate, .. } = self;
+        self.take_book(pass)
+    }
+
+    /// As `close`, for a store that is shared. No other pass is left, so nobody calls it again.
+    pub fn take_book(&self, pass: Pass) -> Book
+        requires store { pass.store ≡ self.now }
+        requires lone { pass.room ≡ 64 }
+        ensures told { HoldsHistory result pass.seen }
+        ensures made { (k : ℕ) → k < length pass.seen → times k pass.made ≡ 1 }
+        ensures count { length pass.made ≡ length pass.seen }
+        ensures trimmed { result.base.trimmed ≡ pass.trimmed }
+        ensures agrees { IsConsistent pass }
+        ensures did { (k : ℕ) → k < length pass.acts → times k pass.did ≡ 1 }
+        ensures did_count { length pass.did ≡ length pass.acts }
+        ensures entries { result.base.trimmed + length result.entries ≡ length pass.made }
+        ensures kept { (result.width ≡ self.now.width) × (result.limit ≡ self.now.limit) }
+    {
         let Pass { seat, who: _ } = pass;
-        let Kept(book) = gate.close(seat);
+        let Kept(book) = self.gate.take(seat);
         Box::into_inner(book)
     }
 }

@@ -1,5 +1,5 @@
 -- The journal of a closed store, for C.
-use Rattle.std.specs.Prelude.{◌≡◌, ◌⊎◌, ℕ, List, slice_get, MatchOption, Option, Some, None}
+use Rattle.std.specs.Prelude.{◌≡◌, ◌≢◌, ◌⊎◌, ℕ, List, slice_get, MatchOption, Option, Some, None}
 use Rattle.lrc_code.specs.declared.Code.{Code}
 use Rattle.lrc_code.specs.declared.Code.TheVariants.{Wide, Small}
 use Rattle.history.specs.Parts.{name_of}
@@ -76,10 +76,11 @@ pub record IsClosedTo (v : Shows) (discarded entries lawful : ℕ) (given : Opti
   pub given_is : given ≡ Some (Journal report.book)
   pub discarded_is : discarded ≡ report.book.base.trimmed
 
--- the slot held the last session of a store, and holds nothing; or nothing was done
+-- The slot held the only session of a store, whose room is 64, and holds nothing; or nothing was
+-- done, since the store has other sessions
 abbrev pub IsCloseTo : Option Held → ℕ → ℕ × ℕ × ℕ → ℕ × ℕ × ℕ → Option Held → Option Held → Type 0
 IsCloseTo (Some (Session v number)) status before after None given = (status ≡ done) × IsClosedTo v after.0 after.1 after.2 given
-IsCloseTo (Some (Session v number)) status before after new given = (status ≡ not_alone) × (after ≡ before) × (new ≡ Some (Session v number)) × (given ≡ None)
+IsCloseTo (Some (Session v number)) status before after new given = (status ≡ not_alone) × (v.room ≢ 64) × (after ≡ before) × (new ≡ Some (Session v number)) × (given ≡ None)
 IsCloseTo old status before after new given = (status ≡ empty) × (after ≡ before) × (new ≡ old) × (given ≡ None)
 
 -- the other slot was empty, and there is memory for its new contents; or nothing was done

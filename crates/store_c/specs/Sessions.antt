@@ -78,8 +78,9 @@ pub record IsReportOf (v : Shows) (entries lawful : ℕ) : Type 0 where
 abbrev pub HasHistory : Contents → Type 0
 HasHistory book = (h : History) × HoldsHistory book h
 
--- the slot held the last session of a store, and holds nothing; or nothing was done
+-- The slot held the only session of a store, whose room is 64, and holds nothing; or nothing was
+-- done, since the store has other sessions
 abbrev pub IsCloseCall : Option Held → ℕ → ℕ × ℕ → ℕ × ℕ → Option Held → Type 0
 IsCloseCall (Some (Session v number)) status before after None = (status ≡ done) × IsReportOf v after.0 after.1
-IsCloseCall (Some (Session v number)) status before after new = (status ≡ not_alone) × (after ≡ before) × (new ≡ Some (Session v number))
+IsCloseCall (Some (Session v number)) status before after new = (status ≡ not_alone) × (v.room ≢ 64) × (after ≡ before) × (new ≡ Some (Session v number))
 IsCloseCall old status before after new = (status ≡ empty) × (after ≡ before) × (new ≡ old)

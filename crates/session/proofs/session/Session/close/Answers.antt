@@ -3,11 +3,11 @@ use Rattle.shared.specs.Passes.{Shows, Which}
 use Rattle.session.specs.FreshSession.{IsClosing}
 use Rattle.session.proofs.session.Session.close.Goals as goal
 
-pub returns-in-Ok-clause-ok : goal.returns-in-Ok-clause-ok
-returns-in-Ok-clause-ok c =
-    let e = c.close.ensures in
-    let which : c.in-Ok.store ≡ c.self.inside.pass.store = c.in-Ok.ensures.ok ∙ sym c.self.invariant in
-    subst (λ (v : Shows). IsClosing v c.close.result) c.self.view_is
+pub returns-clause-ok : goal.returns-clause-ok
+returns-clause-ok c =
+    let e = c.take_book.ensures in
+    let which : c.deref.result.now ≡ c.self.inside.pass.store = c.deref.ensures ∙ sym c.self.invariant in
+    subst (λ (v : Shows). IsClosing v c.take_book.result) c.self.view_is
     record {
       room = sym c.room.ensures.value ∙ c.if-room-ne64.false;
       told = e.told;
