@@ -1,6 +1,6 @@
 -- A step through the repairs of a plan.
 use Rattle.std.proofs.Common.{◌≡◌, ◌≢◌, ◌<◌, ℕ, List, [], ◌∷◌, ◌++◌, length, drop, get_or, true, false, Option, None, Some, Result, Ok, Err, refl, sym, ap, subst, arith}
-use Rattle.std.specs.Prelude.{is_ok, IsSome}
+use Rattle.std.specs.Prelude.{is_ok, IfErr, IsSome}
 use Rattle.std.proofs.lemmas.Bool.{false≢true}
 use Rattle.std.specs.Option.{option_to_list}
 use Rattle.history.specs.Step.{repair}
@@ -11,16 +11,18 @@ use Rattle.sealed.specs.declared.fault.Fault.TheVariants.{Busy}
 use Rattle.shared.specs.Passes.{Shows}
 use Rattle.shared.specs.Calls.{Called}
 use Rattle.shared.specs.Mends.{FoundBusy}
+use Rattle.session.specs.KnownFault.{IsBusyOrCallFault}
 use Rattle.session.specs.RepairStep.{HasRepaired, IsRepairStep}
 
 pub popped : (items : List Item) (first : Option Item) (left : List Item) → items ≡ option_to_list first ++ left → IsSome first → left ≡ drop 1 items
 popped items None left e some = absurd (false≢true some)
 popped items (Some item) left e some = sym (ap (drop 1) e)
 
-pub repaired : (item : Item) (name : List ℕ) (fragment : ℕ) (v : Shows) (reply : Result Answer Fault) (w : Shows) → name ≡ item.name → fragment ≡ item.f → Called v (repair name item.stripe fragment) reply w
+pub repaired : (item : Item) (name : List ℕ) (fragment : ℕ) (v : Shows) (reply : Result Answer Fault) (w : Shows) → name ≡ item.name → fragment ≡ item.f → Called v (repair name item.stripe fragment) reply w → IfErr reply IsBusyOrCallFault
     → (reply ≡ Err Busy → FoundBusy v name item.stripe fragment w) → (v.room ≡ 64 → reply ≢ Err Busy) → HasRepaired item v reply w
-repaired item name fragment v reply w name_is fragment_is called busy lone = record {
+repaired item name fragment v reply w name_is fragment_is called faults busy lone = record {
   called = subst (λ n. Called v (repair n item.stripe item.f) reply w) name_is (subst (λ f. Called v (repair name item.stripe f) reply w) fragment_is called);
+  faults = faults;
   busy = subst (λ n. reply ≡ Err Busy → FoundBusy v n item.stripe item.f w) name_is (subst (λ f. reply ≡ Err Busy → FoundBusy v name item.stripe f w) fragment_is busy);
   lone = lone;
 }

@@ -8,10 +8,12 @@ ghost use Rattle.history.specs.Step.{put as put_of, read as read_of, lose as los
 ghost use Rattle.history.specs.Step.{repair as repair_of, delete as delete_of, stat as stat_of};
 ghost use Rattle.history.specs.History.{state_of};
 ghost use Rattle.book.specs.Plan.{plan_of};
+ghost use Rattle.book.specs.Tells.{IsCallFault};
 ghost use Rattle.shared.specs.Calls.{Called, CanGrant, GrantedIn, IfGranted};
 ghost use Rattle.shared.specs.Deeds.{Takes, trim_deed};
 ghost use Rattle.shared.specs.Mends.{FoundBusy};
 ghost use Rattle.shared.specs.Passes.{FindsBusy};
+ghost use Rattle.session.specs.KnownFault.{IsBusyOrCallFault, IsBusyOrFull};
 
 use crate::Session;
 use shared::{Answer, Bytes, Code, Fault, Name, Plan};
@@ -29,6 +31,8 @@ impl Session {
         ensures called { Called self.old (put_of name code bytes) result self.new }
         ensures too_long { (result ≡ Err Fault.TooLong)
             ↔ (4096 < stripe_count code self.old.store.width (length bytes)) }
+        ensures faults { IfErr result
+            (λ e. (e ≡ Fault.Busy) ⊎ IsCallFault e ⊎ (e ≡ Fault.TooLong)) }
         ensures busy { result ≡ Err Fault.Busy → FindsBusy self.old self.new }
         ensures lone { self.old.room ≡ 64 → result ≢ Err Fault.Busy }
     {
@@ -41,6 +45,9 @@ impl Session {
         ensures called { Called self.old (read_of name start len) result self.new }
         ensures grant { IfOk result (λ a. IfGranted a
             (GrantedIn self.new.seen self.old.store.width name start len)) }
+        ensures no_memory { result ≡ Err Fault.NoMemory
+            → CanGrant self.new.seen self.old.store.width name start len }
+        ensures faults { IfErr result IsBusyOrCallFault }
         ensures busy { result ≡ Err Fault.Busy → FindsBusy self.old self.new }
         ensures lone { self.old.room ≡ 64 → result ≢ Err Fault.Busy }
     {
@@ -56,6 +63,7 @@ impl Session {
         fragment: u64,
     ) -> Result<Answer, Fault>
         ensures called { Called self.old (lose_of name stripe fragment) result self.new }
+        ensures faults { IfErr result IsBusyOrCallFault }
         ensures busy { result ≡ Err Fault.Busy → FindsBusy self.old self.new }
         ensures lone { self.old.room ≡ 64 → result ≢ Err Fault.Busy }
     {
@@ -72,6 +80,7 @@ impl Session {
         fragment: u64,
     ) -> Result<Answer, Fault>
         ensures called { Called self.old (repair_of name stripe fragment) result self.new }
+        ensures faults { IfErr result IsBusyOrCallFault }
         ensures busy { result ≡ Err Fault.Busy → FoundBusy self.old name stripe fragment self.new }
         ensures lone { self.old.room ≡ 64 → result ≢ Err Fault.Busy }
     {
@@ -82,6 +91,7 @@ impl Session {
     /// Removes a name and its blob.
     pub fn delete(&mut self, name: Name) -> Result<Answer, Fault>
         ensures called { Called self.old (delete_of name) result self.new }
+        ensures faults { IfErr result IsBusyOrFull }
         ensures busy { result ≡ Err Fault.Busy → FindsBusy self.old self.new }
         ensures lone { self.old.room ≡ 64 → result ≢ Err Fault.Busy }
     {
@@ -91,6 +101,7 @@ impl Session {
     /// Asks for the shape of a blob.
     pub fn stat(&mut self, name: Name) -> Result<Answer, Fault>
         ensures called { Called self.old (stat_of name) result self.new }
+        ensures faults { IfErr result IsBusyOrFull }
         ensures busy { result ≡ Err Fault.Busy → FindsBusy self.old self.new }
         ensures lone { self.old.room ≡ 64 → result ≢ Err Fault.Busy }
     {

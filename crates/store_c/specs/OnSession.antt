@@ -1,9 +1,9 @@
 -- The effect of a call from C on the session in its slot, and what C gets.
-use Rattle.std.specs.Prelude.{◌≡◌, ◌≢◌, ◌+◌, ℕ, List, length, slice_range, Result, Ok, Err, Option, Some, None}
+use Rattle.std.specs.Prelude.{◌≡◌, ◌≢◌, ◌⊎◌, ◌+◌, ℕ, List, length, slice_range, Result, Ok, Err, IfErr, Option, Some, None}
 use Rattle.std.specs.FinMap as finite
 use Rattle.lrc_code.specs.declared.Code.{Code}
 use Rattle.sealed.specs.declared.fault.Fault.{Fault}
-use Rattle.sealed.specs.declared.fault.Fault.TheVariants.{Busy}
+use Rattle.sealed.specs.declared.fault.Fault.TheVariants.{Busy, NoMemory}
 use Rattle.history.specs.Names.{IsName}
 use Rattle.history.specs.State.{Blob}
 use Rattle.history.specs.Step.{Operation, put, read, repair, stat}
@@ -18,6 +18,7 @@ use Rattle.shared.specs.Calls.{Called}
 use Rattle.shared.specs.Deeds.{Takes, trim_deed}
 use Rattle.shared.specs.Mends.{FoundBusy}
 use Rattle.session.specs.CopyOf.{IsCopy}
+use Rattle.session.specs.KnownFault.{HasKnownFault}
 use Rattle.session.specs.declared.held.Held.{Held}
 use Rattle.session.specs.declared.held.Held.TheVariants.{Session}
 use Rattle.store_c.specs.Status.{bad_argument, bad_name, done, empty, no_memory, not_rebuilt, status_of, status_of_count, version_of, shape_of, count_of, code_with}
@@ -27,10 +28,12 @@ abbrev pub IsAfterBusy : Shows → Operation → Shows → Type 0
 IsAfterBusy v (repair n j f) w = FoundBusy v n j f w
 IsAfterBusy v operation w = FindsBusy v w
 
--- The call has this reply. C gets its status, and its version if it has one. While the store has no
--- other session, the call never finds another thread in the critical section
+-- The call has this reply, whose error, if any, is one that the operation may have. C gets the
+-- status, and the version if there is one. While the store has no other session, the call never
+-- finds another thread in the critical section
 pub record HasReply (v : Shows) (operation : Operation) (reply : Result Answer Fault) (status before after : ℕ) (w : Shows) : Type 0 where
   pub called : Called v operation reply w
+  pub faults : HasKnownFault v operation reply w
   pub status_is : status ≡ status_of reply
   pub version_is : after ≡ version_of before reply
   pub busy : reply ≡ Err Busy → IsAfterBusy v operation w
@@ -45,12 +48,21 @@ pub data IsNamedCall (v : Shows) (name : List ℕ) (operation : List ℕ → Ope
   unnamed : (IsName name → ⊥) → status ≡ bad_name → after ≡ before → w ≡ v → IsNamedCall v name operation status before after w
   named : IsName name → HasSomeReply v (operation name) status before after w → IsNamedCall v name operation status before after w
 
--- the same with a code, and with memory for a copy of the bytes
+-- the arguments of a put are refused: first the name, then the number of data fragments
+pub data IsPutRefusal (name : List ℕ) (data_fragments status : ℕ) : Type 0 where
+  unnamed_put : (IsName name → ⊥) → status ≡ bad_name → IsPutRefusal name data_fragments status
+  uncoded_put : IsName name → code_with data_fragments ≡ None → status ≡ bad_argument → IsPutRefusal name data_fragments status
+
+-- a put of these bytes was made; or memory for a copy ran out, and nothing was done
+pub data IsPutOf (v : Shows) (name : List ℕ) (code : Code) (bytes : List ℕ) (status before after : ℕ) (w : Shows) : Type 0 where
+  uncopied_put : status ≡ no_memory → after ≡ before → w ≡ v → IsPutOf v name code bytes status before after w
+  answered_put : HasSomeReply v (put name code bytes) status before after w → IsPutOf v name code bytes status before after w
+
+-- the arguments of a put are a name and a code; or they are refused before anything else, and
+-- nothing was done
 pub data IsPutCall (v : Shows) (name bytes : List ℕ) (data_fragments status before after : ℕ) (w : Shows) : Type 0 where
-  unnamed_put : (IsName name → ⊥) → status ≡ bad_name → after ≡ before → w ≡ v → IsPutCall v name bytes data_fragments status before after w
-  uncoded_put : code_with data_fragments ≡ None → status ≡ bad_argument → after ≡ before → w ≡ v → IsPutCall v name bytes data_fragments status before after w
-  uncopied_put : status ≡ no_memory → after ≡ before → w ≡ v → IsPutCall v name bytes data_fragments status before after w
-  answered_put : (code : Code) → IsName name → code_with data_fragments ≡ Some code → HasSomeReply v (put name code bytes) status before after w → IsPutCall v name bytes data_fragments status before after w
+  refused_put : IsPutRefusal name data_fragments status → after ≡ before → w ≡ v → IsPutCall v name bytes data_fragments status before after w
+  accepted_put : (code : Code) → IsName name → code_with data_fragments ≡ Some code → IsPutOf v name code bytes status before after w → IsPutCall v name bytes data_fragments status before after w
 
 -- after this history these are `len` bytes of the name's blob, from `start` on, which was put with
 -- this version
@@ -88,6 +100,7 @@ IsOnSession old status new Kept Did = (status ≡ empty) × (new ≡ old) × Kep
 pub record IsTrimCall (v : Shows) (keep status before after : ℕ) (w : Shows) : Type 0 where
   pub reply : Result ℕ Fault
   pub takes : Takes v (trim_deed keep reply) w
+  pub faults : IfErr reply (λ e. (e ≡ Busy) ⊎ (e ≡ NoMemory))
   pub status_is : status ≡ status_of_count reply
   pub count_is : after ≡ count_of before reply
   pub busy : reply ≡ Err Busy → FindsBusy v w

@@ -1,7 +1,7 @@
 -- The repairs of a plan, for C.
-use Rattle.std.specs.Prelude.{◌≡◌, ◌≢◌, ℕ, List, [], ◌∷◌, length, Result, Option, Some, None}
+use Rattle.std.specs.Prelude.{◌≡◌, ◌≢◌, ◌⊎◌, ℕ, List, [], ◌∷◌, length, Result, Option, Some, None}
 use Rattle.sealed.specs.declared.fault.Fault.{Fault}
-use Rattle.sealed.specs.declared.fault.Fault.TheVariants.{Busy}
+use Rattle.sealed.specs.declared.fault.Fault.TheVariants.{Busy, NoMemory}
 use Rattle.history.specs.Step.{repair}
 use Rattle.history.specs.History.{state_of}
 use Rattle.book.specs.declared.answer.Answer.{Answer}
@@ -20,7 +20,7 @@ use Rattle.store_c.specs.OnSession.{HasReply}
 pub data HasPlan (v : Shows) (status : ℕ) (counts : ℕ × ℕ) (w : Shows) (given : Option Held) : Type 0 where
   planned : (items : List Item) → status ≡ done → Takes v None w → items ≡ plan_of (state_of w.seen) → counts.1 ≡ length items → given ≡ Some (Repairs items) → HasPlan v status counts w given
   no_room_for_plan : status ≡ no_memory → counts.1 ≡ counts.0 → w ≡ v → given ≡ None → HasPlan v status counts w given
-  plan_refused : (fault : Fault) → status ≡ status_of_fault fault → Takes v None w → (fault ≡ Busy → FindsBusy v w) → (v.room ≡ 64 → fault ≢ Busy) → counts.1 ≡ counts.0 → given ≡ None
+  plan_refused : (fault : Fault) → (fault ≡ Busy) ⊎ (fault ≡ NoMemory) → status ≡ status_of_fault fault → Takes v None w → (fault ≡ Busy → FindsBusy v w) → (v.room ≡ 64 → fault ≢ Busy) → counts.1 ≡ counts.0 → given ≡ None
       → HasPlan v status counts w given
 
 -- the other slot is empty before; or nothing was done

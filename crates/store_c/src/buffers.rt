@@ -1,12 +1,13 @@
 //! Buffers: bytes that C fills, and that are put without a copy.
 ghost use Rattle.std.specs.Prelude.{◌≡◌, ◌≢◌, None, Some};
 ghost use Rattle.store_c.specs.Status.{done};
-ghost use Rattle.store_c.specs.OnSession.{IsPutCall};
-ghost use Rattle.store_c.specs.Buffers.{IsReserve, IsPutFrom};
+ghost use Rattle.store_c.specs.OnSession.{IsPutCall, IsPutOf};
+ghost use Rattle.store_c.specs.Buffers.{IsReserve, IsPutFrom, IsSpent};
 
-use crate::calls;
+use crate::answers::put_arguments;
+use crate::calls::put_as;
 use crate::status::{DONE, EMPTY, NO_MEMORY};
-use session::{Bytes, Held, Session, Slot};
+use session::{Bytes, Code, Held, Name, Session, Slot};
 use std::alloc::Global;
 use std::boxed::Box;
 
@@ -62,15 +63,11 @@ fn put_held(
         (version.old, version.new) session.new given.new }
 {
     match given.take() {
-        Some(Held::Buffer(bytes)) => match Bytes::from_vec(bytes) {
-            Ok(blob) => put_bytes(alloc, session, name, blob, given, data_fragments, version),
-            Err(refused) => {
-                *given = Some(Held::Buffer(refused.value));
-                NO_MEMORY
-            }
-        },
+        Some(Held::Buffer(bytes)) => {
+            put_buffer(alloc, session, name, bytes, given, data_fragments, version)
+        }
         Some(Held::Refused(blob)) => {
-            put_bytes(alloc, session, name, blob, given, data_fragments, version)
+            put_refused(alloc, session, name, blob, given, data_fragments, version)
         }
         kept => {
             *given = kept;
@@ -79,8 +76,39 @@ fn put_held(
     }
 }
 
-/// Puts these bytes, and keeps them if the put is refused.
-fn put_bytes(
+/// Puts the bytes of a buffer. It is still a buffer if the arguments are refused.
+fn put_buffer(
+    alloc: Global,
+    session: &mut Session,
+    name: &[u8],
+    bytes: Vec<u8>,
+    given: &mut Option<Held>,
+    data_fragments: u32,
+    version: &mut u64,
+) -> u32
+    requires { given.old ≡ None }
+    ensures put { IsPutCall session.old name.now bytes.items data_fragments result version.old
+        version.new session.new }
+    ensures spent { IsSpent bytes.items result given.new }
+{
+    let (name, code) = match put_arguments(name, data_fragments) {
+        Ok(arguments) => arguments,
+        Err(status) => {
+            *given = Some(Held::Buffer(bytes));
+            return status;
+        }
+    };
+    match Bytes::from_vec(bytes) {
+        Ok(blob) => put_blob(alloc, session, name, blob, code, given, version),
+        Err(refused) => {
+            *given = Some(Held::Buffer(refused.value));
+            NO_MEMORY
+        }
+    }
+}
+
+/// Puts the bytes of a put that was refused.
+fn put_refused(
     alloc: Global,
     session: &mut Session,
     name: &[u8],
@@ -92,14 +120,37 @@ fn put_bytes(
     requires { given.old ≡ None }
     ensures put { IsPutCall session.old name.now blob data_fragments result version.old version.new
         session.new }
-    ensures done { result ≡ done → given.new ≡ None }
-    ensures refused { result ≢ done → given.new ≡ Some (Held.Refused blob) }
+    ensures spent { IsSpent blob result given.new }
+{
+    let (name, code) = match put_arguments(name, data_fragments) {
+        Ok(arguments) => arguments,
+        Err(status) => {
+            *given = Some(Held::Refused(blob));
+            return status;
+        }
+    };
+    put_blob(alloc, session, name, blob, code, given, version)
+}
+
+/// Puts this blob, and keeps it if the put is refused.
+fn put_blob(
+    alloc: Global,
+    session: &mut Session,
+    name: Name,
+    blob: Bytes,
+    code: Code,
+    given: &mut Option<Held>,
+    version: &mut u64,
+) -> u32
+    requires { given.old ≡ None }
+    ensures put { IsPutOf session.old name code blob result version.old version.new session.new }
+    ensures spent { IsSpent blob result given.new }
 {
     let Ok(copy) = blob.clone() else {
         *given = Some(Held::Refused(blob));
         return NO_MEMORY;
     };
-    let status = calls::put_bytes(alloc, session, name, copy, data_fragments, version);
+    let status = put_as(alloc, session, name, copy, code, version);
     if status != DONE {
         *given = Some(Held::Refused(blob));
     }

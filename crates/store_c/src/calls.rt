@@ -1,13 +1,14 @@
 //! The calls on a session, with the arguments that C passed. Each is a function of its own, with
 //! the contract that the function for C hands on.
 ghost use Rattle.std.specs.Prelude.{◌≡◌};
-ghost use Rattle.history.specs.Step.{lose as lose_of, repair as repair_of, delete as delete_of};
+ghost use Rattle.history.specs.Step.{put as put_of, lose as lose_of, repair as repair_of};
+ghost use Rattle.history.specs.Step.{delete as delete_of};
 ghost use Rattle.store_c.specs.OnSession.{IsNamedCall, IsPutCall, IsReadCall, IsStatCall};
-ghost use Rattle.store_c.specs.OnSession.{IsTrimCall};
+ghost use Rattle.store_c.specs.OnSession.{IsTrimCall, HasSomeReply};
 
-use crate::answers::{code_of, name_of, number_of, tell, tell_shape};
-use crate::status::{BAD_ARGUMENT, BAD_NAME, DONE, NO_MEMORY, NOT_REBUILT};
-use session::{Answer, Bytes, Session, copy_out};
+use crate::answers::{name_of, number_of, put_arguments, tell, tell_shape};
+use crate::status::{BAD_NAME, DONE, NO_MEMORY, NOT_REBUILT};
+use session::{Answer, Bytes, Code, Name, Session, copy_out};
 use std::alloc::Global;
 
 pub(crate) fn put(
@@ -21,30 +22,28 @@ pub(crate) fn put(
     ensures { IsPutCall session.old name.now blob.now data_fragments result version.old version.new
         session.new }
 {
+    let (name, code) = match put_arguments(name, data_fragments) {
+        Ok(arguments) => arguments,
+        Err(status) => return status,
+    };
     let Ok(bytes) = Bytes::copy_from_slice(alloc, blob) else {
         return NO_MEMORY;
     };
-    put_bytes(alloc, session, name, bytes, data_fragments, version)
+    put_as(alloc, session, name, bytes, code, version)
 }
 
-/// Does the same without a copy.
-pub(crate) fn put_bytes(
+/// Puts a blob with a name in a code.
+pub(crate) fn put_as(
     alloc: Global,
     session: &mut Session,
-    name: &[u8],
+    name: Name,
     blob: Bytes,
-    data_fragments: u32,
+    code: Code,
     version: &mut u64,
 ) -> u32
-    ensures { IsPutCall session.old name.now blob data_fragments result version.old version.new
+    ensures { HasSomeReply session.old (put_of name code blob) result version.old version.new
         session.new }
 {
-    let Some(name) = name_of(name) else {
-        return BAD_NAME;
-    };
-    let Some(code) = code_of(data_fragments) else {
-        return BAD_ARGUMENT;
-    };
     let reply = session.put_as(alloc, name, blob, code);
     tell(&reply, version)
 }

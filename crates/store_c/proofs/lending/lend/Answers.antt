@@ -19,7 +19,7 @@ returns-in-Ok-of c =
     let start = c.args.start in let len = c.args.len in
     let reply_is : call.result ≡ Ok (Granted g) = c.in-Ok-Granted.is ∙ ap Ok c.in-Ok-Granted.field-0-is in
     let is = replied v (read name.name start len) (read c.args.name.now start len) call.result 0 c.args.version.now c.tell-status.new.version call.new.self
-    (λ i. read (name.ensures.0 i) start len) call.ensures.called (sym (ap status_of reply_is)) c.tell-status.ensures.version call.ensures.busy call.ensures.lone in
+    (λ i. read (name.ensures.0 i) start len) call.ensures.called (call.ensures.faults, call.ensures.no_memory) (sym (ap status_of reply_is)) c.tell-status.ensures.version call.ensures.busy call.ensures.lone in
     let so = subst (λ (r : Result Answer Fault). HasReply v (read c.args.name.now start len) r 0 c.args.version.now c.tell-status.new.version call.new.self) reply_is is in
     let here = granted call.result g call.new.self.seen v.store.width name.name c.args.name.now start len reply_is name.ensures.0 call.ensures.grant in
     let from = c.in-Ok-of.ensures in
@@ -36,6 +36,6 @@ returns-in-Err c =
     let start = c.args.start in let len = c.args.len in
     let reply_is : call.result ≡ Ok (Granted g) = c.in-Ok-Granted.is ∙ ap Ok c.in-Ok-Granted.field-0-is in
     let is = replied v (read name.name start len) (read c.args.name.now start len) call.result 0 c.args.version.now c.tell-status.new.version call.new.self
-    (λ i. read (name.ensures.0 i) start len) call.ensures.called (sym (ap status_of reply_is)) c.tell-status.ensures.version call.ensures.busy call.ensures.lone in
+    (λ i. read (name.ensures.0 i) start len) call.ensures.called (call.ensures.faults, call.ensures.no_memory) (sym (ap status_of reply_is)) c.tell-status.ensures.version call.ensures.busy call.ensures.lone in
     let so = subst (λ (r : Result Answer Fault). HasReply v (read c.args.name.now start len) r 0 c.args.version.now c.tell-status.new.version call.new.self) reply_is is in
     unbuilt_lend name.ensures.1 g so refl refl c.requires

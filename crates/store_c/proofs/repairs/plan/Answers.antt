@@ -1,4 +1,4 @@
-use Rattle.std.proofs.Common.{Err, refl, ap, ◌∙◌}
+use Rattle.std.proofs.Common.{Err, refl, ap, ◌∙◌, rules}
 use Rattle.store_c.specs.Plan.{planned, plan_refused}
 use Rattle.store_c.proofs.repairs.plan.Goals as goal
 
@@ -8,4 +8,4 @@ returns-in-Ok-plan c = planned c.of-repairs.result refl c.in-Ok-plan.ensures.tak
 pub returns-in-Err : goal.returns-in-Err
 returns-in-Err c =
     let plan = c.plan.ensures in
-    plan_refused c.in-Err.fault c.number_of.ensures plan.takes (λ busy. plan.busy (c.in-Err.is ∙ ap Err busy)) (λ room busy. plan.lone room (c.in-Err.is ∙ ap Err busy)) refl c.requires
+    plan_refused c.in-Err.fault (search rules) c.number_of.ensures plan.takes (λ busy. plan.busy (c.in-Err.is ∙ ap Err busy)) (λ room busy. plan.lone room (c.in-Err.is ∙ ap Err busy)) refl c.requires

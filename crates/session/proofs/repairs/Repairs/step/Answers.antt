@@ -13,7 +13,7 @@ returns c =
     let inside : 0 < length items = omega (arith, c.in_ok-item.ensures.variant.0 refl, c.self.inside.items.ok) in
     let long : 0 < c.self.inside.items.len = omega (arith, inside, c.self.inside.items.ok.0) in
     let has = repaired item c.duplicate-name.result c.from-fragment.result c.args.session.now reply c.repair-reply.new.self c.duplicate-name.ensures c.from-fragment.ensures c.repair-reply.ensures.called
-    c.repair-reply.ensures.busy c.repair-reply.ensures.lone in
+    c.repair-reply.ensures.faults c.repair-reply.ensures.busy c.repair-reply.ensures.lone in
     let done : is_ok reply ≡ true → c.if-is_ok.self ≡ drop 1 items = λ ok. elim c.if-is_ok.branch [
       | then-is_ok w ↦ w.self-is ∙ popped items w.pop_front-item.result w.pop_front-item.new.self.items w.pop_front-item.ensures.items (w.pop_front-item.ensures.variant.1 long)
       | else-is_ok w ↦ absurd (false≢true (sym w.if-is_ok.false ∙ c.is_ok.ensures.value ∙ ok))
