@@ -3,6 +3,7 @@
 standard error."""
 
 import os
+import re
 import subprocess
 import sys
 import tempfile
@@ -30,6 +31,8 @@ REFUSED = [
 # What the help has to name: the operations, the statuses and the document with the rest.
 HELPS = ["put", "put6", "read", "lose", "repair", "delete", "stat", "trim", "mend"]
 HELPS += ["/dev/stdin", "--history", "Exit status", "docs/script.md"]
+# What the example of the help prints.
+EXAMPLE = b"1 stored 1\n2 lost 1\n3 granted 1 4 1 48454c4c4f\ncalls 3\nlawful yes\n"
 MOST_ROWS = 65536
 
 
@@ -46,6 +49,11 @@ def ended(what, ran, status, out, err):
     if not is_right:
         print(what, "ended with", ran.returncode, ran.stdout, ran.stderr)
     return is_right
+
+
+def example_of(text):
+    """The rows of a script that stand in the help."""
+    return b"".join(re.findall(rb"^ +(\d+,.*\n)", text, re.MULTILINE))
 
 
 def main():
@@ -68,6 +76,13 @@ def main():
             ended("standard input", run(folder, ["/dev/stdin"], given=FIRST_PATH), 0, PRINTED, b""),
             ended("help", helped, 0, None, b""),
             all(word.encode() in helped.stdout for word in HELPS),
+            ended(
+                "the example of the help",
+                run(folder, ["/dev/stdin"], given=example_of(helped.stdout)),
+                0,
+                EXAMPLE,
+                b"",
+            ),
             ended("version", run(folder, ["--version"]), 0, b"lrcstore 0.1.0\n", b""),
             ended(
                 "too many rows",

@@ -10,14 +10,14 @@ pub(crate) const MORE: &str = "A row of SCRIPT is round,worker,op,name,a,b, with
   put6     a: text or hex     b: the bytes            stores a blob in LRC(6,2,2)
   read     a: first byte      b: number of bytes      reads a range, lost fragments or not
   lose     a: stripe          b: fragment             loses a fragment
-  repair   a: stripe          b: fragment             builds a lost fragment again
-  delete, stat                                        takes a blob out, tells its shape
-  trim     a: entries to keep                         no name; gives up older entries of the journal
+  repair   a: stripe          b: fragment             rebuilds a lost fragment
+  delete, stat                                        deletes a blob; prints its shape
+  trim     a: entries to keep                         no name; discards older journal entries
   mend                                                no name, worker 0, alone in its round; repairs all
 The rows of a round run at the same time, each worker's in order. An example:
   1,1,put,a,text,HELLO
   1,1,lose,a,0,0
-  2,2,read,a,0,5
+  2,1,read,a,0,5
 
 Exit status: 0 done, 1 a row is refused or a file can't be read or written, 2 the command line
-is refused, 3 out of memory or threads. docs/script.md has it all.";
+is refused, 3 out of memory or threads. docs/script.md describes it all.";
