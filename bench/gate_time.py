@@ -1,5 +1,7 @@
 #!/usr/bin/env python3
-"""Runs rt ci, and says what each crate took of the processors: bench/gate_time.py [words for rt ci]
+"""Runs rt ci, by tools/rt_once.py, and says what each crate took of the processors:
+
+    bench/gate_time.py [words for rt ci]
 
 Each second it reads the processor time of the provers that the run has started. At the end it
 prints for each crate the seconds for its proof, for that of its tests and for its must-fail edits,
@@ -14,6 +16,8 @@ import time
 
 KINDS = ("Proof", "Its tests", "Its edits")
 TICKS = os.sysconf("SC_CLK_TCK")
+TOP = os.path.dirname(os.path.dirname(os.path.abspath(__file__)))
+RT = os.path.join(TOP, "tools", "rt_once.py")
 
 
 def processes():
@@ -66,7 +70,7 @@ def watch(run):
 
 def main():
     start = time.monotonic()
-    run = subprocess.Popen(["rt", "ci", *sys.argv[1:]])
+    run = subprocess.Popen([sys.executable, RT, "ci", *sys.argv[1:]])
     sums = {}
     for crate, kind, seconds in watch(run):
         row = sums.setdefault(crate, dict.fromkeys(KINDS, 0.0))

@@ -1,0 +1,161 @@
+#!/usr/bin/env python3
+"""rt, with no work done twice: each word but `archive` is one of rt's own.
+
+    tools/rt_once.py WORD..                         the words of rt
+    tools/rt_once.py archive CRATE v2|v3 FILE       builds a static library for a processor
+
+Checksums. rt computes the checksum of a crate anew for each path of crates.txt that leads to it:
+5,702 times for `lrcstore`, which has 18 crates below it. Here one walk over the crates computes
+each once. The sums are the same.
+
+Mutants. rt tries the mutants of a crate in turn, each over the work of the one before, so each also
+proves again what that one changed. Here each starts from the work of a proof from nothing.
+
+Archives. `ci` proves a static library and builds none. Here that proof keeps its work, in a folder
+that was empty, and `archive` builds over it; the line of such a crate says `incremental=trusted`.
+If the gate has not run, or a file has changed since, `archive` proves by `rt lib`.
+"""
+
+import importlib.machinery
+import importlib.util
+import os
+import shutil
+import subprocess
+import sys
+import tempfile
+
+TOP = os.path.dirname(os.path.dirname(os.path.abspath(__file__)))
+KEPT = "out/kept"
+KIT = "rattle-kit-13b "
+
+
+def load_rt():
+    """The kit's command as a module, with its library `rtlib`."""
+    page = subprocess.run(["rt", "doc"], stdout=subprocess.PIPE, text=True, check=True)
+    path = os.path.join(os.path.dirname(page.stdout.strip()), "bin", "rt")
+    loader = importlib.machinery.SourceFileLoader("rt", path)
+    module = importlib.util.module_from_spec(importlib.util.spec_from_loader("rt", loader))
+    loader.exec_module(module)
+    return module
+
+
+def kit_of(rt):
+    """The kit's name. What stands below is for one kit, and with another rt works as it is."""
+    with open(f"{rt.KIT}/KIT-ID", encoding="utf-8") as file:
+        return file.read()
+
+
+def sum_once(rtlib):
+    """Has a walk over the crates read each of them once. A new call is a new walk."""
+    whole, walks = rtlib.Crate.stamp, [None]
+
+    def stamp(self):
+        outer = walks[0]
+        walks[0] = {} if outer is None else outer
+        try:
+            if self.folder not in walks[0]:
+                walks[0][self.folder] = whole(self)
+            return walks[0][self.folder]
+        finally:
+            walks[0] = outer
+
+    rtlib.Crate.stamp = stamp
+
+
+def keep_work(rt):
+    """Has `ci` keep the work of a static library's proof from nothing, with its checksum."""
+    whole = rt.Crate.ci
+
+    def ci(self, flags, tests):
+        if tests or not self.is_static:
+            return whole(self, flags, tests)
+        kept = f"{self.folder}/{KEPT}"
+        shutil.rmtree(kept, ignore_errors=True)
+        os.makedirs(kept)
+        status = whole(self, [*flags, "--incremental", kept], tests)
+        if not status:
+            with open(f"{kept}.sum", "w", encoding="utf-8") as file:
+                file.write(self.stamp())
+        return status
+
+    rt.Crate.ci = ci
+
+
+def start_from_proof(rt):
+    """Has each mutant of a crate start from the work of a proof of the crate."""
+    whole = rt.must_fail_all
+
+    def must_fail_all(crate, edits, flags):
+        if len(edits) < 2:
+            return whole(crate, edits, flags)
+        with tempfile.TemporaryDirectory(prefix="rt-proof-") as room:
+            proof, mutant = f"{room}/proof", f"{room}/mutant"
+            os.mkdir(proof)
+            if rt.checked(crate, {}, flags, proof).returncode:
+                return whole(crate, edits, flags)
+            tried = []
+            for edit in edits:
+                shutil.copytree(proof, mutant)
+                tried.append(rt.must_fail(crate, edit, flags, mutant))
+                shutil.rmtree(mutant)
+        return tried
+
+    rt.must_fail_all = must_fail_all
+
+
+def crate_named(rt, name):
+    """A crate of this repository, as the gate sees it."""
+    rt.rtlib.Crate = rt.Crate
+    rt.Crate.cuts_libraries = True
+    rt.Crate.allowed = rt.handles_of(TOP)
+    found = [crate for crate in rt.rtlib.crates_below(TOP) if crate.name == name]
+    if not found or not found[0].is_static:
+        sys.exit(f"crates.txt has no static library {name}")
+    return found[0]
+
+
+def has_kept(rt, crate):
+    """Whether the gate has proved these files, and its libraries still stand."""
+    libraries = [dep.rlib for dep in crate.below()]
+    stamped = [path for path in libraries if os.path.exists(f"{os.path.dirname(path)}/stamp")]
+    is_same = rt.rtlib.text_of(f"{crate.folder}/{KEPT}.sum") == crate.stamp()
+    return is_same and all(map(os.path.isdir, libraries)) and not stamped
+
+
+def compile_kept(rt, crate, cpu, archive):
+    """Builds over what the gate has proved. Returns rattle's status."""
+    words = crate.words(["--jobs", "1", f"--cpu=x86-64-{cpu}", "--incremental", KEPT], keeps=False)
+    command = [rt.rtlib.RATTLE, "build", *words, "--backend", "llvm", "-o", archive]
+    command += ["--toolchain", f"{rt.KIT}/toolchain"]
+    return subprocess.run(command, cwd=crate.folder, check=False).returncode
+
+
+def build_archive(rt, name, cpu, archive):
+    """Builds a static library, from what the gate has kept if it can."""
+    archive = os.path.abspath(archive)
+    crate = crate_named(rt, name)
+    if has_kept(rt, crate) and compile_kept(rt, crate, cpu, archive) == 0:
+        return 0
+    command = [sys.executable, os.path.abspath(__file__), "lib", f"--cpu=x86-64-{cpu}"]
+    status = subprocess.run(command, cwd=crate.folder, check=False).returncode
+    if status == 0:
+        shutil.copyfile(f"{crate.folder}/out/lib{name}.a", archive)
+    return status
+
+
+def main():
+    words = sys.argv[1:]
+    rt = load_rt()
+    if kit_of(rt).startswith(KIT):
+        sum_once(rt.rtlib)
+        keep_work(rt)
+        start_from_proof(rt)
+    if words[:1] == ["archive"]:
+        if len(words) != 4 or words[2] not in ("v2", "v3"):
+            sys.exit(__doc__)
+        sys.exit(build_archive(rt, *words[1:]))
+    sys.exit(rt.main(words))
+
+
+if __name__ == "__main__":
+    main()
