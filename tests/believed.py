@@ -1,10 +1,10 @@
 #!/usr/bin/env python3
 """Which definitions a reader has to believe: tests/believed.py [--list]
 
-They are those that the clauses of `Store`, `Pass`, `Grant`, `play` and `run_words` cite, with what
-these stand on, all the way down to the kit's words. It prints how many lines of each crate they
-are, without comments, with --list their names, by file, and fails where docs/definitions.md says
-another number.
+For each door of the product they are those that the clauses of its public functions cite, with what
+these stand on, all the way down to the kit's words. It prints the table of docs/definitions.md: how
+many definitions and lines, without comments, a user of a door has to read. With --list it prints
+their names, by file. It fails if the page has another row.
 """
 
 import os
@@ -14,7 +14,20 @@ from collections import defaultdict
 
 from sources import CRATES, blanked, closing, files_of, functions_of, read
 
-ROOTS = {("shared", "Store"), ("shared", "Pass"), ("lent", "Grant"), ("play", ""), ("program", "")}
+# What a user calls, and the crates and types that have these functions.
+DOORS = {
+    "the program": [("program", "")],
+    "the store, passes and grants": [
+        ("shared", "Store"),
+        ("shared", "Pass"),
+        ("shared", "Receipt"),
+        ("lent", "Grant"),
+    ],
+    "the mender": [("mender", "")],
+    "a store in shards": [("sharded", "ShardedStore"), ("sharded", "ShardedPass"), ("sharded", "")],
+    "the store for C": [("store_c", "")],
+    "the coder for C": [("coder_c", "")],
+}
 HEAD = re.compile(r"^ *(?:(?:abbrev|unfoldable) pub |pub (?:record|data) )(\S+)", re.M)
 IMPORT = re.compile(
     r"use Rattle\.(\w+)\.specs\.([\w.]+?)(?:\.\{([^}]*)\}|\.TheVariants as (\w+)| as (\w+))"
@@ -124,9 +137,9 @@ class Definitions:
         return {key for key in seen if key in self.bodies}
 
 
-def roots(definitions):
-    """What the clauses of the public functions of the four cite."""
-    for crate, owner in ROOTS:
+def roots(definitions, door):
+    """What the clauses of the public functions of a door cite."""
+    for crate, owner in DOORS[door]:
         for path in files_of(os.path.join(CRATES, crate, "src")):
             text = read(path)
             for function in functions_of(text):
@@ -135,39 +148,34 @@ def roots(definitions):
                     yield from definitions.cited(clauses, crate, None, imports_of(text))
 
 
-def counted():
-    """The definitions that are to be believed, all definitions, and how many lines of the first
-    each crate has."""
-    definitions = Definitions()
-    believed, lines = definitions.below(roots(definitions)), defaultdict(int)
-    for key in believed:
-        lines[key[0]] += definitions.lines[key]
-    return believed, definitions, lines
+def row(what, believed, definitions):
+    """A row of the table of docs/definitions.md."""
+    lines = sum(definitions.lines[key] for key in believed)
+    return f"| {what} | {len(believed):,} | {lines:,} |"
 
 
-def sentence(believed, definitions, lines):
-    """What docs/definitions.md says of it."""
-    return (
-        f"{len(believed)} of {len(definitions.lines)} definitions, "
-        f"{sum(lines.values()):,} of {sum(definitions.lines.values()):,} lines"
-    )
+def listed(believed):
+    """The names of definitions, by file."""
+    by_file = defaultdict(list)
+    for crate, module, name in sorted(believed):
+        by_file[crate, module].append(name)
+    for (crate, module), names in by_file.items():
+        yield f"crates/{crate}/specs/{module}.antt: {', '.join(names)}"
 
 
 def main(arguments):
-    believed, definitions, lines = counted()
+    definitions = Definitions()
+    believed = {door: definitions.below(roots(definitions, door)) for door in DOORS}
     if "--list" in arguments:
-        by_file = defaultdict(list)
-        for crate, module, name in sorted(believed):
-            by_file[crate, module].append(name)
-        for (crate, module), names in by_file.items():
-            print(f"crates/{crate}/specs/{module}.antt: {', '.join(names)}")
-    print(", ".join(f"{crate} {count}" for crate, count in sorted(lines.items())))
-    said = sentence(believed, definitions, lines)
-    print(said)
-    if said not in " ".join(
-        read(os.path.join(os.path.dirname(CRATES), "docs", "definitions.md")).split()
-    ):
-        sys.exit("docs/definitions.md says another number")
+        for door in DOORS:
+            print(f"{door}:", *listed(believed[door]), "", sep="\n")
+    rows = [row(door, believed[door], definitions) for door in DOORS]
+    rows.append(row("all doors together", set().union(*believed.values()), definitions))
+    rows.append(row("all definitions of the repository", definitions.lines, definitions))
+    page = read(os.path.join(os.path.dirname(CRATES), "docs", "definitions.md"))
+    print(*rows, sep="\n")
+    if not all(one in page.split("\n") for one in rows):
+        sys.exit("docs/definitions.md has another row")
 
 
 if __name__ == "__main__":
