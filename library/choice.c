@@ -31,39 +31,28 @@ EACH(ENTRY)
 static const char *cpu = "x86-64-v2";
 
 /* Whether all of `bits` are set in `word`. */
-static int has(unsigned word, unsigned bits)
-{
-    return (word & bits) == bits;
-}
+static int has(unsigned word, unsigned bits) { return (word & bits) == bits; }
 
 /* Whether processor and system have what x86-64-v3 adds to x86-64-v2. */
-static int is_v3(void)
-{
+static int is_v3(void) {
     const unsigned basic = bit_FMA | bit_MOVBE | bit_OSXSAVE | bit_AVX | bit_F16C;
     unsigned a, b, c, d, saved, high;
-    if (!__get_cpuid(1, &a, &b, &c, &d) || !has(c, basic))
-        return 0;
+    if (!__get_cpuid(1, &a, &b, &c, &d) || !has(c, basic)) return 0;
     /* whether the system saves the registers of SSE and AVX */
     __asm__("xgetbv" : "=a"(saved), "=d"(high) : "c"(0));
-    if (!has(saved, 6))
-        return 0;
+    if (!has(saved, 6)) return 0;
     if (!__get_cpuid_count(7, 0, &a, &b, &c, &d) || !has(b, bit_BMI | bit_AVX2 | bit_BMI2))
         return 0;
     return __get_cpuid(0x80000001, &a, &b, &c, &d) && has(c, bit_LZCNT);
 }
 
-__attribute__((constructor)) static void choose(void)
-{
+__attribute__((constructor)) static void choose(void) {
     const char *forced = getenv(CHOICE_ENV);
-    if ((forced && strcmp(forced, "v2") == 0) || !is_v3())
-        return;
+    if ((forced && strcmp(forced, "v2") == 0) || !is_v3()) return;
 #define TAKE(name) choice_##name = v3_##name;
     EACH(TAKE)
     cpu = "x86-64-v3";
 }
 
 const char *CHOICE_CPU(void);
-const char *CHOICE_CPU(void)
-{
-    return cpu;
-}
+const char *CHOICE_CPU(void) { return cpu; }

@@ -15,23 +15,19 @@ enum { COUNT_BITS = 23, ALIGNMENT = 64 };
 static _Alignas(ALIGNMENT) _Atomic uint64_t counted;
 
 /* The address of `counted` and a count. It comes back after 2^23 further ones. */
-static uint64_t counted_number(void)
-{
+static uint64_t counted_number(void) {
     const uint64_t place = (uint64_t)(uintptr_t)&counted / ALIGNMENT;
     const uint64_t count = atomic_fetch_add(&counted, 1);
     return place << COUNT_BITS | (count & ((1u << COUNT_BITS) - 1));
 }
 
 /* 64 random bits, or a counted number if the kernel gives none. */
-static uint64_t new_number(void)
-{
+static uint64_t new_number(void) {
     uint64_t number;
-    if (getrandom(&number, sizeof number, GRND_NONBLOCK) == (ssize_t)sizeof number)
-        return number;
+    if (getrandom(&number, sizeof number, GRND_NONBLOCK) == (ssize_t)sizeof number) return number;
     return counted_number();
 }
 
-uint32_t lrc_store_open(uint32_t width, uint32_t limit, lrc_slot *slot)
-{
+uint32_t lrc_store_open(uint32_t width, uint32_t limit, lrc_slot *slot) {
     return lrc_store_open_numbered(width, limit, new_number(), slot);
 }

@@ -26,7 +26,6 @@ static const char *const texts[] = {
     [LRC_STORE_NOTHING_LEFT] = "the plan has no further item, or the journal no such entry",
 };
 
-const char *lrc_store_text(uint32_t status)
-{
+const char *lrc_store_text(uint32_t status) {
     return status < sizeof texts / sizeof *texts ? texts[status] : "unknown status";
 }
