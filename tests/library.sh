@@ -4,7 +4,7 @@
 # The last line says how many passed, and what was skipped. A package that is missing is installed
 # by its name where apt-get can.
 set -u
-cd "$(dirname "$0")/.."
+cd "$(dirname "$0")/.." || exit
 # shellcheck source=tests/runner.sh
 . tests/runner.sh
 LRC_LIBRARIES=$(realpath "${LRC_LIBRARIES:?names no folder that tools/libraries.py has filled}")
@@ -13,7 +13,7 @@ archive=$LRC_LIBRARIES/liblrc_coder.a
 backend=integrations/liberasurecode
 
 warnings=(-Wall -Wextra -Wpedantic -Wconversion -Wshadow -Werror -I include)
-sanitizers=(-g -fsanitize=address,undefined -fno-sanitize-recover=all)
+sanitizers=(-g "-fsanitize=address,undefined" -fno-sanitize-recover=all)
 
 # c_program COMPILER STANDARD FILE FLAG..
 c_program() {

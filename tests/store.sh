@@ -2,7 +2,7 @@
 # Tests of the store for C, C++, Rust and Python, which `rt ci` proves and does not run.
 # LRC_LIBRARIES names the folder of the libraries.
 set -u
-cd "$(dirname "$0")/.."
+cd "$(dirname "$0")/.." || exit
 # shellcheck source=tests/runner.sh
 . tests/runner.sh
 LRC_LIBRARIES=$(realpath "${LRC_LIBRARIES:?names no folder that tools/libraries.py has filled}")
@@ -10,7 +10,7 @@ export LRC_LIBRARIES
 store=$LRC_LIBRARIES/liblrc_store.a
 coder=$LRC_LIBRARIES/liblrc_coder.a
 warnings=(-Wall -Wextra -Wpedantic -Wconversion -Wshadow -Werror -I include)
-sanitizers=(-g -fsanitize=address,undefined -fno-sanitize-recover=all)
+sanitizers=(-g "-fsanitize=address,undefined" -fno-sanitize-recover=all)
 
 # program COMPILER STANDARD FILE FLAG..: compiles and links it
 program() {
@@ -29,7 +29,8 @@ journal() {
     local number
     program gcc gnu11 tests/store/threads.c || return
     for number in 4 16; do
-        "$work/program" $number journal > "$work/printed" && python3 tests/store/journal.py < "$work/printed" || return
+        "$work/program" $number journal > "$work/printed" || return
+        python3 tests/store/journal.py < "$work/printed" || return
     done
 }
 
@@ -43,13 +44,17 @@ threads_sanitized() {
         && "$work/program" 4 && "$work/program" 16
 }
 
-refuse() { program gcc gnu11 tests/store/refuse.c -Wl,--wrap=malloc -Wl,--wrap=realloc "$@" && "$work/program"; }
+refuse() {
+    program gcc gnu11 tests/store/refuse.c -Wl,--wrap=malloc -Wl,--wrap=realloc "$@" \
+        && "$work/program"
+}
 
 lost_sets() { program gcc gnu11 tests/store/lost_sets.c "$coder" && "$work/program"; }
 
 memory() {
     program gcc gnu11 tests/store/refuse.c -g -Wl,--wrap=malloc -Wl,--wrap=realloc \
-        && valgrind --quiet --error-exitcode=1 --leak-check=full --show-leak-kinds=all "$work/program"
+        && valgrind --quiet --error-exitcode=1 --leak-check=full --show-leak-kinds=all \
+            "$work/program"
 }
 
 symbols() {
@@ -64,7 +69,8 @@ two_copies() {
         gcc -std=gnu11 -O1 "${warnings[@]}" -shared -fPIC -fvisibility=hidden \
             tests/store/copy.c "$store" -Wl,--exclude-libs,ALL -o "$work/$each.so" || return
     done
-    program gcc gnu11 tests/store/copies.c -ldl && "$work/program" "$work/first.so" "$work/second.so"
+    program gcc gnu11 tests/store/copies.c -ldl \
+        && "$work/program" "$work/first.so" "$work/second.so"
 }
 
 # Stores have different numbers also if the kernel gives no random bits.
@@ -84,7 +90,9 @@ choice() {
 }
 
 # Each language's example prints what was stored.
-example() { [ "$("$@")" = "HELLO, WORLD" ] || { echo "the example prints something else: $*"; return 1; }; }
+example() {
+    [ "$("$@")" = "HELLO, WORLD" ] || { echo "the example prints something else: $*"; return 1; }
+}
 
 in_c() { program gcc gnu11 bindings/c/store.c && "$work/program"; }
 cpp() { program g++ c++17 tests/store/bindings.cpp "$@" && "$work/program"; }
