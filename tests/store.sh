@@ -94,7 +94,7 @@ example() {
     [ "$("$@")" = "HELLO, WORLD" ] || { echo "the example prints something else: $*"; return 1; }
 }
 
-in_c() { program gcc gnu11 bindings/c/store.c && "$work/program"; }
+in_c() { program gcc c99 bindings/c/store.c && "$work/program"; }
 cpp() { program g++ c++17 tests/store/bindings.cpp "$@" && "$work/program"; }
 in_cpp() { program g++ c++17 bindings/cpp/store.cpp "$@" && "$work/program"; }
 rust() {

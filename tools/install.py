@@ -39,11 +39,12 @@ def built_program(cpu, reuse):
 def built_libraries(folder):
     """The folder of the libraries, which are built into the given one if no variable names it."""
     ready = os.environ.get("LRC_LIBRARIES")
-    if ready:
-        return ready
     for name in libraries.LIBRARIES:
-        libraries.build(name, folder)
-    return folder
+        if not ready:
+            libraries.build(name, folder)
+        elif not os.path.exists(os.path.join(ready, f"lib{name}.a")):
+            sys.exit(f"no lib{name}.a in {ready}, which LRC_LIBRARIES names")
+    return ready or folder
 
 
 class Installation:
