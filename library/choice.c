@@ -46,7 +46,8 @@ static int is_v3(void) {
     return __get_cpuid(0x80000001, &a, &b, &c, &d) && has(c, bit_LZCNT);
 }
 
-__attribute__((constructor)) static void choose(void) {
+/* Runs before all constructors of C++. */
+__attribute__((constructor(101))) static void choose(void) {
     const char *forced = getenv(CHOICE_ENV);
     if ((forced && strcmp(forced, "v2") == 0) || !is_v3()) return;
 #define TAKE(name) choice_##name = v3_##name;

@@ -23,6 +23,8 @@ c_program() {
         -o "$work/program" && "$work/program"
 }
 
+sanitized() { c_program "$@" "${sanitizers[@]}"; }
+
 # The coder allocates no memory: it calls only what compilers count on, and getenv to choose.
 symbols() { tests/library/symbols.sh lrc_coder 'getenv|strcmp|mem(cmp|cpy|move|set)'; }
 
@@ -86,14 +88,21 @@ rust_tests() {
     echo "Rust: $(grep -c '^test result: ok' "$work/rust") test programs passed"
 }
 
+# is TEXT COMMAND WORD..: whether the command prints this
+is() {
+    local printed
+    printed=$("${@:2}")
+    [ "$printed" = "$1" ] || { echo "${*:2} prints $printed, not $1"; return 1; }
+}
+
 # The programs of docs/library.md and docs/network.md print what they rebuild, and docs/library.md
 # has them as they are.
 examples() {
     local each
     for each in c python rust; do
-        [ "$("example_in_$each")" = HELL ] || { echo "the example in $each prints something else"; return 1; }
+        is HELL "example_in_$each" || return
     done
-    [ "$(c_program gcc c11 bindings/c/network.c)" = "$(printf 'HELL\nHALL')" ] || { echo "the example of the network prints something else"; return 1; }
+    is "$(printf 'HELL\nHALL')" c_program gcc c11 bindings/c/network.c || return
     python3 tests/library/examples.py
 }
 
@@ -102,8 +111,9 @@ example_in_python() { python bindings/python/rebuild.py; }
 example_in_rust() { rust run --example rebuild; }
 
 liberasurecode() {
-    gcc -std=c11 -O1 -Wall -Wextra -Werror -I include -I integrations "$@" "$backend/lrc_backend.c" \
-        "$backend/test_backend.c" "$archive" -lerasurecode -o "$work/backend" && "$work/backend"
+    gcc -std=c11 -O1 -Wall -Wextra -Werror -I include -I integrations "$@" \
+        "$backend/lrc_backend.c" "$backend/test_backend.c" "$archive" -lerasurecode \
+        -o "$work/backend" && "$work/backend"
 }
 
 liberasurecode_sanitized() {
@@ -134,12 +144,12 @@ test_of "symbols" nm binutils symbols
 test_of "header" g++ g++ header
 test_of "sources" clang clang sources
 test_of "C" gcc gcc c_program gcc c11 tests/library/coder.c
-test_of "C, sanitizers of gcc" gcc gcc c_program gcc c11 tests/library/coder.c "${sanitizers[@]}"
-test_of "C, sanitizers of clang" clang clang c_program clang c11 tests/library/coder.c "${sanitizers[@]}"
+test_of "C, sanitizers of gcc" gcc gcc sanitized gcc c11 tests/library/coder.c
+test_of "C, sanitizers of clang" clang clang sanitized clang c11 tests/library/coder.c
 test_of "choice of the processor's code" gcc gcc choice
 test_of "C++" g++ g++ c_program g++ c++17 tests/library/coder.cpp
-test_of "C++, sanitizers of gcc" g++ g++ c_program g++ c++17 tests/library/coder.cpp "${sanitizers[@]}"
-test_of "C++, sanitizers of clang" clang++ clang c_program clang++ c++17 tests/library/coder.cpp "${sanitizers[@]}"
+test_of "C++, sanitizers of gcc" g++ g++ sanitized g++ c++17 tests/library/coder.cpp
+test_of "C++, sanitizers of clang" clang++ clang sanitized clang++ c++17 tests/library/coder.cpp
 test_of "shared library" gcc gcc shared_library
 test_of "Python" python3 python3 python tests/library/bindings.py
 test_of "declarations" python3 python3 python tests/library/declarations.py

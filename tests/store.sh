@@ -49,6 +49,8 @@ refuse() {
         && "$work/program"
 }
 
+texts() { program gcc c99 tests/library/texts.c "$coder" && "$work/program"; }
+
 lost_sets() { program gcc gnu11 tests/store/lost_sets.c "$coder" && "$work/program"; }
 
 memory() {
@@ -109,6 +111,7 @@ python() {
 }
 
 test_of "symbols" nm binutils symbols
+test_of "texts of both libraries" gcc gcc texts
 test_of "calls" gcc gcc calls gcc
 test_of "calls, sanitizers of gcc" gcc gcc calls gcc "${sanitizers[@]}"
 test_of "calls, sanitizers of clang" clang clang calls clang "${sanitizers[@]}"
