@@ -158,10 +158,10 @@ uint32_t lrc_store_put(lrc_slot *slot, const uint8_t *name, size_t name_len, con
  * Before lrc_slot_buffer, `*buffer` is valid, such as { (uint8_t *)"", 0 }. Afterwards it is
  * valid until the slot is passed to another function.
  *
- * If the put returns LRC_STORE_DONE, `other` is empty. On any other status it still has the bytes,
- * and they can be put again. They can be written again if and only if lrc_slot_buffer returns
- * LRC_STORE_DONE. It does if `slot` held no session, and may after LRC_STORE_NO_MEMORY; after any
- * other status it returns LRC_STORE_EMPTY. */
+ * If the put returns LRC_STORE_DONE, `other` is empty. If `slot` holds no session, `other` is
+ * unchanged. On any other status it still has the bytes, and they can be put again. They can be
+ * written again if and only if lrc_slot_buffer returns LRC_STORE_DONE, as it may after
+ * LRC_STORE_NO_MEMORY alone. */
 uint32_t lrc_slot_reserve(size_t len, lrc_slot *slot);
 uint32_t lrc_slot_buffer(lrc_slot *slot, lrc_buffer *buffer);
 uint32_t lrc_store_put_from(lrc_slot *slot, const uint8_t *name, size_t name_len, lrc_slot *other,
