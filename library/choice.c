@@ -23,9 +23,9 @@
     extern const char v2_##name[], v3_##name[];                                                    \
     extern const char *choice_##name;                                                              \
     const char *choice_##name = v2_##name;                                                         \
-    __asm__(".text\n.globl " #name "\n.type " #name ", @function\n.p2align 4\n" #name ":\n"        \
-            ".cfi_startproc\n" LANDING "jmp *choice_" #name "(%rip)\n.cfi_endproc\n"               \
-            ".size " #name ", . - " #name "\n");
+    __asm__(".pushsection .text\n.p2align 4\n.globl " #name "\n.type " #name ", @function\n" #name \
+            ":\n.cfi_startproc\n" LANDING "jmp *choice_" #name "(%rip)\n.cfi_endproc\n"            \
+            ".size " #name ", . - " #name "\n.popsection\n");
 EACH(ENTRY)
 
 static const char *cpu = "x86-64-v2";

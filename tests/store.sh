@@ -75,11 +75,6 @@ two_copies() {
         && "$work/program" "$work/first.so" "$work/second.so"
 }
 
-# Stores have different numbers also if the kernel gives no random bits.
-no_random_bits() {
-    program gcc gnu11 tests/store/no_random_bits.c -Wl,--wrap=getrandom && "$work/program"
-}
-
 # The waiting forms over functions that record their arguments.
 waiting() {
     gcc -std=gnu11 -O1 "${warnings[@]}" "$@" tests/store/waiting.c library/store_wait.c \
@@ -119,7 +114,6 @@ test_of "threads" gcc gcc threads
 test_of "journal" gcc gcc journal
 test_of "choice of the processor's code" gcc gcc choice
 test_of "two copies of the library" gcc gcc two_copies
-test_of "stores without random bits" gcc gcc no_random_bits
 test_of "waiting" gcc gcc waiting
 test_of "waiting, sanitizers of gcc" gcc gcc waiting "${sanitizers[@]}"
 test_of "threads, ThreadSanitizer" gcc gcc threads_sanitized
