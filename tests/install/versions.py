@@ -17,8 +17,11 @@ ABI = libraries.abi(NUMBER)
 PLACES = [
     ("README.md", r"^Version ([\d.]+\d),", NUMBER),
     ("CHANGELOG.md", r"\A(?:(?!^## ).)*^## ([\d.]+\d)", NUMBER),
+    ("bindings/python/lrc_coder.py", r"\.so\.(\d[\d.]*)", ABI),
+    ("bindings/python/lrc_store.py", r"\.so\.(\d[\d.]*)", ABI),
     ("bindings/rust/Cargo.toml", r'^version = "([^"]*)"', NUMBER),
     ("bindings/rust_store/Cargo.toml", r'^version = "([^"]*)"', NUMBER),
+    ("bindings/rust_store/Cargo.lock", r'^version = "([^"]*)"', NUMBER),
     (
         f"integrations/swift/lrcstore_swift-{NUMBER}.dist-info/METADATA",
         r"^Version: (\S+)$",
