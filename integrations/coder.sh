@@ -1,3 +1,4 @@
+# shellcheck shell=bash
 # For the build scripts of the integrations: `archive` is the coder for C, which has its code for two
 # processors. LRC_LIBRARIES names its folder, if it is not built/ at the top of the clone.
 top=$(cd "$(dirname "${BASH_SOURCE[0]}")/.." && pwd)
