@@ -1,6 +1,6 @@
 /* lrc_coder.h: the Local Reconstruction Codes LRC(12,2,2) and LRC(6,2,2) over GF(2^8) with the
- * polynomial 0x11D, from libcoder_c.a. The functions are proved; those in the second half of this
- * file are plain C.
+ * polynomial 0x11D. Link liblrc_coder. The functions down to lrc_add are proved; the others are
+ * plain C.
  *
  * A code is named by its number of data fragments, and the fragments of a stripe by their numbers:
  *
@@ -14,8 +14,8 @@
  * Functions validate their arguments. The caller ensures what they cannot check: an address is not
  * NULL, also at length 0, and is valid for its length; a target overlaps no other argument.
  * No function allocates, keeps state, or needs an address aligned to more than its C type. So any
- * number of threads may call them at once. On any other status than LRC_DONE, every target is
- * unchanged. */
+ * number of threads may call them at once, also signal handlers and forked children. On any other
+ * status than LRC_DONE, every target is unchanged. */
 #ifndef LRC_CODER_H
 #define LRC_CODER_H
 
@@ -33,6 +33,7 @@ enum {
     /* the fragment is unrecoverable: two stripes agree on every remaining fragment and differ in
      * this one */
     LRC_OPEN = 1,
+    LRC_UNRECOVERABLE = LRC_OPEN,
     /* an argument is invalid */
     LRC_BAD_ARGUMENT = 2
 };
@@ -66,27 +67,27 @@ uint32_t lrc_encode_add(size_t data_fragments, uint8_t fragment,
                         uint8_t *first, size_t first_len, uint8_t *second, size_t second_len,
                         uint8_t *third, size_t third_len, uint8_t *fourth, size_t fourth_len);
 
-/* LRC_OPEN if and only if `fragment` is unrecoverable. LRC_BAD_ARGUMENT if and only if there is no
+/* LRC_UNRECOVERABLE if and only if `fragment` is. LRC_BAD_ARGUMENT if and only if there is no
  * such code or fragment. */
 uint32_t lrc_is_open(size_t data_fragments, uint16_t lost, uint8_t fragment);
 
 /* Writes the bytes from..from+len of the lost `fragment` into `target`: those of every stripe that
  * agrees with the remaining fragments. The slices of lost fragments, and those past the code's, are
- * ignored: give them any address except NULL, and the length 0. LRC_OPEN if and only if the
- * fragment is unrecoverable and all arguments are valid. LRC_BAD_ARGUMENT if and only if one of
- * these holds: there is no such code or fragment; the fragment is not in `lost`; a remaining
- * fragment has fewer than from+len bytes; that sum is more than SIZE_MAX. */
+ * ignored: give them any address except NULL, and the length 0. LRC_UNRECOVERABLE if and only if
+ * the fragment is and all arguments are valid. LRC_BAD_ARGUMENT if and only if one of these holds:
+ * there is no such code or fragment; the fragment is not in `lost`; a remaining fragment has fewer
+ * than from+len bytes; that sum is more than SIZE_MAX. */
 uint32_t lrc_rebuild(size_t data_fragments, const lrc_slice fragments[16], uint16_t lost,
                      uint8_t fragment, size_t from, uint8_t *target, size_t len);
 
 /* Writes the bytes from..from+len of up to four lost fragments at once, which takes less time than
  * one call of lrc_rebuild for each. `numbers` has the number of the fragment for each of the four
  * targets, or LRC_NONE. A target for LRC_NONE is ignored: give it any address except NULL, and the
- * length 0. The sixteen slices are those of lrc_rebuild. LRC_OPEN if and only if all arguments are
- * valid and a numbered fragment is unrecoverable. Of more than four lost fragments, at least one
- * is unrecoverable. LRC_BAD_ARGUMENT if and only if one of these holds: there is no such code; a
- * numbered fragment is not the code's or not in `lost`; its target does not have `len` bytes; a
- * remaining fragment has fewer than from+len bytes; that sum is more than SIZE_MAX. */
+ * length 0. The sixteen slices are those of lrc_rebuild. LRC_UNRECOVERABLE if and only if all
+ * arguments are valid and a numbered fragment is unrecoverable. Of more than four lost fragments,
+ * at least one is unrecoverable. LRC_BAD_ARGUMENT if and only if one of these holds: there is no
+ * such code; a numbered fragment is not the code's or not in `lost`; its target does not have `len`
+ * bytes; a remaining fragment has fewer than from+len bytes; that sum is more than SIZE_MAX. */
 uint32_t lrc_decode(size_t data_fragments, const lrc_slice fragments[16], uint16_t lost,
                     const uint8_t numbers[4], size_t from, size_t len,
                     uint8_t *first, size_t first_len, uint8_t *second, size_t second_len,
@@ -94,9 +95,9 @@ uint32_t lrc_decode(size_t data_fragments, const lrc_slice fragments[16], uint16
 
 /* Writes a recipe for the lost `fragment`: the numbers of other fragments, a coefficient for each,
  * and their count, at most 15. The fragment is their sum, each times its coefficient. If it is the
- * only loss of its group, they are the six (or three) others, and no recipe has fewer. LRC_OPEN as
- * from lrc_rebuild. LRC_BAD_ARGUMENT if and only if there is no such code or fragment, or it is not
- * in `lost`. */
+ * only loss of its group, they are the six (or three) others, and no recipe has fewer.
+ * LRC_UNRECOVERABLE as from lrc_rebuild. LRC_BAD_ARGUMENT if and only if there is no such code or
+ * fragment, or it is not in `lost`. */
 uint32_t lrc_recipe(size_t data_fragments, uint16_t lost, uint8_t fragment,
                     uint8_t fragments[16], uint8_t coefficients[16], uint32_t *count);
 
@@ -106,9 +107,19 @@ uint32_t lrc_recipe(size_t data_fragments, uint16_t lost, uint8_t fragment,
 uint32_t lrc_add(uint8_t *target, size_t target_len, uint8_t coefficient,
                  const uint8_t *source, size_t source_len);
 
-/* The processor level whose code is used, "x86-64-v2" or "x86-64-v3". Only liblrc_coder.a and
- * liblrc_coder.so from tools/build_coder.sh have it. */
+/* What a status means, in English and without a full stop. "unknown status" for a number that is
+ * none. The text is never freed. */
+const char *lrc_coder_text(uint32_t status);
+
+/* The processor level whose code is used, "x86-64-v3" or "x86-64-v2". The library chooses when it
+ * is loaded. LRC_CODER_CPU=v2 in the environment forces the second. */
 const char *lrc_coder_cpu(void);
+
+/* lrc_is_open by a plainer name. */
+static inline uint32_t lrc_is_unrecoverable(size_t data_fragments, uint16_t lost, uint8_t fragment)
+{
+    return lrc_is_open(data_fragments, lost, fragment);
+}
 
 /* ---- The same with plain arrays of addresses, each of `len` bytes. NULL means a lost fragment in
  * the fragments of lrc_rebuild_arrays and lrc_decode_arrays, and no target in the targets of
@@ -200,7 +211,7 @@ static inline uint32_t lrc_decode_arrays(size_t data_fragments, size_t len,
         }
     }
     if (count > 4)
-        return LRC_OPEN;
+        return LRC_UNRECOVERABLE;
     return lrc_decode(data_fragments, slices, (uint16_t)lost, numbers, 0, len, four[0], lens[0],
                       four[1], lens[1], four[2], lens[2], four[3], lens[3]);
 }

@@ -1,7 +1,6 @@
 /* lrc_store.h: an in-memory blob store that the threads of a process share. It keeps each blob
- * in a Local Reconstruction Code, so it can read and repair blobs while fragments are lost. The
- * functions down to lrc_slot_release are proved, and come from libstore_c.a. The waiting forms
- * at the end are plain C.
+ * in a Local Reconstruction Code, so it can read and repair blobs while fragments are lost. Link
+ * liblrc_store. The functions down to lrc_slot_release are proved; the others are plain C.
  *
  * Slots. An lrc_slot holds one thing or nothing: a session of a store, a lent range, the rest of
  * a plan of repairs, a buffer, or the journal of a closed store. Initialise it with
@@ -14,27 +13,33 @@
  * the two, by a lock or by the start or the join of a thread. A store has at most 64 sessions at
  * a time.
  *
- * Waiting. No function waits. LRC_STORE_BUSY means that another thread is in the critical
- * section. Call again, or call the waiting form, such as lrc_store_put_wait. The only session of
- * a store never gets it.
+ * Waiting. No function waits, except the waiting forms at the end, such as lrc_store_put_wait.
+ * The others return LRC_STORE_BUSY if another thread is in the critical section. The only session
+ * of a store never gets it.
+ *
+ * Signals. A signal handler may call lrc_store_text and lrc_store_cpu, and nothing else of this
+ * file: what it interrupts may be in the critical section, or in malloc. A thread can be cancelled
+ * at a cancellation point, and a waiting form is one while it sleeps. The session stays whole.
+ * Asynchronous cancellation must not hit a call.
+ *
+ * Fork. In the child of a process with one thread, each store is a copy of its own. If the process
+ * had more threads, the child may call lrc_store_text and lrc_store_cpu only, until it calls an
+ * exec function. A thread that was in the critical section does not exist there, so its store would
+ * be LRC_STORE_BUSY for ever.
  *
  * Arguments. A name has 1 to 32 bytes of a-z, 0-9, '.', '_' and '-'. Each function validates its
  * arguments. The caller ensures what it cannot check. An address is not NULL, also at length 0,
  * and is valid for its length. An output overlaps no other argument. The two slots of a call are
- * different ones. Two open stores have different numbers if a call of lrc_store_join may get
- * their slots.
+ * different ones.
  *
  * Outputs. A function writes an output only where this file says so.
  *
- * Memory comes from malloc, realloc and free, by the functions rattle_alloc, rattle_realloc and
- * rattle_dealloc of the Rattle kit's liblibc_c.a. */
+ * Memory comes from malloc, realloc and free. */
 #ifndef LRC_STORE_H
 #define LRC_STORE_H
 
-#include <sched.h>
 #include <stddef.h>
 #include <stdint.h>
-#include <time.h>
 
 #ifdef __cplusplus
 extern "C" {
@@ -84,7 +89,7 @@ typedef struct {
  * unchanged, unless a comment says otherwise. */
 enum {
     LRC_STORE_DONE = 0,
-    LRC_STORE_BUSY = 1,          /* another thread is in the critical section: call again */
+    LRC_STORE_BUSY = 1,          /* another thread was in the critical section: call again */
     LRC_STORE_NO_NAME = 2,       /* the name has no blob */
     LRC_STORE_OUT_OF_RANGE = 3,  /* the range does not lie inside the blob */
     LRC_STORE_UNRECOVERABLE = 4, /* the remaining fragments do not determine it; `version` is
@@ -97,7 +102,7 @@ enum {
     LRC_STORE_TOO_LONG = 10,     /* the blob needs more than 4,096 stripes */
     LRC_STORE_BAD_NAME = 11,     /* the bytes are not a valid name */
     LRC_STORE_BAD_WIDTH = 12,    /* the width is not in 1 to 65,536 */
-    LRC_STORE_NO_PASS = 13,      /* no further session can be split off this one */
+    LRC_STORE_NO_PASS = 13,      /* the session has no place for a further one */
     LRC_STORE_EMPTY = 14,        /* a slot does not hold what the function needs */
     LRC_STORE_OCCUPIED = 15,     /* the slot that the function fills is not empty */
     LRC_STORE_BAD_ARGUMENT = 16, /* a limit not in 1 to 1,048,576; a number of data fragments other
@@ -110,23 +115,24 @@ enum {
 };
 
 /* Opens a store whose fragments have `width` bytes and whose journal holds at most `limit`
- * entries. Puts its first session into the empty `slot`. `number` distinguishes stores. */
-uint32_t lrc_store_open(uint32_t width, uint32_t limit, uint64_t number, lrc_slot *slot);
+ * entries. Puts its first session into the empty `slot`. The session has the store's 64 places. */
+uint32_t lrc_store_open(uint32_t width, uint32_t limit, lrc_slot *slot);
 
 /* Splits a session off the one in `slot` and puts it into the empty `other`. Its journal entries
- * have the label `who`. Only a store's first session can be split, and it has at most 63 others
- * at a time. A join gives one back. */
+ * have the label `who`. The new session takes one of the places of the old one, which keeps at
+ * least one: LRC_STORE_NO_PASS if it has only one. */
 uint32_t lrc_store_split(lrc_slot *slot, uint32_t who, lrc_slot *other);
 
 /* Joins the session in `other` into the one in `slot`, which then counts as the caller of all
- * its calls. `other` is empty afterwards. LRC_STORE_BAD_ARGUMENT if the numbers of the two
- * stores differ. */
+ * its calls and has the places of both. `other` is empty afterwards. Any two sessions of a store
+ * can be joined. LRC_STORE_BAD_ARGUMENT if they are of two stores, whatever libraries opened
+ * them. */
 uint32_t lrc_store_join(lrc_slot *slot, lrc_slot *other);
 
 /* Closes the store of the last session, and empties `slot`. `entries` gets the number of journal
  * entries. `lawful` gets 1 if a check found them to be a legal history, and 2 if there was no
- * memory for the check. The check is proved never to fail. LRC_STORE_NOT_ALONE if other sessions
- * were not joined. */
+ * memory for the check. The check is proved never to fail. LRC_STORE_NOT_ALONE if the session does
+ * not have all 64 places. */
 uint32_t lrc_store_close(lrc_slot *slot, uint64_t *entries, uint32_t *lawful);
 
 /* Does the same, and puts the journal into the empty `other`. `discarded` gets the number of
@@ -152,8 +158,10 @@ uint32_t lrc_store_put(lrc_slot *slot, const uint8_t *name, size_t name_len, con
  * Before lrc_slot_buffer, `*buffer` is valid, such as { (uint8_t *)"", 0 }. Afterwards it is
  * valid until the slot is passed to another function.
  *
- * If the put returns LRC_STORE_DONE, `other` is empty. On any other status it still has the
- * bytes. They can be put again, but not written: lrc_slot_buffer returns LRC_STORE_EMPTY. */
+ * If the put returns LRC_STORE_DONE, `other` is empty. If `slot` holds no session, `other` is
+ * unchanged. On any other status it still has the bytes, and they can be put again. They can be
+ * written again if and only if lrc_slot_buffer returns LRC_STORE_DONE, as it may after
+ * LRC_STORE_NO_MEMORY alone. */
 uint32_t lrc_slot_reserve(size_t len, lrc_slot *slot);
 uint32_t lrc_slot_buffer(lrc_slot *slot, lrc_buffer *buffer);
 uint32_t lrc_store_put_from(lrc_slot *slot, const uint8_t *name, size_t name_len, lrc_slot *other,
@@ -206,130 +214,49 @@ uint32_t lrc_store_plan(lrc_slot *slot, lrc_slot *other, uint64_t *items);
  * next one. After any other status the next call takes the next fragment. */
 uint32_t lrc_store_mend_step(lrc_slot *slot, lrc_slot *other, uint64_t *version);
 
-/* Empties the slot, whatever it holds. If a session is released and not joined, its store can't
- * be closed. Releasing the last session frees the store. */
+/* Empties the slot, whatever it holds. If a session is released and not joined, its places are
+ * gone, and its store can't be closed. Releasing the last session frees the store. */
 void lrc_slot_release(lrc_slot *slot);
 
-/* ---- Waiting forms. Each repeats its function while the status is LRC_STORE_BUSY: it spins,
- * then yields, then sleeps. If `timeout_ms` is 0 or more, it stops after so many milliseconds
- * and returns LRC_STORE_BUSY. If it is negative, it never stops. They need POSIX's
- * clock_gettime. */
-#ifdef CLOCK_MONOTONIC
+/* What a status means, in English and without a full stop. "unknown status" for a number that is
+ * none. The text is never freed. */
+const char *lrc_store_text(uint32_t status);
 
-static inline int64_t lrc_store_now_ms(void)
-{
-    struct timespec now;
-    clock_gettime(CLOCK_MONOTONIC, &now);
-    return (int64_t)now.tv_sec * 1000 + now.tv_nsec / 1000000;
-}
+/* The processor level whose code is used, "x86-64-v3" or "x86-64-v2". The library chooses when it
+ * is loaded. LRC_STORE_CPU=v2 in the environment forces the second. */
+const char *lrc_store_cpu(void);
 
-/* Waits before attempt number `attempt`, from 1. It spins twice, yields once, and then sleeps,
- * longer at each attempt, so that few threads contend at a time. Returns 0 if the deadline has
- * passed. */
-static inline int lrc_store_wait(unsigned attempt, int64_t deadline)
-{
-    if (attempt < 3) {
-        for (unsigned turn = 0; turn < 64; turn++)
-            __builtin_ia32_pause();
-    } else if (attempt == 3) {
-        sched_yield();
-    } else {
-        const struct timespec pause = { 0, 50000L << (attempt < 8 ? attempt - 3 : 5) };
-        if (deadline >= 0 && lrc_store_now_ms() >= deadline)
-            return 0;
-        nanosleep(&pause, NULL);
-    }
-    return 1;
-}
-
-#define LRC_STORE_WAIT(timeout_ms, call)                                              \
-    const int64_t deadline = (timeout_ms) < 0 ? -1 : lrc_store_now_ms() + (timeout_ms); \
-    uint32_t status = (call);                                                         \
-    for (unsigned attempt = 1;                                                        \
-         status == LRC_STORE_BUSY && lrc_store_wait(attempt, deadline); attempt++)    \
-        status = (call);                                                              \
-    return status
-
-static inline uint32_t lrc_store_put_wait(lrc_slot *slot, const uint8_t *name, size_t name_len,
-                                          const uint8_t *blob, size_t blob_len,
-                                          uint32_t data_fragments, uint64_t *version,
-                                          int64_t timeout_ms)
-{
-    LRC_STORE_WAIT(timeout_ms, lrc_store_put(slot, name, name_len, blob, blob_len, data_fragments,
-                                             version));
-}
-
-static inline uint32_t lrc_store_put_from_wait(lrc_slot *slot, const uint8_t *name,
-                                               size_t name_len, lrc_slot *other,
-                                               uint32_t data_fragments, uint64_t *version,
-                                               int64_t timeout_ms)
-{
-    LRC_STORE_WAIT(timeout_ms, lrc_store_put_from(slot, name, name_len, other, data_fragments,
-                                                  version));
-}
-
-static inline uint32_t lrc_store_read_wait(lrc_slot *slot, const uint8_t *name, size_t name_len,
-                                           uint64_t start, uint8_t *target, size_t len,
-                                           uint64_t *version, uint64_t *lent, uint64_t *built,
-                                           int64_t timeout_ms)
-{
-    LRC_STORE_WAIT(timeout_ms, lrc_store_read(slot, name, name_len, start, target, len, version,
-                                              lent, built));
-}
-
-static inline uint32_t lrc_store_lend_wait(lrc_slot *slot, const uint8_t *name, size_t name_len,
-                                           uint64_t start, uint64_t len, lrc_slot *other,
-                                           uint64_t *version, uint64_t *pieces, int64_t timeout_ms)
-{
-    LRC_STORE_WAIT(timeout_ms, lrc_store_lend(slot, name, name_len, start, len, other, version,
-                                              pieces));
-}
-
-static inline uint32_t lrc_store_lose_wait(lrc_slot *slot, const uint8_t *name, size_t name_len,
-                                           uint64_t stripe, uint64_t fragment, uint64_t *version,
-                                           int64_t timeout_ms)
-{
-    LRC_STORE_WAIT(timeout_ms, lrc_store_lose(slot, name, name_len, stripe, fragment, version));
-}
-
-static inline uint32_t lrc_store_repair_wait(lrc_slot *slot, const uint8_t *name, size_t name_len,
-                                             uint64_t stripe, uint64_t fragment, uint64_t *version,
-                                             int64_t timeout_ms)
-{
-    LRC_STORE_WAIT(timeout_ms, lrc_store_repair(slot, name, name_len, stripe, fragment, version));
-}
-
-static inline uint32_t lrc_store_delete_wait(lrc_slot *slot, const uint8_t *name, size_t name_len,
-                                             uint64_t *version, int64_t timeout_ms)
-{
-    LRC_STORE_WAIT(timeout_ms, lrc_store_delete(slot, name, name_len, version));
-}
-
-static inline uint32_t lrc_store_stat_wait(lrc_slot *slot, const uint8_t *name, size_t name_len,
-                                           uint64_t *version, uint64_t *len, uint64_t *stripes,
-                                           uint64_t *lost, int64_t timeout_ms)
-{
-    LRC_STORE_WAIT(timeout_ms, lrc_store_stat(slot, name, name_len, version, len, stripes, lost));
-}
-
-static inline uint32_t lrc_store_trim_wait(lrc_slot *slot, uint64_t keep, uint64_t *discarded,
-                                           int64_t timeout_ms)
-{
-    LRC_STORE_WAIT(timeout_ms, lrc_store_trim(slot, keep, discarded));
-}
-
-static inline uint32_t lrc_store_plan_wait(lrc_slot *slot, lrc_slot *other, uint64_t *items,
-                                           int64_t timeout_ms)
-{
-    LRC_STORE_WAIT(timeout_ms, lrc_store_plan(slot, other, items));
-}
-
-static inline uint32_t lrc_store_mend_step_wait(lrc_slot *slot, lrc_slot *other, uint64_t *version,
-                                                int64_t timeout_ms)
-{
-    LRC_STORE_WAIT(timeout_ms, lrc_store_mend_step(slot, other, version));
-}
-#endif
+/* ---- Waiting forms. Each repeats its function while the status is LRC_STORE_BUSY. Between two
+ * attempts it spins, then yields, then sleeps for 0.1 to 1.6 ms. If `timeout_ms` is 0 or more, it
+ * returns LRC_STORE_BUSY once so many milliseconds have passed since the call. With 0 it makes one
+ * attempt. If `timeout_ms` is negative, it has no deadline. No waiting thread has precedence. */
+uint32_t lrc_store_put_wait(lrc_slot *slot, const uint8_t *name, size_t name_len,
+                            const uint8_t *blob, size_t blob_len, uint32_t data_fragments,
+                            uint64_t *version, int64_t timeout_ms);
+uint32_t lrc_store_put_from_wait(lrc_slot *slot, const uint8_t *name, size_t name_len,
+                                 lrc_slot *other, uint32_t data_fragments, uint64_t *version,
+                                 int64_t timeout_ms);
+uint32_t lrc_store_read_wait(lrc_slot *slot, const uint8_t *name, size_t name_len, uint64_t start,
+                             uint8_t *target, size_t len, uint64_t *version, uint64_t *lent,
+                             uint64_t *built, int64_t timeout_ms);
+uint32_t lrc_store_lend_wait(lrc_slot *slot, const uint8_t *name, size_t name_len, uint64_t start,
+                             uint64_t len, lrc_slot *other, uint64_t *version, uint64_t *pieces,
+                             int64_t timeout_ms);
+uint32_t lrc_store_lose_wait(lrc_slot *slot, const uint8_t *name, size_t name_len, uint64_t stripe,
+                             uint64_t fragment, uint64_t *version, int64_t timeout_ms);
+uint32_t lrc_store_repair_wait(lrc_slot *slot, const uint8_t *name, size_t name_len,
+                               uint64_t stripe, uint64_t fragment, uint64_t *version,
+                               int64_t timeout_ms);
+uint32_t lrc_store_delete_wait(lrc_slot *slot, const uint8_t *name, size_t name_len,
+                               uint64_t *version, int64_t timeout_ms);
+uint32_t lrc_store_stat_wait(lrc_slot *slot, const uint8_t *name, size_t name_len,
+                             uint64_t *version, uint64_t *len, uint64_t *stripes, uint64_t *lost,
+                             int64_t timeout_ms);
+uint32_t lrc_store_trim_wait(lrc_slot *slot, uint64_t keep, uint64_t *discarded,
+                             int64_t timeout_ms);
+uint32_t lrc_store_plan_wait(lrc_slot *slot, lrc_slot *other, uint64_t *items, int64_t timeout_ms);
+uint32_t lrc_store_mend_step_wait(lrc_slot *slot, lrc_slot *other, uint64_t *version,
+                                  int64_t timeout_ms);
 
 #ifdef __cplusplus
 }

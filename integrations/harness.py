@@ -1,4 +1,4 @@
-"""What the cluster tests share: packages, the coder's archive, a report, and a temporary folder."""
+"""What the cluster tests share: packages, the coder, a report, and a temporary folder."""
 
 import os
 import shutil
@@ -56,15 +56,18 @@ def install(packages):
         subprocess.run([*words, *missing], check=True, **quiet)
 
 
-def coder_archive():
-    """The coder's archive, for the build scripts too. Without one, it is proved and built."""
-    path = f"{TOP}/crates/coder_c/out/libcoder_c.a"
-    archive = os.environ.setdefault("LRC_CODER_ARCHIVE", path)
-    if not os.path.exists(archive):
+def coder_folder():
+    """The folder of the coder for C, for the build scripts too. Without a coder there, it is proved
+    and built."""
+    folder = os.environ.setdefault("LRC_LIBRARIES", f"{TOP}/built")
+    if not os.path.exists(f"{folder}/liblrc_coder.a"):
         print("building the coder, which takes some minutes", flush=True)
-        folder = os.path.dirname(os.path.dirname(archive))
-        subprocess.run(["rt", "lib"], cwd=folder, stdout=subprocess.DEVNULL, check=True)
-    return archive
+        subprocess.run(
+            [f"{TOP}/tools/libraries.py", "--to", folder, "lrc_coder"],
+            stdout=subprocess.DEVNULL,
+            check=True,
+        )
+    return folder
 
 
 def remove(folder):

@@ -1,18 +1,58 @@
 #!/usr/bin/env bash
-# Tests of tools/install.py: programs in C and Python over what it installs, by pkg-config and by
-# CMake.
+# Tests of tools/install.py: the commands of docs/install.md, as they stand there, with a prefix
+# that the system does not search. LRC_LIBRARIES names the folder of the libraries.
 set -u
-cd "$(dirname "$0")/.."
+cd "$(dirname "$0")/.." || exit
 # shellcheck source=tests/runner.sh
 . tests/runner.sh
-prefix=$work/prefix
-bindings=$PWD/bindings
+# shellcheck source=tests/libraries.sh
+. tests/libraries.sh
+top=$PWD
+page=docs/install.md
+prefix=$work/srv/lrc
+app=$work/app
 
-# prints TEXT COMMAND WORD..: whether the command prints this
+# block LANGUAGE NUMBER: a fenced block of the page, for this prefix and this Python
+block() {
+    local version
+    version=$(python3 -c 'import sysconfig; print(sysconfig.get_python_version())')
+    awk -v fence="\`\`\`$1" -v number="$2" '$0 == fence { inside = ++count == number; next }
+        $0 == "```" { inside = 0 } inside' "$page" \
+        | sed "s#/srv/lrc#$prefix#g; s#python3\.[0-9]*/#python$version/#"
+}
+
+# prints TEXT COMMAND WORD..: whether the last line that the command prints is this
 prints() {
     local printed
-    printed=$("${@:2}")
-    [ "$printed" = "$1" ] || { echo "$2 prints '$printed', not '$1'"; return 1; }
+    printed=$("${@:2}" 2>&1) && printed=$(tail -n 1 <<< "$printed")
+    [ "$printed" = "$1" ] || { echo "${*:2} prints '$printed', not '$1'"; return 1; }
+}
+
+# logged COMMAND WORD..: runs it, and prints what it printed if it fails
+logged() { "$@" > "$work/log" 2>&1 || { cat "$work/log"; return 1; }; }
+
+# The command of the page, which prints the variables of the page.
+installs() {
+    local command
+    command=$(sed -n 's/^    \(tools\/install\.py --prefix .*\)/\1/p' "$page")
+    logged eval "${command//\/srv\/lrc/$prefix} --reuse" || return
+    diff <(block sh 1) <(grep '^export ' "$work/log")
+}
+
+# A folder with the programs of the tutorial and the build files of the page.
+write_app() {
+    mkdir -p "$app/src"
+    cp bindings/c/store.c bindings/cpp/store.cpp bindings/python/store.py "$app/"
+    cp bindings/rust_store/examples/store.rs "$app/src/main.rs"
+    block cmake 1 > "$app/CMakeLists.txt"
+    block toml 1 > "$app/Cargo.toml"
+}
+
+# A line of the page's commands, with the page's variables and no others of this script.
+command_of_page() { # NUMBER
+    { block sh 1; echo "cd '$app'"; block sh 2 | sed -n "$1p"; } > "$work/script"
+    prints "HELLO, WORLD" env -u LRC_LIBRARIES -u LD_LIBRARY_PATH CARGO_NET_OFFLINE=true \
+        CARGO_TERM_QUIET=true PYTHONDONTWRITEBYTECODE=1 bash -e "$work/script"
 }
 
 program() {
@@ -21,47 +61,64 @@ program() {
         && prints "lrcstore $version" "$prefix/bin/lrcstore" --version
 }
 
-# with_pkg_config NAME EXAMPLE TEXT: the example in C, over the shared library
-with_pkg_config() {
-    local flags
-    flags=$(PKG_CONFIG_PATH="$prefix/lib/pkgconfig" pkg-config --cflags --libs "$1") || return
-    # shellcheck disable=SC2086 # words
-    gcc -std=gnu11 "$bindings/c/$2.c" $flags -o "$work/$2" && LD_LIBRARY_PATH="$prefix/lib" prints "$3" "$work/$2"
-}
-
+# Either kind of each library by CMake, in a folder for libraries that this system may not search.
 with_cmake() {
-    local kind
-    cmake -S tests/install -B "$work/cmake" -DBINDINGS="$bindings" -DCMAKE_PREFIX_PATH="$prefix" > "$work/log" 2>&1 \
-        && cmake --build "$work/cmake" >> "$work/log" 2>&1 || { cat "$work/log"; return 1; }
+    local kind other=$work/other
+    logged tools/install.py --prefix "$other" --libdir lib64 --reuse || return
+    logged cmake -S tests/install -B "$work/cmake" -DBINDINGS="$top/bindings" \
+        -DCMAKE_PREFIX_PATH="$other/lib64/cmake" || return
+    logged cmake --build "$work/cmake" || return
     for kind in "" _static; do
-        prints HELL "$work/cmake/rebuild$kind" && prints "HELLO, WORLD" "$work/cmake/store$kind" || return
+        prints HELL "$work/cmake/rebuild$kind" || return
+        prints "HELLO, WORLD" "$work/cmake/store$kind" || return
     done
 }
 
-# with_python EXAMPLE TEXT: the example over the installed module, away from the checkout's
-with_python() {
-    cp "$bindings/python/$1.py" "$work/" \
-        && PYTHONDONTWRITEBYTECODE=1 PYTHONPATH=$(echo "$prefix"/lib/python*/site-packages) prints "$2" python3 "$work/$1.py"
+# A caller's number is accepted if and only if no version between may have broken it.
+cmake_versions() {
+    local accepted="" number
+    for number in 0 0.1 0.1.0 0.1.1 0.10 0.2 1 1.0; do
+        cmake -DFILE="$prefix/lib/cmake/lrc_store/lrc_storeConfigVersion.cmake" \
+            -DPACKAGE_FIND_VERSION=$number -P tests/install/accepts.cmake > /dev/null 2>&1 \
+            && accepted="$accepted $number"
+    done
+    [ "$accepted" = " 0.1 0.1.0" ] || { echo "accepted:$accepted"; return 1; }
 }
 
-# A shared library has the functions of its header and no other, under its soname.
-exports() {
+# The folders of a Debian package. A system's prefix needs no variables.
+package() {
+    local root=$work/package/usr libdir=lib/x86_64-linux-gnu
+    logged tools/install.py --prefix /usr --destdir "$work/package" --libdir $libdir \
+        --pythondir lib/python3/dist-packages --reuse || return
+    grep -qE '^export (PATH|PKG_CONFIG_PATH|CMAKE_PREFIX_PATH)' "$work/log" && return 1
+    grep -q '^prefix=/usr$' "$root/$libdir/pkgconfig/lrc_store.pc" \
+        && ! grep -q rpath "$root/$libdir/pkgconfig/lrc_store.pc" \
+        && [ -e "$root/lib/python3/dist-packages/liblrc_store.so" ]
+}
+
+sonames() {
     local name
     for name in lrc_coder lrc_store; do
-        nm -D --defined-only "$prefix/lib/lib$name.so" | awk '{ print $3 }' | grep -v '^lrc_' && return 1
-        readelf -d "$prefix/lib/lib$name.so" | grep -q "soname: \[lib$name.so.0\]" || return
+        readelf -d "$prefix/lib/lib$name.so" | grep -q "soname: \[lib$name.so.0.1\]" || return
     done
 }
 
-uninstall() { tools/install.py --prefix "$prefix" --uninstall > /dev/null && [ -z "$(ls "$prefix")" ]; }
+uninstall() {
+    tools/install.py --prefix "$prefix" --uninstall > /dev/null && [ -z "$(ls "$prefix")" ]
+}
 
-tools/install.py --prefix "$prefix" --reuse > "$work/log" 2>&1 || { cat "$work/log"; exit 1; }
+installs || exit 1
+write_app
+test_of "version" python3 python3 tests/install/versions.py
 test_of "program" pkg-config pkg-config program
-test_of "exports" readelf binutils exports
-test_of "coder, pkg-config" pkg-config pkg-config with_pkg_config lrc_coder rebuild HELL
-test_of "store, pkg-config" pkg-config pkg-config with_pkg_config lrc_store store "HELLO, WORLD"
-test_of "CMake" cmake cmake with_cmake
-test_of "coder, Python" python3 python3 with_python rebuild HELL
-test_of "store, Python" python3 python3 with_python store "HELLO, WORLD"
+test_of "C" pkg-config pkg-config command_of_page 1
+test_of "C++" pkg-config pkg-config command_of_page 2
+test_of "Python" python3 python3 command_of_page 3
+test_of "CMake" cmake cmake command_of_page 4
+test_of "Rust" cargo cargo command_of_page 5
+test_of "both kinds of each library" cmake cmake with_cmake
+test_of "versions that CMake accepts" cmake cmake cmake_versions
+test_of "package" pkg-config pkg-config package
+test_of "sonames" readelf binutils sonames
 test_of "uninstall" python3 python3 uninstall
 summary installation

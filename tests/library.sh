@@ -1,60 +1,86 @@
 #!/usr/bin/env bash
 # Tests of the coder for C, C++, Rust and Python and of its use under liberasurecode and Ceph, which
-# `rt ci` proves and does not run.
+# `rt ci` proves and does not run. LRC_LIBRARIES names the folder of the libraries.
 # The last line says how many passed, and what was skipped. A package that is missing is installed
 # by its name where apt-get can.
 set -u
-cd "$(dirname "$0")/.."
+cd "$(dirname "$0")/.." || exit
 # shellcheck source=tests/runner.sh
 . tests/runner.sh
-archive=crates/coder_c/out/libcoder_c.a
+# shellcheck source=tests/libraries.sh
+. tests/libraries.sh
+archive=$LRC_LIBRARIES/liblrc_coder.a
 backend=integrations/liberasurecode
 
 warnings=(-Wall -Wextra -Wpedantic -Wconversion -Wshadow -Werror -I include)
-sanitizers=(-g -fsanitize=address,undefined -fno-sanitize-recover=all)
+sanitizers=(-g "-fsanitize=address,undefined" -fno-sanitize-recover=all)
 
 # c_program COMPILER STANDARD FILE FLAG..
 c_program() {
     local compiler=$1 standard=$2 file=$3
     shift 3
-    "$compiler" -std="$standard" -O1 "${warnings[@]}" "$@" "$file" "$archive" -lpthread -o "$work/program" && "$work/program"
+    "$compiler" -std="$standard" -O1 "${warnings[@]}" "$@" "$file" "$archive" -lpthread \
+        -o "$work/program" && "$work/program"
 }
 
-# The archive asks for no memory: for nothing but what compilers count on. Its names are those of
-# the header.
-symbols() {
-    local wanted="lrc_add lrc_decode lrc_encode lrc_encode_add lrc_is_open lrc_rebuild lrc_recipe " names others
-    names=$(nm -g --defined-only "$archive" | awk 'NF == 3 { print $3 }' | sort | tr '\n' ' ')
-    others=$(nm -u "$archive" | awk 'NF == 2 { print $2 }' | grep -vxE 'mem(cmp|cpy|move|set)')
-    [ "$names" = "$wanted" ] && [ -z "$others" ] && echo "symbols: seven functions, which ask for no memory"
-}
+sanitized() { c_program "$@" "${sanitizers[@]}"; }
 
+# The coder allocates no memory: it calls only what compilers count on, and getenv to choose.
+symbols() { tests/library/symbols.sh lrc_coder 'getenv|strcmp|mem(cmp|cpy|move|set)'; }
+
+# The headers in each language that they are for.
 header() {
-    gcc -std=c99 "${warnings[@]}" -fsyntax-only -x c include/lrc_coder.h && g++ -std=c++11 "${warnings[@]}" -fsyntax-only -x c++ include/lrc_coder.h \
-        && echo "header: as C99 and as C++11"
+    local standard each
+    for each in lrc_coder.h lrc_store.h; do
+        for standard in c99 c11 c17; do
+            echo "#include \"$each\"" > "$work/header.c"
+            gcc -std=$standard "${warnings[@]}" -fsyntax-only "$work/header.c" || return
+        done
+        for standard in c++11 c++17; do
+            echo "#include \"$each\"" > "$work/header.cc"
+            g++ -std=$standard "${warnings[@]}" -fsyntax-only "$work/header.cc" || return
+        done
+    done
+    echo "header: as C99, C11, C17, C++11 and C++17"
 }
 
-# The archive with the code for two processors: the same tests by either, chosen by the environment,
-# and by itself the best.
+# The sources of the libraries without a warning of either compiler, by strict options.
+sources() {
+    local each compiler
+    for each in library/*.c; do
+        for compiler in gcc clang; do
+            "$compiler" -std=gnu11 -O2 -fPIC "${warnings[@]}" '-DEACH(of)=of(lrc_add)' \
+                -DCHOICE_CPU=lrc_coder_cpu '-DCHOICE_ENV="LRC_CODER_CPU"' -c "$each" \
+                -o "$work/source.o" || return
+        done
+    done
+    echo "sources: no warning of gcc or clang"
+}
+
+# The same tests by the code for either processor. Left alone, the library chooses the best.
 choice() {
     local best=x86-64-v2
-    grep -qw avx2 /proc/cpuinfo && best=x86-64-v3
-    has objcopy binutils && tools/build_coder.sh "$work" && gcc -std=c11 -O1 "${warnings[@]}" tests/library/coder.c "$work/liblrc_coder.a" -lpthread \
-        -o "$work/either" && gcc -std=c11 "${warnings[@]}" tests/library/cpu.c "$work/liblrc_coder.a" -o "$work/cpu" \
-        && "$work/either" > "$work/chosen" && LRC_CODER_CPU=v2 "$work/either" > "$work/forced" && cmp "$work/chosen" "$work/forced" \
-        && [ "$("$work/cpu")" = $best ] && [ "$(LRC_CODER_CPU=v2 "$work/cpu")" = x86-64-v2 ] && echo "choice: $best here, and x86-64-v2 where it is forced"
+    grep -w avx2 /proc/cpuinfo | grep -w bmi2 | grep -qw movbe && best=x86-64-v3
+    c_program gcc c11 tests/library/cpu.c && [ "$("$work/program")" = $best ] \
+        && [ "$(LRC_CODER_CPU=v2 "$work/program")" = x86-64-v2 ] || return
+    c_program gcc c11 tests/library/coder.c > "$work/chosen" \
+        && LRC_CODER_CPU=v2 "$work/program" > "$work/forced" && cmp "$work/chosen" "$work/forced" \
+        && echo "choice: $best here, and x86-64-v2 where it is forced"
 }
 
 shared_library() {
-    gcc -shared -Wl,--whole-archive "$archive" -Wl,--no-whole-archive -o "$work/liblrc_coder.so"
+    local archive=$LRC_LIBRARIES/liblrc_coder.so
+    c_program gcc c11 tests/library/coder.c -Wl,-rpath,"$LRC_LIBRARIES"
 }
 
 python() {
-    LRC_CODER_SO="$work/liblrc_coder.so" PYTHONDONTWRITEBYTECODE=1 PYTHONPATH=bindings/python python3 "$@"
+    LRC_CODER_SO="$LRC_LIBRARIES/liblrc_coder.so" PYTHONDONTWRITEBYTECODE=1 \
+        PYTHONPATH=bindings/python python3 "$@"
 }
 
 rust() {
-    LRC_CODER_DIR="$PWD/crates/coder_c/out" CARGO_TARGET_DIR="$work/cargo" CARGO_TERM_COLOR=never cargo "$1" --quiet --offline --release --manifest-path bindings/rust/Cargo.toml "${@:2}"
+    CARGO_TARGET_DIR="$work/cargo" CARGO_TERM_COLOR=never cargo "$1" --quiet --offline --release \
+        --manifest-path bindings/rust/Cargo.toml "${@:2}"
 }
 
 rust_tests() {
@@ -62,14 +88,21 @@ rust_tests() {
     echo "Rust: $(grep -c '^test result: ok' "$work/rust") test programs passed"
 }
 
+# is TEXT COMMAND WORD..: whether the command prints this
+is() {
+    local printed
+    printed=$("${@:2}")
+    [ "$printed" = "$1" ] || { echo "${*:2} prints $printed, not $1"; return 1; }
+}
+
 # The programs of docs/library.md and docs/network.md print what they rebuild, and docs/library.md
 # has them as they are.
 examples() {
     local each
     for each in c python rust; do
-        [ "$("example_in_$each")" = HELL ] || { echo "the example in $each prints something else"; return 1; }
+        is HELL "example_in_$each" || return
     done
-    [ "$(c_program gcc c11 bindings/c/network.c)" = "$(printf 'HELL\nHALL')" ] || { echo "the example of the network prints something else"; return 1; }
+    is "$(printf 'HELL\nHALL')" c_program gcc c11 bindings/c/network.c || return
     python3 tests/library/examples.py
 }
 
@@ -78,8 +111,9 @@ example_in_python() { python bindings/python/rebuild.py; }
 example_in_rust() { rust run --example rebuild; }
 
 liberasurecode() {
-    gcc -std=c11 -O1 -Wall -Wextra -Werror -I include -I integrations "$@" "$backend/lrc_backend.c" \
-        "$backend/test_backend.c" "$archive" -lerasurecode -o "$work/backend" && "$work/backend"
+    gcc -std=c11 -O1 -Wall -Wextra -Werror -I include -I integrations "$@" \
+        "$backend/lrc_backend.c" "$backend/test_backend.c" "$archive" -lerasurecode \
+        -o "$work/backend" && "$work/backend"
 }
 
 liberasurecode_sanitized() {
@@ -106,16 +140,16 @@ ceph() {
     fi
 }
 
-(cd crates/coder_c && rt lib > "$work/lib" 2>&1) || { cat "$work/lib"; exit 1; }
 test_of "symbols" nm binutils symbols
 test_of "header" g++ g++ header
+test_of "sources" clang clang sources
 test_of "C" gcc gcc c_program gcc c11 tests/library/coder.c
-test_of "C, sanitizers of gcc" gcc gcc c_program gcc c11 tests/library/coder.c "${sanitizers[@]}"
-test_of "C, sanitizers of clang" clang clang c_program clang c11 tests/library/coder.c "${sanitizers[@]}"
+test_of "C, sanitizers of gcc" gcc gcc sanitized gcc c11 tests/library/coder.c
+test_of "C, sanitizers of clang" clang clang sanitized clang c11 tests/library/coder.c
 test_of "choice of the processor's code" gcc gcc choice
 test_of "C++" g++ g++ c_program g++ c++17 tests/library/coder.cpp
-test_of "C++, sanitizers of gcc" g++ g++ c_program g++ c++17 tests/library/coder.cpp "${sanitizers[@]}"
-test_of "C++, sanitizers of clang" clang++ clang c_program clang++ c++17 tests/library/coder.cpp "${sanitizers[@]}"
+test_of "C++, sanitizers of gcc" g++ g++ sanitized g++ c++17 tests/library/coder.cpp
+test_of "C++, sanitizers of clang" clang++ clang sanitized clang++ c++17 tests/library/coder.cpp
 test_of "shared library" gcc gcc shared_library
 test_of "Python" python3 python3 python tests/library/bindings.py
 test_of "declarations" python3 python3 python tests/library/declarations.py

@@ -192,8 +192,6 @@ def api_page():
 def c_declarations(header):
     """The comments and declarations of a header, without guards and bodies."""
     text = sources.read(os.path.join(TOP, "include", header))
-    text = re.sub(r"(?ms)^static inline (?:int64_t|int) \w+\(.*?^\}\n", "", text)
-    text = re.sub(r"(?m)^#define LRC_STORE_WAIT\(.*?(?<!\\)\n(?=\n)", "", text, flags=re.S)
     for found in DECLARATION.finditer(text):
         said = found.group()
         yield said if said.startswith(("/*", "typedef", "enum", "#")) else re.sub(

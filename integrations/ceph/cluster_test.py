@@ -7,8 +7,8 @@ is counted.
     integrations/ceph/cluster_test.py
 
 It installs Debian's packages where they are missing (as root), works in a temporary folder, ends
-every process that it started, and prints `N passed, M failed`. It needs libcoder_c.a of
-crates/coder_c, or the Rattle kit's `rt`, which builds it."""
+every process that it started, and prints `N passed, M failed`. It needs the coder for C, in the
+folder that LRC_LIBRARIES names, or the Rattle kit's `rt`, which builds it."""
 
 import argparse
 import collections
@@ -75,7 +75,7 @@ RACKS = """    id 99
 
 def build(folder):
     """A folder with the plugin and links to Ceph's own: `erasure code dir` names one."""
-    harness.coder_archive()
+    harness.coder_folder()
     for name in ("plugins", "without"):
         os.mkdir(f"{folder}/{name}")
         for path in glob.glob(f"{CEPH_PLUGINS}/libec_*.so"):

@@ -4,8 +4,8 @@
     integrations/swift/cluster_test.py
 
 It installs Debian's packages where they are missing (as root), works in a temporary folder, ends
-every process that it started, and prints `N passed, M failed`. It needs libcoder_c.a of
-crates/coder_c, or the Rattle kit's `rt`, which builds it."""
+every process that it started, and prints `N passed, M failed`. It needs the coder for C, in the
+folder that LRC_LIBRARIES names, or the Rattle kit's `rt`, which builds it."""
 
 import argparse
 import collections
@@ -76,25 +76,12 @@ def contents(path):
 def build(folder):
     """What an administrator installs: the library, and the Python modules. Besides, the coder for
     Python, to compare with."""
-    archive = harness.coder_archive()
+    os.environ["LRC_CODER_SO"] = f"{harness.coder_folder()}/liblrc_coder.so"
     os.mkdir(f"{folder}/lib")
     subprocess.run([f"{TOP}/integrations/liberasurecode/build.sh", f"{folder}/lib"], check=True)
     for name in os.listdir(HERE):
         if name.startswith("lrcstore_swift"):
             shutil.copytree(f"{HERE}/{name}", f"{folder}/python/{name}")
-    os.environ["LRC_CODER_SO"] = f"{folder}/liblrc_coder.so"
-    subprocess.run(
-        [
-            "gcc",
-            "-shared",
-            "-Wl,--whole-archive",
-            archive,
-            "-Wl,--no-whole-archive",
-            "-o",
-            os.environ["LRC_CODER_SO"],
-        ],
-        check=True,
-    )
 
 
 def installed(folder):

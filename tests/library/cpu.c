@@ -3,7 +3,4 @@
 
 #include <stdio.h>
 
-int main(void)
-{
-    return puts(lrc_coder_cpu()) < 0;
-}
+int main(void) { return puts(lrc_coder_cpu()) < 0; }

@@ -10,10 +10,10 @@ static void open_and_close(void) {
     uint32_t lawful = 9;
     EXPECT(lrc_store_lose(&slot, NAME("a"), 0, 0, &version), LRC_STORE_EMPTY);
     EXPECT(version, 99);
-    EXPECT(lrc_store_open(0, 64, 1, &slot), LRC_STORE_BAD_WIDTH);
-    EXPECT(lrc_store_open(4, 0, 1, &slot), LRC_STORE_BAD_ARGUMENT);
-    EXPECT(lrc_store_open(4, 64, 1, &slot), LRC_STORE_DONE);
-    EXPECT(lrc_store_open(4, 64, 1, &slot), LRC_STORE_OCCUPIED);
+    EXPECT(lrc_store_open(0, 64, &slot), LRC_STORE_BAD_WIDTH);
+    EXPECT(lrc_store_open(4, 0, &slot), LRC_STORE_BAD_ARGUMENT);
+    EXPECT(lrc_store_open(4, 64, &slot), LRC_STORE_DONE);
+    EXPECT(lrc_store_open(4, 64, &slot), LRC_STORE_OCCUPIED);
     EXPECT(lrc_store_split(&other, 1, &slot), LRC_STORE_EMPTY);
     EXPECT(lrc_store_split(&slot, 1, &other), LRC_STORE_DONE);
     EXPECT(lrc_store_split(&slot, 1, &other), LRC_STORE_OCCUPIED);
@@ -31,8 +31,8 @@ static void two_stores_are_not_joined(void) {
     lrc_slot first = LRC_SLOT_EMPTY, second = LRC_SLOT_EMPTY;
     uint64_t entries = 0;
     uint32_t lawful = 0;
-    EXPECT(lrc_store_open(4, 64, 1, &first), LRC_STORE_DONE);
-    EXPECT(lrc_store_open(4, 64, 2, &second), LRC_STORE_DONE);
+    EXPECT(lrc_store_open(4, 64, &first), LRC_STORE_DONE);
+    EXPECT(lrc_store_open(4, 64, &second), LRC_STORE_DONE);
     EXPECT(lrc_store_join(&first, &second), LRC_STORE_BAD_ARGUMENT);
     EXPECT(lrc_store_close(&first, &entries, &lawful), LRC_STORE_DONE);
     EXPECT(lrc_store_close(&second, &entries, &lawful), LRC_STORE_DONE);
@@ -101,7 +101,7 @@ static void reserve_and_put(void) {
     uint64_t version = 9, lent = 0, built = 0, discarded = 0, entries = 0;
     uint32_t lawful = 0;
     uint8_t got[54];
-    EXPECT(lrc_store_open(4, 1, 6, &slot), LRC_STORE_DONE);
+    EXPECT(lrc_store_open(4, 1, &slot), LRC_STORE_DONE);
     EXPECT(lrc_slot_buffer(&other, &buffer), LRC_STORE_EMPTY);
     EXPECT(lrc_store_put_from(&slot, NAME("fox"), &other, 12, &version), LRC_STORE_EMPTY);
     for (unsigned turn = 0; turn < 2; turn++) {
@@ -134,7 +134,7 @@ static void close_to_journal(void) {
     lrc_entry entry = {{(const uint8_t *)"", 0}, 9, 9, 9, 9, 9, 9, 9, 9, 9};
     uint64_t version = 0, len = 0, stripes = 0, lost = 0, discarded = 9, entries = 9;
     uint32_t lawful = 9;
-    EXPECT(lrc_store_open(4, 100, 7, &slot), LRC_STORE_DONE);
+    EXPECT(lrc_store_open(4, 100, &slot), LRC_STORE_DONE);
     EXPECT(lrc_slot_entry(&slot, 0, &entry), LRC_STORE_EMPTY);
     EXPECT(lrc_store_split(&slot, 5, &other), LRC_STORE_DONE);
     EXPECT(lrc_store_close_to(&slot, &other, &discarded, &entries, &lawful), LRC_STORE_OCCUPIED);
@@ -199,7 +199,7 @@ static void all_sessions_of_a_store(void) {
     static lrc_slot slots[65];
     uint64_t entries = 0;
     uint32_t lawful = 0;
-    EXPECT(lrc_store_open(1, 3, 3, &slots[0]), LRC_STORE_DONE);
+    EXPECT(lrc_store_open(1, 3, &slots[0]), LRC_STORE_DONE);
     for (uint32_t k = 1; k < 64; k++)
         EXPECT(lrc_store_split(&slots[0], k, &slots[k]), LRC_STORE_DONE);
     EXPECT(lrc_store_split(&slots[0], 64, &slots[64]), LRC_STORE_NO_PASS);
@@ -215,7 +215,7 @@ static void limits_of_a_store(void) {
     lrc_slot slot = LRC_SLOT_EMPTY;
     uint64_t version = 77, entries = 0, discarded = 0, len = 0, stripes = 0, lost = 0;
     uint32_t lawful = 0;
-    EXPECT(lrc_store_open(1, 2, 4, &slot), LRC_STORE_DONE);
+    EXPECT(lrc_store_open(1, 2, &slot), LRC_STORE_DONE);
     EXPECT(lrc_store_put(&slot, NAME("big"), big, sizeof big, 12, &version), LRC_STORE_TOO_LONG);
     EXPECT(lrc_store_put(&slot, NAME("big"), big, sizeof big - 1, 12, &version), LRC_STORE_DONE);
     EXPECT(lrc_store_delete(&slot, NAME("big"), &version), LRC_STORE_DONE);
@@ -238,7 +238,7 @@ int main(void) {
     reserve_and_put();
     close_to_journal();
     two_stores_are_not_joined();
-    EXPECT(lrc_store_open(4, 1000, 5, &slot), LRC_STORE_DONE);
+    EXPECT(lrc_store_open(4, 1000, &slot), LRC_STORE_DONE);
     put_and_read(&slot);
     lend_and_change(&slot);
     plan_and_mend(&slot);

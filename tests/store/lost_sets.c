@@ -46,7 +46,7 @@ static void one_set(lrc_slot *slot, unsigned data, unsigned set) {
 int main(void) {
     lrc_slot slot = LRC_SLOT_EMPTY;
     long sets = 0;
-    EXPECT(lrc_store_open(WIDTH, 1000, 1, &slot), LRC_STORE_DONE);
+    EXPECT(lrc_store_open(WIDTH, 1000, &slot), LRC_STORE_DONE);
     for (unsigned data = 6; data <= 12; data += 6)
         for (unsigned set = 0; set < 1u << (data + 4); set++)
             if (lost_in(set) <= 4) {

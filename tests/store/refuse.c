@@ -51,7 +51,7 @@ static void run(void) {
     lrc_buffer buffer = {(uint8_t *)"", 0};
     uint64_t version = 0, a = 0, b = 0, c = 0;
     uint32_t lawful = 0;
-    CALL(lrc_store_open(4, 100, 1, &slot));
+    CALL(lrc_store_open(4, 100, &slot));
     CALL(lrc_store_put(&slot, NAME("a"), (const uint8_t *)FOX, 54, 12, &version));
     CALL(lrc_store_lose(&slot, NAME("a"), 0, 1, &version));
     CALL(lrc_store_lose(&slot, NAME("a"), 1, 0, &version));

@@ -113,7 +113,7 @@ int main(int count, char **words) {
     uint64_t entries = 0, discarded = 0;
     uint32_t lawful = 0;
     is_trimmed = count < 3;
-    EXPECT(lrc_store_open(4, 100000, 1, &slot), LRC_STORE_DONE);
+    EXPECT(lrc_store_open(4, 100000, &slot), LRC_STORE_DONE);
     for (unsigned i = 0; i < number; i++) {
         workers[i].who = i + 1;
         EXPECT(lrc_store_split(&slot, i + 1, &workers[i].slot), LRC_STORE_DONE);

@@ -1,0 +1,243 @@
+#!/usr/bin/env python3
+"""Builds the libraries for C.
+
+    tools/libraries.py [--to FOLDER] [--from BUILT] [lrc_coder] [lrc_store]
+
+Leaves liblrc_coder.a and .so, and liblrc_store.a and .so, in FOLDER; both libraries if none is
+named. Each has its proved code twice, for x86-64-v2 (SSE) and for x86-64-v3 (AVX2), and chooses
+when it is loaded. The crates are proved and built by `rt lib`, unless BUILT has their archives:
+libcoder_c_v2.a, libcoder_c_v3.a, libstore_c_v2.a, libstore_c_v3.a. It needs gcc and binutils. The
+files depend on the archives, the sources and the compiler alone.
+"""
+
+import argparse
+import os
+import re
+import shutil
+import subprocess
+import sys
+import tempfile
+from typing import NamedTuple
+
+TOP = os.path.dirname(os.path.dirname(os.path.abspath(__file__)))
+CPUS = ("v2", "v3")
+COMPILE = ("gcc", "-std=gnu11", "-O2", "-fPIC", "-Wall", "-Wextra", "-Werror", "-c")
+LINK = (
+    "gcc",
+    "-shared",
+    "-Wl,-Bsymbolic-functions,--no-undefined,--build-id=sha1",
+    "-Wl,-z,relro,-z,now,-z,noexecstack",
+)
+
+
+class Library(NamedTuple):
+    """The crate of a library, its C sources beside library/choice.c, and the proved functions that
+    have another name inside it."""
+
+    crate: str
+    sources: tuple
+    renamed: dict
+    allocates: bool
+
+
+LIBRARIES = {
+    "lrc_coder": Library("coder_c", ("coder_text",), {}, False),
+    "lrc_store": Library(
+        "store_c",
+        ("store_open", "store_text", "store_wait"),
+        {"lrc_store_open": "lrc_store_open_numbered"},
+        True,
+    ),
+}
+
+
+def run(*command, **options):
+    """Runs a command and returns what it printed, or ends with that if it fails."""
+    ran = subprocess.run(
+        command, stdout=subprocess.PIPE, stderr=subprocess.STDOUT, text=True, **options
+    )
+    if ran.returncode:
+        sys.exit(f"{ran.stdout}{' '.join(command)} failed")
+    return ran.stdout
+
+
+def read(*path):
+    with open(os.path.join(TOP, *path), encoding="utf-8") as file:
+        return file.read()
+
+
+def write(lines, *path):
+    """Writes a file and returns its path."""
+    there = os.path.join(*path)
+    with open(there, "w", encoding="utf-8") as file:
+        file.writelines(f"{line}\n" for line in lines)
+    return there
+
+
+def version():
+    """The number that `lrcstore --version` prints. No other file is its home."""
+    text = read("crates", "command_line", "src", "reading.rt")
+    return re.search(r'VERSION: &str = "([\d.]+)"', text).group(1)
+
+
+def abi(number):
+    """The part of a version that callers depend on. Before 1.0 a minor version may break them."""
+    major, minor, _ = number.split(".")
+    return major if major != "0" else f"{major}.{minor}"
+
+
+def declared(name):
+    """The functions that a library's header declares and does not define."""
+    text = re.sub(r"/\*.*?\*/", "", read("include", f"{name}.h"), flags=re.S)
+    return sorted(re.findall(r"^(?:uint32_t |void |const char \*)(\w+)\([^{;]*;", text, re.M))
+
+
+def defined(path):
+    """The global functions of an object or archive."""
+    found = re.findall(r" T (\w+)$", run("nm", "-g", "--defined-only", path), re.M)
+    return sorted(found)
+
+
+# ---- the crates' archives
+
+
+def kit_libc(built):
+    """The kit's library by which the store calls malloc: a copy in BUILT, or the kit's own."""
+    copied = built and os.path.join(built, "liblibc_c.a")
+    if copied and os.path.exists(copied):
+        return copied
+    return os.path.join(os.path.dirname(run("rt", "doc").strip()), "c", "liblibc_c.a")
+
+
+def prove(crate, cpu, folder):
+    """Proves and builds a crate. The next build leaves its archive at the same place, so this one
+    is copied into the folder."""
+    there = os.path.join(TOP, "crates", crate)
+    print(f"rt lib of {crate} for x86-64-{cpu}, minutes from nothing", flush=True)
+    run("rt", "lib", f"--cpu=x86-64-{cpu}", cwd=there)
+    return shutil.copy(os.path.join(there, "out", f"lib{crate}.a"), folder)
+
+
+def archives_of(library, cpu, built, folder):
+    """The archives that have a library's proved code for a processor."""
+    if built:
+        found = os.path.join(built, f"lib{library.crate}_{cpu}.a")
+        if not os.path.exists(found):
+            sys.exit(f"no {found}")
+    else:
+        found = prove(library.crate, cpu, folder)
+    return [found, kit_libc(built)] if library.allocates else [found]
+
+
+# ---- one archive and one shared library of them
+
+
+def proved_object(library, cpu, archives, folder):
+    """One object of the proved code for a processor, and the functions that it exports. Their names
+    begin with the processor's, and all other names are local."""
+    made = os.path.join(folder, cpu)
+    os.mkdir(made)
+    for archive in archives:
+        run("ar", "x", os.path.abspath(archive), cwd=made)
+    linked = f"{made}.o"
+    run("ld", "-r", "-o", linked, *sorted(os.path.join(made, it) for it in os.listdir(made)))
+    names = {it: library.renamed.get(it, it) for it in defined(linked) if it.startswith("lrc_")}
+    renamed = write((f"{old} {cpu}_{new}" for old, new in names.items()), folder, "renamed")
+    kept = write((f"{cpu}_{new}" for new in names.values()), folder, "kept")
+    run("objcopy", f"--redefine-syms={renamed}", linked)
+    run("objcopy", f"--keep-global-symbols={kept}", linked)
+    return linked, sorted(names.values())
+
+
+def compiled(source, folder, *flags):
+    """The object of a C source of library/."""
+    made = os.path.join(folder, f"{source}.o")
+    there = os.path.join("library", f"{source}.c")
+    run(*COMPILE, *flags, "-I", "include", there, "-o", made, cwd=TOP)
+    return made
+
+
+def choice_object(name, functions, folder):
+    """The object of the entry points, which choose between the processors' functions."""
+    return compiled(
+        "choice",
+        folder,
+        f"-DEACH(of)={' '.join(f'of({it})' for it in functions)}",
+        f"-DCHOICE_CPU={name}_cpu",
+        f'-DCHOICE_ENV="{name.upper()}_CPU"',
+    )
+
+
+def static(name, archives, folder):
+    """Makes the archive of a library, which has the functions of its header and no other name."""
+    library = LIBRARIES[name]
+    proved = [proved_object(library, cpu, archives[cpu], folder) for cpu in CPUS]
+    if proved[0][1] != proved[1][1]:
+        sys.exit(f"{library.crate} exports other functions for v2 than for v3")
+    objects = [it for it, _ in proved] + [choice_object(name, proved[0][1], folder)]
+    objects += [compiled(source, folder) for source in library.sources]
+    whole = os.path.join(folder, f"{name}.o")
+    run("ld", "-r", "-o", whole, *objects)
+    run("objcopy", f"--keep-global-symbols={write(declared(name), folder, 'kept')}", whole)
+    if defined(whole) != declared(name):
+        wrong = " ".join(sorted(set(defined(whole)) ^ set(declared(name))))
+        sys.exit(f"{name}.h and the library differ in {wrong}")
+    archive = os.path.join(folder, f"lib{name}.a")
+    run("ar", "rcsD", archive, whole)
+    return archive
+
+
+def soname(name):
+    return f"lib{name}.so.{abi(version())}"
+
+
+def shared(name, archive, folder):
+    """Links the shared library of an archive. Its names have the version that callers depend on."""
+    functions = (f"  {it};" for it in declared(name))
+    label = f"{name.upper()}_{abi(version())}"
+    script = write([f"{label} {{ global:", *functions, "  local: *;", "};"], folder, "exports")
+    made = os.path.join(folder, f"lib{name}.so")
+    whole = ("-Wl,--whole-archive", archive, "-Wl,--no-whole-archive")
+    run(*LINK, *whole, f"-Wl,--version-script={script},-soname,{soname(name)}", "-o", made)
+    return made
+
+
+def place(source, path):
+    """Puts a copy at a path. An older file there is replaced and not written, since programs may
+    have it open."""
+    shutil.copy(source, path + ".new", follow_symlinks=False)
+    os.replace(path + ".new", path)
+
+
+def build(name, to, built=None):
+    """Builds a library's archive and its shared form into a folder."""
+    with tempfile.TemporaryDirectory() as folder:
+        archives = {}
+        for cpu in CPUS:
+            room = os.path.join(folder, f"archive_{cpu}")
+            os.mkdir(room)
+            archives[cpu] = archives_of(LIBRARIES[name], cpu, built, room)
+        archive = static(name, archives, folder)
+        made = [archive, shared(name, archive, folder)]
+        os.symlink(f"lib{name}.so", os.path.join(folder, soname(name)))
+        os.makedirs(to, exist_ok=True)
+        for path in [*made, os.path.join(folder, soname(name))]:
+            place(path, os.path.join(to, os.path.basename(path)))
+
+
+def main():
+    parser = argparse.ArgumentParser(description=__doc__.splitlines()[0])
+    parser.add_argument("--to", default=os.path.join(TOP, "built"), help="built/ if not given")
+    parser.add_argument("--from", dest="built", help="a folder with the crates' archives")
+    parser.add_argument("library", nargs="*", help="lrc_coder or lrc_store; both if none is named")
+    given = parser.parse_args()
+    unknown = [it for it in given.library if it not in LIBRARIES]
+    if unknown:
+        parser.error(f"no library {unknown[0]}: there are {' and '.join(LIBRARIES)}")
+    for name in given.library or LIBRARIES:
+        build(name, given.to, given.built)
+        print(f"{os.path.join(given.to, f'lib{name}')}.a and .so")
+
+
+if __name__ == "__main__":
+    main()
