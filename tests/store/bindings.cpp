@@ -149,7 +149,7 @@ void reads() {
     EXPECT(joined, grant.str());
     EXPECT(grant.str().capacity() < 160, true); // reserved, and not grown by doubling from 64
     EXPECT(s.read("old", 1, 0).str(), "");
-    for (size_t len : {0, 1, 47, 48, 49, 10000}) {
+    for (size_t len : {0u, 1u, 47u, 48u, 49u, 10000u}) {
         s.put("b", bytes_of(len), 6);
         EXPECT(s.get("b"), bytes_of(len));
     }
