@@ -1,6 +1,7 @@
 #!/usr/bin/env python3
 """The store from Python: arguments, errors, buffers, grants, whole reads, mends, journals and
-threads. tests/store/waiting.py has timeouts, interrupts, forks and how the library is found."""
+threads. waiting.py has timeouts, interrupts, forks and how the library is found; declarations.py
+compares the declarations with the header."""
 
 import array
 import gc
@@ -364,7 +365,7 @@ class Threads(unittest.TestCase):
 
 
 def main():
-    tests = unittest.defaultTestLoader.loadTestsFromNames(["bindings", "waiting"])
+    tests = unittest.defaultTestLoader.loadTestsFromNames(["bindings", "waiting", "declarations"])
     ran = unittest.TextTestRunner(verbosity=0).run(tests)
     print(f"Python: {ran.testsRun} tests, {len(ran.failures) + len(ran.errors)} failed")
     return 0 if ran.wasSuccessful() else 1

@@ -1,21 +1,20 @@
 """The store from Python: timeouts, interrupts, forks, two threads at one session, and how the
 library is found."""
 
-import importlib.util
 import os
-import shutil
 import signal
-import subprocess
 import sys
-import tempfile
 import threading
 import time
 import unittest
 import unittest.mock
 
-import lrc_store
-from lrc_store import Busy, Session, SessionInUse, Status
-from recorder import Recorder
+sys.path.append(os.path.join(os.path.dirname(os.path.abspath(__file__)), ".."))
+
+import loading  # noqa: E402
+import lrc_store  # noqa: E402
+from lrc_store import Busy, Session, SessionInUse, Status  # noqa: E402
+from recorder import Recorder  # noqa: E402
 
 BUSY = Status.BUSY
 STRIPES = 4096
@@ -289,24 +288,28 @@ class TwoThreads(unittest.TestCase):
         self.assertEqual(len(found), 1)
 
     def test_an_interrupt_leaves_nothing_behind(self):
-        count, end = 0, time.monotonic() + 1
+        count, end, armed = 0, time.monotonic() + 1, []
+
+        def handler(*_):
+            if armed:
+                armed.clear()
+                raise Interrupted
+
         # Python prints and drops the exception of a handler that ran in __del__.
         dropped = unittest.mock.patch("sys.unraisablehook", [].append)
-        dropped.start()
-        self.addCleanup(dropped.stop)
-        old = signal.signal(signal.SIGALRM, interrupt)
+        old = signal.signal(signal.SIGALRM, handler)
         signal.setitimer(signal.ITIMER_REAL, 0.001, 0.0007)
-        while time.monotonic() < end:
-            try:
-                while True:
-                    self.session.stat("a")
-                    self.session.read("a", 0, 5)
-                    self.session.get("a")
-                    self.session.trim(0)
-            except Interrupted:
-                count += 1
-            except lrc_store.StoreError:
-                pass
+        with dropped:
+            while time.monotonic() < end:
+                try:
+                    armed.append(True)
+                    while armed:
+                        self.session.stat("a")
+                        self.session.read("a", 0, 5)
+                        self.session.get("a")
+                        self.session.trim(0)
+                except Interrupted:
+                    count += 1
         signal.setitimer(signal.ITIMER_REAL, 0)
         signal.signal(signal.SIGALRM, old)
         self.assertGreater(count, 10)
@@ -314,49 +317,6 @@ class TwoThreads(unittest.TestCase):
         self.assertTrue(self.session.close().is_checked)
 
 
-class Loading(unittest.TestCase):
-    """The library is found by LRC_STORE_SO, beside the module, or by its soname."""
-
-    def setUp(self):
-        self.library = os.path.abspath(lrc_store._library._name)
-        self.folder = tempfile.TemporaryDirectory()
-        self.addCleanup(self.folder.cleanup)
-        self.module = shutil.copy(lrc_store.__file__, self.folder.name)
-
-    def run_with(self, **environment):
-        code = "import lrc_store; print(lrc_store._library._name); lrc_store.Session.open(4, 9).close()"
-        environment = {
-            "PYTHONPATH": self.folder.name,
-            "PYTHONDONTWRITEBYTECODE": "1",
-            **environment,
-        }
-        return subprocess.run(
-            [sys.executable, "-c", code], env=environment, capture_output=True, text=True
-        )
-
-    def test_by_the_environment(self):
-        shutil.copy(__file__, os.path.join(self.folder.name, "liblrc_store.so"))  # not taken
-        ran = self.run_with(LRC_STORE_SO=self.library)
-        self.assertEqual((ran.stdout, ran.stderr), (f"{self.library}\n", ""))
-
-    def test_beside_the_module(self):
-        beside = os.path.join(self.folder.name, "liblrc_store.so")
-        os.symlink(self.library, beside)
-        for environment in ({}, {"LRC_STORE_SO": ""}):
-            ran = self.run_with(**environment)
-            self.assertEqual((ran.stdout, ran.stderr), (f"{beside}\n", ""))
-
-    def test_by_the_soname(self):
-        with tempfile.TemporaryDirectory() as folder:
-            os.symlink(self.library, os.path.join(folder, lrc_store.SONAME))
-            ran = self.run_with(LD_LIBRARY_PATH=folder)
-        self.assertEqual((ran.stdout, ran.stderr), (f"{lrc_store.SONAME}\n", ""))
-
-    def test_not_at_all(self):
-        spec = importlib.util.spec_from_file_location("another", lrc_store.__file__)
-        with unittest.mock.patch.dict(os.environ, LRC_STORE_SO="/none/liblrc_store.so"):
-            with self.assertRaises(ImportError) as caught:
-                spec.loader.exec_module(importlib.util.module_from_spec(spec))
-        text = str(caught.exception)
-        self.assertTrue(text.startswith("/none/liblrc_store.so: "))
-        self.assertTrue(text.endswith(": set LRC_STORE_SO to the path of liblrc_store.so"))
+class LoadingStore(loading.Loading, unittest.TestCase):
+    module = lrc_store
+    use = "lrc_store.Session.open(4, 9).close()"
