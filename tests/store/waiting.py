@@ -168,6 +168,7 @@ class Stuck(unittest.TestCase):
 
     def in_child(self):
         """What a child sees of a store: 0 if nobody was in the critical section at the fork."""
+        signal.signal(signal.SIGALRM, signal.SIG_DFL)
         signal.alarm(FOREVER)  # ends a child that hangs
         try:
             self.session.timeout = 0
@@ -280,11 +281,11 @@ class TwoThreads(unittest.TestCase):
             except SessionInUse as error:
                 found.append(error)
 
-        old = signal.signal(signal.SIGALRM, handler)
+        signal.signal(signal.SIGALRM, handler)
         signal.setitimer(signal.ITIMER_REAL, 0.02)
         with Recorder([BUSY, BUSY]):
             self.session.stat("a")
-        signal.signal(signal.SIGALRM, old)
+        signal.signal(signal.SIGALRM, signal.SIG_IGN)
         self.assertEqual(len(found), 1)
 
     def test_an_interrupt_leaves_nothing_behind(self):
@@ -297,7 +298,7 @@ class TwoThreads(unittest.TestCase):
 
         # Python prints and drops the exception of a handler that ran in __del__.
         dropped = unittest.mock.patch("sys.unraisablehook", [].append)
-        old = signal.signal(signal.SIGALRM, handler)
+        signal.signal(signal.SIGALRM, handler)
         signal.setitimer(signal.ITIMER_REAL, 0.001, 0.0007)
         with dropped:
             while time.monotonic() < end:
@@ -310,8 +311,8 @@ class TwoThreads(unittest.TestCase):
                         self.session.trim(0)
                 except Interrupted:
                     count += 1
+        signal.signal(signal.SIGALRM, signal.SIG_IGN)
         signal.setitimer(signal.ITIMER_REAL, 0)
-        signal.signal(signal.SIGALRM, old)
         self.assertGreater(count, 10)
         self.assertEqual(self.session.get("a"), b"HELLO")
         self.assertTrue(self.session.close().is_checked)
