@@ -170,6 +170,7 @@ class Calls(unittest.TestCase):
         self.refuses(wrong, decode, 12, {**left, 9: b"ab"}, [0])
         both = {7: self.fragments[7][1:3], 0: self.fragments[0][1:3]}
         self.assertEqual(list(decode(12, left, [7, 0, 7], 1, 2).items()), list(both.items()))
+        self.assertEqual(decode(12, left, 2 * [7, 0, 7], 1, 2), both)
         self.assertEqual(decode(12, left, []), {})
 
     def test_recipe_and_add(self):
