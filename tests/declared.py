@@ -1,7 +1,7 @@
-"""What a library's crate exports, and what its header, its Rust crate and its Python module declare.
+"""What a library's crate exports, and what its header, Rust crate and Python module declare.
 
-A type is written as `*const u8`, `*mut slot`, `u64` or `size`. ctypes does not say what is const, and
-has one type for u64 and size.
+A type is written as `*const u8`, `*mut slot`, `u64` or `size`. ctypes does not say what is const,
+and has one type for u64 and size.
 """
 
 import os

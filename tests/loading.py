@@ -1,4 +1,4 @@
-"""How a Python module finds its library: by the environment, beside the module, or by the soname."""
+"""How a Python module finds its library: by the environment, beside itself, or by the soname."""
 
 import importlib.util
 import os

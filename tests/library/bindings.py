@@ -6,6 +6,7 @@ import itertools
 import os
 import sys
 import unittest
+from unittest import mock
 
 TOP = os.path.dirname(os.path.dirname(os.path.dirname(os.path.abspath(__file__))))
 sys.path.insert(0, os.path.join(TOP, "bindings", "python"))
@@ -186,8 +187,23 @@ class Calls(unittest.TestCase):
         self.assertEqual(target, b"\xee" * 4)
 
     def test_what_the_library_refuses(self):
-        self.refuses("call: an argument is invalid", lrc_coder._check, "call", 2)
-        self.refuses("call: unknown status", lrc_coder._check, "call", 3)
+        left, target = self.left, bytearray(4)
+        parities = [bytearray(4) for _ in range(4)]
+        for name, call in (
+            ("encode", lambda: lrc_coder.encode(self.fragments[:12])),
+            ("encode_add", lambda: lrc_coder.encode_add(12, 0, self.fragments[0], parities)),
+            ("is_unrecoverable", lambda: lrc_coder.is_unrecoverable(12, [0], 0)),
+            ("rebuild", lambda: lrc_coder.rebuild(12, left, 0)),
+            ("decode", lambda: lrc_coder.decode(12, left, [0])),
+            ("recipe", lambda: lrc_coder.recipe(12, [0], 0)),
+            ("add", lambda: lrc_coder.add(target, 3, left[1])),
+        ):
+            for status, text in ((2, "an argument is invalid"), (3, "unknown status")):
+                library = mock.Mock(wraps=lrc_coder._library)
+                for function in lrc_coder.DECLARED:
+                    getattr(library, function).side_effect = lambda *_: status
+                with mock.patch.object(lrc_coder, "_library", library):
+                    self.refuses(f"{name}: {text}", call)
 
     def test_buffers(self):
         data = [bytearray(each) for each in self.fragments[:12]]

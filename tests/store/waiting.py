@@ -105,7 +105,7 @@ class Timeouts(unittest.TestCase):
 
 
 def all_lost():
-    """A store with as many lost fragments as a blob can have, so that planning a mend takes long."""
+    """A store with as many lost fragments as a blob can have: planning a mend takes long."""
     session = Session.open(1, 1 << 20)
     session.put("a", bytes(12 * STRIPES))
     for stripe in range(STRIPES):

@@ -308,6 +308,43 @@ pub fn rebuild(
 /// A lost fragment by its number, and the bytes to write it to.
 pub type Target<'a> = (u8, &'a mut [u8]);
 
+/// The status of `lrc_decode` for at most four targets.
+fn decode_four(
+    code: Code,
+    slices: &[Slice; 16],
+    lost: u16,
+    from: usize,
+    targets: &mut [Target],
+) -> u32 {
+    let len = targets.first().map_or(0, |(_, target)| target.len());
+    let mut numbers = [LRC_NONE; 4];
+    let mut four: [&mut [u8]; 4] = [&mut [], &mut [], &mut [], &mut []];
+    for (i, (number, target)) in targets.iter_mut().enumerate() {
+        numbers[i] = *number;
+        four[i] = target;
+    }
+    let [a, b, c, d] = four;
+    // SAFETY: sixteen slices and four numbers are passed, and as in `encode`.
+    unsafe {
+        lrc_decode(
+            code as usize,
+            slices.as_ptr(),
+            lost,
+            numbers.as_ptr(),
+            from,
+            len,
+            a.as_mut_ptr(),
+            a.len(),
+            b.as_mut_ptr(),
+            b.len(),
+            c.as_mut_ptr(),
+            c.len(),
+            d.as_mut_ptr(),
+            d.len(),
+        )
+    }
+}
+
 /// Writes the bytes of several lost fragments from `from` on, in less time than a `rebuild` of
 /// each. All targets have one length. Of more than four lost fragments, one is unrecoverable.
 pub fn decode(
@@ -317,49 +354,22 @@ pub fn decode(
     targets: &mut [Target],
 ) -> Result<(), Error> {
     let (slices, lost) = slices_of(fragments);
-    let len = targets.first().map_or(0, |(_, target)| target.len());
     let wanted: Vec<(u8, usize)> = targets.iter().map(|(f, bytes)| (*f, bytes.len())).collect();
-    for (fragment, _) in &wanted {
-        let reasons = [outside(code, *fragment), not_lost(lost, *fragment)];
-        if reasons.iter().any(Option::is_some) {
-            return Err(invalid("decode", &reasons));
-        }
+    let mut numbers = wanted.iter().map(|(f, _)| *f);
+    let wrong = |f| outside(code, f).or_else(|| not_lost(lost, f));
+    if let Some(reason) = numbers.clone().find_map(wrong) {
+        return Err(invalid("decode", &[Some(reason)]));
     }
-    let mut numbers = [LRC_NONE; 4];
-    let mut rest: [&mut [u8]; 4] = [&mut [], &mut [], &mut [], &mut []];
-    for (i, (number, target)) in targets.iter_mut().enumerate().take(4) {
-        numbers[i] = *number;
-        rest[i] = target;
-    }
-    let [a, b, c, d] = rest;
-    let status = if wanted.len() > 4 {
+    let status = if targets.len() > 4 {
         Status::Unrecoverable as u32
     } else {
-        // SAFETY: sixteen slices and four numbers are passed, and as in `encode`.
-        unsafe {
-            lrc_decode(
-                code as usize,
-                slices.as_ptr(),
-                lost,
-                numbers.as_ptr(),
-                from,
-                len,
-                a.as_mut_ptr(),
-                a.len(),
-                b.as_mut_ptr(),
-                b.len(),
-                c.as_mut_ptr(),
-                c.len(),
-                d.as_mut_ptr(),
-                d.len(),
-            )
-        }
+        decode_four(code, &slices, lost, from, targets)
     };
-    let is_unrecoverable = |f: &u8| is_unrecoverable(code, lost, *f) == Ok(true);
-    let fragment = wanted.iter().map(|(f, _)| *f).find(is_unrecoverable);
+    let fragment = numbers.find(|f| is_unrecoverable(code, lost, *f) == Ok(true));
     result_of(status, "decode", fragment.unwrap_or(LRC_NONE), || {
         let lengths = wanted.iter().map(|(f, len)| (usize::from(*f), *len));
         let reason = unequal(lengths).map(|reason| format!("the target of {reason}"));
+        let len = wanted.first().map_or(0, |(_, len)| *len);
         vec![reason, too_short(code, fragments, from, len)]
     })
 }
