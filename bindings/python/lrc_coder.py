@@ -109,12 +109,11 @@ def _set(call: str, lost: Iterable[int]) -> int:
     return sum({1 << _number(call, "fragment", fragment, 16) for fragment in lost})
 
 
-def _lost_one(call: str, data_fragments: int, lost: int, fragment: int) -> int:
-    """The fragment, which has to be the code's and lost."""
+def _check_lost(call: str, data_fragments: int, lost: int, fragment: int) -> None:
+    """Raises ValueError unless the fragment is the code's and lost."""
     _number(call, "fragment", fragment, _fragments_of(call, data_fragments))
     if not lost >> fragment & 1:
         raise ValueError(f"{call}: fragment {fragment} is not lost")
-    return fragment
 
 
 def _common_length(call: str, buffers: Mapping[str, Buffer], hint: str = "") -> int:
@@ -226,7 +225,7 @@ def rebuild(
     to have one length, and the bytes go to their end. Raises Unrecoverable if the fragment is.
     """
     lost = 0xFFFF & ~_set("rebuild", left)
-    _lost_one("rebuild", data_fragments, lost, fragment)
+    _check_lost("rebuild", data_fragments, lost, fragment)
     target = bytearray(_range_length("rebuild", data_fragments, left, start, length))
     slices = _slices(left.get(i, b"") for i in range(16))
     status = _library.lrc_rebuild(data_fragments, slices, lost, fragment, start, *_target(target))
@@ -250,7 +249,7 @@ def decode(
     lost = 0xFFFF & ~_set("decode", left)
     chosen = list(dict.fromkeys(fragments))
     for fragment in chosen:
-        _lost_one("decode", data_fragments, lost, fragment)
+        _check_lost("decode", data_fragments, lost, fragment)
     length = _range_length("decode", data_fragments, left, start, length)
     targets = [bytearray(length if i < len(chosen) else 0) for i in range(4)]
     slices = _slices(left.get(i, b"") for i in range(16))
@@ -270,7 +269,7 @@ def recipe(data_fragments: int, lost: Iterable[int], fragment: int) -> List[Tupl
     """A recipe for a lost fragment: pairs of a remaining fragment and its coefficient."""
     fragments, coefficients, count = (_U8 * 16)(), (_U8 * 16)(), _U32()
     lost_set = _set("recipe", lost)
-    _lost_one("recipe", data_fragments, lost_set, fragment)
+    _check_lost("recipe", data_fragments, lost_set, fragment)
     status = _library.lrc_recipe(
         data_fragments, lost_set, fragment, fragments, coefficients, ctypes.byref(count)
     )

@@ -4,6 +4,8 @@ Python module declare: names, types, structures, statuses."""
 import ctypes
 import os
 import re
+import shutil
+import subprocess
 import sys
 import unittest
 
@@ -77,6 +79,16 @@ class Declarations(unittest.TestCase):
         self.assertEqual(members, values)
         rust = declared.read("bindings", "rust_store", "src", "errors.rs")
         self.assertEqual({**declared.variants(rust), "DONE": 0}, values)
+
+    @unittest.skipUnless(shutil.which("g++"), "no g++")
+    def test_the_standard_of_cpp(self):
+        for standard, is_enough in (("c++14", False), ("c++17", True), ("c++20", True)):
+            command = ["g++", f"-std={standard}", "-fsyntax-only", "-Wall", "-Wextra", "-Werror"]
+            header = os.path.join(declared.TOP, "include", "lrc_store.hpp")
+            ran = subprocess.run([*command, "-x", "c++", header], capture_output=True, text=True)
+            self.assertEqual(ran.returncode == 0, is_enough, ran.stderr)
+            error = "#error" in ran.stderr and "lrc_store.hpp needs C++17" in ran.stderr
+            self.assertEqual(error, not is_enough)
 
     def test_calls_and_versions(self):
         calls = declared.numbers(r"    LRC_CALL_(\w+) = (\d+)", self.header)
