@@ -1,11 +1,18 @@
 // lrc_store.hpp: the store of lrc_store.h for C++17. Destructors release slots, and errors are
-// thrown. All calls wait while other threads are in the critical section.
+// thrown. A call waits while other threads are in the critical section, as long as its session's
+// timeout allows. What lrc_store.h says of signals and of fork holds here too.
 #ifndef LRC_STORE_HPP
 #define LRC_STORE_HPP
 
+#if __cplusplus < 201703L
+#error "lrc_store.hpp needs C++17: compile with -std=c++17 or later"
+#endif
+
 #include "lrc_store.h"
 
-#include <atomic>
+#include <algorithm>
+#include <chrono>
+#include <optional>
 #include <stdexcept>
 #include <string>
 #include <string_view>
@@ -14,41 +21,42 @@
 
 namespace lrc {
 
-// The text for a status, with which what() of an error ends.
-inline const char *text_of(uint32_t status) {
-    static const char *const texts[] = {"done",
-                                        "another thread is in the critical section",
-                                        "the name has no blob",
-                                        "the range does not lie inside the blob",
-                                        "the remaining fragments do not determine it",
-                                        "the blob has no such fragment",
-                                        "the fragment was lost before",
-                                        "the fragment is not lost",
-                                        "out of memory",
-                                        "the journal is full: trim it",
-                                        "the blob needs more than 4,096 stripes",
-                                        "a name has 1 to 32 bytes of a-z, 0-9, '.', '_' and '-'",
-                                        "the width is not in 1 to 65,536",
-                                        "no further session can be split off",
-                                        "the session is closed, or was joined",
-                                        "the slot is occupied",
-                                        "the limit is not in 1 to 1,048,576, the data fragments "
-                                        "are not 12 or 6, or the sessions are of two stores",
-                                        "the store has other sessions: join them first",
-                                        "out of memory for what is absent of the range",
-                                        "the plan has no item left"};
-    return status < sizeof texts / sizeof *texts ? texts[status] : "unknown status";
-}
-
-// The error of a call that failed, with its status.
+// The error of a call that failed, with its status. LRC_STORE_BUSY if the timeout has passed.
 class store_error : public std::runtime_error {
 public:
-    explicit store_error(const char *call, uint32_t code)
-        : std::runtime_error(std::string(call) + ": " + text_of(code)), status(code) {}
+    store_error(const std::string &call, uint32_t code)
+        : std::runtime_error(call + ": " + lrc_store_text(code)), status(code) {}
     const uint32_t status;
 };
 
-// A slot, which its destructor releases. It can be moved and not copied.
+// The error of a mend that stopped, with the number of fragments that it repaired before.
+class mend_error : public store_error {
+public:
+    mend_error(uint32_t code, uint64_t count)
+        : store_error("mend() after " + std::to_string(count) + " repaired fragments", code),
+          repaired(count) {}
+    const uint64_t repaired;
+};
+
+namespace detail {
+
+inline std::string shown(std::string_view text) { return '"' + std::string(text) + '"'; }
+inline std::string shown(uint64_t number) { return std::to_string(number); }
+
+// Throws store_error if a call failed. The error shows the call and its arguments, such as
+// read("photo", 0, 12). A put has the blob's length in place of the blob.
+template <class... Arguments>
+void check(uint32_t status, const char *call, const Arguments &...arguments) {
+    if (status == LRC_STORE_DONE) return;
+    std::string text = std::string(call) + '(';
+    [[maybe_unused]] const char *before = "";
+    ((text.append(before).append(shown(arguments)), before = ", "), ...);
+    throw store_error(text + ')', status);
+}
+
+} // namespace detail
+
+// A slot, which its destructor releases. Its content may be moved: one copy counts at a time.
 class slot {
 public:
     slot() = default;
@@ -70,7 +78,10 @@ public:
     uint64_t version() const { return number; }
     const std::vector<lrc_slice> &slices() const { return pieces; }
     std::string str() const {
+        size_t len = 0;
+        for (const lrc_slice &piece : pieces) len += piece.len;
         std::string joined;
+        joined.reserve(len);
         for (const lrc_slice &piece : pieces)
             joined.append(reinterpret_cast<const char *>(piece.at), piece.len);
         return joined;
@@ -87,9 +98,8 @@ private:
 class buffer {
 public:
     buffer(buffer &&) = delete;
-    explicit buffer(size_t len) {
-        const uint32_t status = lrc_slot_reserve(len, reserved.get());
-        if (status != LRC_STORE_DONE) throw store_error("reserve", status);
+    explicit buffer(size_t len) : reserved_len(len) {
+        detail::check(lrc_slot_reserve(len, reserved.get()), "reserve", len);
         lrc_slot_buffer(reserved.get(), &bytes);
     }
     uint8_t *data() { return bytes.at; }
@@ -99,6 +109,7 @@ private:
     friend class session;
     static inline uint8_t none = 0;
     slot reserved;
+    const size_t reserved_len;
     lrc_buffer bytes{&none, 0};
 };
 
@@ -110,10 +121,9 @@ public:
     // Whether a check found it lawful. False if there was no memory for the check.
     bool is_checked() const { return lawful == 1; }
     lrc_entry entry(size_t index) {
-        lrc_entry told{{reinterpret_cast<const uint8_t *>(""), 0}, 0, 0, 0, 0, 0, 0, 0, 0, 0};
-        const uint32_t status = lrc_slot_entry(held.get(), index, &told);
-        if (status != LRC_STORE_DONE) throw store_error("entry", status);
-        return told;
+        lrc_entry found{{reinterpret_cast<const uint8_t *>(""), 0}, 0, 0, 0, 0, 0, 0, 0, 0, 0};
+        detail::check(lrc_slot_entry(held.get(), index, &found), "entry", index);
+        return found;
     }
 
 private:
@@ -139,37 +149,46 @@ public:
     // Opens a store and returns its first session. Its fragments have `width` bytes, and its
     // journal at most `limit` entries.
     static session open(uint32_t width, uint32_t limit) {
-        static std::atomic<uint64_t> next{1};
         session made;
-        done("open", lrc_store_open(width, limit, next++, made.held.get()));
+        detail::check(lrc_store_open(width, limit, made.held.get()), "open", width, limit);
         return made;
     }
 
+    // How long a call waits for the critical section at a time. It then throws store_error with
+    // LRC_STORE_BUSY. Without a timeout, as at first, it waits until it gets in.
+    void set_timeout(std::optional<std::chrono::milliseconds> timeout) {
+        wait_ms = timeout ? std::max<int64_t>(timeout->count(), 0) : -1;
+    }
+
+    // Splits off a session, with the label `who` in the journal and with this session's timeout.
     session split(uint32_t who) {
         session made;
-        done("split", lrc_store_split(held.get(), who, made.held.get()));
+        detail::check(lrc_store_split(held.get(), who, made.held.get()), "split", who);
+        made.wait_ms = wait_ms;
         return made;
     }
 
     // Joins another session of the store into this one. On an error, it is unchanged.
     void join(session &&other) {
-        done("join", &other == this ? uint32_t{LRC_STORE_BAD_ARGUMENT}
-                                    : lrc_store_join(held.get(), other.held.get()));
+        detail::check(&other == this ? uint32_t{LRC_STORE_BAD_ARGUMENT}
+                                     : lrc_store_join(held.get(), other.held.get()),
+                      "join");
     }
 
     closed close() {
-        closed told{};
+        closed report{};
         uint32_t lawful = 0;
-        done("close", lrc_store_close(held.get(), &told.entries, &lawful));
-        told.is_checked = lawful == 1;
-        return told;
+        detail::check(lrc_store_close(held.get(), &report.entries, &lawful), "close");
+        report.is_checked = lawful == 1;
+        return report;
     }
 
     // Closes the store and returns its journal.
     journal close_to_journal() {
         journal made;
-        done("close", lrc_store_close_to(held.get(), made.held.get(), &made.trimmed, &made.count,
-                                         &made.lawful));
+        detail::check(lrc_store_close_to(held.get(), made.held.get(), &made.trimmed, &made.count,
+                                         &made.lawful),
+                      "close_to_journal");
         return made;
     }
 
@@ -177,85 +196,131 @@ public:
     uint64_t put(std::string_view name, buffer &blob, uint32_t data_fragments = 12) {
         uint64_t version = 0;
         blob.bytes = lrc_buffer{&buffer::none, 0};
-        done("put", lrc_store_put_from_wait(held.get(), bytes(name), name.size(),
-                                            blob.reserved.get(), data_fragments, &version, -1));
+        detail::check(lrc_store_put_from_wait(held.get(), bytes(name), name.size(),
+                                              blob.reserved.get(), data_fragments, &version,
+                                              wait_ms),
+                      "put", name, blob.reserved_len, data_fragments);
         return version;
     }
 
     uint64_t put(std::string_view name, std::string_view blob, uint32_t data_fragments = 12) {
         uint64_t version = 0;
-        done("put", lrc_store_put_wait(held.get(), bytes(name), name.size(), bytes(blob),
-                                       blob.size(), data_fragments, &version, -1));
+        detail::check(lrc_store_put_wait(held.get(), bytes(name), name.size(), bytes(blob),
+                                         blob.size(), data_fragments, &version, wait_ms),
+                      "put", name, blob.size(), data_fragments);
         return version;
     }
 
+    // Lends `len` bytes of a blob, from the byte `start` on.
     grant read(std::string_view name, uint64_t start, uint64_t len) {
         grant made;
         uint64_t count = 0, written = 0;
-        done("read", lrc_store_lend_wait(held.get(), bytes(name), name.size(), start, len,
-                                         made.lent.get(), &made.number, &count, -1));
-        made.pieces.assign(count, lrc_slice{bytes(""), 0});
-        lrc_slice none{bytes(""), 0};
-        done("read",
-             lrc_slot_slices(made.lent.get(), count ? made.pieces.data() : &none, count, &written));
+        detail::check(lrc_store_lend_wait(held.get(), bytes(name), name.size(), start, len,
+                                          made.lent.get(), &made.number, &count, wait_ms),
+                      "read", name, start, len);
+        made.pieces.assign(count + 1, lrc_slice{bytes(""), 0});
+        lrc_slot_slices(made.lent.get(), made.pieces.data(), count, &written);
+        made.pieces.resize(written);
         return made;
+    }
+
+    // Copies `len` bytes of a blob, from the byte `start` on, into `target`. Returns the version.
+    uint64_t read_into(std::string_view name, uint64_t start, void *target, size_t len) {
+        uint64_t version = 0;
+        detail::check(copy(name, start, target, len, &version), "read_into", name, start, len);
+        return version;
+    }
+
+    // A copy of the whole blob, all of one version. It asks for the length and reads, and does so
+    // again if a put came between.
+    std::string get(std::string_view name) {
+        for (;;) {
+            const shape asked = shape_for("get", name);
+            std::string blob(asked.len, '\0');
+            uint64_t version = 0;
+            const uint32_t status = copy(name, 0, blob.data(), blob.size(), &version);
+            if (status == LRC_STORE_OUT_OF_RANGE) continue;
+            detail::check(status, "get", name);
+            if (version == asked.version) return blob;
+        }
     }
 
     uint64_t lose(std::string_view name, uint64_t stripe, uint64_t fragment) {
         uint64_t version = 0;
-        done("lose", lrc_store_lose_wait(held.get(), bytes(name), name.size(), stripe, fragment,
-                                         &version, -1));
+        detail::check(lrc_store_lose_wait(held.get(), bytes(name), name.size(), stripe, fragment,
+                                          &version, wait_ms),
+                      "lose", name, stripe, fragment);
         return version;
     }
 
     uint64_t repair(std::string_view name, uint64_t stripe, uint64_t fragment) {
         uint64_t version = 0;
-        done("repair", lrc_store_repair_wait(held.get(), bytes(name), name.size(), stripe, fragment,
-                                             &version, -1));
+        detail::check(lrc_store_repair_wait(held.get(), bytes(name), name.size(), stripe, fragment,
+                                            &version, wait_ms),
+                      "repair", name, stripe, fragment);
         return version;
     }
 
     uint64_t remove(std::string_view name) {
         uint64_t version = 0;
-        done("remove", lrc_store_delete_wait(held.get(), bytes(name), name.size(), &version, -1));
+        detail::check(
+            lrc_store_delete_wait(held.get(), bytes(name), name.size(), &version, wait_ms),
+            "remove", name);
         return version;
     }
 
-    shape stat(std::string_view name) {
-        shape told{};
-        done("stat", lrc_store_stat_wait(held.get(), bytes(name), name.size(), &told.version,
-                                         &told.len, &told.stripes, &told.lost, -1));
-        return told;
-    }
+    shape stat(std::string_view name) { return shape_for("stat", name); }
 
     uint64_t trim(uint64_t keep) {
         uint64_t discarded = 0;
-        done("trim", lrc_store_trim_wait(held.get(), keep, &discarded, -1));
+        detail::check(lrc_store_trim_wait(held.get(), keep, &discarded, wait_ms), "trim", keep);
         return discarded;
     }
 
-    // Repairs all lost fragments that can be rebuilt, and returns their number.
+    // Repairs all lost fragments that can be rebuilt, and returns their number. Throws mend_error.
     uint64_t mend() {
         slot plan;
         uint64_t items = 0, version = 0, repaired = 0;
-        done("mend", lrc_store_plan_wait(held.get(), plan.get(), &items, -1));
-        for (;;) {
-            const uint32_t status = lrc_store_mend_step_wait(held.get(), plan.get(), &version, -1);
-            if (status == LRC_STORE_NOTHING_LEFT) return repaired;
-            if (status == LRC_STORE_NO_MEMORY || status == LRC_STORE_JOURNAL_FULL)
-                throw store_error("mend", status);
+        uint32_t status = lrc_store_plan_wait(held.get(), plan.get(), &items, wait_ms);
+        while (is_next(status)) {
+            status = lrc_store_mend_step_wait(held.get(), plan.get(), &version, wait_ms);
             repaired += status == LRC_STORE_DONE;
         }
+        if (status != LRC_STORE_NOTHING_LEFT) throw mend_error(status, repaired);
+        return repaired;
     }
 
 private:
     static const uint8_t *bytes(std::string_view text) {
         return reinterpret_cast<const uint8_t *>(text.data() ? text.data() : "");
     }
-    static void done(const char *call, uint32_t status) {
-        if (status != LRC_STORE_DONE) throw store_error(call, status);
+
+    // Whether a mend goes on to its next fragment: this one is repaired, or cannot be.
+    static bool is_next(uint32_t status) {
+        return status == LRC_STORE_DONE || status == LRC_STORE_NO_NAME ||
+               status == LRC_STORE_UNRECOVERABLE || status == LRC_STORE_NO_FRAGMENT ||
+               status == LRC_STORE_NOT_LOST;
     }
+
+    uint32_t copy(std::string_view name, uint64_t start, void *target, size_t len,
+                  uint64_t *version) {
+        uint64_t lent = 0, built = 0;
+        uint8_t none = 0;
+        return lrc_store_read_wait(held.get(), bytes(name), name.size(), start,
+                                   target ? static_cast<uint8_t *>(target) : &none, len, version,
+                                   &lent, &built, wait_ms);
+    }
+
+    shape shape_for(const char *call, std::string_view name) {
+        shape found{};
+        detail::check(lrc_store_stat_wait(held.get(), bytes(name), name.size(), &found.version,
+                                          &found.len, &found.stripes, &found.lost, wait_ms),
+                      call, name);
+        return found;
+    }
+
     slot held;
+    int64_t wait_ms = -1;
 };
 
 } // namespace lrc

@@ -1,27 +1,46 @@
 """The Local Reconstruction Codes LRC(12,2,2) and LRC(6,2,2).
 
-The module calls liblrc_coder.so by ctypes, which is libcoder_c.a as a shared library. It loads the
-library from its own folder, or from the path in the environment's LRC_CODER_SO. include/lrc_coder.h
-describes the functions.
+The module calls liblrc_coder.so by ctypes. It loads the path in the environment's LRC_CODER_SO, or
+else the file in its own folder, or else the library that the system's loader finds.
+include/lrc_coder.h describes the functions.
 
 A code is named by its number of data fragments, 12 or 6; `lost` is any iterable of fragment
-numbers. A call raises Open if the fragment is unrecoverable, and ValueError if an argument is
-invalid. Every call lets other threads of Python run.
+numbers. A call raises Unrecoverable if the fragment is, and ValueError if an argument is invalid.
+Every call lets other threads of Python run.
 """
 
+from __future__ import annotations
+
 import ctypes
+import enum
 import os
+from typing import Iterable, List, Mapping, NoReturn, Sequence, Tuple, Union
+
+Buffer = Union[bytes, bytearray, memoryview]
 
 
-class Open(ValueError):
-    """The fragment is unrecoverable: the remaining fragments do not determine it."""
+class Status(enum.IntEnum):
+    """What a function of the library returns."""
+
+    DONE = 0
+    UNRECOVERABLE = 1
+    OPEN = 1  # the same
+    BAD_ARGUMENT = 2
+
+
+class Unrecoverable(ValueError):
+    """The remaining fragments do not determine the fragment."""
+
+
+Open = Unrecoverable
 
 
 class Slice(ctypes.Structure):
     _fields_ = [("at", ctypes.POINTER(ctypes.c_uint8)), ("len", ctypes.c_size_t)]
 
 
-DONE, OPEN, BAD_ARGUMENT, NONE = 0, 1, 2, 255
+NONE = 255  # in the numbers of lrc_decode: no fragment
+SONAME = "liblrc_coder.so.0.1"
 
 _U8, _U16, _U32, _SIZE = ctypes.c_uint8, ctypes.c_uint16, ctypes.c_uint32, ctypes.c_size_t
 _BYTES, _SLICES = ctypes.POINTER(_U8), ctypes.POINTER(Slice)
@@ -34,34 +53,102 @@ DECLARED = {
     "lrc_recipe": [_SIZE, _U16, _U8, _BYTES, _BYTES, ctypes.POINTER(_U32)],
     "lrc_add": [_BYTES, _SIZE, _U8, _BYTES, _SIZE],
 }
-_library = ctypes.CDLL(
-    os.environ.get("LRC_CODER_SO")
-    or os.path.join(os.path.dirname(os.path.abspath(__file__)), "liblrc_coder.so")
-)
-for _name, _types in DECLARED.items():
-    getattr(_library, _name).argtypes = _types
-    getattr(_library, _name).restype = _U32
 
 
-def _call(name, *arguments):
-    status = getattr(_library, name)(*arguments)
-    if status == OPEN:
-        raise Open("nothing that is left tells the fragment")
-    if status != DONE:
-        raise ValueError("bad argument")
+def _load() -> ctypes.CDLL:
+    beside = os.path.join(os.path.dirname(os.path.abspath(__file__)), "liblrc_coder.so")
+    path = os.environ.get("LRC_CODER_SO") or (beside if os.path.exists(beside) else SONAME)
+    try:
+        library = ctypes.CDLL(path)
+    except OSError as error:
+        raise ImportError(f"{error}: set LRC_CODER_SO to the path of liblrc_coder.so") from error
+    for name, types in DECLARED.items():
+        getattr(library, name).argtypes = types
+        getattr(library, name).restype = _U32
+    library.lrc_coder_text.argtypes, library.lrc_coder_text.restype = [_U32], ctypes.c_char_p
+    return library
 
 
-def _number(value, name, bits):
-    if not 0 <= value < 1 << bits:  # ctypes itself would cut it
-        raise ValueError(f"bad {name}")
+_library = _load()
+
+
+def _text(status: int) -> str:
+    text: bytes = _library.lrc_coder_text(status)
+    return text.decode()
+
+
+def _check(call: str, status: int) -> None:
+    """Raises ValueError if the library refused the arguments, for whatever reason."""
+    if status not in (Status.DONE, Status.UNRECOVERABLE):
+        raise ValueError(f"{call}: {_text(status)}")
+
+
+def _refuse(call: str, fragment: int) -> NoReturn:
+    raise Unrecoverable(f"{call}: fragment {fragment}: {_text(Status.UNRECOVERABLE)}")
+
+
+def _shown(count: int) -> str:
+    return f"{count} byte" if count == 1 else f"{count} bytes"
+
+
+def _number(call: str, what: str, value: int, end: int) -> int:
+    """The value, which has to be below `end`. ctypes would cut it."""
+    if not 0 <= value < end:
+        raise ValueError(f"{call}: {what} {value} is not in 0 to {end - 1}")
     return value
 
 
-def _set(lost):
-    return sum({1 << _number(fragment, "fragment", 4) for fragment in lost})
+def _fragments_of(call: str, data_fragments: int) -> int:
+    """The number of fragments of a code."""
+    if data_fragments not in (12, 6):
+        raise ValueError(f"{call}: {data_fragments} data fragments, expected 12 or 6")
+    return data_fragments + 4
 
 
-def _source(data):
+def _set(call: str, lost: Iterable[int]) -> int:
+    return sum({1 << _number(call, "fragment", fragment, 16) for fragment in lost})
+
+
+def _check_lost(call: str, data_fragments: int, lost: int, fragment: int) -> None:
+    """Raises ValueError unless the fragment is the code's and lost."""
+    _number(call, "fragment", fragment, _fragments_of(call, data_fragments))
+    if not lost >> fragment & 1:
+        raise ValueError(f"{call}: fragment {fragment} is not lost")
+
+
+def _common_length(call: str, buffers: Mapping[str, Buffer], hint: str = "") -> int:
+    """The length of all buffers, which have to have the same."""
+    lengths = {name: len(buffer) for name, buffer in buffers.items()}
+    first = next(iter(lengths), "")
+    for name, length in lengths.items():
+        if length != lengths[first]:
+            found = f"{name} has {_shown(length)}, {first} has {lengths[first]}"
+            raise ValueError(f"{call}: {found}{hint}")
+    return lengths.get(first, 0)
+
+
+def _range_length(
+    call: str, data_fragments: int, left: Mapping[int, Buffer], start: int, length: int | None
+) -> int:
+    """The given length, or that from `start` to the common end of the remaining fragments."""
+    end = _fragments_of(call, data_fragments)
+    buffers = {f"fragment {number}": left[number] for number in sorted(left) if number < end}
+    _number(call, "start", start, 1 << 63)
+    if length is None:
+        common = _common_length(call, buffers, ": pass a length")
+        if buffers and start > common:
+            raise ValueError(f"{call}: start {start}, and the fragments have {_shown(common)}")
+        return common - start if buffers else 0
+    _number(call, "length", length, 1 << 63)
+    for name, buffer in buffers.items():
+        if len(buffer) < start + length:
+            raise ValueError(
+                f"{call}: {name} has {_shown(len(buffer))}, the range ends at {start + length}"
+            )
+    return length
+
+
+def _source(data: Buffer) -> Tuple[ctypes.Array[ctypes.c_uint8], int]:
     """The address of the bytes and their number.
 
     The array has one element more, so that its address is never NULL.
@@ -69,123 +156,131 @@ def _source(data):
     return (_U8 * (len(data) + 1)).from_buffer_copy(bytes(data) + b"\0"), len(data)
 
 
-def _target(data):
+def _target(data: bytearray) -> Tuple[ctypes.Array[ctypes.c_uint8], int]:
     """The address and the length of a bytearray that a call writes to."""
     return ((_U8 * len(data)).from_buffer(data) if data else (_U8 * 1)()), len(data)
 
 
-def _slices(fragments):
-    slices, kept = (Slice * 16)(), [_source(data) for data in fragments]
-    for slice_, (at, length) in zip(slices, kept):
-        slice_.at, slice_.len = ctypes.cast(at, _BYTES), length
-    return slices, kept
+def _slices(fragments: Iterable[Buffer]) -> ctypes.Array[Slice]:
+    slices = (Slice * 16)()
+    for slice_, data in zip(slices, fragments):
+        at, slice_.len = _source(data)
+        slice_.at = ctypes.cast(at, _BYTES)  # which keeps the bytes
+    return slices
 
 
-def encode(data):
+def encode(data: Sequence[Buffer]) -> List[bytes]:
     """The four parities of 12 or 6 data fragments of one length."""
-    if len(data) not in (6, 12):
-        raise ValueError("bad argument")
-    slices, _kept = _slices(data)
-    parities = [bytearray(len(data[0])) for _ in range(4)]
-    _call(
-        "lrc_encode", slices, len(data), *[word for parity in parities for word in _target(parity)]
-    )
+    _fragments_of("encode", len(data))
+    length = _common_length("encode", {f"fragment {i}": each for i, each in enumerate(data)})
+    parities = [bytearray(length) for _ in range(4)]
+    targets = [word for parity in parities for word in _target(parity)]
+    _check("encode", _library.lrc_encode(_slices(data), len(data), *targets))
     return [bytes(parity) for parity in parities]
 
 
-def encode_add(data_fragments, fragment, source, parities):
-    """Adds a data fragment to the four parities, which are bytearrays."""
-    first, second, third, fourth = map(_target, parities)
-    _call(
-        "lrc_encode_add",
+def encode_add(
+    data_fragments: int, fragment: int, source: Buffer, parities: Sequence[bytearray]
+) -> None:
+    """Adds a data fragment to the four parities, which are bytearrays of its length."""
+    first_parity = _fragments_of("encode_add", data_fragments) - 4
+    _number("encode_add", "fragment", fragment, first_parity)
+    first, second, third, fourth = parities
+    buffers = {f"fragment {i}": each for i, each in enumerate(parities, first_parity)}
+    _common_length("encode_add", {f"fragment {fragment}": source, **buffers})
+    status = _library.lrc_encode_add(
         data_fragments,
-        _number(fragment, "fragment", 8),
+        fragment,
         *_source(source),
-        *first,
-        *second,
-        *third,
-        *fourth,
+        *_target(first),
+        *_target(second),
+        *_target(third),
+        *_target(fourth),
     )
+    _check("encode_add", status)
 
 
-def is_open(data_fragments, lost, fragment):
-    """Whether the fragment is unrecoverable."""
-    try:
-        _call("lrc_is_open", data_fragments, _set(lost), _number(fragment, "fragment", 8))
-    except Open:
-        return True
-    return False
+def is_unrecoverable(data_fragments: int, lost: Iterable[int], fragment: int) -> bool:
+    """Whether the remaining fragments do not determine the fragment."""
+    call = "is_unrecoverable"
+    _number(call, "fragment", fragment, _fragments_of(call, data_fragments))
+    status: int = _library.lrc_is_open(data_fragments, _set(call, lost), fragment)
+    _check(call, status)
+    return status == Status.UNRECOVERABLE
 
 
-def _length(left, start, length):
-    """The given length, or that from `start` to the end of the shortest remaining fragment."""
-    return max(0, min(map(len, left.values()), default=0) - start) if length is None else length
+is_open = is_unrecoverable
 
 
-def rebuild(data_fragments, left, fragment, start=0, length=None):
+def rebuild(
+    data_fragments: int,
+    left: Mapping[int, Buffer],
+    fragment: int,
+    start: int = 0,
+    length: int | None = None,
+) -> bytes:
     """`length` bytes of a lost fragment, from `start` on.
 
-    `left` maps the numbers of the remaining fragments to their bytes. Without a length, the bytes
-    go to the end of the shortest remaining fragment. Raises Open if the fragment is unrecoverable.
+    `left` maps the numbers of the remaining fragments to their bytes. Without a length, they have
+    to have one length, and the bytes go to their end. Raises Unrecoverable if the fragment is.
     """
-    slices, _kept = _slices(left.get(i, b"") for i in range(16))
-    target = bytearray(_length(left, start, length))
-    lost = 0xFFFF & ~_set(left)
-    _call(
-        "lrc_rebuild",
-        data_fragments,
-        slices,
-        lost,
-        _number(fragment, "fragment", 8),
-        _number(start, "start", 64),
-        *_target(target),
-    )
+    lost = 0xFFFF & ~_set("rebuild", left)
+    _check_lost("rebuild", data_fragments, lost, fragment)
+    target = bytearray(_range_length("rebuild", data_fragments, left, start, length))
+    slices = _slices(left.get(i, b"") for i in range(16))
+    status = _library.lrc_rebuild(data_fragments, slices, lost, fragment, start, *_target(target))
+    _check("rebuild", status)
+    if status == Status.UNRECOVERABLE:
+        _refuse("rebuild", fragment)
     return bytes(target)
 
 
-def decode(data_fragments, left, fragments, start=0, length=None):
+def decode(
+    data_fragments: int,
+    left: Mapping[int, Buffer],
+    fragments: Iterable[int],
+    start: int = 0,
+    length: int | None = None,
+) -> dict[int, bytes]:
     """The bytes of several lost fragments, by their numbers, as `rebuild` returns them.
 
-    It takes less time than a rebuild of each. Raises Open if one of them is unrecoverable.
+    It takes less time than a rebuild of each. Raises Unrecoverable if one of them is.
     """
-    slices, _kept = _slices(left.get(i, b"") for i in range(16))
-    length, chosen = _length(left, start, length), [
-        _number(fragment, "fragment", 4) for fragment in dict.fromkeys(fragments)
-    ]
-    if len(chosen) > 4:  # one of them is open
-        for fragment in chosen:
-            rebuild(data_fragments, left, fragment, start, 0)
+    lost = 0xFFFF & ~_set("decode", left)
+    chosen = list(dict.fromkeys(fragments))
+    for fragment in chosen:
+        _check_lost("decode", data_fragments, lost, fragment)
+    length = _range_length("decode", data_fragments, left, start, length)
     targets = [bytearray(length if i < len(chosen) else 0) for i in range(4)]
+    slices = _slices(left.get(i, b"") for i in range(16))
     numbers = (_U8 * 4)(*(chosen + 4 * [NONE])[:4])
-    lost = 0xFFFF & ~_set(left)
-    _call(
-        "lrc_decode",
-        data_fragments,
-        slices,
-        lost,
-        numbers,
-        _number(start, "start", 64),
-        _number(length, "length", 64),
-        *[word for target in targets for word in _target(target)],
-    )
+    words = [word for target in targets for word in _target(target)]
+    status = Status.UNRECOVERABLE  # of more than four lost fragments, one always is
+    if len(chosen) <= 4:
+        status = _library.lrc_decode(data_fragments, slices, lost, numbers, start, length, *words)
+    _check("decode", status)
+    if status == Status.UNRECOVERABLE:
+        of_lost = [i for i in range(16) if lost >> i & 1]
+        _refuse("decode", next(i for i in chosen if is_unrecoverable(data_fragments, of_lost, i)))
     return {fragment: bytes(target) for fragment, target in zip(chosen, targets)}
 
 
-def recipe(data_fragments, lost, fragment):
+def recipe(data_fragments: int, lost: Iterable[int], fragment: int) -> List[Tuple[int, int]]:
     """A recipe for a lost fragment: pairs of a remaining fragment and its coefficient."""
     fragments, coefficients, count = (_U8 * 16)(), (_U8 * 16)(), _U32()
-    _call(
-        "lrc_recipe",
-        data_fragments,
-        _set(lost),
-        _number(fragment, "fragment", 8),
-        fragments,
-        coefficients,
-        ctypes.byref(count),
+    lost_set = _set("recipe", lost)
+    _check_lost("recipe", data_fragments, lost_set, fragment)
+    status = _library.lrc_recipe(
+        data_fragments, lost_set, fragment, fragments, coefficients, ctypes.byref(count)
     )
+    _check("recipe", status)
+    if status == Status.UNRECOVERABLE:
+        _refuse("recipe", fragment)
     return list(zip(fragments, coefficients))[: count.value]
 
 
-def add(target, coefficient, source):
+def add(target: bytearray, coefficient: int, source: Buffer) -> None:
     """Adds a source times a coefficient to a bytearray, byte by byte, in the field."""
-    _call("lrc_add", *_target(target), _number(coefficient, "coefficient", 8), *_source(source))
+    _number("add", "coefficient", coefficient, 256)
+    _common_length("add", {"the source": source, "the target": target})
+    _check("add", _library.lrc_add(*_target(target), coefficient, *_source(source)))

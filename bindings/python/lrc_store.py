@@ -1,52 +1,95 @@
 """An in-memory blob store that keeps each blob in a Local Reconstruction Code.
 
-The module calls liblrc_store.so by ctypes. It loads the library from its own folder, or from the
-path in the environment's LRC_STORE_SO. include/lrc_store.h describes the functions. A call waits
-while other threads are in the critical section, and lets other threads of Python run.
+The module calls liblrc_store.so by ctypes. It loads the path in the environment's LRC_STORE_SO, or
+else the file in its own folder, or else the library that the system's loader finds.
+include/lrc_store.h describes the functions, and what it says of fork holds here too. A call waits
+while other threads are in the critical section, as long as its session's timeout allows. It lets
+other threads of Python run, and Ctrl-C interrupts it.
 """
 
 from __future__ import annotations
 
 import ctypes
-import itertools
+import enum
+import functools
+import math
 import os
+import struct
 import time
-from typing import NamedTuple
+from typing import Any, Callable, List, NamedTuple, Tuple, Union
 
-_TEXTS = {
-    2: "the name has no blob",
-    3: "the range does not lie inside the blob",
-    4: "the remaining fragments do not determine it",
-    5: "the blob has no such fragment",
-    6: "the fragment was lost before",
-    7: "the fragment is not lost",
-    8: "out of memory",
-    9: "the journal is full: trim it",
-    10: "the blob needs more than 4,096 stripes",
-    11: "a name has 1 to 32 bytes of a-z, 0-9, '.', '_' and '-'",
-    12: "the width is not in 1 to 65,536",
-    13: "no further session can be split off",
-    14: "the session is closed, or was joined",
-    17: "the store has other sessions: join them first",
-    18: "out of memory for what is absent of the range",
-}
-_BAD_ARGUMENTS = {
-    "open": "the limit is not in 1 to 1,048,576",
-    "put": "a blob has 12 or 6 data fragments",
-    "join": "the sessions are of two stores, or are one session",
-}
-_DONE, _BUSY, _BAD_ARGUMENT = 0, 1, 16
-_NO_MEMORY, _JOURNAL_FULL, _NOTHING_LEFT = 8, 9, 19
+Buffer = Union[bytes, bytearray, memoryview]
+
+
+class Status(enum.IntEnum):
+    """What a function of the library returns, and what a journal entry has."""
+
+    DONE = 0
+    BUSY = 1
+    NO_NAME = 2
+    OUT_OF_RANGE = 3
+    UNRECOVERABLE = 4
+    NO_FRAGMENT = 5
+    ALREADY_LOST = 6
+    NOT_LOST = 7
+    NO_MEMORY = 8
+    JOURNAL_FULL = 9
+    TOO_LONG = 10
+    BAD_NAME = 11
+    BAD_WIDTH = 12
+    NO_PASS = 13
+    EMPTY = 14
+    OCCUPIED = 15
+    BAD_ARGUMENT = 16
+    NOT_ALONE = 17
+    NOT_REBUILT = 18
+    NOTHING_LEFT = 19
 
 
 class StoreError(Exception):
-    """A call failed. It has the call's arguments and its status, a number of lrc_store.h."""
+    """A call failed. `arguments` are those of the call: a put has the blob's length in place of it.
 
-    def __init__(self, call: str, arguments: tuple, status: int) -> None:
-        texts = _BAD_ARGUMENTS.get(call) if status == _BAD_ARGUMENT else _TEXTS.get(status)
-        told = ", ".join(map(repr, arguments))
-        super().__init__(f"{call}({told}): {texts or f'status {status}'}")
-        self.status = status
+    `repaired` is the number of fragments that a mend repaired before it stopped.
+    """
+
+    def __init__(
+        self, call: str, arguments: Tuple[object, ...], status: Status, repaired: int | None = None
+    ) -> None:
+        shown = f"{call}({', '.join(map(repr, arguments))})"
+        after = "" if repaired is None else f" after {repaired} repaired fragments"
+        self.text = f"{shown}{after}: {_library.lrc_store_text(status).decode()}"
+        super().__init__(self.text)
+        self.call, self.arguments, self.status, self.repaired = call, arguments, status, repaired
+
+    def __str__(self) -> str:
+        return self.text
+
+    def __reduce__(self) -> Tuple[Any, ...]:
+        return type(self), (self.call, self.arguments, self.status, self.repaired)
+
+
+class NotFound(StoreError, KeyError):
+    """The name has no blob."""
+
+
+class Busy(StoreError, TimeoutError):
+    """The session's timeout has passed, and another thread was in the critical section."""
+
+
+class OutOfMemory(StoreError, MemoryError):
+    """The library is out of memory."""
+
+
+class SessionInUse(RuntimeError):
+    """A session was used while a call of it had not returned."""
+
+
+_ERRORS = {
+    Status.NO_NAME: NotFound,
+    Status.BUSY: Busy,
+    Status.NO_MEMORY: OutOfMemory,
+    Status.NOT_REBUILT: OutOfMemory,
+}
 
 
 class _Slot(ctypes.Structure):
@@ -57,7 +100,7 @@ class _Slot(ctypes.Structure):
 
 
 class _Slice(ctypes.Structure):
-    _fields_ = [("at", ctypes.POINTER(ctypes.c_uint8)), ("len", ctypes.c_size_t)]
+    _fields_ = [("at", ctypes.c_void_p), ("len", ctypes.c_size_t)]
 
 
 class _Entry(ctypes.Structure):
@@ -71,69 +114,99 @@ class _Entry(ctypes.Structure):
     ]
 
 
+SONAME = "liblrc_store.so.0.1"
 _CALLS = ("put", "read", "lose", "repair", "delete", "stat")
-_U32, _U64, _SIZE, _BYTES = ctypes.c_uint32, ctypes.c_uint64, ctypes.c_size_t, ctypes.c_char_p
+_U32, _U64, _SIZE, _MS = ctypes.c_uint32, ctypes.c_uint64, ctypes.c_size_t, ctypes.c_int64
+_BYTES, _ADDRESS = ctypes.c_char_p, ctypes.c_void_p
 _SLOT, _OUT = ctypes.POINTER(_Slot), ctypes.POINTER(_U64)
 _NAMED = [_SLOT, _BYTES, _SIZE]
 DECLARED = {
-    "lrc_store_open": [_U32, _U32, _U64, _SLOT],
+    "lrc_store_open": [_U32, _U32, _SLOT],
     "lrc_store_split": [_SLOT, _U32, _SLOT],
     "lrc_store_join": [_SLOT, _SLOT],
     "lrc_store_close": [_SLOT, _OUT, ctypes.POINTER(_U32)],
     "lrc_store_close_to": [_SLOT, _SLOT, _OUT, _OUT, ctypes.POINTER(_U32)],
     "lrc_slot_entry": [_SLOT, _SIZE, ctypes.POINTER(_Entry)],
-    "lrc_store_put": _NAMED + [ctypes.c_void_p, _SIZE, _U32, _OUT],
-    "lrc_store_lend": _NAMED + [_U64, _U64, _SLOT, _OUT, _OUT],
+    "lrc_store_put_wait": [*_NAMED, _ADDRESS, _SIZE, _U32, _OUT, _MS],
+    "lrc_store_read_wait": [*_NAMED, _U64, _ADDRESS, _SIZE, _OUT, _OUT, _OUT, _MS],
+    "lrc_store_lend_wait": [*_NAMED, _U64, _U64, _SLOT, _OUT, _OUT, _MS],
     "lrc_slot_slices": [_SLOT, ctypes.POINTER(_Slice), _SIZE, _OUT],
-    "lrc_store_lose": _NAMED + [_U64, _U64, _OUT],
-    "lrc_store_repair": _NAMED + [_U64, _U64, _OUT],
-    "lrc_store_delete": _NAMED + [_OUT],
-    "lrc_store_stat": _NAMED + [_OUT, _OUT, _OUT, _OUT],
-    "lrc_store_trim": [_SLOT, _U64, _OUT],
-    "lrc_store_plan": [_SLOT, _SLOT, _OUT],
-    "lrc_store_mend_step": [_SLOT, _SLOT, _OUT],
+    "lrc_store_lose_wait": [*_NAMED, _U64, _U64, _OUT, _MS],
+    "lrc_store_repair_wait": [*_NAMED, _U64, _U64, _OUT, _MS],
+    "lrc_store_delete_wait": [*_NAMED, _OUT, _MS],
+    "lrc_store_stat_wait": [*_NAMED, _OUT, _OUT, _OUT, _OUT, _MS],
+    "lrc_store_trim_wait": [_SLOT, _U64, _OUT, _MS],
+    "lrc_store_plan_wait": [_SLOT, _SLOT, _OUT, _MS],
+    "lrc_store_mend_step_wait": [_SLOT, _SLOT, _OUT, _MS],
     "lrc_slot_release": [_SLOT],
+    "lrc_store_text": [_U32],
 }
-_HERE = os.path.dirname(os.path.abspath(__file__))
-_path = os.environ.get("LRC_STORE_SO") or os.path.join(_HERE, "liblrc_store.so")
-try:
-    _library = ctypes.CDLL(_path)
-except OSError as error:
-    raise ImportError(
-        f"{error}: build it as docs/library.md says, or set LRC_STORE_SO to its path"
-    ) from error
-for _name, _types in DECLARED.items():
-    getattr(_library, _name).argtypes = _types
-    getattr(_library, _name).restype = _U32
-_library.lrc_slot_release.restype = None
-_numbers = itertools.count(1)
 
 
-def _status(function: str, *arguments) -> int:
-    """The status of a call, which is repeated while another thread is in the critical section."""
-    call = getattr(_library, function)
-    for kind, argument in zip(call.argtypes, arguments):
-        if kind in (_U32, _U64, _SIZE) and not 0 <= argument < 1 << 8 * ctypes.sizeof(kind):
-            raise ValueError(
-                f"{function}: {argument} is not in 0 to 2**{8 * ctypes.sizeof(kind)} - 1"
-            )
-    for attempt in itertools.count():
-        status = call(*arguments)
-        if status != _BUSY:
-            return status
-        time.sleep(0 if attempt < 64 else 5e-5)
-    raise AssertionError
+def _load() -> ctypes.CDLL:
+    beside = os.path.join(os.path.dirname(os.path.abspath(__file__)), "liblrc_store.so")
+    path = os.environ.get("LRC_STORE_SO") or (beside if os.path.exists(beside) else SONAME)
+    try:
+        library = ctypes.CDLL(path)
+    except OSError as error:
+        raise ImportError(f"{error}: set LRC_STORE_SO to the path of liblrc_store.so") from error
+    for name, types in DECLARED.items():
+        getattr(library, name).argtypes = types
+        getattr(library, name).restype = _U32
+    library.lrc_slot_release.restype = None
+    library.lrc_store_text.restype = ctypes.c_char_p
+    return library
 
 
-def _check(status: int, call: str, *arguments) -> None:
+_library = _load()
+_NOTHING = ctypes.c_char_p(b"")  # an address that is not NULL
+_new_bytes = ctypes.pythonapi.PyBytes_FromStringAndSize
+_new_bytes.argtypes, _new_bytes.restype = [ctypes.c_void_p, ctypes.c_ssize_t], ctypes.py_object
+# How long a call of the library waits at a time. Between two, Python handles signals.
+_SLICE_SECONDS = 0.05
+# After these statuses a mend goes on: the fragment is repaired, or cannot be.
+_MEND_GOES_ON = (
+    Status.DONE,
+    Status.NO_NAME,
+    Status.UNRECOVERABLE,
+    Status.NO_FRAGMENT,
+    Status.NOT_LOST,
+)
+
+
+def _check(status: int, call: str, *arguments: object) -> None:
     """Raises StoreError if the call with these arguments failed."""
-    if status != _DONE:
-        raise StoreError(call, arguments, status)
+    if status != Status.DONE:
+        raise _ERRORS.get(Status(status), StoreError)(call, arguments, Status(status))
 
 
-def _named(name: str) -> tuple[bytes, int]:
-    text = name.encode()
+def _number(what: str, value: int, bits: int = 64) -> int:
+    """The value, which has to fit into so many bits. ctypes would cut it."""
+    if not 0 <= value < 1 << bits:
+        raise ValueError(f"{what} {value} is not in 0 to 2**{bits} - 1")
+    return value
+
+
+def _named(name: str) -> Tuple[bytes, int]:
+    if not isinstance(name, str):
+        raise TypeError(f"the name is of type {type(name).__name__}, expected str")
+    text = name.encode(errors="surrogatepass")  # no valid name, which the library says
     return text, len(text)
+
+
+def _view(what: str, data: Buffer) -> memoryview:
+    """The bytes of a buffer."""
+    try:
+        return memoryview(data).cast("B")
+    except TypeError as error:
+        hint = ": encode it" if isinstance(data, str) else ""
+        found = f"{what} is of type {type(data).__name__}, expected contiguous bytes{hint}"
+        raise TypeError(found) from error
+
+
+def _pinned(view: memoryview) -> Any:
+    """The address of a writable buffer, which stays in place as long as this lives."""
+    return ctypes.byref(ctypes.c_char.from_buffer(view) if len(view) else ctypes.c_char())
 
 
 class Shape(NamedTuple):
@@ -166,7 +239,7 @@ class Entry(NamedTuple):
     name: str
     first: int
     second: int
-    status: int
+    status: Status
     version: int
     shape: Shape | None
 
@@ -178,64 +251,113 @@ class Journal(NamedTuple):
     """
 
     discarded: int
-    entries: list[Entry]
+    entries: List[Entry]
     is_checked: bool
 
 
 class Grant:
-    """A lent range of a blob, as read-only memoryviews in `pieces`.
+    """A lent range of a blob: `bytes(grant)` copies it, and `pieces` are read-only memoryviews.
 
     Its memory is freed when the grant and the last of the views are gone.
     """
 
-    def __init__(self, lent: _Slot, version: int, pieces: int) -> None:
+    def __init__(self, lent: _Slot, version: int, count: int) -> None:
         self.version = version
-        self._lent = lent
-        slices, count = (_Slice * (pieces + 1))(), _U64()
-        for piece in slices:
-            piece.at = ctypes.cast(ctypes.c_char_p(b""), ctypes.POINTER(ctypes.c_uint8))
-        _check(_status("lrc_slot_slices", lent, slices, pieces, count), "read")
-        self.pieces = [self._view(piece) for piece in slices[: count.value]]
+        self._lent: _Slot | None = lent
+        empty = bytes(_Slice(ctypes.cast(_NOTHING, ctypes.c_void_p), 0))
+        slices = (_Slice * (count + 1)).from_buffer_copy(empty * (count + 1))
+        _check(_library.lrc_slot_slices(lent, slices, count, _U64()), "read")
+        self._slices = list(struct.iter_unpack("PN", bytes(slices)))[:count]
 
-    def _view(self, piece: _Slice) -> memoryview:
-        address = ctypes.cast(piece.at, ctypes.c_void_p).value or 0
-        array = (ctypes.c_uint8 * piece.len).from_address(address)
+    @functools.cached_property
+    def pieces(self) -> List[memoryview]:
+        """The pieces of the range, in order."""
+        return [self._view(at, length) for at, length in self._slices]
+
+    def _view(self, at: int, length: int) -> memoryview:
+        array: Any = (ctypes.c_uint8 * length).from_address(at)
         array.owner = self._lent
         return memoryview(array).cast("B").toreadonly()
 
     def __bytes__(self) -> bytes:
-        return b"".join(self.pieces)
+        return b"".join([ctypes.string_at(at, length) for at, length in self._slices])
 
     def __enter__(self) -> Grant:
         return self
 
     def __exit__(self, *_: object) -> None:
-        self.pieces = []
+        self._slices, self.pieces = [], []
         self._lent = None
 
 
 def _entry(held: _Slot, index: int) -> Entry:
     """The entry of a journal at an index."""
     raw = _Entry()
-    raw.name.at = ctypes.cast(ctypes.c_char_p(b""), ctypes.POINTER(ctypes.c_uint8))
-    _check(_status("lrc_slot_entry", held, index, raw), "entry", index)
-    name, call = bytes(raw.name.at[: raw.name.len]).decode(), _CALLS[raw.call]
+    raw.name.at = ctypes.cast(_NOTHING, ctypes.c_void_p)
+    _check(_library.lrc_slot_entry(held, index, raw), "entry", index)
+    name, call = ctypes.string_at(raw.name.at, raw.name.len).decode(), _CALLS[raw.call]
     shape = (
         Shape(raw.version, raw.len, raw.stripes, raw.lost)
-        if call == "stat" and raw.status == _DONE
+        if call == "stat" and raw.status == Status.DONE
         else None
     )
-    return Entry(raw.who, call, name, raw.first, raw.second, raw.status, raw.version, shape)
+    status = Status(raw.status)
+    return Entry(raw.who, call, name, raw.first, raw.second, status, raw.version, shape)
 
 
 class Session:
-    """A session of a store, for one thread at a time.
+    """A session of a store, for one thread at a time. A second thread gets SessionInUse.
 
     As a context manager it closes the store at the end of the block, unless the block raised.
     """
 
     def __init__(self, slot: _Slot) -> None:
         self._slot = slot
+        self._timeout: float | None = None
+        self._inside: set[object] = set()  # of each call that has not returned
+
+    @property
+    def timeout(self) -> float | None:
+        """How many seconds a call waits for the critical section at a time. None: for ever.
+
+        It raises Busy after that. A session that is split off has the timeout of its first one.
+        """
+        return self._timeout
+
+    @timeout.setter
+    def timeout(self, seconds: float | None) -> None:
+        if seconds is not None and not seconds >= 0:
+            raise ValueError(f"timeout {seconds} is neither None nor at least 0")
+        self._timeout = seconds
+
+    def _alone(self, run: Callable[[], Any]) -> int:
+        """The status of a call of the library, unless another of this session has not returned.
+
+        The exception of a signal handler may come at any place, and leaves nothing behind.
+        """
+        call = object()
+        try:
+            self._inside.add(call)
+            if len(self._inside) > 1:
+                raise SessionInUse("a call of the session has not returned: split off another one")
+            status: int = run()
+            return status
+        finally:
+            self._inside.discard(call)
+
+    def _wait(self, function: str, *arguments: object) -> int:
+        """The status of a waiting form, which is called for slices of the timeout."""
+        call = getattr(_library, function)
+        end = math.inf if self._timeout is None else time.monotonic() + self._timeout
+
+        def attempts() -> int:
+            while True:
+                left = max(0.0, min(_SLICE_SECONDS, end - time.monotonic()))
+                status: int = call(self._slot, *arguments, math.ceil(left * 1000))
+                if status != Status.BUSY or time.monotonic() >= end:
+                    return status
+
+        return self._alone(attempts)
 
     @classmethod
     def open(cls, width: int, limit: int) -> Session:
@@ -244,114 +366,153 @@ class Session:
         Its fragments have `width` bytes, and its journal at most `limit` entries.
         """
         slot = _Slot()
-        _check(_status("lrc_store_open", width, limit, next(_numbers), slot), "open", width, limit)
+        status = _library.lrc_store_open(
+            _number("width", width, 32), _number("limit", limit, 32), slot
+        )
+        _check(status, "open", width, limit)
         return cls(slot)
 
     def split(self, who: int) -> Session:
         """Splits off a further session, whose calls have the label `who` in the journal."""
-        other = _Slot()
-        _check(_status("lrc_store_split", self._slot, who, other), "split", who)
-        return Session(other)
+        other = Session(_Slot())
+        other.timeout = self.timeout
+        _number("who", who, 32)
+        _check(
+            self._alone(lambda: _library.lrc_store_split(self._slot, who, other._slot)),
+            "split",
+            who,
+        )
+        return other
 
     def join(self, other: Session) -> None:
         """Joins another session of the store into this one."""
         if other is self:
-            raise StoreError("join", (), _BAD_ARGUMENT)
-        _check(_status("lrc_store_join", self._slot, other._slot), "join")
+            raise StoreError("join", (), Status.BAD_ARGUMENT)
+        _check(
+            self._alone(
+                lambda: other._alone(lambda: _library.lrc_store_join(self._slot, other._slot))
+            ),
+            "join",
+        )
 
     def close(self) -> Closed:
         """Closes the store. All its other sessions have to be joined into this one first."""
         entries, lawful = _U64(), _U32()
-        _check(_status("lrc_store_close", self._slot, entries, lawful), "close")
+        _check(self._alone(lambda: _library.lrc_store_close(self._slot, entries, lawful)), "close")
         return Closed(entries.value, lawful.value == 1)
 
     def close_to_journal(self) -> Journal:
         """Closes the store, and returns the entries of its journal."""
         held, discarded, entries, lawful = _Slot(), _U64(), _U64(), _U32()
-        _check(_status("lrc_store_close_to", self._slot, held, discarded, entries, lawful), "close")
+        outputs = held, discarded, entries, lawful
+        _check(
+            self._alone(lambda: _library.lrc_store_close_to(self._slot, *outputs)),
+            "close_to_journal",
+        )
         return Journal(
             discarded.value,
             [_entry(held, index) for index in range(entries.value)],
             lawful.value == 1,
         )
 
-    def put(self, name: str, blob: bytes | bytearray | memoryview, data_fragments: int = 12) -> int:
+    def put(self, name: str, blob: Buffer, data_fragments: int = 12) -> int:
         """Stores a copy of a blob, which may be any buffer, and returns its version."""
-        version = _U64()
-        view = memoryview(blob).cast("B")
-        source = (
-            (ctypes.c_uint8 * (len(view) or 1)).from_buffer(view)
-            if view and not view.readonly
-            else bytes(view)
-        )
-        address = source if isinstance(source, bytes) else ctypes.addressof(source)
-        status = _status(
-            "lrc_store_put", self._slot, *_named(name), address, len(view), data_fragments, version
-        )
-        _check(status, "put", name, data_fragments)
+        version, view = _U64(), _view("the blob", blob)
+        _number("data_fragments", data_fragments, 32)
+        source = _pinned(view) if not view.readonly else bytes(blob)
+        words = *_named(name), source, len(view), data_fragments, version
+        _check(self._wait("lrc_store_put_wait", *words), "put", name, len(view), data_fragments)
         return version.value
 
     def read(self, name: str, start: int, length: int) -> Grant:
         """Lends `length` bytes of a blob, from the byte `start` on."""
         lent, version, pieces = _Slot(), _U64(), _U64()
-        status = _status(
-            "lrc_store_lend", self._slot, *_named(name), start, length, lent, version, pieces
-        )
+        wanted = _number("start", start), _number("length", length)
+        status = self._wait("lrc_store_lend_wait", *_named(name), *wanted, lent, version, pieces)
         _check(status, "read", name, start, length)
         return Grant(lent, version.value, pieces.value)
 
+    def _copy(self, name: str, start: int, target: object, length: int) -> Tuple[int, int]:
+        """The status and the version of a read into the target."""
+        version, lent, built = _U64(), _U64(), _U64()
+        words = *_named(name), start, target, length, version, lent, built
+        return self._wait("lrc_store_read_wait", *words), version.value
+
+    def read_into(self, name: str, start: int, buffer: bytearray | memoryview) -> int:
+        """Copies as many bytes of a blob as the buffer has, from the byte `start` on.
+
+        Returns the version. After OutOfMemory, any byte of the buffer may have been written.
+        """
+        view = _view("the buffer", buffer)
+        if view.readonly:
+            raise TypeError(
+                f"the buffer is of type {type(buffer).__name__}, expected a writable one"
+            )
+        status, version = self._copy(name, _number("start", start), _pinned(view), len(view))
+        _check(status, "read_into", name, start, len(view))
+        return version
+
+    def get(self, name: str) -> bytes:
+        """A copy of the whole blob, all of one version.
+
+        It asks for the length and reads, and does so again if a put came between.
+        """
+        while True:
+            shape = self._shape("get", name)
+            blob: bytes = _new_bytes(None, shape.len)
+            status, version = self._copy(name, 0, blob, shape.len)
+            if status != Status.OUT_OF_RANGE:
+                _check(status, "get", name)
+                if version == shape.version:
+                    return blob
+
     def lose(self, name: str, stripe: int, fragment: int) -> int:
         """Loses a fragment of a stripe, as after a disk failure."""
-        version = _U64()
-        _check(
-            _status("lrc_store_lose", self._slot, *_named(name), stripe, fragment, version),
-            "lose",
-            name,
-            stripe,
-            fragment,
-        )
-        return version.value
+        return self._change("lose", name, stripe, fragment)
 
     def repair(self, name: str, stripe: int, fragment: int) -> int:
         """Repairs a lost fragment of a stripe."""
-        version = _U64()
-        _check(
-            _status("lrc_store_repair", self._slot, *_named(name), stripe, fragment, version),
-            "repair",
-            name,
-            stripe,
-            fragment,
-        )
+        return self._change("repair", name, stripe, fragment)
+
+    def _change(self, call: str, name: str, stripe: int, fragment: int) -> int:
+        version, place = _U64(), (_number("stripe", stripe), _number("fragment", fragment))
+        status = self._wait(f"lrc_store_{call}_wait", *_named(name), *place, version)
+        _check(status, call, name, stripe, fragment)
         return version.value
 
     def delete(self, name: str) -> int:
         """Deletes a blob."""
         version = _U64()
-        _check(_status("lrc_store_delete", self._slot, *_named(name), version), "delete", name)
+        _check(self._wait("lrc_store_delete_wait", *_named(name), version), "delete", name)
         return version.value
 
     def stat(self, name: str) -> Shape:
         """The shape of a blob."""
+        return self._shape("stat", name)
+
+    def _shape(self, call: str, name: str) -> Shape:
         numbers = [_U64() for _ in range(4)]
-        _check(_status("lrc_store_stat", self._slot, *_named(name), *numbers), "stat", name)
+        _check(self._wait("lrc_store_stat_wait", *_named(name), *numbers), call, name)
         return Shape(*(number.value for number in numbers))
 
     def trim(self, keep: int) -> int:
         """Discards all journal entries but the last `keep`, and returns how many it discarded."""
         discarded = _U64()
-        _check(_status("lrc_store_trim", self._slot, keep, discarded), "trim", keep)
+        _check(self._wait("lrc_store_trim_wait", _number("keep", keep), discarded), "trim", keep)
         return discarded.value
 
     def mend(self) -> int:
-        """Repairs all lost fragments that can be rebuilt, and returns their number."""
+        """Repairs all lost fragments that can be rebuilt, and returns their number.
+
+        If it stops before, the error has the number of those that it repaired.
+        """
         plan, items, version, repaired = _Slot(), _U64(), _U64(), 0
-        _check(_status("lrc_store_plan", self._slot, plan, items), "mend")
-        while (
-            status := _status("lrc_store_mend_step", self._slot, plan, version)
-        ) != _NOTHING_LEFT:
-            if status in (_NO_MEMORY, _JOURNAL_FULL):
-                raise StoreError("mend", (), status)
-            repaired += status == _DONE
+        status = self._wait("lrc_store_plan_wait", plan, items)
+        while status in _MEND_GOES_ON:
+            status = self._wait("lrc_store_mend_step_wait", plan, version)
+            repaired += status == Status.DONE
+        if status != Status.NOTHING_LEFT:
+            raise _ERRORS.get(Status(status), StoreError)("mend", (), Status(status), repaired)
         return repaired
 
     def __enter__(self) -> Session:

@@ -1,36 +1,384 @@
-// The store from C++: a blob that is put without a copy, and the journal of a store that is closed.
+// The store from C++: arguments, errors, buffers, grants, whole reads, timeouts, mends, journals.
+#include "recorder.hpp"
 #include "lrc_store.hpp"
+
 #include <algorithm>
+#include <atomic>
+#include <chrono>
 #include <iostream>
+#include <optional>
+#include <string>
+#include <thread>
+
+namespace {
+
+using lrc::session;
+using std::chrono::milliseconds;
+
+int wrong = 0;
+
+template <class Got, class Wanted> void expect(int line, const Got &got, const Wanted &wanted) {
+    if (got == wanted) return;
+    std::cerr << "bindings.cpp:" << line << ": " << got << ", expected " << wanted << '\n';
+    wrong++;
+}
+#define EXPECT(got, wanted) expect(__LINE__, got, wanted)
+
+// What a call throws: the status and the text.
+template <class Call> void expect_error(int line, Call call, uint32_t status, std::string text) {
+    try {
+        call();
+        expect(line, "no error", text);
+    } catch (const lrc::store_error &error) {
+        expect(line, error.status, status);
+        expect(line, std::string(error.what()), text + ": " + lrc_store_text(status));
+    }
+}
+#define EXPECT_ERROR(call, status, text)                                                           \
+    expect_error(                                                                                  \
+        __LINE__, [&] { call; }, status, text)
+
+std::string bytes_of(size_t len) {
+    std::string blob(len, '\0');
+    for (size_t i = 0; i < len; i++) blob[i] = static_cast<char>(i * 7 + i / 251);
+    return blob;
+}
+
+std::string text_of(lrc_slice bytes) {
+    return {reinterpret_cast<const char *>(bytes.at), bytes.len};
+}
+
+void errors() {
+    EXPECT_ERROR(session::open(0, 10), LRC_STORE_BAD_WIDTH, "open(0, 10)");
+    EXPECT_ERROR(session::open(4, 0), LRC_STORE_BAD_ARGUMENT, "open(4, 0)");
+    session s = session::open(1, 100);
+    s.put("a", std::string(20, 'x'));
+    s.lose("a", 1, 4);
+    EXPECT_ERROR(s.put("A", "xyz"), LRC_STORE_BAD_NAME, "put(\"A\", 3, 12)");
+    EXPECT_ERROR(s.put("b", "x", 7), LRC_STORE_BAD_ARGUMENT, "put(\"b\", 1, 7)");
+    EXPECT_ERROR(s.put("a", std::string(49153, 'x')), LRC_STORE_TOO_LONG, "put(\"a\", 49153, 12)");
+    EXPECT_ERROR(s.stat("none"), LRC_STORE_NO_NAME, "stat(\"none\")");
+    EXPECT_ERROR(s.stat(std::string_view()), LRC_STORE_BAD_NAME, "stat(\"\")");
+    EXPECT_ERROR(s.get("none"), LRC_STORE_NO_NAME, "get(\"none\")");
+    EXPECT_ERROR(s.remove("none"), LRC_STORE_NO_NAME, "remove(\"none\")");
+    EXPECT_ERROR(s.read("a", 9, 12), LRC_STORE_OUT_OF_RANGE, "read(\"a\", 9, 12)");
+    EXPECT_ERROR(s.lose("a", 2, 3), LRC_STORE_NO_FRAGMENT, "lose(\"a\", 2, 3)");
+    EXPECT_ERROR(s.lose("a", 1, 4), LRC_STORE_ALREADY_LOST, "lose(\"a\", 1, 4)");
+    EXPECT_ERROR(s.repair("a", 0, 5), LRC_STORE_NOT_LOST, "repair(\"a\", 0, 5)");
+    std::string target(12, 'T');
+    EXPECT_ERROR(s.read_into("a", 9, target.data(), 12), LRC_STORE_OUT_OF_RANGE,
+                 "read_into(\"a\", 9, 12)");
+    EXPECT(target, std::string(12, 'T'));
+    for (uint64_t fragment = 0; fragment < 5; fragment++) s.lose("a", 0, fragment);
+    EXPECT_ERROR(s.get("a"), LRC_STORE_UNRECOVERABLE, "get(\"a\")");
+    EXPECT_ERROR(lrc::buffer(SIZE_MAX), LRC_STORE_NO_MEMORY,
+                 "reserve(" + std::to_string(SIZE_MAX) + ")");
+    EXPECT_ERROR(lrc::journal().entry(3), LRC_STORE_EMPTY, "entry(3)");
+}
+
+void sessions() {
+    session first = session::open(4, 100), other = session::open(4, 100);
+    EXPECT_ERROR(first.join(std::move(first)), LRC_STORE_BAD_ARGUMENT, "join()");
+    EXPECT_ERROR(first.join(std::move(other)), LRC_STORE_BAD_ARGUMENT, "join()");
+    EXPECT(other.put("a", "x"), 1u);
+    std::vector<session> parts;
+    for (uint32_t who = 0; who < 63; who++) parts.push_back(first.split(who));
+    EXPECT_ERROR(first.split(77), LRC_STORE_NO_PASS, "split(77)");
+    EXPECT_ERROR(first.close(), LRC_STORE_NOT_ALONE, "close()");
+    EXPECT_ERROR(first.close_to_journal(), LRC_STORE_NOT_ALONE, "close_to_journal()");
+    for (session &part : parts) first.join(std::move(part));
+    EXPECT_ERROR(first.join(std::move(parts[0])), LRC_STORE_EMPTY, "join()");
+    session moved = std::move(first);
+    EXPECT_ERROR(first.stat("a"), LRC_STORE_EMPTY, "stat(\"a\")");
+    moved.put("a", "x");
+    first = std::move(moved);
+    EXPECT(first.get("a"), "x");
+    const lrc::closed closed = first.close();
+    EXPECT(closed.entries, 3u);
+    EXPECT(closed.is_checked, true);
+}
+
+void buffers() {
+    session s = session::open(4, 100);
+    lrc::buffer blob(54);
+    EXPECT(blob.size(), 54u);
+    EXPECT(std::count(blob.data(), blob.data() + 54, 0), 54);
+    std::fill_n(blob.data(), blob.size(), uint8_t{'x'});
+    for (int i = 0; i < 2; i++) {
+        EXPECT_ERROR(s.put("BAD", blob, 6), LRC_STORE_BAD_NAME, "put(\"BAD\", 54, 6)");
+        EXPECT(blob.size(), 0u);
+    }
+    EXPECT(s.put("fox", blob, 6), 1u);
+    EXPECT(blob.size(), 0u);
+    EXPECT(s.stat("fox").stripes, 3u); // of 6 times 4 bytes
+    EXPECT(s.get("fox"), std::string(54, 'x'));
+    EXPECT_ERROR(s.put("fox", blob), LRC_STORE_EMPTY, "put(\"fox\", 54, 12)");
+    lrc::buffer other(49);
+    EXPECT(s.put("dog", other), 2u);
+    EXPECT(s.stat("dog").stripes, 2u); // of 12 times 4 bytes
+}
+
+// A store with the blobs "old" and "a", which is degraded and has version 2.
+session degraded(const std::string &blob) {
+    session s = session::open(4, 1000);
+    EXPECT(s.put("old", "x", 6), 1u);
+    EXPECT(s.put("a", blob), 2u);
+    const uint64_t lost[][2] = {{0, 1}, {0, 2}, {2, 11}, {3, 13}};
+    for (const auto &place : lost) EXPECT(s.lose("a", place[0], place[1]), 2u);
+    return s;
+}
+
+void reads() {
+    const std::string blob = bytes_of(200);
+    session s = degraded(blob);
+    std::string target(100, 'T');
+    EXPECT(s.read_into("a", 3, target.data() + 10, 80), 2u);
+    EXPECT(target, std::string(10, 'T') + blob.substr(3, 80) + std::string(10, 'T'));
+    EXPECT(s.read_into("old", 0, target.data(), 1), 1u);
+    EXPECT(target[0], 'x');
+    EXPECT(s.read_into("a", 200, nullptr, 0), 2u);
+    EXPECT(s.get("a"), blob);
+    const lrc::grant grant = s.read("a", 3, 80);
+    EXPECT(s.repair("a", 0, 1), 2u);
+    EXPECT(s.remove("a"), 2u);
+    EXPECT(grant.version(), 2u);
+    EXPECT(grant.slices().size() > 1, true);
+    EXPECT(grant.str(), blob.substr(3, 80));
+    std::string joined;
+    for (const lrc_slice &piece : grant.slices()) joined += text_of(piece);
+    EXPECT(joined, grant.str());
+    EXPECT(grant.str().capacity() < 160, true); // reserved, and not grown by doubling from 64
+    EXPECT(s.read("old", 1, 0).str(), "");
+    for (size_t len : {0u, 1u, 47u, 48u, 49u, 10000u}) {
+        s.put("b", bytes_of(len), 6);
+        EXPECT(s.get("b"), bytes_of(len));
+    }
+    s.put("c", std::string_view());
+    EXPECT(s.stat("c").len, 0u);
+}
+
+void get_asks_again() {
+    session s = session::open(4, 1000), other = s.split(1);
+    const std::string blob = bytes_of(200);
+    s.put("a", "short");
+    recorder::after_stat = {[&] { other.put("a", blob); }};
+    EXPECT(s.get("a"), blob);
+    recorder::after_stat = {[&] { other.put("a", "short"); }, [&] { other.put("a", "last!"); }};
+    EXPECT(s.get("a"), "last!");
+    recorder::after_stat = {[&] { other.remove("a"); }};
+    EXPECT_ERROR(s.get("a"), LRC_STORE_NO_NAME, "get(\"a\")");
+    EXPECT(recorder::after_stat.size(), 0u);
+}
+
+struct waiting_call {
+    const char *form;
+    std::string text;
+    std::function<void()> call;
+};
+
+std::vector<waiting_call> waiting_calls(session &s, lrc::buffer &blob, char *target) {
+    return {
+        {"put", "put(\"a\", 5, 6)", [&] { s.put("a", "HELLO", 6); }},
+        {"put_from", "put(\"b\", 7, 12)", [&] { s.put("b", blob); }},
+        {"lend", "read(\"a\", 1, 3)", [&] { s.read("a", 1, 3); }},
+        {"read", "read_into(\"a\", 1, 3)", [&s, target] { s.read_into("a", 1, target, 3); }},
+        {"lose", "lose(\"a\", 0, 9)", [&] { s.lose("a", 0, 9); }},
+        {"repair", "repair(\"a\", 0, 9)", [&] { s.repair("a", 0, 9); }},
+        {"delete", "remove(\"b\")", [&] { s.remove("b"); }},
+        {"stat", "stat(\"a\")", [&] { s.stat("a"); }},
+        {"trim", "trim(2)", [&] { s.trim(2); }},
+        {"stat", "get(\"a\")", [&] { s.get("a"); }},
+        {"plan", "mend() after 0 repaired fragments", [&] { s.mend(); }},
+    };
+}
+
+void each_call_has_the_timeout(session &s, int64_t wanted) {
+    lrc::buffer blob(7);
+    char target[3];
+    for (const waiting_call &each : waiting_calls(s, blob, target)) {
+        recorder::calls.clear();
+        each.call();
+        EXPECT(recorder::calls.front().first, each.form);
+        for (const auto &made : recorder::calls) EXPECT(made.second, wanted);
+        recorder::statuses = {LRC_STORE_BUSY};
+        EXPECT_ERROR(each.call(), LRC_STORE_BUSY, each.text);
+        EXPECT(recorder::statuses.size(), 0u);
+    }
+    recorder::statuses = {LRC_STORE_DONE, LRC_STORE_BUSY};
+    EXPECT_ERROR(s.get("a"), LRC_STORE_BUSY, "get(\"a\")");
+}
+
+void timeouts() {
+    session first = session::open(4, 1000);
+    each_call_has_the_timeout(first, -1);
+    first.set_timeout(std::chrono::seconds(3));
+    each_call_has_the_timeout(first, 3000);
+    session s = first.split(1);
+    each_call_has_the_timeout(s, 3000);
+    for (const auto &[timeout, wanted] : {std::pair{7, 7}, {0, 0}, {-1, 0}, {-5000, 0}}) {
+        s.set_timeout(milliseconds(timeout));
+        each_call_has_the_timeout(s, wanted);
+    }
+    s.set_timeout(std::nullopt);
+    each_call_has_the_timeout(s, -1);
+    each_call_has_the_timeout(first, 3000);
+    session moved = std::move(first);
+    each_call_has_the_timeout(moved, 3000);
+}
+
+// A store with as many lost fragments as a blob can have, so that planning a mend takes long.
+session all_lost() {
+    session s = session::open(1, 1 << 18);
+    s.put("a", std::string(12 * 4096, 'x'));
+    for (uint64_t stripe = 0; stripe < 4096; stripe++)
+        for (uint64_t fragment = 0; fragment < 16; fragment++) s.lose("a", stripe, fragment);
+    return s;
+}
+
+// Whether a call found another thread in the critical section, and ended at its deadline.
+bool ends_at_deadline(session &s, const std::atomic<bool> &ended) {
+    while (!ended) {
+        const auto start = std::chrono::steady_clock::now();
+        uint32_t status = LRC_STORE_DONE;
+        try {
+            s.stat("a");
+            std::this_thread::sleep_for(std::chrono::microseconds(200));
+        } catch (const lrc::store_error &error) {
+            status = error.status;
+        }
+        if (status == LRC_STORE_DONE) continue;
+        const auto waited = std::chrono::steady_clock::now() - start;
+        EXPECT(status, uint32_t{LRC_STORE_BUSY});
+        EXPECT(waited >= milliseconds(4) && waited < milliseconds(5000), true);
+        return true;
+    }
+    return false;
+}
+
+void a_call_ends_at_its_deadline() {
+    session first = all_lost(), other = first.split(1);
+    other.set_timeout(milliseconds(4));
+    bool is_found = false;
+    for (int i = 0; i < 20 && !is_found; i++) {
+        std::atomic<bool> ended{false};
+        std::thread planner([&] {
+            EXPECT(first.mend(), 0u);
+            ended = true;
+        });
+        is_found = ends_at_deadline(other, ended);
+        planner.join();
+        first.trim(0);
+    }
+    EXPECT(is_found, true);
+    other.set_timeout(std::nullopt);
+    EXPECT(other.stat("a").lost, 16u * 4096);
+}
+
+void expect_mend_error(int line, session &s, uint32_t status, uint64_t repaired) {
+    const std::string text = "mend() after " + std::to_string(repaired) + " repaired fragments: ";
+    try {
+        s.mend();
+        expect(line, "no error", text);
+    } catch (const lrc::mend_error &error) {
+        expect(line, error.status, status);
+        expect(line, error.repaired, repaired);
+        expect(line, std::string(error.what()), text + lrc_store_text(status));
+    }
+}
+
+void mends() {
+    session s = session::open(1, 10);
+    s.put("a", std::string(48, 'x'));
+    for (uint64_t stripe = 0; stripe < 4; stripe++) s.lose("a", stripe, 11 - stripe);
+    s.stat("a");
+    s.stat("a");
+    expect_mend_error(__LINE__, s, LRC_STORE_JOURNAL_FULL, 3);
+    EXPECT(s.trim(2), 8u);
+    EXPECT(s.mend(), 1u);
+    EXPECT(s.stat("a").lost, 0u);
+    for (uint64_t fragment = 0; fragment < 5; fragment++) s.lose("a", 0, fragment);
+    s.trim(0);
+    EXPECT(s.mend(), 0u);
+    const uint32_t stops[] = {LRC_STORE_BUSY, LRC_STORE_NO_MEMORY, LRC_STORE_JOURNAL_FULL,
+                              LRC_STORE_EMPTY};
+    // The first status is that of the plan. Of the others, only DONE is a repair.
+    const std::pair<std::deque<uint32_t>, uint64_t> before[] = {
+        {{}, 0}, {{0}, 0}, {{0, 0}, 1}, {{0, 2, 0, 4, 5, 0, 7}, 2}};
+    for (const uint32_t stop : stops) {
+        for (const auto &[statuses, repaired] : before) {
+            recorder::statuses = statuses;
+            recorder::statuses.push_back(stop);
+            expect_mend_error(__LINE__, s, stop, repaired);
+            EXPECT(recorder::statuses.size(), 0u);
+        }
+    }
+}
+
+struct noted {
+    uint32_t who, call;
+    const char *name;
+    uint64_t first, second;
+    uint32_t status;
+    uint64_t version;
+};
+
+void expect_entry(lrc::journal &journal, size_t index, const noted &wanted) {
+    const lrc_entry entry = journal.entry(index);
+    EXPECT(entry.who, wanted.who);
+    EXPECT(entry.call, wanted.call);
+    EXPECT(text_of(entry.name), wanted.name);
+    EXPECT(entry.first, wanted.first);
+    EXPECT(entry.second, wanted.second);
+    EXPECT(entry.status, wanted.status);
+    EXPECT(entry.version, wanted.version);
+}
+
+void journals() {
+    session s = session::open(4, 100);
+    s.put("a", std::string(10, 'x'), 6);
+    s.put("bb", std::string(49, 'y'));
+    session other = s.split(3);
+    char target[4];
+    other.lose("a", 0, 9);
+    other.stat("a");
+    other.repair("a", 0, 9);
+    other.read("bb", 2, 47);
+    other.read_into("bb", 3, target, 4);
+    EXPECT_ERROR(other.lose("bb", 7, 5), LRC_STORE_NO_FRAGMENT, "lose(\"bb\", 7, 5)");
+    s.remove("bb");
+    EXPECT(s.trim(8), 1u);
+    s.join(std::move(other));
+    lrc::journal journal = s.close_to_journal();
+    EXPECT(journal.discarded(), 1u);
+    EXPECT(journal.is_checked(), true);
+    const noted wanted[] = {
+        {0, LRC_CALL_PUT, "bb", 12, 49, LRC_STORE_DONE, 2},
+        {3, LRC_CALL_LOSE, "a", 0, 9, LRC_STORE_DONE, 1},
+        {3, LRC_CALL_STAT, "a", 0, 0, LRC_STORE_DONE, 1},
+        {3, LRC_CALL_REPAIR, "a", 0, 9, LRC_STORE_DONE, 1},
+        {3, LRC_CALL_READ, "bb", 2, 47, LRC_STORE_DONE, 2},
+        {3, LRC_CALL_READ, "bb", 3, 4, LRC_STORE_DONE, 2},
+        {3, LRC_CALL_LOSE, "bb", 7, 5, LRC_STORE_NO_FRAGMENT, 0},
+        {0, LRC_CALL_DELETE, "bb", 0, 0, LRC_STORE_DONE, 2},
+    };
+    EXPECT(journal.size(), std::size(wanted));
+    for (size_t i = 0; i < std::size(wanted); i++) expect_entry(journal, i, wanted[i]);
+    EXPECT(journal.entry(2).lost, 1u);
+    EXPECT_ERROR(journal.entry(8), LRC_STORE_NOTHING_LEFT, "entry(8)");
+}
+
+} // namespace
 
 int main() {
-    lrc::session session = lrc::session::open(4, 100);
-    lrc::buffer blob(54);
-    std::fill_n(blob.data(), blob.size(), uint8_t{'x'});
-    uint32_t refused = 0;
-    try {
-        session.put("BAD", blob);
-    } catch (const lrc::store_error &error) {
-        refused = error.status;
-    }
-    const bool is_kept = refused == LRC_STORE_BAD_NAME && blob.size() == 0;
-    const bool is_put =
-        session.put("fox", blob) == 1 && session.read("fox", 0, 54).str() == std::string(54, 'x');
-    lrc::session other = session.split(3);
-    other.lose("fox", 0, 7);
-    bool is_alone = true;
-    try {
-        session.close_to_journal();
-    } catch (const lrc::store_error &error) {
-        is_alone = error.status != LRC_STORE_NOT_ALONE;
-    }
-    session.join(std::move(other));
-    lrc::journal journal = session.close_to_journal();
-    const lrc_entry last = journal.entry(journal.size() - 1);
-    const bool is_told = journal.size() == 3 && journal.discarded() == 0 && journal.is_checked() &&
-                         last.call == LRC_CALL_LOSE && last.who == 3 && last.second == 7 &&
-                         last.name.len == 3;
-    std::cout << "C++: " << (is_kept && is_put && !is_alone && is_told ? "passed" : "failed")
-              << '\n';
-    return is_kept && is_put && !is_alone && is_told ? 0 : 1;
+    errors();
+    sessions();
+    buffers();
+    reads();
+    get_asks_again();
+    timeouts();
+    a_call_ends_at_its_deadline();
+    mends();
+    journals();
+    std::cout << "C++: " << wrong << " wrong\n";
+    return wrong ? 1 : 0;
 }

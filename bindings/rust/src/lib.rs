@@ -1,10 +1,11 @@
-//! The Local Reconstruction Codes LRC(12,2,2) and LRC(6,2,2), from `libcoder_c.a`.
+//! The Local Reconstruction Codes LRC(12,2,2) and LRC(6,2,2), from `liblrc_coder`.
 //!
 //! The calls are safe forms of the functions of `include/lrc_coder.h`, which says which arguments
 //! each refuses. After an error every target is unchanged. A set of lost fragments is a number: bit
 //! i is set if and only if fragment i is lost.
 #![warn(missing_docs)]
 
+use std::ffi::{c_char, CStr};
 use std::fmt;
 
 /// The layout of `lrc_slice`.
@@ -33,10 +34,10 @@ extern "C" {
     fn lrc_decode(data_fragments: usize, fragments: *const Slice, lost: u16, numbers: *const u8, from: usize, len: usize, first: *mut u8, first_len: usize, second: *mut u8, second_len: usize, third: *mut u8, third_len: usize, fourth: *mut u8, fourth_len: usize) -> u32;
     fn lrc_recipe(data_fragments: usize, lost: u16, fragment: u8, fragments: *mut u8, coefficients: *mut u8, count: *mut u32) -> u32;
     fn lrc_add(target: *mut u8, target_len: usize, coefficient: u8, source: *const u8, source_len: usize) -> u32;
+    fn lrc_coder_text(status: u32) -> *const c_char;
 }
 
 const LRC_DONE: u32 = 0;
-const LRC_OPEN: u32 = 1;
 const LRC_NONE: u8 = 255;
 
 /// A code, by its number of data fragments. Four parities come after them.
@@ -50,30 +51,116 @@ pub enum Code {
 
 /// Why a call failed.
 #[derive(Clone, Copy, Debug, PartialEq, Eq)]
-pub enum Error {
+#[non_exhaustive]
+#[repr(u32)]
+pub enum Status {
     /// The fragment is unrecoverable: the remaining fragments do not determine it.
-    Open,
+    Unrecoverable = 1,
     /// An argument is invalid: `lrc_coder.h` says which are valid.
-    BadArgument,
+    BadArgument = 2,
+}
+
+impl Status {
+    /// What the status means, in English.
+    pub fn text(self) -> &'static str {
+        // SAFETY: the text of each number is a string that is never freed.
+        let text = unsafe { CStr::from_ptr(lrc_coder_text(self as u32)) };
+        text.to_str().unwrap_or_default()
+    }
+}
+
+/// The error of a call that failed.
+#[derive(Clone, Debug, PartialEq, Eq)]
+#[non_exhaustive]
+pub struct Error {
+    /// Why it failed.
+    pub status: Status,
+    /// The call, such as `rebuild`.
+    pub call: &'static str,
+    /// What was wrong, such as `fragment 11 has 3 bytes, fragment 0 has 2`.
+    pub reason: String,
 }
 
 impl fmt::Display for Error {
     fn fmt(&self, f: &mut fmt::Formatter<'_>) -> fmt::Result {
-        f.write_str(match self {
-            Error::Open => "nothing that is left tells the fragment",
-            Error::BadArgument => "bad argument",
-        })
+        write!(f, "{}: {}", self.call, self.reason)
     }
 }
 
 impl std::error::Error for Error {}
 
-fn result_of(status: u32) -> Result<(), Error> {
-    match status {
-        LRC_DONE => Ok(()),
-        LRC_OPEN => Err(Error::Open),
-        _ => Err(Error::BadArgument),
+fn unrecoverable(call: &'static str, fragment: u8) -> Error {
+    let status = Status::Unrecoverable;
+    Error {
+        status,
+        call,
+        reason: format!("fragment {fragment}: {}", status.text()),
     }
+}
+
+/// The error for invalid arguments, with the first reason that is found.
+fn invalid(call: &'static str, reasons: &[Option<String>]) -> Error {
+    let status = Status::BadArgument;
+    let found = reasons.iter().flatten().next();
+    Error {
+        status,
+        call,
+        reason: found.cloned().unwrap_or_else(|| status.text().to_string()),
+    }
+}
+
+/// The result of a call. An invalid argument has its reason from `reasons`.
+fn result_of(
+    status: u32,
+    call: &'static str,
+    fragment: u8,
+    reasons: impl Fn() -> Vec<Option<String>>,
+) -> Result<(), Error> {
+    if status == LRC_DONE {
+        Ok(())
+    } else if status == Status::Unrecoverable as u32 {
+        Err(unrecoverable(call, fragment))
+    } else {
+        Err(invalid(call, &reasons()))
+    }
+}
+
+fn shown(len: usize) -> String {
+    format!("{len} byte{}", if len == 1 { "" } else { "s" })
+}
+
+/// The first of these fragments, with their lengths, that has another length than the first one.
+fn unequal(fragments: impl IntoIterator<Item = (usize, usize)>) -> Option<String> {
+    let mut fragments = fragments.into_iter();
+    let (first, wanted) = fragments.next()?;
+    let (number, len) = fragments.find(|(_, len)| *len != wanted)?;
+    let len = shown(len);
+    Some(format!(
+        "fragment {number} has {len}, fragment {first} has {wanted}"
+    ))
+}
+
+/// The fragment, if its code has none of this number.
+fn outside(code: Code, fragment: u8) -> Option<String> {
+    let last = code as u8 + 3;
+    (fragment > last).then(|| format!("fragment {fragment} is not in 0 to {last}"))
+}
+
+fn not_lost(lost: u16, fragment: u8) -> Option<String> {
+    let is_lost = lost.checked_shr(fragment.into()).unwrap_or(0) & 1 == 1;
+    (!is_lost).then(|| format!("fragment {fragment} is not lost"))
+}
+
+/// The first remaining fragment of the code that ends before the range does.
+fn too_short(code: Code, fragments: &[Option<&[u8]>], from: usize, len: usize) -> Option<String> {
+    let end = from.saturating_add(len);
+    let remaining = fragments.iter().take(code as usize + 4).enumerate();
+    let mut lengths = remaining.filter_map(|(i, bytes)| Some((i, bytes.as_ref()?.len())));
+    let (number, len) = lengths.find(|(_, len)| *len < end)?;
+    let len = shown(len);
+    Some(format!(
+        "fragment {number} has {len}, the range ends at {end}"
+    ))
 }
 
 /// A remaining fragment, and the coefficient of its bytes.
@@ -87,17 +174,21 @@ pub struct Term {
 
 /// Writes the four parities of 12 or 6 data fragments. All have one length.
 pub fn encode(data: &[&[u8]], parities: [&mut [u8]; 4]) -> Result<(), Error> {
+    let count = data.len();
+    if count != 12 && count != 6 {
+        let reason = format!("{count} data fragments, expected 12 or 6");
+        return Err(invalid("encode", &[Some(reason)]));
+    }
     let mut slices = [Slice::from(&[][..]); 12];
-    let used = slices.get_mut(..data.len()).ok_or(Error::BadArgument)?;
-    for (slice, bytes) in used.iter_mut().zip(data) {
+    for (slice, bytes) in slices.iter_mut().zip(data) {
         *slice = Slice::from(*bytes);
     }
     let [a, b, c, d] = parities;
     // SAFETY: each address is a slice's with its length, and no `&mut` overlaps another reference.
-    result_of(unsafe {
+    let status = unsafe {
         lrc_encode(
             slices.as_ptr(),
-            data.len(),
+            count,
             a.as_mut_ptr(),
             a.len(),
             b.as_mut_ptr(),
@@ -107,6 +198,11 @@ pub fn encode(data: &[&[u8]], parities: [&mut [u8]; 4]) -> Result<(), Error> {
             d.as_mut_ptr(),
             d.len(),
         )
+    };
+    let parities = [a.len(), b.len(), c.len(), d.len()];
+    let lengths = data.iter().map(|bytes| bytes.len()).chain(parities);
+    result_of(status, "encode", 0, || {
+        vec![unequal(lengths.clone().enumerate())]
     })
 }
 
@@ -119,7 +215,7 @@ pub fn encode_add(
 ) -> Result<(), Error> {
     let [a, b, c, d] = parities;
     // SAFETY: as in `encode`.
-    result_of(unsafe {
+    let status = unsafe {
         lrc_encode_add(
             code as usize,
             fragment,
@@ -134,17 +230,35 @@ pub fn encode_add(
             d.as_mut_ptr(),
             d.len(),
         )
+    };
+    let (number, first) = (usize::from(fragment), code as usize);
+    let parities = [a.len(), b.len(), c.len(), d.len()];
+    result_of(status, "encode_add", fragment, || {
+        let is_parity = number >= first;
+        let data = format!("fragment {number} is not in 0 to {}", first - 1);
+        let parities = parities.into_iter().zip(first..);
+        let lengths = parities.map(|(len, number)| (number, len));
+        vec![
+            is_parity.then_some(data),
+            unequal([(number, source.len())].into_iter().chain(lengths)),
+        ]
     })
 }
 
 /// Whether the fragment is unrecoverable.
-pub fn is_open(code: Code, lost: u16, fragment: u8) -> Result<bool, Error> {
+pub fn is_unrecoverable(code: Code, lost: u16, fragment: u8) -> Result<bool, Error> {
     // SAFETY: only numbers are passed.
-    match result_of(unsafe { lrc_is_open(code as usize, lost, fragment) }) {
-        Ok(()) => Ok(false),
-        Err(Error::Open) => Ok(true),
-        Err(refused) => Err(refused),
+    let status = unsafe { lrc_is_open(code as usize, lost, fragment) };
+    if status == Status::Unrecoverable as u32 {
+        return Ok(true);
     }
+    let reasons = || vec![outside(code, fragment)];
+    result_of(status, "is_unrecoverable", fragment, reasons).map(|()| false)
+}
+
+/// [`is_unrecoverable`] by its older name.
+pub fn is_open(code: Code, lost: u16, fragment: u8) -> Result<bool, Error> {
+    is_unrecoverable(code, lost, fragment)
 }
 
 /// The slices of the remaining fragments, and the set of the others.
@@ -171,7 +285,7 @@ pub fn rebuild(
 ) -> Result<(), Error> {
     let (slices, lost) = slices_of(fragments);
     // SAFETY: sixteen slices are passed, and as in `encode`.
-    result_of(unsafe {
+    let status = unsafe {
         lrc_rebuild(
             code as usize,
             slices.as_ptr(),
@@ -181,41 +295,37 @@ pub fn rebuild(
             target.as_mut_ptr(),
             target.len(),
         )
+    };
+    result_of(status, "rebuild", fragment, || {
+        vec![
+            outside(code, fragment),
+            not_lost(lost, fragment),
+            too_short(code, fragments, from, target.len()),
+        ]
     })
 }
 
 /// A lost fragment by its number, and the bytes to write it to.
 pub type Target<'a> = (u8, &'a mut [u8]);
 
-/// Writes the bytes of several lost fragments from `from` on, in less time than a `rebuild` of
-/// each. All targets have one length. `Open` if one of the fragments is unrecoverable. Of more than
-/// four, one always is.
-pub fn decode(
+/// The status of `lrc_decode` for at most four targets.
+fn decode_four(
     code: Code,
-    fragments: &[Option<&[u8]>],
+    slices: &[Slice; 16],
+    lost: u16,
     from: usize,
     targets: &mut [Target],
-) -> Result<(), Error> {
-    let (slices, lost) = slices_of(fragments);
+) -> u32 {
     let len = targets.first().map_or(0, |(_, target)| target.len());
-    if !targets
-        .iter()
-        .all(|(f, _)| *f < code as u8 + 4 && lost >> f & 1 == 1)
-    {
-        return Err(Error::BadArgument);
-    }
-    if targets.len() > 4 {
-        return Err(Error::Open);
-    }
     let mut numbers = [LRC_NONE; 4];
-    let mut rest: [&mut [u8]; 4] = [&mut [], &mut [], &mut [], &mut []];
+    let mut four: [&mut [u8]; 4] = [&mut [], &mut [], &mut [], &mut []];
     for (i, (number, target)) in targets.iter_mut().enumerate() {
         numbers[i] = *number;
-        rest[i] = target;
+        four[i] = target;
     }
-    let [a, b, c, d] = rest;
+    let [a, b, c, d] = four;
     // SAFETY: sixteen slices and four numbers are passed, and as in `encode`.
-    result_of(unsafe {
+    unsafe {
         lrc_decode(
             code as usize,
             slices.as_ptr(),
@@ -232,6 +342,35 @@ pub fn decode(
             d.as_mut_ptr(),
             d.len(),
         )
+    }
+}
+
+/// Writes the bytes of several lost fragments from `from` on, in less time than a `rebuild` of
+/// each. All targets have one length. Of more than four lost fragments, one is unrecoverable.
+pub fn decode(
+    code: Code,
+    fragments: &[Option<&[u8]>],
+    from: usize,
+    targets: &mut [Target],
+) -> Result<(), Error> {
+    let (slices, lost) = slices_of(fragments);
+    let wanted: Vec<(u8, usize)> = targets.iter().map(|(f, bytes)| (*f, bytes.len())).collect();
+    let mut numbers = wanted.iter().map(|(f, _)| *f);
+    let wrong = |f| outside(code, f).or_else(|| not_lost(lost, f));
+    if let Some(reason) = numbers.clone().find_map(wrong) {
+        return Err(invalid("decode", &[Some(reason)]));
+    }
+    let status = if targets.len() > 4 {
+        Status::Unrecoverable as u32
+    } else {
+        decode_four(code, &slices, lost, from, targets)
+    };
+    let fragment = numbers.find(|f| is_unrecoverable(code, lost, *f) == Ok(true));
+    result_of(status, "decode", fragment.unwrap_or(LRC_NONE), || {
+        let lengths = wanted.iter().map(|(f, len)| (usize::from(*f), *len));
+        let reason = unequal(lengths).map(|reason| format!("the target of {reason}"));
+        let len = wanted.first().map_or(0, |(_, len)| *len);
+        vec![reason, too_short(code, fragments, from, len)]
     })
 }
 
@@ -239,7 +378,7 @@ pub fn decode(
 pub fn recipe(code: Code, lost: u16, fragment: u8) -> Result<Vec<Term>, Error> {
     let (mut fragments, mut coefficients, mut count) = ([0; 16], [0; 16], 0);
     // SAFETY: both arrays have sixteen elements.
-    result_of(unsafe {
+    let status = unsafe {
         lrc_recipe(
             code as usize,
             lost,
@@ -248,6 +387,9 @@ pub fn recipe(code: Code, lost: u16, fragment: u8) -> Result<Vec<Term>, Error> {
             coefficients.as_mut_ptr(),
             &mut count,
         )
+    };
+    result_of(status, "recipe", fragment, || {
+        vec![outside(code, fragment), not_lost(lost, fragment)]
     })?;
     let terms = fragments.into_iter().zip(coefficients).take(count as usize);
     Ok(terms
@@ -261,14 +403,13 @@ pub fn recipe(code: Code, lost: u16, fragment: u8) -> Result<Vec<Term>, Error> {
 /// Adds a source times a coefficient to the target, byte by byte, in the field. Both have one
 /// length.
 pub fn add(target: &mut [u8], coefficient: u8, source: &[u8]) -> Result<(), Error> {
+    let (at, len) = (target.as_mut_ptr(), target.len());
     // SAFETY: as in `encode`.
-    result_of(unsafe {
-        lrc_add(
-            target.as_mut_ptr(),
-            target.len(),
-            coefficient,
-            source.as_ptr(),
-            source.len(),
-        )
+    let status = unsafe { lrc_add(at, len, coefficient, source.as_ptr(), source.len()) };
+    result_of(status, "add", 0, || {
+        let source = shown(source.len());
+        vec![Some(format!(
+            "the source has {source}, the target has {len}"
+        ))]
     })
 }

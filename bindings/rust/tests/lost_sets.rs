@@ -1,6 +1,7 @@
-//! Each lost set of both codes, and what is refused.
+//! Each lost set of both codes.
 
-use lrc_coder::{add, decode, encode, encode_add, is_open, rebuild, recipe, Code, Error, Target};
+use lrc_coder::{add, decode, encode, encode_add, is_open, is_unrecoverable, rebuild, recipe};
+use lrc_coder::{Code, Error, Status, Target};
 
 const WIDTH: usize = 5;
 
@@ -24,6 +25,15 @@ fn stripe(code: Code) -> Vec<Vec<u8>> {
     assert_eq!(parities, added);
     data.extend(parities.map(Vec::from));
     data
+}
+
+fn refuses(refused: Error, call: &str, fragment: usize) {
+    assert_eq!(refused.status, Status::Unrecoverable);
+    let text = Status::Unrecoverable.text();
+    assert_eq!(
+        refused.to_string(),
+        format!("{call}: fragment {fragment}: {text}")
+    );
 }
 
 /// Whether each lost fragment is rebuilt, as the sum of its recipe too.
@@ -54,18 +64,16 @@ fn is_whole(code: Code, stripe: &[Vec<u8>], lost: u16) -> bool {
                 );
             }
             Err(refused) => {
-                assert_eq!(refused, Error::Open);
-                assert_eq!(
-                    rebuild(code, &left, f as u8, 0, &mut rebuilt),
-                    Err(Error::Open)
-                );
+                refuses(refused, "recipe", f);
+                let rebuilding = rebuild(code, &left, f as u8, 0, &mut rebuilt);
+                refuses(rebuilding.unwrap_err(), "rebuild", f);
+                assert_eq!(rebuilt, [0; WIDTH]);
                 whole = false;
             }
         }
-        assert_eq!(
-            is_open(code, lost, f as u8),
-            Ok(recipe(code, lost, f as u8).is_err())
-        );
+        let is_refused = Ok(recipe(code, lost, f as u8).is_err());
+        assert_eq!(is_unrecoverable(code, lost, f as u8), is_refused);
+        assert_eq!(is_open(code, lost, f as u8), is_refused);
     }
     whole
 }
@@ -78,6 +86,7 @@ fn decodes_whole(code: Code, stripe: &[Vec<u8>], lost: u16) -> bool {
         .enumerate()
         .map(|(i, bytes)| is_left(i).then_some(&bytes[..]))
         .collect();
+    let set = lost;
     let lost: Vec<usize> = (0..stripe.len()).filter(|i| !is_left(*i)).collect();
     let mut decoded = vec![[0xEE; WIDTH]; lost.len()];
     let mut targets: Vec<Target> = lost
@@ -91,7 +100,9 @@ fn decodes_whole(code: Code, stripe: &[Vec<u8>], lost: u16) -> bool {
             .zip(&decoded)
             .all(|(f, bytes)| stripe[*f] == bytes)),
         Err(refused) => {
-            assert_eq!(refused, Error::Open);
+            let is_whole = |f: &&usize| is_unrecoverable(code, set, **f as u8) == Ok(false);
+            let first = lost.iter().find(|f| !is_whole(f)).unwrap();
+            refuses(refused, "decode", *first);
             assert!(decoded.iter().all(|bytes| *bytes == [0xEE; WIDTH]));
             return false;
         }
@@ -118,43 +129,4 @@ fn each_lost_set_of_lrc_12_2_2() {
 #[test]
 fn each_lost_set_of_lrc_6_2_2() {
     assert_eq!(count_whole(Code::Small), 356);
-}
-
-#[test]
-fn bad_arguments_are_refused() {
-    let stripe = stripe(Code::Wide);
-    let left: Vec<Option<&[u8]>> = stripe.iter().map(|bytes| Some(&bytes[..])).collect();
-    let data: Vec<&[u8]> = stripe.iter().map(Vec::as_slice).collect();
-    let mut target = [0xEE; WIDTH];
-    let [mut a, mut b, mut c, mut d] = [[0xEE; WIDTH]; 4];
-    for count in [0, 5, 7, 11, 13, 16] {
-        assert_eq!(
-            encode(&data[..count], [&mut a, &mut b, &mut c, &mut d]),
-            Err(Error::BadArgument)
-        );
-    }
-    assert_eq!(
-        encode_add(Code::Wide, 12, data[0], [&mut a, &mut b, &mut c, &mut d]),
-        Err(Error::BadArgument)
-    );
-    assert_eq!(
-        rebuild(Code::Wide, &left, 3, 0, &mut target),
-        Err(Error::BadArgument)
-    );
-    assert_eq!(
-        decode(Code::Wide, &left, 0, &mut [(3, &mut target)]),
-        Err(Error::BadArgument)
-    );
-    assert_eq!(
-        decode(Code::Wide, &left, 0, &mut [(255, &mut target)]),
-        Err(Error::BadArgument)
-    );
-    assert_eq!(is_open(Code::Small, 0, 10), Err(Error::BadArgument));
-    assert_eq!(recipe(Code::Wide, 1, 1), Err(Error::BadArgument));
-    assert_eq!(add(&mut target, 1, &data[0][1..]), Err(Error::BadArgument));
-    assert_eq!([target, a, b, c, d], [[0xEE; WIDTH]; 5]);
-    assert_eq!(
-        Error::Open.to_string(),
-        "nothing that is left tells the fragment"
-    );
 }

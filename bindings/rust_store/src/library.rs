@@ -1,0 +1,90 @@
+//! The declarations of `include/lrc_store.h`, which describes the functions.
+
+use std::ffi::c_char;
+
+/// The layout of `lrc_slot`. Its content may be moved: one copy counts at a time.
+#[repr(C)]
+pub struct Slot {
+    at: *mut u8,
+}
+
+impl Slot {
+    pub fn empty() -> Slot {
+        Slot {
+            at: std::ptr::null_mut(),
+        }
+    }
+}
+
+impl Drop for Slot {
+    fn drop(&mut self) {
+        // SAFETY: the slot is valid, whatever it holds.
+        unsafe { lrc_slot_release(self) }
+    }
+}
+
+/// Lent bytes, with the layout of `lrc_slice`.
+#[repr(C)]
+#[derive(Clone, Copy)]
+pub struct Slice {
+    pub at: *const u8,
+    pub len: usize,
+}
+
+impl Slice {
+    pub fn empty() -> Slice {
+        let none: &[u8] = &[];
+        Slice {
+            at: none.as_ptr(),
+            len: 0,
+        }
+    }
+}
+
+/// The layout of `lrc_buffer`.
+#[repr(C)]
+pub struct RawBuffer {
+    pub at: *mut u8,
+    pub len: usize,
+}
+
+/// The layout of `lrc_entry`.
+#[repr(C)]
+pub struct RawEntry {
+    pub name: Slice,
+    pub first: u64,
+    pub second: u64,
+    pub version: u64,
+    pub len: u64,
+    pub stripes: u64,
+    pub lost: u64,
+    pub who: u32,
+    pub call: u32,
+    pub status: u32,
+}
+
+#[rustfmt::skip]
+extern "C" {
+    pub fn lrc_store_open(width: u32, limit: u32, slot: *mut Slot) -> u32;
+    pub fn lrc_store_split(slot: *mut Slot, who: u32, other: *mut Slot) -> u32;
+    pub fn lrc_store_join(slot: *mut Slot, other: *mut Slot) -> u32;
+    pub fn lrc_store_close(slot: *mut Slot, entries: *mut u64, lawful: *mut u32) -> u32;
+    pub fn lrc_store_close_to(slot: *mut Slot, other: *mut Slot, discarded: *mut u64, entries: *mut u64, lawful: *mut u32) -> u32;
+    pub fn lrc_slot_entry(slot: *mut Slot, index: usize, entry: *mut RawEntry) -> u32;
+    pub fn lrc_slot_reserve(len: usize, slot: *mut Slot) -> u32;
+    pub fn lrc_slot_buffer(slot: *mut Slot, buffer: *mut RawBuffer) -> u32;
+    pub fn lrc_store_put_from_wait(slot: *mut Slot, name: *const u8, name_len: usize, other: *mut Slot, data_fragments: u32, version: *mut u64, timeout_ms: i64) -> u32;
+    pub fn lrc_store_put_wait(slot: *mut Slot, name: *const u8, name_len: usize, blob: *const u8, blob_len: usize, data_fragments: u32, version: *mut u64, timeout_ms: i64) -> u32;
+    pub fn lrc_store_read_wait(slot: *mut Slot, name: *const u8, name_len: usize, start: u64, target: *mut u8, len: usize, version: *mut u64, lent: *mut u64, built: *mut u64, timeout_ms: i64) -> u32;
+    pub fn lrc_store_lend_wait(slot: *mut Slot, name: *const u8, name_len: usize, start: u64, len: u64, other: *mut Slot, version: *mut u64, pieces: *mut u64, timeout_ms: i64) -> u32;
+    pub fn lrc_slot_slices(slot: *mut Slot, slices: *mut Slice, capacity: usize, count: *mut u64) -> u32;
+    pub fn lrc_store_lose_wait(slot: *mut Slot, name: *const u8, name_len: usize, stripe: u64, fragment: u64, version: *mut u64, timeout_ms: i64) -> u32;
+    pub fn lrc_store_repair_wait(slot: *mut Slot, name: *const u8, name_len: usize, stripe: u64, fragment: u64, version: *mut u64, timeout_ms: i64) -> u32;
+    pub fn lrc_store_delete_wait(slot: *mut Slot, name: *const u8, name_len: usize, version: *mut u64, timeout_ms: i64) -> u32;
+    pub fn lrc_store_stat_wait(slot: *mut Slot, name: *const u8, name_len: usize, version: *mut u64, len: *mut u64, stripes: *mut u64, lost: *mut u64, timeout_ms: i64) -> u32;
+    pub fn lrc_store_trim_wait(slot: *mut Slot, keep: u64, discarded: *mut u64, timeout_ms: i64) -> u32;
+    pub fn lrc_store_plan_wait(slot: *mut Slot, other: *mut Slot, items: *mut u64, timeout_ms: i64) -> u32;
+    pub fn lrc_store_mend_step_wait(slot: *mut Slot, other: *mut Slot, version: *mut u64, timeout_ms: i64) -> u32;
+    pub fn lrc_slot_release(slot: *mut Slot);
+    pub fn lrc_store_text(status: u32) -> *const c_char;
+}

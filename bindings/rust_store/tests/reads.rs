@@ -1,0 +1,58 @@
+//! Reads of a range and of the whole blob, without and with lost fragments.
+
+use lrc_store::{Code, Session};
+
+fn blob(len: usize) -> Vec<u8> {
+    (0..len).map(|i| (i * 7 + i / 251) as u8).collect()
+}
+
+fn store(len: usize) -> (Session, Vec<u8>) {
+    let (mut session, blob) = (Session::open(4, 1000).unwrap(), blob(len));
+    session.put("old", b"x", Code::Small).unwrap();
+    session.put("a", &blob, Code::Wide).unwrap();
+    for (stripe, fragment) in [(0, 1), (0, 2), (2, 11), (3, 13)] {
+        session.lose("a", stripe, fragment).unwrap();
+    }
+    (session, blob)
+}
+
+#[test]
+fn a_range_is_read_into_a_slice() {
+    let (mut session, blob) = store(200);
+    let mut target = [0xEE; 100];
+    assert_eq!(session.read_into("a", 3, &mut target[10..90]), Ok(2));
+    assert_eq!(target[10..90], blob[3..83]);
+    assert_eq!(
+        (target[..10].to_vec(), target[90..].to_vec()),
+        (vec![0xEE; 10], vec![0xEE; 10])
+    );
+    assert_eq!(session.read_into("a", 200, &mut []), Ok(2));
+}
+
+#[test]
+fn a_range_is_lent() {
+    let (mut session, blob) = store(200);
+    let grant = session.read("a", 3, 80).unwrap();
+    session.put("a", b"", Code::Wide).unwrap();
+    assert_eq!(grant.version(), 2);
+    assert_eq!(grant.to_vec(), blob[3..83]);
+    let pieces: Vec<&[u8]> = grant.pieces().collect();
+    assert!(pieces.len() > 1 && pieces.concat() == blob[3..83]);
+    let joined = std::thread::scope(|scope| scope.spawn(|| grant.to_vec()).join().unwrap());
+    assert_eq!(joined, grant.to_vec());
+    assert!(session.read("a", 0, 0).unwrap().to_vec().is_empty());
+}
+
+#[test]
+fn a_blob_is_read_whole() {
+    for len in [0, 1, 47, 48, 49, 200, 10_000] {
+        let mut session = Session::open(4, 1000).unwrap();
+        session.put("a", &blob(len), Code::Small).unwrap();
+        assert_eq!(session.get("a").unwrap(), blob(len));
+    }
+    let (mut session, blob) = store(200);
+    assert_eq!(session.get("a").unwrap(), blob);
+    assert_eq!(session.mend(), Ok(4));
+    assert_eq!(session.get("a").unwrap(), blob);
+    assert_eq!(session.get("old").unwrap(), b"x");
+}

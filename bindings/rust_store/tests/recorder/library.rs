@@ -1,0 +1,71 @@
+//! What the unit tests have in place of `src/library.rs`: the same library, and a record of the
+//! waiting forms that were called.
+
+#[path = "../../src/library.rs"]
+mod real;
+
+pub use real::{
+    lrc_slot_buffer, lrc_slot_entry, lrc_slot_reserve, lrc_slot_slices, lrc_store_close,
+    lrc_store_close_to, lrc_store_join, lrc_store_open, lrc_store_split, lrc_store_text, RawBuffer,
+    RawEntry, Slice, Slot,
+};
+use std::cell::RefCell;
+use std::collections::VecDeque;
+
+/// What the calls of a thread did, and what they are to do.
+#[derive(Default)]
+pub struct Record {
+    /// The waiting forms that were called, with their timeouts.
+    pub calls: Vec<(&'static str, i64)>,
+    /// What the next waiting forms return, without a call of the library.
+    pub statuses: VecDeque<u32>,
+    /// What happens after the next calls of `lrc_store_stat_wait`.
+    pub after_stat: VecDeque<Box<dyn FnOnce()>>,
+}
+
+thread_local! {
+    pub static RECORD: RefCell<Record> = RefCell::default();
+}
+
+/// Notes a call, and returns the status that it is to return, if any.
+fn note(name: &'static str, timeout_ms: i64) -> Option<u32> {
+    RECORD.with_borrow_mut(|record| {
+        record.calls.push((name, timeout_ms));
+        record.statuses.pop_front()
+    })
+}
+
+fn act_after(name: &str) {
+    if name == "lrc_store_stat_wait" {
+        if let Some(act) = RECORD.with_borrow_mut(|record| record.after_stat.pop_front()) {
+            act();
+        }
+    }
+}
+
+macro_rules! recorded {
+    ($($name:ident($($argument:ident: $type:ty),*);)*) => {$(
+        #[allow(clippy::too_many_arguments)]
+        pub unsafe fn $name($($argument: $type,)* timeout_ms: i64) -> u32 {
+            let status = note(stringify!($name), timeout_ms)
+                .unwrap_or_else(|| real::$name($($argument,)* timeout_ms));
+            act_after(stringify!($name));
+            status
+        }
+    )*};
+}
+
+#[rustfmt::skip]
+recorded! {
+    lrc_store_put_from_wait(slot: *mut Slot, name: *const u8, name_len: usize, other: *mut Slot, data_fragments: u32, version: *mut u64);
+    lrc_store_put_wait(slot: *mut Slot, name: *const u8, name_len: usize, blob: *const u8, blob_len: usize, data_fragments: u32, version: *mut u64);
+    lrc_store_read_wait(slot: *mut Slot, name: *const u8, name_len: usize, start: u64, target: *mut u8, len: usize, version: *mut u64, lent: *mut u64, built: *mut u64);
+    lrc_store_lend_wait(slot: *mut Slot, name: *const u8, name_len: usize, start: u64, len: u64, other: *mut Slot, version: *mut u64, pieces: *mut u64);
+    lrc_store_lose_wait(slot: *mut Slot, name: *const u8, name_len: usize, stripe: u64, fragment: u64, version: *mut u64);
+    lrc_store_repair_wait(slot: *mut Slot, name: *const u8, name_len: usize, stripe: u64, fragment: u64, version: *mut u64);
+    lrc_store_delete_wait(slot: *mut Slot, name: *const u8, name_len: usize, version: *mut u64);
+    lrc_store_stat_wait(slot: *mut Slot, name: *const u8, name_len: usize, version: *mut u64, len: *mut u64, stripes: *mut u64, lost: *mut u64);
+    lrc_store_trim_wait(slot: *mut Slot, keep: u64, discarded: *mut u64);
+    lrc_store_plan_wait(slot: *mut Slot, other: *mut Slot, items: *mut u64);
+    lrc_store_mend_step_wait(slot: *mut Slot, other: *mut Slot, version: *mut u64);
+}

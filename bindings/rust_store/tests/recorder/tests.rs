@@ -1,0 +1,219 @@
+//! Each call passes its session's timeout on and returns what the library does; `get` asks again
+//! after a put of another session; a mend that stops says how much it did.
+
+use crate::library::RECORD;
+use crate::*;
+use std::cell::RefCell;
+use std::rc::Rc;
+
+const BUSY: u32 = Status::Busy as u32;
+
+/// What a call did, with the waiting forms that it called.
+fn recorded<R>(call: impl FnOnce() -> R) -> (R, Vec<(&'static str, i64)>) {
+    RECORD.with_borrow_mut(|record| record.calls.clear());
+    let result = call();
+    (result, RECORD.with_borrow(|record| record.calls.clone()))
+}
+
+/// Has the next waiting forms return these statuses, without a call of the library.
+fn script(statuses: &[u32]) {
+    RECORD.with_borrow_mut(|record| record.statuses.extend(statuses));
+}
+
+fn unread() -> usize {
+    RECORD.with_borrow(|record| record.statuses.len() + record.after_stat.len())
+}
+
+/// All calls that wait, with an argument that makes each fail or succeed.
+fn waiting_calls(session: &mut Session) -> Vec<Result<(), Error>> {
+    let mut buffer = Buffer::new(5).unwrap();
+    let mut target = [0; 3];
+    vec![
+        session.put("a", b"HELLO", Code::Small).map(drop),
+        session.put_buffer("b", &mut buffer, Code::Wide).map(drop),
+        session.read("a", 1, 3).map(drop),
+        session.read_into("a", 1, &mut target).map(drop),
+        session.lose("a", 0, 9).map(drop),
+        session.repair("a", 0, 9).map(drop),
+        session.delete("b").map(drop),
+        session.stat("a").map(drop),
+        session.trim(2).map(drop),
+    ]
+}
+
+const NAMES: [&str; 9] = [
+    "lrc_store_put_wait",
+    "lrc_store_put_from_wait",
+    "lrc_store_lend_wait",
+    "lrc_store_read_wait",
+    "lrc_store_lose_wait",
+    "lrc_store_repair_wait",
+    "lrc_store_delete_wait",
+    "lrc_store_stat_wait",
+    "lrc_store_trim_wait",
+];
+
+#[test]
+fn each_call_has_the_timeout() {
+    let mut first = Session::open(4, 1000).unwrap();
+    let mut session = first.split(1).unwrap();
+    for (timeout, milliseconds) in [
+        (None, -1),
+        (Some(Duration::ZERO), 0),
+        (Some(Duration::from_nanos(1)), 1),
+        (Some(Duration::from_micros(7001)), 8),
+        (Some(Duration::from_secs(3)), 3000),
+        (Some(Duration::MAX), i64::MAX),
+    ] {
+        session.set_timeout(timeout);
+        let (results, calls) = recorded(|| waiting_calls(&mut session));
+        assert!(results.iter().all(Result::is_ok), "{results:?}");
+        assert_eq!(calls, NAMES.map(|name| (name, milliseconds)));
+    }
+    first.set_timeout(Some(Duration::from_secs(2)));
+    let mut other = first.split(2).unwrap();
+    assert_eq!(
+        recorded(|| other.stat("a").map(|_| ())).1,
+        [("lrc_store_stat_wait", 2000)]
+    );
+}
+
+#[test]
+fn a_deadline_is_an_error_of_each_call() {
+    let mut session = Session::open(4, 1000).unwrap();
+    script(&[BUSY; 9]);
+    let results = waiting_calls(&mut session);
+    let shown: Vec<String> = results
+        .into_iter()
+        .map(|result| {
+            let error = result.unwrap_err();
+            assert_eq!(error.status, Status::Busy);
+            assert_eq!(
+                error.to_string(),
+                format!("{}: {}", error.call, Status::Busy)
+            );
+            error.call
+        })
+        .collect();
+    let wanted = [
+        "put(\"a\", 5, Small)",
+        "put_buffer(\"b\", 5, Wide)",
+        "read(\"a\", 1, 3)",
+        "read_into(\"a\", 1, 3)",
+        "lose(\"a\", 0, 9)",
+        "repair(\"a\", 0, 9)",
+        "delete(\"b\")",
+        "stat(\"a\")",
+        "trim(2)",
+    ];
+    assert_eq!(shown, wanted);
+    assert_eq!(unread(), 0);
+}
+
+#[test]
+fn get_and_mend_have_the_timeout() {
+    let mut session = Session::open(4, 1000).unwrap();
+    session.put("a", b"HELLO", Code::Wide).unwrap();
+    session.lose("a", 0, 1).unwrap();
+    session.set_timeout(Some(Duration::from_millis(77)));
+    let (got, calls) = recorded(|| session.get("a"));
+    assert_eq!(got.unwrap(), b"HELLO");
+    assert_eq!(
+        calls,
+        [("lrc_store_stat_wait", 77), ("lrc_store_read_wait", 77)]
+    );
+    let (mended, calls) = recorded(|| session.mend());
+    assert_eq!(mended, Ok(1));
+    let step = ("lrc_store_mend_step_wait", 77);
+    assert_eq!(calls, [("lrc_store_plan_wait", 77), step, step]);
+    for statuses in [&[BUSY][..], &[0, BUSY]] {
+        script(statuses);
+        let error = session.get("a").unwrap_err();
+        assert_eq!(
+            (error.status, &error.call[..]),
+            (Status::Busy, "get(\"a\")")
+        );
+    }
+    assert_eq!(unread(), 0);
+}
+
+/// Has other sessions' calls come between the next stats and reads of this thread.
+fn between(
+    other: &Rc<RefCell<Session>>,
+    act: impl FnOnce(&mut Session) -> Result<(), Error> + 'static,
+) {
+    let other = other.clone();
+    let act = Box::new(move || act(&mut other.borrow_mut()).unwrap());
+    RECORD.with_borrow_mut(|record| record.after_stat.push_back(act));
+}
+
+#[test]
+fn get_asks_again_after_a_put() {
+    let mut session = Session::open(4, 1000).unwrap();
+    let other = Rc::new(RefCell::new(session.split(1).unwrap()));
+    let (long, short) = (vec![b'L'; 200], b"short".to_vec());
+    session.put("a", &short, Code::Wide).unwrap();
+
+    let put = |blob: &[u8]| {
+        let blob = blob.to_vec();
+        move |other: &mut Session| other.put("a", &blob, Code::Small).map(drop)
+    };
+    between(&other, put(&long)); // the short length of a long blob would be read
+    assert_eq!(session.get("a").unwrap(), long);
+    between(&other, put(&short)); // the long length is out of the short blob's range
+    between(&other, put(b"other"));
+    assert_eq!(session.get("a").unwrap(), b"other");
+
+    between(&other, |other| other.delete("a").map(drop));
+    let error = session.get("a").unwrap_err();
+    assert_eq!(
+        (error.status, &error.call[..]),
+        (Status::NoName, "get(\"a\")")
+    );
+    let asked = session.get("none").unwrap_err();
+    assert_eq!(asked.to_string(), "get(\"none\"): the name has no blob");
+    session.put("a", b"", Code::Wide).unwrap();
+    assert_eq!(session.get("a").unwrap(), b"");
+    assert_eq!(unread(), 0);
+}
+
+#[test]
+fn a_mend_says_how_much_it_did() {
+    let mut session = Session::open(4, 1000).unwrap();
+    // The first status is that of the plan. Of the others, only 0 is a repair.
+    let before: [(&[u32], u64); 4] = [
+        (&[], 0),
+        (&[0], 0),
+        (&[0, 0], 1),
+        (&[0, 2, 0, 4, 5, 0, 7], 2),
+    ];
+    for stop in [
+        Status::Busy,
+        Status::NoMemory,
+        Status::JournalFull,
+        Status::Empty,
+    ] {
+        for (statuses, repaired) in before {
+            script(statuses);
+            script(&[stop as u32]);
+            let error = session.mend().unwrap_err();
+            assert_eq!((error.repaired, error.error.status), (repaired, stop));
+            let text = stop.text();
+            let shown = format!("mend() after {repaired} repaired fragments: {text}");
+            assert_eq!(error.to_string(), shown);
+            assert_eq!(Error::from(error).to_string(), format!("mend(): {text}"));
+        }
+    }
+    assert_eq!(unread(), 0);
+}
+
+#[test]
+fn statuses_have_the_numbers_of_the_header() {
+    for number in 1..=19 {
+        assert_eq!(Status::of(number) as u32, number);
+        assert_ne!(Status::of(number).text(), Status::Unknown.text());
+    }
+    assert_eq!(Status::of(20), Status::Unknown);
+    assert_eq!(Status::Unknown.to_string(), "unknown status");
+    assert_eq!(Status::NoName.to_string(), "the name has no blob");
+}

@@ -1,0 +1,118 @@
+"""What a library's crate exports, and what its header, Rust crate and Python module declare.
+
+A type is written as `*const u8`, `*mut slot`, `u64` or `size`. ctypes does not say what is const,
+and has one type for u64 and size.
+"""
+
+import os
+import re
+
+TOP = os.path.dirname(os.path.dirname(os.path.abspath(__file__)))
+# What C passes for a parameter of each type of an export. A slice is an address and a length.
+RATTLE = {
+    "Global": [],
+    "&[&[u8]]": ["*const slice", "size"],
+    "&[&[u8]; 16]": ["*const slice"],
+    "&[u8; 4]": ["*const u8"],
+    "&[u8]": ["*const u8", "size"],
+    "&mut [u8]": ["*mut u8", "size"],
+    "&mut [u8; 16]": ["*mut u8"],
+    "&mut [LentSlice<'a>]": ["*mut slice", "size"],
+    "&mut LentBuffer<'a>": ["*mut buffer"],
+    "&mut JournalEntry<'a>": ["*mut entry"],
+    "&mut Slot": ["*mut slot"],
+    "&'a mut Slot": ["*mut slot"],
+    "&mut u32": ["*mut u32"],
+    "&mut u64": ["*mut u64"],
+    "usize": ["size"],
+    "u64": ["u64"],
+    "u32": ["u32"],
+    "u16": ["u16"],
+    "u8": ["u8"],
+}
+C = {"size_t": "size", "int64_t": "i64"}
+C.update({f"uint{bits}_t": f"u{bits}" for bits in (8, 16, 32, 64)})
+C.update({f"lrc_{kind}": kind for kind in ("slot", "slice", "buffer", "entry")})
+RUST = {"Slot": "slot", "Slice": "slice", "RawBuffer": "buffer", "RawEntry": "entry"}
+RUST["usize"] = "size"
+
+
+def read(*path):
+    with open(os.path.join(TOP, *path), encoding="utf-8") as file:
+        return file.read()
+
+
+def rust_like(pattern, text):
+    """The functions of a text in Rust's syntax: each with the types of its parameters."""
+    functions = re.findall(pattern + r" fn (\w+)(?:<'a>)?\(([^)]*)\)(?: -> u32|;|\s+ensures)", text)
+    for name, parameters in functions:
+        yield name, [
+            parameter.split(":", 1)[1].strip()
+            for parameter in parameters.split(",")
+            if parameter.strip()
+        ]
+
+
+def exported(text):
+    """The functions of a crate's lib.rt."""
+    functions = dict(rust_like(r'#\[unsafe\(no_mangle\)\]\npub extern "C"', text))
+    assert len(functions) == len(re.findall("no_mangle", text)) > 0
+    return {
+        name: [word for type_ in types for word in RATTLE[type_]]
+        for name, types in functions.items()
+    }
+
+
+def c_type(parameter):
+    """The type of a parameter such as `const uint8_t *name` or `const uint8_t numbers[4]`."""
+    const, name, star, array = re.fullmatch(
+        r"(const )?(\w+) (\*?)\w+(\[\w+\])?", " ".join(parameter.split())
+    ).groups()
+    pointer = f"*{'const' if const else 'mut'} " if star or array else ""
+    return pointer + C[name]
+
+
+def in_header(text):
+    """The functions that return a status or nothing."""
+    text = re.sub(r"/\*.*?\*/", "", text, flags=re.S)
+    functions = re.findall(r"^(?:uint32_t|void) (\w+)\(([^)]*)\);", text, flags=re.M)
+    return {name: [*map(c_type, parameters.split(","))] for name, parameters in functions}
+
+
+def in_rust(text):
+    def shown(type_):
+        start, _, name = type_.rpartition(" ")
+        return f"{start} {RUST.get(name, name)}".strip()
+
+    block = re.search(r'extern "C" \{(.*?)\n\}', text, flags=re.S)[1]
+    return {name: [*map(shown, types)] for name, types in rust_like("", block)}
+
+
+def of_ctypes(declared):
+    """The same without what ctypes cannot say."""
+    return {
+        name: [re.sub(r"\*(const|mut)", "*", word).replace("size", "u64") for word in words]
+        for name, words in declared.items()
+    }
+
+
+def numbers(pattern, text):
+    return {name: int(value) for name, value in re.findall(pattern, text)}
+
+
+def variants(text):
+    """The statuses of a Rust crate, by the names of the header."""
+    block = re.search(r"pub enum Status \{(.*?)\n\}", text, flags=re.S)[1]
+    found = numbers(r"    (\w+) = (\d+),", block)
+    return {re.sub(r"(?<!^)(?=[A-Z])", "_", name).upper(): found[name] for name in found}
+
+
+def compare_versions(name, soname):
+    """The version of the program is that of the crate, and the soname is named after it."""
+    version = re.search(
+        r'VERSION: &str = "((\d+\.\d+)\.\d+)"', read("crates/command_line/src/reading.rt")
+    )
+    folder = {"lrc_coder": "rust", "lrc_store": "rust_store"}[name]
+    crate = re.search(r'^version = "(.*)"', read("bindings", folder, "Cargo.toml"), flags=re.M)
+    assert crate[1] == version[1], f"the version of {name} in Cargo.toml"
+    assert soname == f"lib{name}.so.{version[2]}", f"the soname in {name}.py"

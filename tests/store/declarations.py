@@ -1,0 +1,97 @@
+"""Compares what crates/store_c/src/lib.rt exports with what the header, the Rust crate and the
+Python module declare: names, types, structures, statuses."""
+
+import ctypes
+import os
+import re
+import shutil
+import subprocess
+import sys
+import unittest
+
+sys.path.append(os.path.join(os.path.dirname(os.path.abspath(__file__)), ".."))
+
+import declared  # noqa: E402
+import lrc_store  # noqa: E402
+
+PYTHON = {
+    ctypes.POINTER(lrc_store._Slot): "* slot",
+    ctypes.POINTER(lrc_store._Slice): "* slice",
+    ctypes.POINTER(lrc_store._Entry): "* entry",
+    ctypes.POINTER(ctypes.c_uint64): "* u64",
+    ctypes.POINTER(ctypes.c_uint32): "* u32",
+    ctypes.c_char_p: "* u8",
+    ctypes.c_void_p: "* u8",
+    ctypes.c_uint64: "u64",
+    ctypes.c_uint32: "u32",
+    ctypes.c_int64: "i64",
+}
+CALLS = ("PUT", "READ", "LOSE", "REPAIR", "DELETE", "STAT")
+
+
+class Declarations(unittest.TestCase):
+    def setUp(self):
+        self.rattle = declared.read("crates", "store_c", "src", "lib.rt")
+        self.header = declared.read("include", "lrc_store.h")
+        self.rust = declared.read("bindings", "rust_store", "src", "library.rs")
+
+    def test_functions(self):
+        header, exported = declared.in_header(self.header), declared.exported(self.rattle)
+        exported["lrc_store_open"].remove("u64")  # the number of the store
+        plain = {name: words for name, words in header.items() if not name.endswith("_wait")}
+        self.assertEqual(plain, exported)
+        forms = {name: words for name, words in header.items() if name.endswith("_wait")}
+        self.assertEqual(len(forms), 11)
+        for name, words in forms.items():
+            self.assertEqual(words, [*header[name.removesuffix("_wait")], "i64"])
+        rust = declared.in_rust(self.rust)
+        self.assertEqual(len(rust), 21)
+        self.assertEqual(rust, {name: header[name] for name in rust})
+        header["lrc_store_text"] = ["u32"]
+        python = {
+            name: [PYTHON[type_] for type_ in types] for name, types in lrc_store.DECLARED.items()
+        }
+        self.assertEqual(python, declared.of_ctypes({name: header[name] for name in python}))
+
+    def test_structures(self):
+        for name, rust, python in (
+            ("slice", "Slice", lrc_store._Slice),
+            ("buffer", "RawBuffer", None),
+            ("slot", "Slot", lrc_store._Slot),
+            ("entry", "RawEntry", lrc_store._Entry),
+        ):
+            block = re.search(rf"typedef struct \{{([^}}]*)\}} lrc_{name};", self.header)[1]
+            block = re.sub(r"/\*.*?\*/", "", block, flags=re.S)
+            fields = re.findall(r"\*?(\w+)[,;]", block)
+            pattern = rf"#\[repr\(C\)\](?:\n#.*)?\npub struct {rust} \{{(.*?)\n\}}"
+            in_rust = re.search(pattern, self.rust, flags=re.S)[1]
+            self.assertEqual(re.findall(r"(\w+): ", in_rust), fields)
+            if python:
+                self.assertEqual([field for field, _ in python._fields_], fields)
+        self.assertEqual(ctypes.sizeof(lrc_store._Entry), 2 * 8 + 6 * 8 + 3 * 4 + 4)
+
+    def test_statuses(self):
+        rattle = declared.read("crates", "store_c", "src", "status.rt")
+        values = declared.numbers(r"const (\w+): u32 = (\d+);", rattle)
+        self.assertEqual(len(values), 20)
+        self.assertEqual(declared.numbers(r"    LRC_STORE_(\w+) = (\d+)", self.header), values)
+        members = {name: int(status) for name, status in lrc_store.Status.__members__.items()}
+        self.assertEqual(members, values)
+        rust = declared.read("bindings", "rust_store", "src", "errors.rs")
+        self.assertEqual({**declared.variants(rust), "DONE": 0}, values)
+
+    @unittest.skipUnless(shutil.which("g++"), "no g++")
+    def test_the_standard_of_cpp(self):
+        for standard, is_enough in (("c++14", False), ("c++17", True), ("c++20", True)):
+            command = ["g++", f"-std={standard}", "-fsyntax-only", "-Wall", "-Wextra", "-Werror"]
+            header = os.path.join(declared.TOP, "include", "lrc_store.hpp")
+            ran = subprocess.run([*command, "-x", "c++", header], capture_output=True, text=True)
+            self.assertEqual(ran.returncode == 0, is_enough, ran.stderr)
+            error = "#error" in ran.stderr and "lrc_store.hpp needs C++17" in ran.stderr
+            self.assertEqual(error, not is_enough)
+
+    def test_calls_and_versions(self):
+        calls = declared.numbers(r"    LRC_CALL_(\w+) = (\d+)", self.header)
+        self.assertEqual(calls, {name: number for number, name in enumerate(CALLS)})
+        self.assertEqual(lrc_store._CALLS, tuple(map(str.lower, CALLS)))
+        declared.compare_versions("lrc_store", lrc_store.SONAME)

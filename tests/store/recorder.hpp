@@ -1,0 +1,56 @@
+// What lrc_store.hpp calls in the tests: the waiting forms of the library, behind a record for each
+// thread. It is included before lrc_store.hpp.
+#ifndef RECORDER_HPP
+#define RECORDER_HPP
+#include "lrc_store.h"
+
+#include <cstdint>
+#include <deque>
+#include <functional>
+#include <string_view>
+#include <tuple>
+#include <utility>
+#include <vector>
+
+namespace recorder {
+
+// The waiting forms that were called, with their timeouts.
+inline thread_local std::vector<std::pair<std::string_view, int64_t>> calls;
+// What the next waiting forms return, without a call of the library.
+inline thread_local std::deque<uint32_t> statuses;
+// What happens after the next calls of lrc_store_stat_wait.
+inline thread_local std::deque<std::function<void()>> after_stat;
+
+template <class Form, class... Arguments>
+uint32_t recorded(const char *name, Form form, Arguments... arguments) {
+    calls.emplace_back(name, std::get<sizeof...(arguments) - 1>(std::tie(arguments...)));
+    uint32_t status = 0;
+    if (statuses.empty()) {
+        status = form(arguments...);
+    } else {
+        status = statuses.front();
+        statuses.pop_front();
+    }
+    if (calls.back().first == "stat" && !after_stat.empty()) {
+        const std::function<void()> act = after_stat.front();
+        after_stat.pop_front();
+        act();
+    }
+    return status;
+}
+
+} // namespace recorder
+
+#define RECORDED(name, ...) recorder::recorded(#name, lrc_store_##name##_wait, __VA_ARGS__)
+#define lrc_store_put_wait(...) RECORDED(put, __VA_ARGS__)
+#define lrc_store_put_from_wait(...) RECORDED(put_from, __VA_ARGS__)
+#define lrc_store_read_wait(...) RECORDED(read, __VA_ARGS__)
+#define lrc_store_lend_wait(...) RECORDED(lend, __VA_ARGS__)
+#define lrc_store_lose_wait(...) RECORDED(lose, __VA_ARGS__)
+#define lrc_store_repair_wait(...) RECORDED(repair, __VA_ARGS__)
+#define lrc_store_delete_wait(...) RECORDED(delete, __VA_ARGS__)
+#define lrc_store_stat_wait(...) RECORDED(stat, __VA_ARGS__)
+#define lrc_store_trim_wait(...) RECORDED(trim, __VA_ARGS__)
+#define lrc_store_plan_wait(...) RECORDED(plan, __VA_ARGS__)
+#define lrc_store_mend_step_wait(...) RECORDED(mend_step, __VA_ARGS__)
+#endif

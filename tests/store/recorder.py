@@ -1,0 +1,44 @@
+"""A stand-in for the library under lrc_store.py: it records the waiting forms that are called."""
+
+import time
+
+import lrc_store
+
+
+class Recorder:
+    """Within its block, waiting forms return the given statuses first, without a call.
+
+    `calls` has their names and timeouts. After each call of lrc_store_stat_wait the next function
+    of `after_stat` runs.
+    """
+
+    def __init__(self, statuses=()):
+        self.real, self.calls = lrc_store._library, []
+        self.statuses, self.after_stat = list(statuses), []
+
+    def __enter__(self):
+        lrc_store._library = self
+        return self
+
+    def __exit__(self, *_):
+        lrc_store._library = self.real
+
+    def __getattr__(self, name):
+        real = getattr(self.real, name)
+        return self._recorded(name, real) if name.endswith("_wait") else real
+
+    def _recorded(self, name, real):
+        def call(*arguments):
+            self.calls.append((name, arguments[-1]))
+            status = self._next(arguments[-1]) if self.statuses else real(*arguments)
+            if name == "lrc_store_stat_wait" and self.after_stat:
+                self.after_stat.pop(0)()
+            return status
+
+        return call
+
+    def _next(self, timeout_ms):
+        status = self.statuses.pop(0)
+        if status == lrc_store.Status.BUSY:
+            time.sleep(timeout_ms / 1000)
+        return status
