@@ -83,6 +83,7 @@ python_modules() {
 c_sources
 cpp_headers
 python_modules
-(cd "$work" && for each in *.gcda; do gcov --json-format --branch-probabilities --stdout "$each"; done) \
-    > "$work/c.json" 2> /dev/null
+for each in "$work"/*.gcda; do
+    (cd "$work" && gcov --json-format --branch-probabilities --stdout "$each" 2> /dev/null)
+done > "$work/c.json"
 tests/coverage.py "$work/c.json" "$work/python.json"

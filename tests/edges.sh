@@ -45,10 +45,9 @@ threads() {
 }
 
 # The sources of the libraries without the proved code.
-source_of() { gcc -std=gnu11 -O1 "${warnings[@]}" -fPIC -c "library/$1.c" "${@:3}" -o "$work/$2.o"; }
-tested() { # NAME OBJECT..
-    gcc -std=gnu11 -O1 "${warnings[@]}" "tests/edges/$1.c" "${@:2}" -o "$work/$1"
-}
+compiled=(gcc -std=gnu11 -O1 "${warnings[@]}")
+source_of() { "${compiled[@]}" -fPIC -c "library/$1.c" "${@:3}" -o "$work/$2.o"; }
+tested() { "${compiled[@]}" "tests/edges/$1.c" "${@:2}" -o "$work/$1"; }
 
 choice() {
     source_of choice chosen '-DEACH(of)=of(choice_first) of(choice_second)' \

@@ -15,8 +15,8 @@ skipped=0
 summary='^([0-9]+) (tests of the .* passed|mutants rejected), ([0-9]+) (failed|survive)'
 summary+='(, ([0-9]+) skipped)?.*'
 
-# part COMMAND WORD..: runs a part, and adds what its last line counts. A part that counts nothing is
-# one test.
+# part COMMAND WORD..: runs a part, and adds what its last line counts. A part that counts nothing
+# is one test.
 part() {
     local counts last
     "$@" 2>&1 | tee "$work/printed"
