@@ -1,22 +1,56 @@
 #!/usr/bin/env bash
-# Tests of documents and commits, then of the programs that `rt ci` has built: the statuses of lrcstore, the
-# pictures, runs at the limits, and each allocation and each thread refused in turn. Last, the
-# libraries.
-set -eu
-cd "$(dirname "$0")/.."
-python3 tests/promises.py
-python3 tests/documents.py
-python3 tests/figures.py
-python3 tests/prose.py
-python3 tests/believed.py
-python3 tests/commits.py
-[ -x crates/test_refused_memory/out/test_refused_memory ] || (cd crates/test_refused_memory && rt run > /dev/null)
-[ -x crates/test_sharded/out/test_sharded ] || (cd crates/test_sharded && rt run > /dev/null)
-[ -x crates/lrcstore/out/lrcstore ] || (cd crates/lrcstore && rt run -- ../examples/data/first_path.csv --workers 2 > /dev/null)
-python3 tests/statuses.py
-python3 tests/pictures.py
-python3 tests/limits.py
-python3 tests/refused_memory.py
-tests/library.sh
-tests/store.sh
-tests/install.sh
+# All tests but those of `rt ci`, whose programs they run: documents and commits, the program, the
+# libraries in each language, the edges, their coverage and their mutants. The libraries are built
+# once, unless LRC_LIBRARIES names a folder with them. The last line counts all tests.
+#
+#     tests/programs.sh [PASSED]    so many tests passed before
+set -u
+cd "$(dirname "$0")/.." || exit
+work=$(mktemp -d)
+trap 'rm -rf "$work"' EXIT
+passed=${1:-0}
+failed=0
+skipped=0
+# the last line of a part that counts tests
+summary='^([0-9]+) (tests of the .* passed|mutants rejected), ([0-9]+) (failed|survive)'
+summary+='(, ([0-9]+) skipped)?.*'
+
+# part COMMAND WORD..: runs a part, and adds what its last line counts. A part that counts nothing
+# is one test.
+part() {
+    local counts last
+    "$@" 2>&1 | tee "$work/printed"
+    local status=${PIPESTATUS[0]}
+    last=$(tail -1 "$work/printed")
+    counts=$(sed -nE "s/$summary/\\1 \\3 \\6/p" <<< "$last")
+    read -r right wrong left <<< "${counts:-$((status == 0)) $((status != 0)) 0}"
+    passed=$((passed + right))
+    failed=$((failed + wrong))
+    skipped=$((skipped + ${left:-0}))
+    # a part that ends otherwise than its last line says has failed
+    [ "$status" = 0 ] || [ "$wrong" != 0 ] || failed=$((failed + 1))
+    [ "$status" = 0 ] || echo "failed: $*"
+}
+
+# built CRATE WORD..: runs the program of a crate, which builds it, unless that was done
+built() {
+    [ -x "crates/$1/out/$1" ] || (cd "crates/$1" && rt run "${@:2}" > /dev/null) && return
+    echo "failed: the program $1"
+    failed=$((failed + 1))
+}
+
+for each in promises documents figures prose believed commits; do part python3 tests/$each.py; done
+built test_refused_memory
+built test_sharded
+built lrcstore -- data/degraded_read.csv
+for each in statuses pictures limits refused_memory; do part python3 tests/$each.py; done
+if [ -z "${LRC_LIBRARIES:-}" ]; then
+    export LRC_LIBRARIES=$work/libraries
+    tools/libraries.py --to "$LRC_LIBRARIES" || failed=$((failed + 1))
+fi
+for each in library store install edges; do part tests/$each.sh; done
+part tests/coverage.sh
+part tests/mutants.py --jobs "$(nproc)"
+printf '%d passed, %d failed%s\n' "$passed" "$failed" \
+    "$([ $skipped = 0 ] || echo ", $skipped skipped")"
+[ "$failed" = 0 ]

@@ -1,0 +1,78 @@
+#!/usr/bin/env bash
+# Tests of what lies outside of the proofs: random calls of the libraries beside a model, waits with
+# deadlines, forks, signals, cancelled threads, and reads and writes of the program that fail.
+# LRC_LIBRARIES names the folder of the libraries.
+#
+#     tests/edges.sh [SECONDS]    of each random run, 30 if not given; SEED=.. repeats one
+set -u
+cd "$(dirname "$0")/.." || exit
+# shellcheck source=tests/runner.sh
+. tests/runner.sh
+LRC_LIBRARIES=$(realpath "${LRC_LIBRARIES:?names no folder that tools/libraries.py has filled}")
+export LRC_LIBRARIES
+seconds=${1:-30}
+store=$LRC_LIBRARIES/liblrc_store.a
+coder=$LRC_LIBRARIES/liblrc_coder.a
+warnings=(-Wall -Wextra -Wconversion -Wshadow -Werror -I include -I tests/store)
+wrapped=("-Wl,--wrap=malloc" "-Wl,--wrap=realloc")
+
+# random NAME FLAG..: the program of random calls
+random() {
+    g++ -std=c++17 -O2 "${warnings[@]}" "tests/edges/$1.cpp" "${@:2}" -lpthread -o "$work/$1"
+}
+
+# held NAME: a program that holds the critical section, built and run
+held() {
+    gcc -std=gnu11 -O1 "${warnings[@]}" "tests/edges/$1.c" "${wrapped[@]}" "$store" "$coder" \
+        -lpthread -lrt -o "$work/$1" && timeout 300 "$work/$1"
+}
+
+calls() { random calls "${wrapped[@]}" -Wl,--wrap=free "$store" && "$work/calls" "$seconds"; }
+coder_calls() { random coder "$coder" && "$work/coder" "$seconds"; }
+
+# Two programs of one thread each, side by side.
+one_thread() {
+    local first
+    coder_calls &
+    first=$!
+    calls
+    local status=$?
+    wait $first && [ $status = 0 ]
+}
+
+threads() {
+    random threads "${wrapped[@]}" -Wl,--wrap=free "$store" && "$work/threads" "$seconds" "$@"
+}
+
+# The sources of the libraries without the proved code.
+compiled=(gcc -std=gnu11 -O1 "${warnings[@]}")
+source_of() { "${compiled[@]}" -fPIC -c "library/$1.c" "${@:3}" -o "$work/$2.o"; }
+tested() { "${compiled[@]}" "tests/edges/$1.c" "${@:2}" -o "$work/$1"; }
+
+choice() {
+    source_of choice chosen '-DEACH(of)=of(choice_first) of(choice_second)' \
+        -DCHOICE_CPU=choice_cpu '-DCHOICE_ENV="CHOICE"' && tested choice "$work/chosen.o" \
+        && tests/edges/choice.sh "$work/choice"
+}
+
+numbers() {
+    local each
+    for each in first second; do
+        source_of store_open $each -Dlrc_store_open=${each}_open \
+            -Dlrc_store_open_numbered=open_numbered || return
+    done
+    tested numbers "$work/first.o" "$work/second.o" && "$work/numbers"
+}
+
+texts() { tested texts "$store" "$coder" && "$work/texts"; }
+
+test_of "random calls of one thread" g++ g++ one_thread
+test_of "random calls of threads" g++ g++ threads
+test_of "random calls by sessions handed on" g++ g++ threads handed
+test_of "waits" gcc gcc held waits
+test_of "processes" gcc gcc held processes
+test_of "choice of the processor's code" gcc gcc choice
+test_of "numbers of stores" gcc gcc numbers
+test_of "texts of statuses" gcc gcc texts
+test_of "input and output of the program" gcc gcc python3 tests/edges/io.py
+summary edges

@@ -1,0 +1,267 @@
+#!/usr/bin/env python3
+"""Plants faults outside of what is proved, and sees that the tests reject them.
+
+    tests/mutants.py [--jobs N] [--only TEXT]
+
+A block of tests/mutants/*.txt is a mutant: the text `old` stands once in a file and becomes `new`.
+The mutant is built in a copy of the tree, and the named test has to fail there. It also has to pass
+in a copy without a mutant. A mutant that survives, does not build or no longer applies is a
+failure. --only takes those that have the text. LRC_LIBRARIES names the folder of the libraries.
+The last line counts.
+"""
+
+import argparse
+import concurrent.futures
+import glob
+import os
+import shutil
+import signal
+import subprocess
+import sys
+import tempfile
+import time
+from typing import NamedTuple
+
+HERE = os.path.dirname(os.path.abspath(__file__))
+TOP = os.path.dirname(HERE)
+COPIED = ("include", "library", "bindings", "integrations", "tests", "tools")
+COPIED += (
+    "crates/command_line/src",
+    "crates/test_vectors/data",
+    "docs",
+    "README.md",
+    "CHANGELOG.md",
+)
+NOT_COPIED = shutil.ignore_patterns("__pycache__", "target", "*.so", "out")
+
+C = "gcc -std=gnu11 -O1 -w -I include -I tests/store"
+CPP = "g++ -std=c++17 -O0 -w -I include -I tests/store"
+WRAP = "-Wl,--wrap=malloc,--wrap=realloc"
+# A source of library/ comes before the archive, whose own is then left aside.
+STORE = "-Wl,--allow-multiple-definition $LRC_LIBRARIES/liblrc_store.a -lpthread"
+CODER = "$LRC_LIBRARIES/liblrc_coder.a"
+TEXTS = "library/store_text.c library/coder_text.c"
+BACKEND = "integrations/liberasurecode"
+SANITIZED = "-g -fsanitize=address,undefined"
+# Installing takes the program as it is: one that knows its version.
+PROGRAM = "crates/lrcstore/out/lrcstore"
+
+
+class Test(NamedTuple):
+    """How a test is built, and how it is run. What `prepare` makes is made once."""
+
+    build: str
+    run: str
+    prepare: str = "true"
+    seconds: int = 60
+
+
+def store_program(file, words="", **others):
+    """A test of the store's library in C or C++, with the source of its waiting forms."""
+    wrap = WRAP + (",--wrap=free" if file.endswith(".cpp") else "")
+    compile_one = CPP if file.endswith(".cpp") else C
+    return Test(
+        f"{C} -c library/store_wait.c -o wait.o"
+        f" && {compile_one} tests/{file} wait.o {wrap} {STORE} -o program",
+        f"./program {words}",
+        **others,
+    )
+
+
+def copy_of_open(name):
+    """Compiles library/store_open.c with other names."""
+    return (
+        f"{C} -Dlrc_store_open={name}_open -Dlrc_store_open_numbered=open_numbered"
+        f" -c library/store_open.c -o {name}.o"
+    )
+
+
+TESTS = {
+    "waiting": Test(
+        f"{C} tests/store/waiting.c library/store_wait.c -o program", "./program", seconds=30
+    ),
+    "waits": store_program("edges/waits.c", seconds=25),
+    "calls": store_program("edges/calls.cpp", "4"),
+    "threads": store_program("edges/threads.cpp", "4"),
+    "numbers": Test(
+        f"{copy_of_open('first')} && {copy_of_open('second')}"
+        f" && {C} tests/edges/numbers.c first.o second.o -o program",
+        "./program",
+    ),
+    "texts": Test(
+        f"{C} tests/edges/texts.c {TEXTS} -o program && {C} tests/library/texts.c {TEXTS} {CODER}"
+        " -Wl,--allow-multiple-definition -o other",
+        "./program && ./other",
+    ),
+    "choice": Test(
+        f"{C} -fPIC tests/edges/choice.c library/choice.c '-DCHOICE_ENV=\"CHOICE\"'"
+        " -DCHOICE_CPU=choice_cpu '-DEACH(of)=of(choice_first) of(choice_second)' -o program",
+        "tests/edges/choice.sh ./program",
+    ),
+    "coder": Test(f"{CPP} tests/edges/coder.cpp {CODER} -o program", "./program 3"),
+    "cpp": Test(f"{CPP} tests/store/bindings.cpp {STORE} -o program", "./program"),
+    "cpp_sanitized": Test(
+        f"{CPP} {SANITIZED} tests/store/bindings.cpp {STORE} -o program", "./program"
+    ),
+    "install": Test(
+        "true",
+        "tests/install.sh",
+        prepare=f"mkdir -p $(dirname {PROGRAM}) && printf '#!/bin/sh\\necho lrcstore 0.1.0\\n'"
+        f" > {PROGRAM} && chmod +x {PROGRAM}",
+    ),
+    "python_coder": Test("true", "python3 tests/library/bindings.py"),
+    "python_store": Test("true", "python3 tests/store/bindings.py"),
+    "rust_coder": Test(
+        "cd bindings/rust && cargo test --quiet --offline --no-run",
+        "cd bindings/rust && cargo test --quiet --offline",
+    ),
+    "rust_store": Test(
+        "cd bindings/rust_store && cargo test --quiet --offline --no-run",
+        "cd bindings/rust_store && cargo test --quiet --offline",
+    ),
+    "liberasurecode": Test(
+        f"{C} -I integrations {BACKEND}/lrc_backend.c {BACKEND}/test_backend.c {CODER}"
+        " -lerasurecode -o program",
+        "./program",
+    ),
+    "pyeclib": Test(
+        f"{BACKEND}/build.sh .", f"LD_LIBRARY_PATH=. /usr/bin/python3 {BACKEND}/test_pyeclib.py"
+    ),
+    "ceph": Test(
+        "work=$PWD && . integrations/ceph/programs.sh && plugins plugins -O0",
+        "./plugin_test plugins tests/corpus",
+        prepare="work=$PWD && . integrations/ceph/programs.sh && program plugin_test -O0",
+    ),
+}
+
+
+class Mutant(NamedTuple):
+    test: str
+    file: str
+    old: str
+    new: str
+
+    def __str__(self):
+        return f"{self.file}: {self.new.strip() or 'without ' + self.old.strip()} ({self.test})"
+
+
+def mutants_of(path):
+    """The mutants of a file: blocks of lines `name: text` between empty lines. The first block says
+    what they are in."""
+    with open(path, encoding="utf-8") as file:
+        blocks = file.read().strip().split("\n\n")[1:]
+    for block in blocks:
+        fields = {name: [] for name in Mutant._fields}
+        for line in block.split("\n"):
+            name, _, text = line.partition(":")
+            fields[name].append(text[1:])
+        yield Mutant(*("\n".join(fields[name]) for name in Mutant._fields))
+
+
+def plant(mutant, tree):
+    """Makes the edit. Returns what is wrong with it, or None."""
+    path = os.path.join(tree, mutant.file)
+    with open(path, encoding="utf-8") as file:
+        text = file.read()
+    if text.count(mutant.old) != 1:
+        return f"its text stands {text.count(mutant.old)} times"
+    with open(path, "w", encoding="utf-8") as file:
+        file.write(text.replace(mutant.old, mutant.new))
+    return None
+
+
+def succeeds(command, tree, seconds):
+    """Whether a command in the tree ends with status 0 in this time."""
+    environment = dict(
+        os.environ,
+        PYTHONDONTWRITEBYTECODE="1",
+        PYTHONPATH="bindings/python",
+        CARGO_TARGET_DIR=os.path.join(tree, "cargo"),
+        LRC_STORE_SO=os.path.join(os.environ["LRC_LIBRARIES"], "liblrc_store.so"),
+        LRC_CODER_SO=os.path.join(os.environ["LRC_LIBRARIES"], "liblrc_coder.so"),
+    )
+    with open(os.path.join(tree, "printed"), "w", encoding="utf-8") as printed:
+        run = subprocess.Popen(
+            ["bash", "-c", command],
+            cwd=tree,
+            env=environment,
+            stdin=subprocess.DEVNULL,
+            stdout=printed,
+            stderr=subprocess.STDOUT,
+            start_new_session=True,
+        )
+        try:
+            return run.wait(timeout=seconds) == 0
+        except subprocess.TimeoutExpired:
+            os.killpg(run.pid, signal.SIGKILL)
+            run.wait()
+            return False
+
+
+def last_lines(tree):
+    with open(os.path.join(tree, "printed"), encoding="utf-8", errors="replace") as printed:
+        return "".join(printed.readlines()[-5:])
+
+
+def trial(base, name, mutant=None):
+    """Tries a mutant by its test, or the test without one. Returns what is wrong, or None, and the
+    seconds that it took."""
+    started, test = time.monotonic(), TESTS[name]
+    with tempfile.TemporaryDirectory(dir=os.path.dirname(base)) as folder:
+        tree = os.path.join(folder, "tree")
+        shutil.copytree(base, tree, symlinks=True)
+        wrong = plant(mutant, tree) if mutant else None
+        if not wrong and not succeeds(test.build, tree, 240):
+            wrong = f"does not build: {last_lines(tree)}"
+        if not wrong and succeeds(test.run, tree, test.seconds) == (mutant is not None):
+            wrong = "survives" if mutant else f"fails without a mutant: {last_lines(tree)}"
+    return wrong, time.monotonic() - started
+
+
+def base_in(folder, names):
+    """A copy of the tree, with what the tests have prepared."""
+    base = os.path.join(folder, "base")
+    for part in COPIED:
+        source, there = os.path.join(TOP, part), os.path.join(base, part)
+        if os.path.isdir(source):
+            shutil.copytree(source, there, ignore=NOT_COPIED)
+        else:
+            shutil.copy(source, there)
+    for name in names:
+        if not succeeds(TESTS[name].prepare, base, 240):
+            sys.exit(f"{name}: {last_lines(base)}")
+    return base
+
+
+def main():
+    parser = argparse.ArgumentParser(description=__doc__.splitlines()[0])
+    parser.add_argument("--jobs", type=int, default=os.cpu_count())
+    parser.add_argument("--only", default="", help="those whose file, test or text has this")
+    parser.add_argument("--times", action="store_true", help="the seconds of each")
+    given = parser.parse_args()
+    if "LRC_LIBRARIES" not in os.environ:
+        sys.exit("LRC_LIBRARIES names no folder that tools/libraries.py has filled")
+    os.environ["LRC_LIBRARIES"] = os.path.abspath(os.environ["LRC_LIBRARIES"])
+    paths = sorted(glob.glob(os.path.join(HERE, "mutants", "*.txt")))
+    mutants = [it for path in paths for it in mutants_of(path) if given.only in str(it)]
+    names = sorted({it.test for it in mutants})
+    rejected = wrong = 0
+    with tempfile.TemporaryDirectory() as folder:
+        base = base_in(folder, names)
+        with concurrent.futures.ThreadPoolExecutor(given.jobs) as pool:
+            tried = {pool.submit(trial, base, name): f"test {name}" for name in names}
+            tried |= {pool.submit(trial, base, it.test, it): it for it in mutants}
+            for done in concurrent.futures.as_completed(tried):
+                what, seconds = done.result()
+                if given.times:
+                    print(f"{seconds:6.1f} s {tried[done]}")
+                if what:
+                    print(f"{tried[done]}: {what}", flush=True)
+                rejected += not what and isinstance(tried[done], Mutant)
+                wrong += bool(what)
+    print(f"{rejected} mutants rejected, {wrong} survive")
+    return wrong != 0
+
+
+if __name__ == "__main__":
+    sys.exit(main())

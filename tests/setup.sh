@@ -1,0 +1,49 @@
+#!/usr/bin/env bash
+# Installs those of Debian's packages that the tests need and that are missing, and says first
+# which. tests/all.sh runs it; no test installs anything.
+set -eu
+
+# What a test needs, a command or a file, and the package that has it.
+needs=(
+    "gcc gcc"
+    "g++ g++"
+    "nm binutils"
+    "clang clang"
+    "/usr/lib/llvm-14/lib/clang/14.0.6/lib/linux/libclang_rt.asan-x86_64.a libclang-rt-14-dev"
+    "cargo cargo"
+    "cmake cmake"
+    "git git"
+    "pkg-config pkg-config"
+    "python3 python3"
+    "python3-coverage python3-coverage"
+    "valgrind valgrind"
+    "ceph-osd ceph-osd"
+    "/usr/include/rados/librados.h librados-dev"
+    "/usr/include/rados/buffer.h libradospp-dev"
+    "/usr/include/liberasurecode/erasurecode_backend.h liberasurecode-dev"
+    "/usr/lib/python3/dist-packages/pyeclib python3-pyeclib"
+)
+
+missing=()
+for each in "${needs[@]}"; do
+    need=${each% *}
+    command -v "$need" > /dev/null || [ -e "$need" ] || missing+=("${each#* }")
+done
+if [ ${#missing[@]} = 0 ]; then
+    echo "setup: all ${#needs[@]} packages that the tests need are here"
+    exit
+fi
+echo "setup: installs ${missing[*]}"
+if [ "$(id -u)" != 0 ] || ! command -v apt-get > /dev/null; then
+    echo "setup: install these packages, as root by apt-get or as your system does" >&2
+    exit 1
+fi
+log=$(mktemp)
+trap 'rm -f "$log"' EXIT
+export DEBIAN_FRONTEND=noninteractive RUNLEVEL=1 # no service is started
+get=(apt-get -o DPkg::Lock::Timeout=300)
+if ! { "${get[@]}" update && "${get[@]}" install -y --no-install-recommends "${missing[@]}"; } \
+    > "$log" 2>&1; then
+    tail -20 "$log" >&2
+    exit 1
+fi
