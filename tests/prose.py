@@ -13,7 +13,7 @@ import sys
 
 from sources import TOP, read
 
-LONGEST, MOST_WORDS, MOST_LINES = 100, 25, 1500
+LONGEST, MOST_WORDS, MOST_LINES = 100, 25, 1600
 # Pages that a script writes, and the table that tests/promises.py holds to the code.
 MADE = {"docs/api.md", "docs/c-api.md", "docs/promises.md", "crates/README.md"}
 DIARY = [

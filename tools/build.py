@@ -17,6 +17,7 @@ import sys
 import time
 
 TOP = os.path.dirname(os.path.dirname(os.path.abspath(__file__)))
+RT = os.path.join(TOP, "tools", "rt_once.py")
 PARTS = ("src", "specs", "proofs")
 
 
@@ -90,9 +91,9 @@ def build_all(program, cpu="v2"):
             if file.read() == wanted:
                 print(f"{program} is as it was built before")
                 return built
-    print(f"{len(names)} crates. From nothing they take about 25 minutes on 4 cores.", flush=True)
+    print(f"{len(names)} crates. From nothing they take 20 to 25 minutes on 4 cores.", flush=True)
     with subprocess.Popen(
-        ["rt", "run", f"--cpu=x86-64-{cpu}", "--", "--help"],
+        [sys.executable, RT, "run", f"--cpu=x86-64-{cpu}", "--", "--help"],
         cwd=os.path.join(TOP, "crates", program),
         env={**os.environ, "PYTHONUNBUFFERED": "1"},
         stdout=subprocess.PIPE,

@@ -5,7 +5,7 @@
 
 Leaves liblrc_coder.a and .so, and liblrc_store.a and .so, in FOLDER; both libraries if none is
 named. Each has its proved code twice, for x86-64-v2 (SSE) and for x86-64-v3 (AVX2), and chooses
-when it is loaded. The crates are proved and built by `rt lib`, unless BUILT has their archives:
+when it is loaded. tools/rt_once.py proves and builds the crates, unless BUILT has their archives:
 libcoder_c_v2.a, libcoder_c_v3.a, libstore_c_v2.a, libstore_c_v3.a. It needs gcc and binutils. The
 files depend on the archives, the sources and the compiler alone.
 """
@@ -110,12 +110,11 @@ def kit_libc(built):
 
 
 def prove(crate, cpu, folder):
-    """Proves and builds a crate. The next build leaves its archive at the same place, so this one
-    is copied into the folder."""
-    there = os.path.join(TOP, "crates", crate)
-    print(f"rt lib of {crate} for x86-64-{cpu}, minutes from nothing", flush=True)
-    run("rt", "lib", f"--cpu=x86-64-{cpu}", cwd=there)
-    return shutil.copy(os.path.join(there, "out", f"lib{crate}.a"), folder)
+    """Builds a crate's archive into the folder, over what the gate or earlier builds have proved."""
+    archive = os.path.join(folder, f"lib{crate}.a")
+    print(f"{crate} for x86-64-{cpu}: minutes, if it is to be proved", flush=True)
+    run(sys.executable, os.path.join(TOP, "tools", "rt_once.py"), "archive", crate, cpu, archive)
+    return archive
 
 
 def archives_of(library, cpu, built, folder):
