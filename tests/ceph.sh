@@ -1,13 +1,13 @@
 #!/usr/bin/env bash
 # Tests Ceph's plugin without a cluster: by Ceph's own tool, and by a program that loads plugins as
-# Ceph does. tests/library.sh runs it, after it has built the coder and asked for the packages.
-# integrations/ceph/cluster_test.py tests the plugin in a cluster.
+# Ceph does. tests/library.sh runs it. integrations/ceph/cluster_test.py tests the plugin in a
+# cluster. LRC_LIBRARIES names the folder of the libraries.
 set -eu
 cd "$(dirname "$0")/.."
 work=$(mktemp -d)
 trap 'rm -rf "$work"' EXIT
 . integrations/ceph/programs.sh
-sanitizers=(-g -fsanitize=address,undefined -fno-sanitize-recover=all)
+sanitizers=(-g "-fsanitize=address,undefined" -fno-sanitize-recover=all)
 profile=plugin=azure_lrc,k=12,m=4
 
 # It exports two functions. As Ceph's own plugins, it links no library of Ceph.

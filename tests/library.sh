@@ -1,8 +1,7 @@
 #!/usr/bin/env bash
 # Tests of the coder for C, C++, Rust and Python and of its use under liberasurecode and Ceph, which
 # `rt ci` proves and does not run. LRC_LIBRARIES names the folder of the libraries.
-# The last line says how many passed, and what was skipped. A package that is missing is installed
-# by its name where apt-get can.
+# The last line says how many passed, and what was skipped.
 set -u
 cd "$(dirname "$0")/.." || exit
 # shellcheck source=tests/runner.sh
