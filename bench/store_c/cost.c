@@ -118,7 +118,7 @@ static int threads(unsigned number, double millis, void *(*work)(void *), const 
     lrc_slot slot = LRC_SLOT_EMPTY;
     uint64_t version, calls = 0;
     double start;
-    if (number > MOST_THREADS || lrc_store_open(64, 65536, 1, &slot) ||
+    if (number > MOST_THREADS || lrc_store_open(64, 65536, &slot) ||
         lrc_store_put(&slot, NAME, blob, 768, 12, &version) ||
         lrc_store_lose(&slot, NAME, 0, 0, &version))
         return 1;
@@ -147,7 +147,7 @@ int main(int count, char **words) {
     if (count > 2)
         return threads((unsigned)atoi(words[1]), atof(words[2]), read_from_c_on, "from C") ||
                threads((unsigned)atoi(words[1]), atof(words[2]), read_inside_on, "inside Rattle");
-    if (lrc_store_open(WIDTH, 1000000, 1, &slot) ||
+    if (lrc_store_open(WIDTH, 1000000, &slot) ||
         lrc_store_put(&slot, NAME, blob, sizeof blob, 12, &version))
         return 1;
     row(&slot, 64);

@@ -32,11 +32,12 @@ for each in "$bench"/../clients/*.rattle; do
 done
 grep -q '^clients' "$folder/crates.txt" || echo 'clients may_wait=8: anyhow shared' >> "$folder/crates.txt"
 (cd "$folder/crates/clients" && rt run -- copies 1 1) > "$folder/log" 2>&1 || { cat "$folder/log" >&2; exit 1; }
-for each in store_c timed_store; do
-    (cd "$folder/crates/$each" && rt lib) > "$folder/log" 2>&1 || { cat "$folder/log" >&2; exit 1; }
-done
+(cd "$folder/crates/timed_store" && rt lib) > "$folder/log" 2>&1 || { cat "$folder/log" >&2; exit 1; }
+"$folder/tools/libraries.py" --to "$folder/built" lrc_store > "$folder/log" 2>&1 || { cat "$folder/log" >&2; exit 1; }
 gcc -std=gnu11 -O2 -I "$folder/include" "$bench/cost.c" "$folder/crates/timed_store/out/libtimed_store.a" \
-    "$folder/crates/store_c/out/libstore_c.a" "$(dirname "$(rt doc)")/c/liblibc_c.a" -lpthread -o "$folder/cost"
+    "$folder/built/liblrc_store.a" "$(dirname "$(rt doc)")/c/liblibc_c.a" -lpthread -o "$folder/cost"
+# the code that is timed inside Rattle is for the same processor
+export LRC_STORE_CPU=v2
 lscpu | sed -n 's/^Model name: */processor: /p'
 echo "load: $(cut -d ' ' -f 1-3 /proc/loadavg)"
 "$folder/cost"
