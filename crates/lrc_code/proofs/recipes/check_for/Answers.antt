@@ -2,6 +2,7 @@ use Rattle.std.proofs.Common.{sym, arith}
 use Rattle.lrc_code.specs.Code.{is_lost}
 use Rattle.lrc_code.proofs.Recoverable.{open_here}
 use Rattle.lrc_code.proofs.Checks.{determined_first, determined_second, one_group, alone_in_none}
+use Rattle.lrc_code.proofs.Short.{short_first, short_second}
 use Rattle.lrc_code.proofs.recipes.check_for.Goals as goal
 
 pub returns-then-is_only_lost_of_first-clause-exact : goal.returns-then-is_only_lost_of_first-clause-exact
@@ -19,3 +20,9 @@ returns-then-excess_in-gt2-clause-exact c =
 
 pub global_check-requires-clause-not_alone : goal.global_check-requires-clause-not_alone
 global_check-requires-clause-not_alone c = alone_in_none _ _ _ (sym c.if-is_only_lost_of_first.ensures) (sym c.if-is_only_lost_of_second.ensures)
+
+pub returns-then-is_only_lost_of_first-clause-short : goal.returns-then-is_only_lost_of_first-clause-short
+returns-then-is_only_lost_of_first-clause-short c = short_first c.args.code (is_lost c.args.lost) c.args.f (sym c.if-is_only_lost_of_first.ensures)
+
+pub returns-then-is_only_lost_of_second-clause-short : goal.returns-then-is_only_lost_of_second-clause-short
+returns-then-is_only_lost_of_second-clause-short c = short_second c.args.code (is_lost c.args.lost) c.args.f (sym c.if-is_only_lost_of_second.ensures)

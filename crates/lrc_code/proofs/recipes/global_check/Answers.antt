@@ -5,6 +5,7 @@ use Rattle.lrc_code.specs.Code.{is_lost}
 use Rattle.lrc_code.specs.ParityCheck.{place_of, determinant}
 use Rattle.lrc_code.proofs.Solved.{Solving, determinant_some, scaled_determines}
 use Rattle.lrc_code.proofs.Checks.{solving_found}
+use Rattle.lrc_code.proofs.Short.{short_global}
 use Rattle.lrc_code.proofs.recipes.global_check.Goals as goal
 
 found : (c : goal.After-determinant_of) → Solving c.args.code (is_lost c.args.lost) c.args.f c.place-p.result c.place-q.result c.other-g.result
@@ -31,3 +32,6 @@ pub returns-clause-determines : goal.returns-clause-determines
 returns-clause-determines c =
     scaled_determines c.args.code (is_lost c.args.lost) c.args.f c.place-p.result c.place-q.result c.other-g.result c.inverse_of-scale.result (found c.before) c.inverse_of-scale.type_inv
     (ap (λ t. product t c.inverse_of-scale.result) (sym (determinant_is c.before)) ∙ c.inverse_of-scale.ensures)
+
+pub returns-clause-short : goal.returns-clause-short
+returns-clause-short c = short_global c.args.code (is_lost c.args.lost) c.args.f c.place-p.result c.place-q.result c.other-g.result (found c.before) c.inverse_of-scale.result
