@@ -4,9 +4,8 @@
 
 use play::Fail;
 use program::{finish, read_words, report, run_line, unread};
-use std::fs;
 use std::process::ExitCode;
-use std::{env, io};
+use std::{env, fs, io};
 
 /// Reports a failure, and returns its exit status.
 fn fail<E: io::Write>(fail: Fail, errors: &mut E) -> ExitCode {

@@ -134,11 +134,7 @@ pub fn unread(error: &Error) -> Fail
 }
 
 /// Ends a run: writes its text to the output, or the message of its failure to standard error.
-pub fn finish<W: Write, E: Write>(
-    ran: Result<String, Fail>,
-    output: &mut W,
-    errors: &mut E,
-) -> Exit
+pub fn finish<W: Write, E: Write>(ran: Result<String, Fail>, output: &mut W, errors: &mut E) -> Exit
     ensures prints { result.ending ≡ Ending.Success → IsOkAnd ran (λ text.
         Appends (W.contents output.old) (W.contents output.new) (string_bytes text)) }
     ensures ended { IsRunEnding result.ending }
