@@ -5,6 +5,7 @@ compares the declarations with the header."""
 
 import array
 import gc
+import os
 import pickle
 import sys
 import threading
@@ -239,6 +240,36 @@ class Blobs(unittest.TestCase):
         self.assertEqual(str(caught.exception), "get('a'): the name has no blob")
 
 
+def resident():
+    """The process's memory in use, in mebibytes."""
+    with open("/proc/self/statm", encoding="ascii") as numbers:
+        return int(numbers.read().split()[1]) // 256
+
+
+class Memory(unittest.TestCase):
+    def test_it_is_given_back(self):
+        before, blob = resident(), os.urandom(4 << 20)
+        for _ in range(40):
+            session = Session.open(4096, 9)
+            session.put("a", blob, 6)
+            session.lose("a", 0, 0)
+            grant = session.read("a", 0, 4 << 20)
+            session.delete("a")
+            del session
+            self.assertEqual(bytes(grant), blob)
+        self.assertLess(resident(), before + 100)
+
+    def test_it_is_given_back_at_the_end_of_a_block(self):
+        before, session = resident(), Session.open(65536, 1000)
+        kept = []
+        for _ in range(40):
+            session.put("a", bytes(4 << 20), 6)
+            with session.read("a", 0, 4 << 20) as grant:
+                kept.append(grant)
+        self.assertLess(resident(), before + 100)
+        self.assertEqual(len(kept), 40)
+
+
 class Mends(unittest.TestCase):
     def test_all_that_can_be_rebuilt(self):
         session = Session.open(4, 1000)
@@ -324,6 +355,14 @@ class Journals(unittest.TestCase):
             (0, "stat", "none", 0, 0, Status.NO_NAME, 0, None),
         ]
         self.assertEqual(session.close_to_journal(), (0, wanted, True))
+
+    def test_a_journal_may_be_unchecked(self):
+        for lawful in (1, 2):
+            with Recorder(lawful=lawful):
+                is_checked = Session.open(4, 9).close().is_checked
+                self.assertEqual(is_checked, lawful == 1)
+                is_checked = Session.open(4, 9).close_to_journal().is_checked
+                self.assertEqual(is_checked, lawful == 1)
 
     def test_a_block_closes_its_store(self):
         with Session.open(4, 100) as session:

@@ -9,11 +9,11 @@ class Recorder:
     """Within its block, waiting forms return the given statuses first, without a call.
 
     `calls` has their names and timeouts. After each call of lrc_store_stat_wait the next function
-    of `after_stat` runs.
+    of `after_stat` runs. A close says `lawful`, if it is given.
     """
 
-    def __init__(self, statuses=()):
-        self.real, self.calls = lrc_store._library, []
+    def __init__(self, statuses=(), lawful=None):
+        self.real, self.calls, self.lawful = lrc_store._library, [], lawful
         self.statuses, self.after_stat = list(statuses), []
 
     def __enter__(self):
@@ -25,7 +25,17 @@ class Recorder:
 
     def __getattr__(self, name):
         real = getattr(self.real, name)
+        if name.startswith("lrc_store_close") and self.lawful:
+            return self._closing(real)
         return self._recorded(name, real) if name.endswith("_wait") else real
+
+    def _closing(self, real):
+        def call(*arguments):
+            status = real(*arguments)
+            arguments[-1].value = self.lawful
+            return status
+
+        return call
 
     def _recorded(self, name, real):
         def call(*arguments):
