@@ -31,7 +31,7 @@ class Errors(unittest.TestCase):
         error = caught.exception
         self.assertIs(error.status, status)
         self.assertEqual(str(error).split(": ")[0], text)
-        self.assertEqual(error.call, text.split("(")[0])
+        self.assertEqual((error.call, error.args), (text.split("(")[0], (str(error),)))
         self.assertEqual(f"{error.call}({', '.join(map(repr, error.arguments))})", text)
         means = lrc_store._library.lrc_store_text(status).decode()
         self.assertEqual(str(error), f"{text}: {means}")
@@ -120,6 +120,7 @@ class Errors(unittest.TestCase):
             (lambda: session.put("a", memoryview(bytes(9))[::2]), "the blob is of type memoryview"),
             (lambda: session.put(b"a", b"x"), "the name is of type bytes, expected str"),
             (lambda: session.read_into("a", 0, b"x"), "the buffer is of type bytes, .*writable"),
+            (lambda: session.read("a", 0, 1.5), "length is of type float, expected int"),
             (lambda: session.read_into("a", 0, None), "the buffer is of type NoneType"),
         ):
             self.assertRaisesRegex(TypeError, text, call)
