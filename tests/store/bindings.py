@@ -329,7 +329,7 @@ class Journals(unittest.TestCase):
         other.read_into("bb", 3, bytearray(4))
         self.assertRaises(lrc_store.StoreError, other.lose, "bb", 7, 5)
         self.assertRaises(lrc_store.StoreError, other.read, "bb", 8, 42)
-        session.delete("bb")
+        self.assertEqual(session.delete("bb"), 2)
         self.assertEqual(session.trim(8), 2)
         session.join(other)
         journal = session.close_to_journal()
