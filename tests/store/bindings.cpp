@@ -132,6 +132,11 @@ session degraded(const std::string &blob) {
 void reads() {
     const std::string blob = bytes_of(200);
     session s = degraded(blob);
+    const lrc::shape shape = s.stat("a");
+    EXPECT(shape.version, 2u);
+    EXPECT(shape.len, 200u);
+    EXPECT(shape.stripes, 5u);
+    EXPECT(shape.lost, 4u);
     std::string target(100, 'T');
     EXPECT(s.read_into("a", 3, target.data() + 10, 80), 2u);
     EXPECT(target, std::string(10, 'T') + blob.substr(3, 80) + std::string(10, 'T'));

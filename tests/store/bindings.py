@@ -149,6 +149,7 @@ class Blobs(unittest.TestCase):
         self.assertEqual(self.session.put("a", self.blob), 2)
         for stripe, fragment in ((0, 1), (0, 2), (2, 11), (3, 13)):
             self.assertEqual(self.session.lose("a", stripe, fragment), 2)
+        self.assertEqual(self.session.stat("a"), (2, 200, 5, 4))
 
     def test_any_buffer_is_put(self):
         blob = self.blob
@@ -319,10 +320,11 @@ class Mends(unittest.TestCase):
 class Journals(unittest.TestCase):
     def test_each_call_with_its_arguments(self):
         session = Session.open(4, 100)
-        session.put("a", bytes(10), 6)
+        session.put("a", bytes(60), 6)
         session.put("bb", bytes(49))
         other = session.split(3)
         other.lose("a", 0, 9)
+        other.lose("a", 1, 3)
         other.stat("a")
         other.repair("a", 0, 9)
         other.read("bb", 2, 47)
@@ -330,13 +332,14 @@ class Journals(unittest.TestCase):
         self.assertRaises(lrc_store.StoreError, other.lose, "bb", 7, 5)
         self.assertRaises(lrc_store.StoreError, other.read, "bb", 8, 42)
         self.assertEqual(session.delete("bb"), 2)
-        self.assertEqual(session.trim(8), 2)
+        self.assertEqual(session.trim(9), 2)
         session.join(other)
         journal = session.close_to_journal()
         self.assertEqual((journal.discarded, journal.is_checked), (2, True))
         wanted = [
             (3, "lose", "a", 0, 9, Status.DONE, 1, None),
-            (3, "stat", "a", 0, 0, Status.DONE, 1, (1, 10, 1, 1)),
+            (3, "lose", "a", 1, 3, Status.DONE, 1, None),
+            (3, "stat", "a", 0, 0, Status.DONE, 1, (1, 60, 3, 2)),
             (3, "repair", "a", 0, 9, Status.DONE, 1, None),
             (3, "read", "bb", 2, 47, Status.DONE, 2, None),
             (3, "read", "bb", 3, 4, Status.DONE, 2, None),

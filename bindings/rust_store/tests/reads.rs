@@ -1,6 +1,6 @@
 //! Reads of a range and of the whole blob, without and with lost fragments.
 
-use lrc_store::{Buffer, Code, Session};
+use lrc_store::{Buffer, Code, Session, Shape};
 
 fn blob(len: usize) -> Vec<u8> {
     (0..len).map(|i| (i * 7 + i / 251) as u8).collect()
@@ -14,6 +14,17 @@ fn store(len: usize) -> (Session, Vec<u8>) {
         session.lose("a", stripe, fragment).unwrap();
     }
     (session, blob)
+}
+
+#[test]
+fn a_blob_has_a_shape() {
+    let shape = Shape {
+        version: 2,
+        len: 200,
+        stripes: 5,
+        lost: 4,
+    };
+    assert_eq!(store(200).0.stat("a"), Ok(shape));
 }
 
 #[test]
