@@ -182,6 +182,8 @@ def _check(status: int, call: str, *arguments: object) -> None:
 
 def _number(what: str, value: int, bits: int = 64) -> int:
     """The value, which has to fit into so many bits. ctypes would cut it."""
+    if not isinstance(value, int):
+        raise TypeError(f"{what} is of type {type(value).__name__}, expected int")
     if not 0 <= value < 1 << bits:
         raise ValueError(f"{what} {value} is not in 0 to 2**{bits} - 1")
     return value

@@ -138,7 +138,7 @@ class Calls(unittest.TestCase):
         wrong = "rebuild: fragment 11 has 3 bytes, the range ends at 4"
         self.refuses(wrong, rebuild, 12, whole, 0, 0, 4)
         self.refuses(wrong, rebuild, 12, whole, 0, 1, 3)
-        small = {**self.small, 12: b"of no matter"}
+        small = {**self.small, 10: b"of no matter"}
         del small[2]
         self.assertEqual(rebuild(6, small, 2), self.small[2])
         self.assertEqual(rebuild(6, small, 2, 3), self.small[2][3:])

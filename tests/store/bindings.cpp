@@ -5,6 +5,7 @@
 #include <algorithm>
 #include <atomic>
 #include <chrono>
+#include <fstream>
 #include <iostream>
 #include <optional>
 #include <string>
@@ -131,6 +132,11 @@ session degraded(const std::string &blob) {
 void reads() {
     const std::string blob = bytes_of(200);
     session s = degraded(blob);
+    const auto [version, len, stripes, lost] = s.stat("a");
+    EXPECT(version, 2u);
+    EXPECT(len, 200u);
+    EXPECT(stripes, 5u);
+    EXPECT(lost, 4u);
     std::string target(100, 'T');
     EXPECT(s.read_into("a", 3, target.data() + 10, 80), 2u);
     EXPECT(target, std::string(10, 'T') + blob.substr(3, 80) + std::string(10, 'T'));
@@ -147,11 +153,11 @@ void reads() {
     std::string joined;
     for (const lrc_slice &piece : grant.slices()) joined += text_of(piece);
     EXPECT(joined, grant.str());
-    EXPECT(grant.str().capacity() < 160, true); // reserved, and not grown by doubling from 64
+    EXPECT(grant.str().capacity() < 100, true); // reserved: doubling from 15 gives 120
     EXPECT(s.read("old", 1, 0).str(), "");
-    for (size_t len : {0u, 1u, 47u, 48u, 49u, 10000u}) {
-        s.put("b", bytes_of(len), 6);
-        EXPECT(s.get("b"), bytes_of(len));
+    for (size_t each : {0u, 1u, 47u, 48u, 49u, 10000u}) {
+        s.put("b", bytes_of(each), 6);
+        EXPECT(s.get("b"), bytes_of(each));
     }
     s.put("c", std::string_view());
     EXPECT(s.stat("c").len, 0u);
@@ -367,6 +373,44 @@ void journals() {
     EXPECT_ERROR(journal.entry(8), LRC_STORE_NOTHING_LEFT, "entry(8)");
 }
 
+void unchecked_journals() {
+    for (const uint32_t lawful : {1u, 2u}) {
+        recorder::lawful = lawful;
+        EXPECT(session::open(4, 9).close().is_checked, lawful == 1);
+        EXPECT(session::open(4, 9).close_to_journal().is_checked(), lawful == 1);
+    }
+    recorder::lawful = 0;
+}
+
+// The process's memory in use, in mebibytes.
+size_t resident() {
+    size_t all = 0, pages = 0;
+    std::ifstream("/proc/self/statm") >> all >> pages;
+    return pages / 256;
+}
+
+// AddressSanitizer, which keeps freed memory, looks for leaks by its own means.
+void memory() {
+#ifdef __SANITIZE_ADDRESS__
+    const size_t most = SIZE_MAX;
+#else
+    const size_t most = resident() + 100;
+#endif
+    const std::string blob = bytes_of(4 << 20);
+    for (int i = 0; i < 40; i++) {
+        std::optional<session> s = session::open(4096, 9);
+        s->put("a", blob, 6);
+        s->lose("a", 0, 0);
+        const lrc::grant grant = s->read("a", 0, blob.size());
+        s->remove("a");
+        s.reset();
+        EXPECT(grant.str() == blob, true);
+        lrc::buffer unused(blob.size());
+        std::fill_n(unused.data(), unused.size(), uint8_t{1});
+    }
+    EXPECT(resident() < most, true);
+}
+
 } // namespace
 
 int main() {
@@ -379,6 +423,8 @@ int main() {
     a_call_ends_at_its_deadline();
     mends();
     journals();
+    unchecked_journals();
+    memory();
     std::cout << "C++: " << wrong << " wrong\n";
     return wrong ? 1 : 0;
 }

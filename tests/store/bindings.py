@@ -5,6 +5,7 @@ compares the declarations with the header."""
 
 import array
 import gc
+import os
 import pickle
 import sys
 import threading
@@ -30,7 +31,7 @@ class Errors(unittest.TestCase):
         error = caught.exception
         self.assertIs(error.status, status)
         self.assertEqual(str(error).split(": ")[0], text)
-        self.assertEqual(error.call, text.split("(")[0])
+        self.assertEqual((error.call, error.args), (text.split("(")[0], (str(error),)))
         self.assertEqual(f"{error.call}({', '.join(map(repr, error.arguments))})", text)
         means = lrc_store._library.lrc_store_text(status).decode()
         self.assertEqual(str(error), f"{text}: {means}")
@@ -119,6 +120,7 @@ class Errors(unittest.TestCase):
             (lambda: session.put("a", memoryview(bytes(9))[::2]), "the blob is of type memoryview"),
             (lambda: session.put(b"a", b"x"), "the name is of type bytes, expected str"),
             (lambda: session.read_into("a", 0, b"x"), "the buffer is of type bytes, .*writable"),
+            (lambda: session.read("a", 0, 1.5), "length is of type float, expected int"),
             (lambda: session.read_into("a", 0, None), "the buffer is of type NoneType"),
         ):
             self.assertRaisesRegex(TypeError, text, call)
@@ -147,6 +149,7 @@ class Blobs(unittest.TestCase):
         self.assertEqual(self.session.put("a", self.blob), 2)
         for stripe, fragment in ((0, 1), (0, 2), (2, 11), (3, 13)):
             self.assertEqual(self.session.lose("a", stripe, fragment), 2)
+        self.assertEqual(self.session.stat("a"), (2, 200, 5, 4))
 
     def test_any_buffer_is_put(self):
         blob = self.blob
@@ -239,6 +242,36 @@ class Blobs(unittest.TestCase):
         self.assertEqual(str(caught.exception), "get('a'): the name has no blob")
 
 
+def resident():
+    """The process's memory in use, in mebibytes."""
+    with open("/proc/self/statm", encoding="ascii") as numbers:
+        return int(numbers.read().split()[1]) // 256
+
+
+class Memory(unittest.TestCase):
+    def test_it_is_given_back(self):
+        before, blob = resident(), os.urandom(4 << 20)
+        for _ in range(40):
+            session = Session.open(4096, 9)
+            session.put("a", blob, 6)
+            session.lose("a", 0, 0)
+            grant = session.read("a", 0, 4 << 20)
+            session.delete("a")
+            del session
+            self.assertEqual(bytes(grant), blob)
+        self.assertLess(resident(), before + 100)
+
+    def test_it_is_given_back_at_the_end_of_a_block(self):
+        before, session = resident(), Session.open(65536, 1000)
+        kept = []
+        for _ in range(40):
+            session.put("a", bytes(4 << 20), 6)
+            with session.read("a", 0, 4 << 20) as grant:
+                kept.append(grant)
+        self.assertLess(resident(), before + 100)
+        self.assertEqual(len(kept), 40)
+
+
 class Mends(unittest.TestCase):
     def test_all_that_can_be_rebuilt(self):
         session = Session.open(4, 1000)
@@ -287,24 +320,26 @@ class Mends(unittest.TestCase):
 class Journals(unittest.TestCase):
     def test_each_call_with_its_arguments(self):
         session = Session.open(4, 100)
-        session.put("a", bytes(10), 6)
+        session.put("a", bytes(60), 6)
         session.put("bb", bytes(49))
         other = session.split(3)
         other.lose("a", 0, 9)
+        other.lose("a", 1, 3)
         other.stat("a")
         other.repair("a", 0, 9)
         other.read("bb", 2, 47)
         other.read_into("bb", 3, bytearray(4))
         self.assertRaises(lrc_store.StoreError, other.lose, "bb", 7, 5)
         self.assertRaises(lrc_store.StoreError, other.read, "bb", 8, 42)
-        session.delete("bb")
-        self.assertEqual(session.trim(8), 2)
+        self.assertEqual(session.delete("bb"), 2)
+        self.assertEqual(session.trim(9), 2)
         session.join(other)
         journal = session.close_to_journal()
         self.assertEqual((journal.discarded, journal.is_checked), (2, True))
         wanted = [
             (3, "lose", "a", 0, 9, Status.DONE, 1, None),
-            (3, "stat", "a", 0, 0, Status.DONE, 1, (1, 10, 1, 1)),
+            (3, "lose", "a", 1, 3, Status.DONE, 1, None),
+            (3, "stat", "a", 0, 0, Status.DONE, 1, (1, 60, 3, 2)),
             (3, "repair", "a", 0, 9, Status.DONE, 1, None),
             (3, "read", "bb", 2, 47, Status.DONE, 2, None),
             (3, "read", "bb", 3, 4, Status.DONE, 2, None),
@@ -324,6 +359,14 @@ class Journals(unittest.TestCase):
             (0, "stat", "none", 0, 0, Status.NO_NAME, 0, None),
         ]
         self.assertEqual(session.close_to_journal(), (0, wanted, True))
+
+    def test_a_journal_may_be_unchecked(self):
+        for lawful in (1, 2):
+            with Recorder(lawful=lawful):
+                is_checked = Session.open(4, 9).close().is_checked
+                self.assertEqual(is_checked, lawful == 1)
+                is_checked = Session.open(4, 9).close_to_journal().is_checked
+                self.assertEqual(is_checked, lawful == 1)
 
     def test_a_block_closes_its_store(self):
         with Session.open(4, 100) as session:

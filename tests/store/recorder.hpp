@@ -39,8 +39,19 @@ uint32_t recorded(const char *name, Form form, Arguments... arguments) {
     return status;
 }
 
+// What the next closes say of the journal, if it is not 0.
+inline thread_local uint32_t lawful = 0;
+
+template <class Close, class... Arguments> uint32_t closing(Close close, Arguments... arguments) {
+    const uint32_t status = close(arguments...);
+    if (lawful) *std::get<sizeof...(arguments) - 1>(std::tie(arguments...)) = lawful;
+    return status;
+}
+
 } // namespace recorder
 
+#define lrc_store_close(...) recorder::closing(lrc_store_close, __VA_ARGS__)
+#define lrc_store_close_to(...) recorder::closing(lrc_store_close_to, __VA_ARGS__)
 #define RECORDED(name, ...) recorder::recorded(#name, lrc_store_##name##_wait, __VA_ARGS__)
 #define lrc_store_put_wait(...) RECORDED(put, __VA_ARGS__)
 #define lrc_store_put_from_wait(...) RECORDED(put_from, __VA_ARGS__)

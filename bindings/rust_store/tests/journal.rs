@@ -23,10 +23,11 @@ fn a_buffer_is_put() {
 
 fn calls(session: &mut Session) {
     let mut target = [0; 4];
-    session.put("a", &[7; 10], Code::Small).unwrap();
+    session.put("a", &[7; 60], Code::Small).unwrap();
     session.put("bb", &[8; 49], Code::Wide).unwrap();
     let mut other = session.split(3).unwrap();
     other.lose("a", 0, 9).unwrap();
+    other.lose("a", 1, 3).unwrap();
     other.stat("a").unwrap();
     other.repair("a", 0, 9).unwrap();
     other.read("bb", 2, 47).unwrap();
@@ -43,7 +44,7 @@ fn calls(session: &mut Session) {
 fn the_journal_has_each_call_with_its_arguments() {
     let mut session = Session::open(4, 100).unwrap();
     calls(&mut session);
-    assert_eq!(session.trim(10), Ok(1));
+    assert_eq!(session.trim(11), Ok(1));
     let journal = session.close_to_journal().unwrap();
     assert!(journal.is_checked && journal.discarded == 1);
     let noted: Vec<_> = journal
@@ -54,6 +55,7 @@ fn the_journal_has_each_call_with_its_arguments() {
     let wanted = [
         (0, "bb", Call::Put { code: Code::Wide, len: 49 }, Ok(2)),
         (3, "a", Call::Lose { stripe: 0, fragment: 9 }, Ok(1)),
+        (3, "a", Call::Lose { stripe: 1, fragment: 3 }, Ok(1)),
         (3, "a", Call::Stat, Ok(1)),
         (3, "a", Call::Repair { stripe: 0, fragment: 9 }, Ok(1)),
         (3, "bb", Call::Read { start: 2, len: 47 }, Ok(2)),
@@ -64,9 +66,9 @@ fn the_journal_has_each_call_with_its_arguments() {
         (0, "bb", Call::Delete, Ok(2)),
     ];
     assert_eq!(noted, wanted);
-    let shape = Shape { version: 1, len: 10, stripes: 1, lost: 1 };
+    let shape = Shape { version: 1, len: 60, stripes: 3, lost: 2 };
     let shapes: Vec<_> = journal.entries.iter().map(|entry| entry.shape).collect();
-    assert_eq!(shapes[2], Some(shape));
+    assert_eq!(shapes[3], Some(shape));
     assert_eq!(shapes.iter().flatten().count(), 1);
 }
 

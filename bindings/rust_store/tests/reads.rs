@@ -1,6 +1,6 @@
 //! Reads of a range and of the whole blob, without and with lost fragments.
 
-use lrc_store::{Code, Session};
+use lrc_store::{Buffer, Code, Session, Shape};
 
 fn blob(len: usize) -> Vec<u8> {
     (0..len).map(|i| (i * 7 + i / 251) as u8).collect()
@@ -14,6 +14,17 @@ fn store(len: usize) -> (Session, Vec<u8>) {
         session.lose("a", stripe, fragment).unwrap();
     }
     (session, blob)
+}
+
+#[test]
+fn a_blob_has_a_shape() {
+    let shape = Shape {
+        version: 2,
+        len: 200,
+        stripes: 5,
+        lost: 4,
+    };
+    assert_eq!(store(200).0.stat("a"), Ok(shape));
 }
 
 #[test]
@@ -55,4 +66,26 @@ fn a_blob_is_read_whole() {
     assert_eq!(session.mend(), Ok(4));
     assert_eq!(session.get("a").unwrap(), blob);
     assert_eq!(session.get("old").unwrap(), b"x");
+}
+
+/// The process's memory in use, in mebibytes.
+fn resident() -> usize {
+    let text = std::fs::read_to_string("/proc/self/statm").unwrap();
+    text.split(' ').nth(1).unwrap().parse::<usize>().unwrap() / 256
+}
+
+#[test]
+fn memory_is_given_back() {
+    let (before, blob) = (resident(), blob(4 << 20));
+    for _ in 0..40 {
+        let mut session = Session::open(4096, 9).unwrap();
+        session.put("a", &blob, Code::Small).unwrap();
+        session.lose("a", 0, 0).unwrap();
+        let grant = session.read("a", 0, 4 << 20).unwrap();
+        session.delete("a").unwrap();
+        drop(session);
+        assert_eq!(grant.to_vec(), blob);
+        Buffer::new(4 << 20).unwrap().as_mut_slice().fill(1);
+    }
+    assert!(resident() < before + 100);
 }

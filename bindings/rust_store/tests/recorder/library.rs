@@ -5,9 +5,8 @@
 mod real;
 
 pub use real::{
-    lrc_slot_buffer, lrc_slot_entry, lrc_slot_reserve, lrc_slot_slices, lrc_store_close,
-    lrc_store_close_to, lrc_store_join, lrc_store_open, lrc_store_split, lrc_store_text, RawBuffer,
-    RawEntry, Slice, Slot,
+    lrc_slot_buffer, lrc_slot_entry, lrc_slot_reserve, lrc_slot_slices, lrc_store_join,
+    lrc_store_open, lrc_store_split, lrc_store_text, RawBuffer, RawEntry, Slice, Slot,
 };
 use std::cell::RefCell;
 use std::collections::VecDeque;
@@ -19,6 +18,8 @@ pub struct Record {
     pub calls: Vec<(&'static str, i64)>,
     /// What the next waiting forms return, without a call of the library.
     pub statuses: VecDeque<u32>,
+    /// Whether a close says that there was no memory for the check.
+    pub is_unchecked: bool,
     /// What happens after the next calls of `lrc_store_stat_wait`.
     pub after_stat: VecDeque<Box<dyn FnOnce()>>,
 }
@@ -41,6 +42,31 @@ fn act_after(name: &str) {
             act();
         }
     }
+}
+
+/// Says that the journal was not checked, if the record wants so.
+unsafe fn uncheck(lawful: *mut u32) {
+    if RECORD.with_borrow(|record| record.is_unchecked) {
+        *lawful = 2;
+    }
+}
+
+pub unsafe fn lrc_store_close(slot: *mut Slot, entries: *mut u64, lawful: *mut u32) -> u32 {
+    let status = real::lrc_store_close(slot, entries, lawful);
+    uncheck(lawful);
+    status
+}
+
+pub unsafe fn lrc_store_close_to(
+    slot: *mut Slot,
+    other: *mut Slot,
+    discarded: *mut u64,
+    entries: *mut u64,
+    lawful: *mut u32,
+) -> u32 {
+    let status = real::lrc_store_close_to(slot, other, discarded, entries, lawful);
+    uncheck(lawful);
+    status
 }
 
 macro_rules! recorded {

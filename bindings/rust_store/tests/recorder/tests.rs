@@ -217,3 +217,14 @@ fn statuses_have_the_numbers_of_the_header() {
     assert_eq!(Status::Unknown.to_string(), "unknown status");
     assert_eq!(Status::NoName.to_string(), "the name has no blob");
 }
+
+#[test]
+fn a_journal_may_be_unchecked() {
+    for is_unchecked in [false, true] {
+        RECORD.with_borrow_mut(|record| record.is_unchecked = is_unchecked);
+        let closed = Session::open(4, 9).unwrap().close().unwrap();
+        assert_eq!(closed.is_checked, !is_unchecked);
+        let journal = Session::open(4, 9).unwrap().close_to_journal().unwrap();
+        assert_eq!(journal.is_checked, !is_unchecked);
+    }
+}
