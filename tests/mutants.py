@@ -104,7 +104,7 @@ TESTS = {
         prepare=f"mkdir -p $(dirname {PROGRAM}) && printf '#!/bin/sh\\necho lrcstore 0.1.0\\n'"
         f" > {PROGRAM} && chmod +x {PROGRAM}",
     ),
-    "python_coder": Test("true", "python3 tests/library/bindings.py"),
+    "python_coder": Test("true", "python3 tests/library/bindings.py", seconds=30),
     "python_store": Test("true", "python3 tests/store/bindings.py", seconds=30),
     "rust_coder": Test(
         "cd bindings/rust && cargo test --quiet --offline --no-run",
