@@ -6,8 +6,8 @@ cd "$(dirname "$0")/.."
 for each in gcc g++ gcov python3-coverage; do
     command -v $each > /dev/null || { echo "coverage: no $each: tests/setup.sh" >&2; exit 1; }
 done
-LRC_LIBRARIES=$(realpath "${LRC_LIBRARIES:?names no folder that tools/libraries.py has filled}")
-export LRC_LIBRARIES
+# shellcheck source=tests/libraries.sh
+. tests/libraries.sh
 work=$(mktemp -d)
 trap 'rm -rf "$work"' EXIT
 # a source of library/ comes before the archive, whose own is then left aside

@@ -8,8 +8,8 @@ set -u
 cd "$(dirname "$0")/.." || exit
 # shellcheck source=tests/runner.sh
 . tests/runner.sh
-LRC_LIBRARIES=$(realpath "${LRC_LIBRARIES:?names no folder that tools/libraries.py has filled}")
-export LRC_LIBRARIES
+# shellcheck source=tests/libraries.sh
+. tests/libraries.sh
 seconds=${1:-30}
 store=$LRC_LIBRARIES/liblrc_store.a
 coder=$LRC_LIBRARIES/liblrc_coder.a

@@ -24,14 +24,9 @@ from typing import NamedTuple
 
 HERE = os.path.dirname(os.path.abspath(__file__))
 TOP = os.path.dirname(HERE)
-COPIED = ("include", "library", "bindings", "integrations", "tests", "tools")
-COPIED += (
-    "crates/command_line/src",
-    "crates/test_vectors/data",
-    "docs",
-    "README.md",
-    "CHANGELOG.md",
-)
+COPIED = ("include", "library", "bindings", "integrations", "tests", "tools", "docs")
+COPIED += ("README.md", "CHANGELOG.md", "crates/test_vectors/data", "crates/command_line/src")
+COPIED += ("crates/coder_c/src", "crates/store_c/src")
 NOT_COPIED = shutil.ignore_patterns("__pycache__", "target", "*.so", "out")
 
 C = "gcc -std=gnu11 -O1 -w -I include -I tests/store"
@@ -109,8 +104,8 @@ TESTS = {
         prepare=f"mkdir -p $(dirname {PROGRAM}) && printf '#!/bin/sh\\necho lrcstore 0.1.0\\n'"
         f" > {PROGRAM} && chmod +x {PROGRAM}",
     ),
-    "python_coder": Test("true", "python3 tests/library/bindings.py"),
-    "python_store": Test("true", "python3 tests/store/bindings.py"),
+    "python_coder": Test("true", "python3 tests/library/bindings.py", seconds=30),
+    "python_store": Test("true", "python3 tests/store/bindings.py", seconds=30),
     "rust_coder": Test(
         "cd bindings/rust && cargo test --quiet --offline --no-run",
         "cd bindings/rust && cargo test --quiet --offline",

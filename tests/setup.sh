@@ -3,13 +3,13 @@
 # which. tests/all.sh runs it; no test installs anything.
 set -eu
 
-# What a test needs, a command or a file, and the package that has it.
+# What a test needs, a command or a file by a pattern, and the package that has it.
 needs=(
     "gcc gcc"
     "g++ g++"
     "nm binutils"
     "clang clang"
-    "/usr/lib/llvm-14/lib/clang/14.0.6/lib/linux/libclang_rt.asan-x86_64.a libclang-rt-14-dev"
+    "/usr/lib/llvm-*/lib/clang/*/lib/linux/libclang_rt.asan-x86_64.a libclang-rt-dev"
     "cargo cargo"
     "cmake cmake"
     "git git"
@@ -27,7 +27,7 @@ needs=(
 missing=()
 for each in "${needs[@]}"; do
     need=${each% *}
-    command -v "$need" > /dev/null || [ -e "$need" ] || missing+=("${each#* }")
+    command -v "$need" > /dev/null || compgen -G "$need" > /dev/null || missing+=("${each#* }")
 done
 if [ ${#missing[@]} = 0 ]; then
     echo "setup: all ${#needs[@]} packages that the tests need are here"
