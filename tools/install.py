@@ -100,8 +100,10 @@ class Installation:
         """The sources of a Rust crate, which links the library by pkg-config."""
         crate = os.path.join(TOP, "bindings", RUST[name])
         sources = [os.path.join("src", it) for it in sorted(os.listdir(os.path.join(crate, "src")))]
-        for path in ["Cargo.toml", "build.rs", *sources]:
-            self.copy(os.path.join(crate, path), f"share/lrcstore/rust/{name}/{path}")
+        to = f"share/lrcstore/rust/{name}"
+        for path in ["Cargo.toml", *sources]:
+            self.copy(os.path.join(crate, path), f"{to}/{path}")
+        self.copy(os.path.join(TOP, "bindings", "rust", "build.rs"), f"{to}/build.rs")
 
     def finish(self):
         listed = "".join(f"{path}\n" for path in [*self.paths, MANIFEST])

@@ -1,11 +1,11 @@
-//! Links the library that has the crate's name, as NAME is lrc_store:
-//!
-//! - from the folder that LRC_STORE_DIR names, or LRC_LIBRARIES for the libraries of all crates;
-//! - or else from where pkg-config says that it is installed;
-//! - or else from where tools/libraries.py leaves it in a clone.
-//!
-//! It takes the static library of that folder. If there is none, it takes the shared one, and the
-//! programs of this crate look for it there.
+// Links the library that has the crate's name, as NAME is lrc_store:
+//
+// - from the folder that LRC_STORE_DIR names, or LRC_LIBRARIES for the libraries of all crates;
+// - or else from where pkg-config says that it is installed;
+// - or else from where tools/libraries.py leaves it in a clone.
+//
+// It takes the static library of that folder. If there is none, it takes the shared one, and the
+// programs of this crate look for it there.
 
 use std::env;
 use std::path::Path;

@@ -1,1 +1,2 @@
-../rust/build.rs
+// The script of the crate lrc_coder serves both.
+include!("../rust/build.rs");
