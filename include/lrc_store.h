@@ -160,8 +160,9 @@ uint32_t lrc_store_put(lrc_slot *slot, const uint8_t *name, size_t name_len, con
  *
  * If the put returns LRC_STORE_DONE, `other` is empty. If `slot` holds no session, `other` is
  * unchanged. On any other status it still has the bytes, and they can be put again. They can be
- * written again if and only if lrc_slot_buffer returns LRC_STORE_DONE, as it may after
- * LRC_STORE_NO_MEMORY alone. */
+ * written again if and only if lrc_slot_buffer returns LRC_STORE_DONE: so after LRC_STORE_BAD_NAME
+ * and LRC_STORE_BAD_ARGUMENT, unless they could not before, and sometimes after
+ * LRC_STORE_NO_MEMORY. */
 uint32_t lrc_slot_reserve(size_t len, lrc_slot *slot);
 uint32_t lrc_slot_buffer(lrc_slot *slot, lrc_buffer *buffer);
 uint32_t lrc_store_put_from(lrc_slot *slot, const uint8_t *name, size_t name_len, lrc_slot *other,

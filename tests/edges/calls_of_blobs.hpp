@@ -77,6 +77,12 @@ protected:
         std::memcpy(got.at + first, from.content.data() + first, len);
     }
 
+    // Whether a buffer can be written once its put was refused.
+    static Writable written_after(uint32_t status) {
+        if (status == LRC_STORE_BAD_NAME || status == LRC_STORE_BAD_ARGUMENT) return Writable::yes;
+        return status == LRC_STORE_NO_MEMORY ? Writable::maybe : Writable::no;
+    }
+
     void put_from() {
         Held &from = with(Holds::session), &source = other_with(Holds::buffer, from);
         const std::string name = this->name(), blob = source.content;
@@ -94,7 +100,7 @@ protected:
         if (got == LRC_STORE_DONE)
             source.become(Holds::nothing);
         else if (from.holds == Holds::session && source.is_writable == Writable::yes)
-            source.is_writable = got == LRC_STORE_NO_MEMORY ? Writable::maybe : Writable::no;
+            source.is_writable = written_after(got);
     }
 
     // ---- Reads

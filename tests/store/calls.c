@@ -115,10 +115,13 @@ static void reserve_and_put(void) {
             EXPECT(lrc_store_put_from(&slot, NAME("fox"), &other, 12, &version), LRC_STORE_DONE);
     }
     EXPECT(version, 1);
+    EXPECT(lrc_store_put_from(&slot, NAME("Fox"), &other, 8, &version), LRC_STORE_BAD_NAME);
+    EXPECT(lrc_store_put_from(&slot, NAME("fox"), &other, 8, &version), LRC_STORE_BAD_ARGUMENT);
+    EXPECT(lrc_slot_buffer(&other, &buffer), LRC_STORE_DONE);
+    EXPECT(lrc_store_put_from(&slot, NAME("fox"), &other, 6, &version), LRC_STORE_JOURNAL_FULL);
+    EXPECT(lrc_slot_buffer(&other, &buffer), LRC_STORE_EMPTY);
     EXPECT(lrc_store_put_from(&slot, NAME("Fox"), &other, 6, &version), LRC_STORE_BAD_NAME);
     EXPECT(lrc_slot_buffer(&other, &buffer), LRC_STORE_EMPTY);
-    EXPECT(lrc_store_put_from(&slot, NAME("fox"), &other, 8, &version), LRC_STORE_BAD_ARGUMENT);
-    EXPECT(lrc_store_put_from(&slot, NAME("fox"), &other, 6, &version), LRC_STORE_JOURNAL_FULL);
     EXPECT(version, 1);
     EXPECT(lrc_store_trim(&slot, 0, &discarded), LRC_STORE_DONE);
     EXPECT(lrc_store_put_from(&slot, NAME("fox"), &other, 6, &version), LRC_STORE_DONE);
