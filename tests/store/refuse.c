@@ -78,8 +78,25 @@ static void run(void) {
     EXPECT(slot.at || other.at || plan.at, 0);
 }
 
+/* A put whose arguments are invalid is refused for that, and asks for no memory. */
+static void arguments_first(void) {
+    lrc_slot slot = LRC_SLOT_EMPTY;
+    uint64_t version = 0, entries = 0;
+    uint32_t lawful = 0;
+    EXPECT(lrc_store_open(4, 100, &slot), LRC_STORE_DONE);
+    ahead = 0;
+    EXPECT(lrc_store_put(&slot, NAME("A"), (const uint8_t *)FOX, 54, 8, &version),
+           LRC_STORE_BAD_NAME);
+    EXPECT(lrc_store_put(&slot, NAME("a"), (const uint8_t *)FOX, 54, 8, &version),
+           LRC_STORE_BAD_ARGUMENT);
+    EXPECT(ahead, 0);
+    ahead = -1;
+    EXPECT(lrc_store_close(&slot, &entries, &lawful), LRC_STORE_DONE);
+}
+
 int main(void) {
     long at = 0;
+    arguments_first();
     for (; at < 1000; at++) {
         ahead = at;
         run();
