@@ -153,6 +153,8 @@ void reads() {
     std::string joined;
     for (const lrc_slice &piece : grant.slices()) joined += text_of(piece);
     EXPECT(joined, grant.str());
+    EXPECT(grant.slices().back().len > 0, true);
+    EXPECT(s.read("old", 1, 0).slices().size(), 0u);
     EXPECT(grant.str().capacity() < 100, true); // reserved: doubling from 15 gives 120
     EXPECT(s.read("old", 1, 0).str(), "");
     for (size_t each : {0u, 1u, 47u, 48u, 49u, 10000u}) {
