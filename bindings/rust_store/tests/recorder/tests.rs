@@ -56,6 +56,9 @@ const NAMES: [&str; 9] = [
 #[test]
 fn each_call_has_the_timeout() {
     let mut first = Session::open(4, 1000).unwrap();
+    first.put("a", b"x", Code::Wide).unwrap();
+    let fresh = recorded(|| first.stat("a").unwrap()).1;
+    assert_eq!(fresh, [("lrc_store_stat_wait", -1)]);
     let mut session = first.split(1).unwrap();
     for (timeout, milliseconds) in [
         (None, -1),
