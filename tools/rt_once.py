@@ -23,6 +23,7 @@ import shutil
 import subprocess
 import sys
 import tempfile
+import threading
 
 TOP = os.path.dirname(os.path.dirname(os.path.abspath(__file__)))
 KEPT = "out/kept"
@@ -46,18 +47,19 @@ def kit_of(rt):
 
 
 def sum_once(rtlib):
-    """Has a walk over the crates read each of them once. A new call is a new walk."""
-    whole, walks = rtlib.Crate.stamp, [None]
+    """Has a walk over the crates read each of them once. A new call is a new walk, and each thread of
+    rt has its own."""
+    whole, here = rtlib.Crate.stamp, threading.local()
 
     def stamp(self):
-        outer = walks[0]
-        walks[0] = {} if outer is None else outer
+        outer = getattr(here, "walk", None)
+        here.walk = {} if outer is None else outer
         try:
-            if self.folder not in walks[0]:
-                walks[0][self.folder] = whole(self)
-            return walks[0][self.folder]
+            if self.folder not in here.walk:
+                here.walk[self.folder] = whole(self)
+            return here.walk[self.folder]
         finally:
-            walks[0] = outer
+            here.walk = outer
 
     rtlib.Crate.stamp = stamp
 

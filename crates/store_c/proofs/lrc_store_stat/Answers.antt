@@ -1,4 +1,4 @@
-use Rattle.std.proofs.Common.{Some, refl, sym, ap, ◌∙◌, rules}
+use Rattle.std.proofs.Common.{Some, sym, ap, ◌∙◌, rules}
 use Rattle.store_c.proofs.Replies.{on_session}
 use Rattle.store_c.proofs.lrc_store_stat.Goals.{in-Some-Session, in-Some+in-Lending-1, in-None-1}
 use Rattle.store_c.proofs.lrc_store_stat.Goals as goal
