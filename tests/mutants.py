@@ -38,17 +38,28 @@ CODER = "$LRC_LIBRARIES/liblrc_coder.a"
 TEXTS = "library/store_text.c library/coder_text.c"
 BACKEND = "integrations/liberasurecode"
 SANITIZED = "-g -fsanitize=address,undefined"
+LIBERASURECODE = (
+    "/usr/include/liberasurecode/erasurecode_backend.h",
+    "liberasurecode-dev",
+)
 # Installing takes the program as it is: one that knows its version.
 PROGRAM = "crates/lrcstore/out/lrcstore"
 
 
 class Test(NamedTuple):
-    """How a test is built, and how it is run. What `prepare` makes is made once."""
+    """How a test is built, and how it is run. What `prepare` makes is made once. `needs` has a
+    command or a file and its package, in turn."""
 
     build: str
     run: str
     prepare: str = "true"
     seconds: int = 60
+    needs: tuple = ()
+
+    def missing(self):
+        """The packages that are not here."""
+        pairs = zip(self.needs[::2], self.needs[1::2])
+        return [package for it, package in pairs if not (shutil.which(it) or os.path.exists(it))]
 
 
 def store_program(file, words="", **others):
@@ -69,6 +80,12 @@ def copy_of_open(name):
         f"{C} -Dlrc_store_open={name}_open -Dlrc_store_open_numbered=open_numbered"
         f" -c library/store_open.c -o {name}.o"
     )
+
+
+def rust_crate(folder):
+    """The tests of a Rust crate."""
+    command = f"cd bindings/{folder} && cargo test --quiet --offline"
+    return Test(f"{command} --no-run", command, needs=("cargo", "cargo"))
 
 
 TESTS = {
@@ -106,26 +123,25 @@ TESTS = {
     ),
     "python_coder": Test("true", "python3 tests/library/bindings.py", seconds=30),
     "python_store": Test("true", "python3 tests/store/bindings.py", seconds=30),
-    "rust_coder": Test(
-        "cd bindings/rust && cargo test --quiet --offline --no-run",
-        "cd bindings/rust && cargo test --quiet --offline",
-    ),
-    "rust_store": Test(
-        "cd bindings/rust_store && cargo test --quiet --offline --no-run",
-        "cd bindings/rust_store && cargo test --quiet --offline",
-    ),
+    "rust_coder": rust_crate("rust"),
+    "rust_store": rust_crate("rust_store"),
     "liberasurecode": Test(
         f"{C} -I integrations {BACKEND}/lrc_backend.c {BACKEND}/test_backend.c {CODER}"
         " -lerasurecode -o program",
         "./program",
+        needs=LIBERASURECODE,
     ),
     "pyeclib": Test(
-        f"{BACKEND}/build.sh .", f"LD_LIBRARY_PATH=. /usr/bin/python3 {BACKEND}/test_pyeclib.py"
+        f"{BACKEND}/build.sh .",
+        f"LD_LIBRARY_PATH=. /usr/bin/python3 {BACKEND}/test_pyeclib.py",
+        needs=(*LIBERASURECODE, "/usr/lib/python3/dist-packages/pyeclib", "python3-pyeclib"),
     ),
     "ceph": Test(
         "work=$PWD && . integrations/ceph/programs.sh && plugins plugins -O0",
         "./plugin_test plugins tests/corpus",
         prepare="work=$PWD && . integrations/ceph/programs.sh && program plugin_test -O0",
+        needs=("ceph-osd", "ceph-osd", "/usr/include/rados/librados.h", "librados-dev")
+        + ("/usr/include/rados/buffer.h", "libradospp-dev"),
     ),
 }
 
@@ -228,33 +244,51 @@ def base_in(folder, names):
     return base
 
 
-def main():
+def try_all(mutants, jobs, has_times):
+    """Tries the mutants, and their tests without one. Returns how many were rejected, and what was
+    wrong how often."""
+    names = sorted({it.test for it in mutants})
+    rejected = wrong = 0
+    with tempfile.TemporaryDirectory() as folder, concurrent.futures.ThreadPoolExecutor(
+        jobs
+    ) as pool:
+        base = base_in(folder, names)
+        tried = {pool.submit(trial, base, name): f"test {name}" for name in names}
+        tried |= {pool.submit(trial, base, it.test, it): it for it in mutants}
+        for done in concurrent.futures.as_completed(tried):
+            what, seconds = done.result()
+            if has_times:
+                print(f"{seconds:6.1f} s {tried[done]}")
+            if what:
+                print(f"{tried[done]}: {what}", flush=True)
+            rejected += not what and isinstance(tried[done], Mutant)
+            wrong += bool(what)
+    return rejected, wrong
+
+
+def arguments():
     parser = argparse.ArgumentParser(description=__doc__.splitlines()[0])
     parser.add_argument("--jobs", type=int, default=os.cpu_count())
     parser.add_argument("--only", default="", help="those whose file, test or text has this")
     parser.add_argument("--times", action="store_true", help="the seconds of each")
-    given = parser.parse_args()
+    return parser.parse_args()
+
+
+def main():
+    given = arguments()
     if "LRC_LIBRARIES" not in os.environ:
-        sys.exit("LRC_LIBRARIES names no folder that tools/libraries.py has filled")
+        sys.exit(
+            "LRC_LIBRARIES has to name a folder that tools/libraries.py --to FOLDER has filled"
+        )
     os.environ["LRC_LIBRARIES"] = os.path.abspath(os.environ["LRC_LIBRARIES"])
     paths = sorted(glob.glob(os.path.join(HERE, "mutants", "*.txt")))
     mutants = [it for path in paths for it in mutants_of(path) if given.only in str(it)]
-    names = sorted({it.test for it in mutants})
-    rejected = wrong = 0
-    with tempfile.TemporaryDirectory() as folder:
-        base = base_in(folder, names)
-        with concurrent.futures.ThreadPoolExecutor(given.jobs) as pool:
-            tried = {pool.submit(trial, base, name): f"test {name}" for name in names}
-            tried |= {pool.submit(trial, base, it.test, it): it for it in mutants}
-            for done in concurrent.futures.as_completed(tried):
-                what, seconds = done.result()
-                if given.times:
-                    print(f"{seconds:6.1f} s {tried[done]}")
-                if what:
-                    print(f"{tried[done]}: {what}", flush=True)
-                rejected += not what and isinstance(tried[done], Mutant)
-                wrong += bool(what)
-    print(f"{rejected} mutants rejected, {wrong} survive")
+    lacks = {it.test: TESTS[it.test].missing() for it in mutants}
+    left = [it for it in mutants if not lacks[it.test]]
+    rejected, wrong = try_all(left, given.jobs, given.times)
+    shown = "; ".join(f"{name}: no {' '.join(all_of)}" for name, all_of in lacks.items() if all_of)
+    tail = f", {len(mutants) - len(left)} skipped ({shown})" if shown else ""
+    print(f"{rejected} mutants rejected, {wrong} survive{tail}")
     return wrong != 0
 
 
