@@ -110,7 +110,7 @@ def kit_libc(built):
 
 
 def prove(crate, cpu, folder):
-    """Builds a crate's archive into the folder, over what the gate or earlier builds have proved."""
+    """Builds a crate's archive into the folder, over what was proved before."""
     archive = os.path.join(folder, f"lib{crate}.a")
     print(f"{crate} for x86-64-{cpu}: minutes, if it is to be proved", flush=True)
     run(sys.executable, os.path.join(TOP, "tools", "rt_once.py"), "archive", crate, cpu, archive)

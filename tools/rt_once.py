@@ -47,8 +47,8 @@ def kit_of(rt):
 
 
 def sum_once(rtlib):
-    """Has a walk over the crates read each of them once. A new call is a new walk, and each thread of
-    rt has its own."""
+    """Has a walk over the crates read each of them once. A new call is a new walk, and each thread
+    of rt has its own."""
     whole, here = rtlib.Crate.stamp, threading.local()
 
     def stamp(self):

@@ -78,7 +78,7 @@ static void run(void) {
     EXPECT(slot.at || other.at || plan.at, 0);
 }
 
-/* A put whose arguments are invalid is refused for that, and asks for no memory. */
+/* A put whose arguments are invalid is refused for that, and does not allocate. */
 static void arguments_first(void) {
     lrc_slot slot = LRC_SLOT_EMPTY;
     uint64_t version = 0, entries = 0;
