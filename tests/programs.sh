@@ -34,12 +34,15 @@ part() {
 
 # built CRATE WORD..: runs the program of a crate, which builds it, unless that was done
 built() {
-    [ -x "crates/$1/out/$1" ] || (cd "crates/$1" && ../../tools/rt_once.py run "${@:2}" > /dev/null) && return
+    [ -x "crates/$1/out/$1" ] && return
+    (cd "crates/$1" && ../../tools/rt_once.py run "${@:2}" > /dev/null) && return
     echo "failed: the program $1"
     failed=$((failed + 1))
 }
 
-for each in promises instances documents figures prose believed commits; do part python3 tests/$each.py; done
+for each in promises instances documents figures prose believed commits; do
+    part python3 tests/$each.py
+done
 built test_refused_memory
 built test_sharded
 built lrcstore -- data/degraded_read.csv

@@ -1,3 +1,4 @@
+# shellcheck shell=bash
 # What the test scripts share: `test_of` runs a test, or skips it and names what it lacks; `summary`
 # is the last line. The script that sources this file stands at the top of the repository. No test
 # installs anything: tests/setup.sh does.
