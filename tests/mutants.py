@@ -111,9 +111,11 @@ TESTS = {
         "tests/edges/choice.sh ./program",
     ),
     "coder": Test(f"{CPP} tests/edges/coder.cpp {CODER} -o program", "./program 3"),
-    "cpp": Test(f"{CPP} tests/store/bindings.cpp {STORE} -o program", "./program"),
+    "cpp": Test(f"{CPP} tests/store/bindings.cpp {STORE} -o program", "./program", seconds=120),
     "cpp_sanitized": Test(
-        f"{CPP} {SANITIZED} tests/store/bindings.cpp {STORE} -o program", "./program"
+        f"{CPP} {SANITIZED} tests/store/bindings.cpp {STORE} -o program",
+        "./program",
+        seconds=120,
     ),
     "install": Test(
         "true",
