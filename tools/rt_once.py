@@ -11,9 +11,9 @@ each once. The sums are the same.
 Mutants. rt tries the mutants of a crate in turn, each over the work of the one before, so each also
 proves again what that one changed. Here each starts from the work of a proof from nothing.
 
-Archives. `ci` proves a static library and builds none. Here that proof keeps its work, in a folder
-that was empty, and `archive` builds over it; the line of such a crate says `incremental=trusted`.
-If the gate has not run, or a file has changed since, `archive` proves by `rt lib`.
+Archives. `ci` proves a static library and builds none. `archive` builds it over the libraries that
+`ci` has proved, with one proof more of the crate itself for both processors. If the gate has not
+run, or a file has changed since, `archive` proves all by `rt lib`.
 """
 
 import importlib.machinery
@@ -26,7 +26,7 @@ import tempfile
 import threading
 
 TOP = os.path.dirname(os.path.dirname(os.path.abspath(__file__)))
-KEPT = "out/kept"
+SUM, KEPT = "out/gate.sum", "out/kept"
 KIT = "rattle-kit-13b "
 
 
@@ -64,19 +64,14 @@ def sum_once(rtlib):
     rtlib.Crate.stamp = stamp
 
 
-def keep_work(rt):
-    """Has `ci` keep the work of a static library's proof from nothing, with its checksum."""
+def note_sums(rt):
+    """Has `ci` leave the checksum of each static library that it has proved."""
     whole = rt.Crate.ci
 
     def ci(self, flags, tests):
-        if tests or not self.is_static:
-            return whole(self, flags, tests)
-        kept = f"{self.folder}/{KEPT}"
-        shutil.rmtree(kept, ignore_errors=True)
-        os.makedirs(kept)
-        status = whole(self, [*flags, "--incremental", kept], tests)
-        if not status:
-            with open(f"{kept}.sum", "w", encoding="utf-8") as file:
+        status = whole(self, flags, tests)
+        if not status and not tests and self.is_static:
+            with open(f"{self.folder}/{SUM}", "w", encoding="utf-8") as file:
                 file.write(self.stamp())
         return status
 
@@ -116,27 +111,27 @@ def crate_named(rt, name):
     return found[0]
 
 
-def has_kept(rt, crate):
+def is_proved(rt, crate):
     """Whether the gate has proved these files, and its libraries still stand."""
     libraries = [dep.rlib for dep in crate.below()]
     stamped = [path for path in libraries if os.path.exists(f"{os.path.dirname(path)}/stamp")]
-    is_same = rt.rtlib.text_of(f"{crate.folder}/{KEPT}.sum") == crate.stamp()
+    is_same = rt.rtlib.text_of(f"{crate.folder}/{SUM}") == crate.stamp()
     return is_same and all(map(os.path.isdir, libraries)) and not stamped
 
 
-def compile_kept(rt, crate, cpu, archive):
-    """Builds over what the gate has proved. Returns rattle's status."""
-    words = crate.words(["--jobs", "1", f"--cpu=x86-64-{cpu}", "--incremental", KEPT], keeps=False)
-    command = [rt.rtlib.RATTLE, "build", *words, "--backend", "llvm", "-o", archive]
-    command += ["--toolchain", f"{rt.KIT}/toolchain"]
+def compile_over_gate(rt, crate, cpu, archive):
+    """Builds over the libraries that the gate has proved. Returns rattle's status."""
+    flags = ["--jobs", str(os.cpu_count()), f"--cpu=x86-64-{cpu}", "--incremental", KEPT]
+    command = [rt.rtlib.RATTLE, "build", *crate.words(flags, keeps=False), "--backend", "llvm"]
+    command += ["--toolchain", f"{rt.KIT}/toolchain", "-o", archive]
     return subprocess.run(command, cwd=crate.folder, check=False).returncode
 
 
 def build_archive(rt, name, cpu, archive):
-    """Builds a static library, from what the gate has kept if it can."""
+    """Builds a static library, over what the gate has proved if it can."""
     archive = os.path.abspath(archive)
     crate = crate_named(rt, name)
-    if has_kept(rt, crate) and compile_kept(rt, crate, cpu, archive) == 0:
+    if is_proved(rt, crate) and compile_over_gate(rt, crate, cpu, archive) == 0:
         return 0
     command = [sys.executable, os.path.abspath(__file__), "lib", f"--cpu=x86-64-{cpu}"]
     status = subprocess.run(command, cwd=crate.folder, check=False).returncode
@@ -150,7 +145,7 @@ def main():
     rt = load_rt()
     if kit_of(rt).startswith(KIT):
         sum_once(rt.rtlib)
-        keep_work(rt)
+        note_sums(rt)
         start_from_proof(rt)
     if words[:1] == ["archive"]:
         if len(words) != 4 or words[2] not in ("v2", "v3"):
