@@ -1,7 +1,7 @@
 /* For tests, loaded before the C library: a read, or a write to standard output, fails or is short.
  * FAULT_CALL is `read` or `write`. FAULT is an error's number, or 0 for a call that takes one byte,
  * or -1 for a write that takes none. FAULT_AT is the number of the call, from 1, or 0 for every
- * second call. The file FAULT_SEEN is made when it happens. */
+ * second call from the first on, or -1 for each. The file FAULT_SEEN is made when it happens. */
 #define _GNU_SOURCE
 #include <dlfcn.h>
 #include <errno.h>
@@ -24,7 +24,8 @@ static int is_hit(const char *call) {
     int file;
     if (!wanted || strcmp(wanted, call) != 0) return 0;
     calls++;
-    if (at ? calls != at : calls % 2) return 0;
+    if (at > 0 && calls != at) return 0;
+    if (at == 0 && calls % 2 == 0) return 0;
     file = seen ? open(seen, O_CREAT | O_WRONLY, 0600) : -1;
     if (file >= 0) close(file);
     return 1;

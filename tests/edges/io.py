@@ -18,7 +18,8 @@ TOP = os.path.dirname(os.path.dirname(HERE))
 PROGRAM = os.path.join(TOP, "crates", "lrcstore", "out", "lrcstore")
 NO_READ = (1, b"lrcstore: cannot read the script\n")
 NO_WRITE = (1, b"lrcstore: cannot write\n")
-SHORT, NOTHING, EVERY_SECOND = 0, -1, 0
+SHORT, NOTHING = 0, -1
+EVERY_SECOND, EACH = 0, -1
 
 
 def long_script():
@@ -86,9 +87,8 @@ class Faults:
         counts = {}
         for call in ("read", "write"):
             self.expect(call, self.same(script, output, call, SHORT, EVERY_SECOND), True)
+            self.expect(call, self.same(script, output, call, SHORT, EACH), True)
             self.expect(call, self.same(script, output, call, errno.EINTR, EVERY_SECOND), True)
-            self.same(script, output, call, SHORT, 1)
-            self.same(script, output, call, errno.EINTR, 1)
         for call, fault, wanted in (
             ("read", errno.EIO, NO_READ),
             ("write", errno.EIO, NO_WRITE),
