@@ -92,7 +92,7 @@ def start_from_proof(rt):
                 return whole(crate, edits, flags)
             tried = []
             for edit in edits:
-                shutil.copytree(proof, mutant)
+                shutil.copytree(proof, mutant, copy_function=os.link)
                 tried.append(rt.must_fail(crate, edit, flags, mutant))
                 shutil.rmtree(mutant)
         return tried
