@@ -64,7 +64,7 @@ fn receipts_order_two_callers(rt: HostRuntime) -> Result<(), Fail> {
     second.accept(&store, receipt);
     first.accept(&store, other);
     let grant = granted(&rt, store.try_read(&mut second, a, 0, 12));
-    gives(&rt, alloc, &grant, b"ABCDEFGHIJKL", 1);
+    gives(&rt, alloc, &grant, b"ABCDEFGHIJKL", 0);
     Ok(())
 }
 
