@@ -101,7 +101,7 @@ examples() {
     for each in c python rust; do
         is HELL "example_in_$each" || return
     done
-    is "$(printf 'HELL\nHALL')" c_program gcc c11 bindings/c/network.c || return
+    is "$(printf 'HELL\nHALL\nHALLO, F')" c_program gcc c11 bindings/c/network.c || return
     python3 tests/library/examples.py
 }
 
@@ -145,6 +145,8 @@ test_of "sources" clang clang sources
 test_of "C" gcc gcc c_program gcc c11 tests/library/coder.c
 test_of "C, sanitizers of gcc" gcc gcc sanitized gcc c11 tests/library/coder.c
 test_of "C, sanitizers of clang" clang clang sanitized clang c11 tests/library/coder.c
+test_of "C, plans" gcc gcc c_program gcc c11 tests/library/plans.c
+test_of "C, plans, sanitizers of gcc" gcc gcc sanitized gcc c11 tests/library/plans.c
 test_of "choice of the processor's code" gcc gcc choice
 test_of "C++" g++ g++ c_program g++ c++17 tests/library/coder.cpp
 test_of "C++, sanitizers of gcc" g++ g++ sanitized g++ c++17 tests/library/coder.cpp

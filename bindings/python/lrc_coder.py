@@ -40,6 +40,7 @@ class Slice(ctypes.Structure):
 
 
 NONE = 255  # in the numbers of lrc_decode: no fragment
+PLAN_BYTES = 24
 SONAME = "liblrc_coder.so.0.1"
 
 _U8, _U16, _U32, _SIZE = ctypes.c_uint8, ctypes.c_uint16, ctypes.c_uint32, ctypes.c_size_t
@@ -50,6 +51,8 @@ DECLARED = {
     "lrc_is_open": [_SIZE, _U16, _U8],
     "lrc_rebuild": [_SIZE, _SLICES, _U16, _U8, _SIZE, _BYTES, _SIZE],
     "lrc_decode": [_SIZE, _SLICES, _U16, _BYTES, _SIZE, _SIZE] + 4 * [_BYTES, _SIZE],
+    "lrc_plan": [_SIZE, _U16, _BYTES, _BYTES, ctypes.POINTER(_U16)],
+    "lrc_plan_decode": [_BYTES, _SLICES, _SIZE, _SIZE] + 4 * [_BYTES, _SIZE],
     "lrc_recipe": [_SIZE, _U16, _U8, _BYTES, _BYTES, ctypes.POINTER(_U32)],
     "lrc_add": [_BYTES, _SIZE, _U8, _BYTES, _SIZE],
 }
@@ -212,6 +215,11 @@ def is_unrecoverable(data_fragments: int, lost: Iterable[int], fragment: int) ->
 is_open = is_unrecoverable
 
 
+def _first_unrecoverable(data_fragments: int, lost: int, fragments: Iterable[int]) -> int:
+    of_lost = [i for i in range(16) if lost >> i & 1]
+    return next(i for i in fragments if is_unrecoverable(data_fragments, of_lost, i))
+
+
 def rebuild(
     data_fragments: int,
     left: Mapping[int, Buffer],
@@ -260,9 +268,53 @@ def decode(
         status = _library.lrc_decode(data_fragments, slices, lost, numbers, start, length, *words)
     _check("decode", status)
     if status == Status.UNRECOVERABLE:
-        of_lost = [i for i in range(16) if lost >> i & 1]
-        _refuse("decode", next(i for i in chosen if is_unrecoverable(data_fragments, of_lost, i)))
+        _refuse("decode", _first_unrecoverable(data_fragments, lost, chosen))
     return {fragment: bytes(target) for fragment, target in zip(chosen, targets)}
+
+
+class Plan:
+    """How lost fragments are decoded. It depends on the lost set alone, so one plan serves any
+    number of stripes. It can be copied and pickled.
+
+    `reads` has the numbers of the fragments that `decode` reads.
+    """
+
+    def __init__(self, data_fragments: int, lost: Iterable[int], fragments: Iterable[int]) -> None:
+        """For these lost fragments, at most four. Raises Unrecoverable if one of them is."""
+        lost_set = _set("Plan", lost)
+        self.fragments = list(dict.fromkeys(fragments))
+        for fragment in self.fragments:
+            _check_lost("Plan", data_fragments, lost_set, fragment)
+        self._data_fragments = _fragments_of("Plan", data_fragments) - 4
+        plan, reads = (_U8 * PLAN_BYTES)(), _U16()
+        status = Status.UNRECOVERABLE  # of more than four lost fragments, one always is
+        if len(self.fragments) <= 4:
+            numbers = (_U8 * 4)(*(self.fragments + 4 * [NONE])[:4])
+            status = _library.lrc_plan(
+                data_fragments, lost_set, numbers, plan, ctypes.byref(reads)
+            )
+        _check("Plan", status)
+        if status == Status.UNRECOVERABLE:
+            _refuse("Plan", _first_unrecoverable(data_fragments, lost_set, self.fragments))
+        self._plan = bytes(plan)
+        self.reads = [i for i in range(16) if reads.value >> i & 1]
+
+    def decode(
+        self, left: Mapping[int, Buffer], start: int = 0, length: int | None = None
+    ) -> dict[int, bytes]:
+        """The bytes of the fragments, by their numbers, as the function `decode` returns them.
+        `left` has to have those that the plan reads. Others are ignored."""
+        for i in self.reads:
+            if i not in left:
+                raise ValueError(f"decode: fragment {i} is missing, and the plan reads it")
+        read = {i: left[i] for i in self.reads}
+        length = _range_length("decode", self._data_fragments, read, start, length)
+        targets = [bytearray(length if i < len(self.fragments) else 0) for i in range(4)]
+        slices = _slices(read.get(i, b"") for i in range(16))
+        words = [word for target in targets for word in _target(target)]
+        plan = (_U8 * PLAN_BYTES)(*self._plan)
+        _check("decode", _library.lrc_plan_decode(plan, slices, start, length, *words))
+        return {fragment: bytes(target) for fragment, target in zip(self.fragments, targets)}
 
 
 def recipe(data_fragments: int, lost: Iterable[int], fragment: int) -> List[Tuple[int, int]]:

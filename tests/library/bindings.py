@@ -1,9 +1,11 @@
 """The Python module: lost sets of both codes, recipes, bad arguments, how the library is found, and
 what other programs computed (crates/test_vectors/data/ORIGIN.md)."""
 
+import copy
 import gc
 import itertools
 import os
+import pickle
 import sys
 import unittest
 from unittest import mock
@@ -53,6 +55,8 @@ def decodes_whole(fragments, data_fragments, lost):
     for fragment in set(lost) - set(unrecoverable):
         one = lrc_coder.decode(data_fragments, left, [fragment])
         assert one == {fragment: fragments[fragment]}
+        plan = lrc_coder.Plan(data_fragments, lost, [fragment])
+        assert plan.decode({i: left[i] for i in plan.reads}) == one
     try:
         assert lrc_coder.decode(data_fragments, left, lost) == {
             fragment: fragments[fragment] for fragment in lost
@@ -174,6 +178,42 @@ class Calls(unittest.TestCase):
         self.assertEqual(decode(12, left, 2 * [7, 0, 7], 1, 2), both)
         self.assertEqual(decode(12, left, []), {})
 
+    def test_plans(self):
+        left = {**self.left, 3: b"", 16: b"not a fragment"}
+        del left[7]
+        plan = lrc_coder.Plan(12, [0, 3, 7], [7, 0, 7])
+        self.assertEqual(plan.fragments, [7, 0])
+        self.assertEqual(set(plan.reads) & {0, 3, 7, 16}, set())
+        both = {7: self.fragments[7][1:3], 0: self.fragments[0][1:3]}
+        for each in (plan, pickle.loads(pickle.dumps(plan)), copy.deepcopy(plan)):
+            self.assertEqual(list(each.decode(left, 1, 2).items()), list(both.items()))
+        self.assertEqual(plan.decode(left), {i: self.fragments[i] for i in (0, 7)})
+        self.assertEqual(plan.decode(left, 4), {0: b"", 7: b""})
+        alone = lrc_coder.Plan(6, [1], [1])
+        self.assertEqual(alone.reads, [0, 2, 6])
+        self.assertEqual(alone.decode(self.small), {1: self.small[1]})
+        self.assertEqual(lrc_coder.Plan(12, [0], []).decode({}), {})
+
+    def test_plans_name_the_fragment(self):
+        plan, left = lrc_coder.Plan, dict(self.left)
+        self.refuses("Plan: fragment 1 is not lost", plan, 12, [0], [0, 1])
+        self.refuses("Plan: fragment 16 is not in 0 to 15", plan, 12, [16], [0])
+        self.refuses("Plan: fragment 10 is not in 0 to 9", plan, 6, [10], [10])
+        self.refuses("Plan: 13 data fragments, expected 12 or 6", plan, 13, [0], [])
+        self.refuses("Plan: 13 data fragments, expected 12 or 6", plan, 13, [0], [0])
+        for lost in (range(5), range(6)):
+            with self.assertRaisesRegex(Unrecoverable, "^Plan: fragment 0: the fragment is"):
+                plan(12, lost, lost)
+        with self.assertRaisesRegex(Unrecoverable, "^Plan: fragment 2: the fragment is"):
+            plan(12, [*range(5), 6], [6, 2])
+        decode = plan(12, [0], [0]).decode
+        wrong = "decode: fragment 1 has 4 bytes, the range ends at 5"
+        self.refuses(wrong, decode, left, 0, 5)
+        wrong = "decode: fragment 4 has 2 bytes, fragment 1 has 4: pass a length"
+        self.refuses(wrong, decode, {**left, 4: b"ab"})
+        del left[5]
+        self.refuses("decode: fragment 5 is missing, and the plan reads it", decode, left)
+
     def test_recipe_and_add(self):
         target = bytearray(b"\xee" * 4)
         self.refuses("recipe: fragment 0 is not lost", lrc_coder.recipe, 12, [1], 0)
@@ -187,7 +227,7 @@ class Calls(unittest.TestCase):
         self.assertEqual(target, b"\xee" * 4)
 
     def test_what_the_library_refuses(self):
-        left, target = self.left, bytearray(4)
+        left, target, plan = self.left, bytearray(4), lrc_coder.Plan(12, [0], [0])
         parities = [bytearray(4) for _ in range(4)]
         for name, call in (
             ("encode", lambda: lrc_coder.encode(self.fragments[:12])),
@@ -195,6 +235,8 @@ class Calls(unittest.TestCase):
             ("is_unrecoverable", lambda: lrc_coder.is_unrecoverable(12, [0], 0)),
             ("rebuild", lambda: lrc_coder.rebuild(12, left, 0)),
             ("decode", lambda: lrc_coder.decode(12, left, [0])),
+            ("Plan", lambda: lrc_coder.Plan(12, [0], [0])),
+            ("decode", lambda: plan.decode(left)),
             ("recipe", lambda: lrc_coder.recipe(12, [0], 0)),
             ("add", lambda: lrc_coder.add(target, 3, left[1])),
         ):

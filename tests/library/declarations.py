@@ -15,6 +15,7 @@ import lrc_coder  # noqa: E402
 PYTHON = {
     ctypes.POINTER(lrc_coder.Slice): "* slice",
     ctypes.POINTER(ctypes.c_uint8): "* u8",
+    ctypes.POINTER(ctypes.c_uint16): "* u16",
     ctypes.POINTER(ctypes.c_uint32): "* u32",
     ctypes.c_size_t: "u64",
     ctypes.c_uint16: "u16",
@@ -41,6 +42,14 @@ def compare_statuses(rattle, header, rust):
         == str(lrc_coder.NONE)
         == none
     ), "no fragment"
+
+    plan = re.search(r"plan: &\[u8; (\d+)\]", rattle)[1]
+    assert (
+        re.search(r"LRC_PLAN_BYTES = (\d+)", header)[1]
+        == re.search(r"const LRC_PLAN_BYTES: usize = (\d+);", rust)[1]
+        == str(lrc_coder.PLAN_BYTES)
+        == plan
+    ), "the bytes of a plan"
 
 
 def main():

@@ -32,6 +32,8 @@ extern "C" {
     fn lrc_is_open(data_fragments: usize, lost: u16, fragment: u8) -> u32;
     fn lrc_rebuild(data_fragments: usize, fragments: *const Slice, lost: u16, fragment: u8, from: usize, target: *mut u8, len: usize) -> u32;
     fn lrc_decode(data_fragments: usize, fragments: *const Slice, lost: u16, numbers: *const u8, from: usize, len: usize, first: *mut u8, first_len: usize, second: *mut u8, second_len: usize, third: *mut u8, third_len: usize, fourth: *mut u8, fourth_len: usize) -> u32;
+    fn lrc_plan(data_fragments: usize, lost: u16, numbers: *const u8, plan: *mut u8, reads: *mut u16) -> u32;
+    fn lrc_plan_decode(plan: *const u8, fragments: *const Slice, from: usize, len: usize, first: *mut u8, first_len: usize, second: *mut u8, second_len: usize, third: *mut u8, third_len: usize, fourth: *mut u8, fourth_len: usize) -> u32;
     fn lrc_recipe(data_fragments: usize, lost: u16, fragment: u8, fragments: *mut u8, coefficients: *mut u8, count: *mut u32) -> u32;
     fn lrc_add(target: *mut u8, target_len: usize, coefficient: u8, source: *const u8, source_len: usize) -> u32;
     fn lrc_coder_text(status: u32) -> *const c_char;
@@ -372,6 +374,126 @@ pub fn decode(
         let len = wanted.first().map_or(0, |(_, len)| *len);
         vec![reason, too_short(code, fragments, from, len)]
     })
+}
+
+const LRC_PLAN_BYTES: usize = 24;
+
+/// How lost fragments are decoded. It depends on the lost set alone, so one plan serves any number
+/// of stripes.
+#[derive(Clone, Copy, Debug, PartialEq, Eq)]
+pub struct Plan {
+    bytes: [u8; LRC_PLAN_BYTES],
+    numbers: [u8; 4],
+    count: usize,
+    code: Code,
+    reads: u16,
+}
+
+impl Plan {
+    /// A plan for these lost fragments, at most four. `Unrecoverable` if one of them is.
+    pub fn new(code: Code, lost: u16, fragments: &[u8]) -> Result<Plan, Error> {
+        let wrong = |f: &u8| outside(code, *f).or_else(|| not_lost(lost, *f));
+        if let Some(reason) = fragments.iter().find_map(wrong) {
+            return Err(invalid("Plan::new", &[Some(reason)]));
+        }
+        let mut plan = Plan {
+            bytes: [0; LRC_PLAN_BYTES],
+            numbers: [LRC_NONE; 4],
+            count: fragments.len(),
+            code,
+            reads: 0,
+        };
+        let mut status = Status::Unrecoverable as u32;
+        if let Some(numbers) = plan.numbers.get_mut(..fragments.len()) {
+            numbers.copy_from_slice(fragments);
+            // SAFETY: four numbers, the bytes of a plan and a set are passed.
+            status = unsafe {
+                lrc_plan(
+                    code as usize,
+                    lost,
+                    plan.numbers.as_ptr(),
+                    plan.bytes.as_mut_ptr(),
+                    &mut plan.reads,
+                )
+            };
+        }
+        let is_lost_for_good = |f: &&u8| is_unrecoverable(code, lost, **f) == Ok(true);
+        let fragment = fragments.iter().find(is_lost_for_good).copied();
+        result_of(status, "Plan::new", fragment.unwrap_or(LRC_NONE), Vec::new).map(|()| plan)
+    }
+
+    /// The fragments that [`Plan::decode`] reads: bit i is set if and only if it reads fragment i.
+    pub fn reads(&self) -> u16 {
+        self.reads
+    }
+
+    /// The first fragment that the plan reads and that is not given.
+    fn missing(&self, fragments: &[Option<&[u8]>]) -> Option<String> {
+        let given = |i: &usize| fragments.get(*i).is_some_and(|bytes| bytes.is_some());
+        let reads = (0..16).filter(|i| self.reads >> i & 1 == 1);
+        let number = reads.clone().find(|i| !given(i))?;
+        Some(format!(
+            "fragment {number} is missing, and the plan reads it"
+        ))
+    }
+
+    /// The fragments that the plan reads, and None for the others.
+    fn read<'a>(&self, fragments: &[Option<&'a [u8]>]) -> [Option<&'a [u8]>; 16] {
+        let mut read = [None; 16];
+        for (i, bytes) in fragments.iter().enumerate().take(16) {
+            read[i] = bytes.filter(|_| self.reads >> i & 1 == 1);
+        }
+        read
+    }
+
+    /// Writes the bytes of the plan's fragments from `from` on, in the order in which they were
+    /// given. `fragments` has those that it reads at their numbers. Others are ignored.
+    pub fn decode(
+        &self,
+        fragments: &[Option<&[u8]>],
+        from: usize,
+        targets: &mut [&mut [u8]],
+    ) -> Result<(), Error> {
+        let len = targets.first().map_or(0, |target| target.len());
+        let lengths: Vec<usize> = targets.iter().map(|target| target.len()).collect();
+        if lengths.len() != self.count {
+            let reason = format!("{} targets, expected {}", lengths.len(), self.count);
+            return Err(invalid("Plan::decode", &[Some(reason)]));
+        }
+        if let Some(reason) = self.missing(fragments) {
+            return Err(invalid("Plan::decode", &[Some(reason)]));
+        }
+        let mut four: [&mut [u8]; 4] = [&mut [], &mut [], &mut [], &mut []];
+        for (slot, target) in four.iter_mut().zip(targets) {
+            *slot = target;
+        }
+        let [a, b, c, d] = four;
+        let read = self.read(fragments);
+        let (slices, _) = slices_of(&read);
+        // SAFETY: the bytes of a plan and sixteen slices are passed, and as in `encode`.
+        let status = unsafe {
+            lrc_plan_decode(
+                self.bytes.as_ptr(),
+                slices.as_ptr(),
+                from,
+                len,
+                a.as_mut_ptr(),
+                a.len(),
+                b.as_mut_ptr(),
+                b.len(),
+                c.as_mut_ptr(),
+                c.len(),
+                d.as_mut_ptr(),
+                d.len(),
+            )
+        };
+        result_of(status, "Plan::decode", LRC_NONE, || {
+            let numbers = self.numbers.iter().map(|f| usize::from(*f));
+            let reason = unequal(numbers.zip(lengths.iter().copied()));
+            let reason = reason.map(|reason| format!("the target of {reason}"));
+            vec![reason, too_short(self.code, &read, from, len)]
+        })
+    }
 }
 
 /// A recipe for a lost fragment: it is the sum of these fragments, each times its coefficient.

@@ -1,7 +1,7 @@
 //! Each lost set of both codes.
 
 use lrc_coder::{add, decode, encode, encode_add, is_open, is_unrecoverable, rebuild, recipe};
-use lrc_coder::{Code, Error, Status, Target};
+use lrc_coder::{Code, Error, Plan, Status, Target};
 
 const WIDTH: usize = 5;
 
@@ -110,12 +110,40 @@ fn decodes_whole(code: Code, stripe: &[Vec<u8>], lost: u16) -> bool {
     true
 }
 
+/// Whether a plan decodes all lost fragments, from those that it reads alone.
+fn plans_whole(code: Code, stripe: &[Vec<u8>], lost: u16) -> bool {
+    let numbers: Vec<u8> = (0..stripe.len() as u8)
+        .filter(|f| lost >> f & 1 == 1)
+        .collect();
+    let plan = match Plan::new(code, lost, &numbers) {
+        Ok(plan) => plan,
+        Err(refused) => {
+            assert_eq!(refused.status, Status::Unrecoverable);
+            return false;
+        }
+    };
+    let is_read = |i: usize| plan.reads() >> i & 1 == 1;
+    let read: Vec<Option<&[u8]>> = stripe
+        .iter()
+        .enumerate()
+        .map(|(i, bytes)| is_read(i).then_some(&bytes[..]))
+        .collect();
+    let mut decoded = vec![[0xEE; WIDTH]; numbers.len()];
+    let mut targets: Vec<&mut [u8]> = decoded.iter_mut().map(|bytes| &mut bytes[..]).collect();
+    plan.decode(&read, 0, &mut targets).unwrap();
+    for (f, bytes) in numbers.iter().zip(&decoded) {
+        assert_eq!(stripe[usize::from(*f)], bytes);
+    }
+    true
+}
+
 fn count_whole(code: Code) -> usize {
     let stripe = stripe(code);
     let sets = 0..=u16::MAX >> (16 - stripe.len());
     let is_whole = |lost: &u16| {
         let whole = is_whole(code, &stripe, *lost);
         assert_eq!(whole, decodes_whole(code, &stripe, *lost));
+        assert_eq!(whole, plans_whole(code, &stripe, *lost));
         whole
     };
     sets.filter(is_whole).count()

@@ -1,7 +1,7 @@
 //! What each call refuses, and what its error says. Every target is unchanged then.
 
 use lrc_coder::{add, decode, encode, encode_add, is_unrecoverable, rebuild, recipe};
-use lrc_coder::{Code, Error, Status};
+use lrc_coder::{Code, Error, Plan, Status};
 
 const WIDTH: usize = 5;
 
@@ -171,4 +171,57 @@ fn a_range_is_rebuilt_from_its_start() {
         (two, five),
         ([data[2][2], data[2][3]], [data[5][2], data[5][3]])
     );
+}
+
+#[test]
+fn a_plan_is_for_lost_fragments_and_reads_the_others() {
+    let wrong = "Plan::new: fragment 1 is not lost";
+    refuses(Plan::new(Code::Wide, 1, &[0, 1]), wrong);
+    let wrong = "Plan::new: fragment 10 is not in 0 to 9";
+    refuses(Plan::new(Code::Small, 1 << 10, &[10]), wrong);
+    for fragments in [&[0, 1, 2, 3, 4][..], &[0], &[6, 0]] {
+        let error = Plan::new(Code::Wide, 0x5F, fragments).unwrap_err();
+        assert_eq!(error.status, Status::Unrecoverable);
+        let text = "Plan::new: fragment 0: the fragment is unrecoverable";
+        assert_eq!(error.to_string(), text);
+    }
+    assert_eq!(Plan::new(Code::Wide, 0x5F, &[]).unwrap().reads(), 0);
+    let none = Plan::new(Code::Wide, 0x5F, &[]).unwrap();
+    assert_eq!(none.decode(&[], 0, &mut []), Ok(()));
+}
+
+#[test]
+fn a_plan_names_the_fragment_that_is_wrong() {
+    let (stripe, mut target) = (fragments(), [0xEE; WIDTH]);
+    let mut left: Vec<Option<&[u8]>> = stripe.iter().map(|bytes| Some(&bytes[..])).collect();
+    let plan = Plan::new(Code::Wide, 1, &[0]).unwrap();
+    assert_eq!(plan.reads(), 0b1_0000_0011_1110);
+    refuses(
+        plan.decode(&left, 0, &mut []),
+        "Plan::decode: 0 targets, expected 1",
+    );
+    refuses(
+        plan.decode(&left, 1, &mut [&mut target]),
+        "Plan::decode: fragment 1 has 5 bytes, the range ends at 6",
+    );
+    left[2] = Some(&stripe[2][..4]);
+    refuses(
+        plan.decode(&left, 0, &mut [&mut target]),
+        "Plan::decode: fragment 2 has 4 bytes, the range ends at 5",
+    );
+    left[2] = None;
+    let wrong = "Plan::decode: fragment 2 is missing, and the plan reads it";
+    refuses(plan.decode(&left, 0, &mut [&mut target]), wrong);
+    refuses(
+        plan.decode(&left[..2], 0, &mut [&mut target]),
+        "Plan::decode: fragment 2 is missing, and the plan reads it",
+    );
+    left[2] = Some(&stripe[2]);
+    let (mut first, mut second) = ([0xEE; 5], [0xEE; 4]);
+    let both = Plan::new(Code::Wide, 3, &[0, 1]).unwrap();
+    refuses(
+        both.decode(&left, 0, &mut [&mut first, &mut second]),
+        "Plan::decode: the target of fragment 1 has 4 bytes, fragment 0 has 5",
+    );
+    assert_eq!((target, first, second), ([0xEE; 5], [0xEE; 5], [0xEE; 4]));
 }

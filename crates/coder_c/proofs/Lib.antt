@@ -2,3 +2,4 @@ mod Weights
 mod Slots
 mod Asked
 mod Chosen
+mod Planned

@@ -6,6 +6,8 @@
 //! may call them.
 #![tactic(auto)]
 
+mod plans;
+
 ghost use Rattle.std.specs.Prelude.{◌≡◌, ◌≢◌, ℕ, ◌+◌, ◌-◌, ◌<◌, ◌≤◌, ◌^◌, ◌↔◌, ◌⊎◌, IsTrue, All};
 ghost use Rattle.std.specs.Prelude.{IfSome, IsSomeAnd, MatchOption, EachIndex, length, map};
 ghost use Rattle.std.specs.Prelude.{slice_index, slice_index_or, bit_xor, None, true, false, []};
@@ -20,12 +22,15 @@ ghost use Rattle.decode.specs.Decoding.{HasOpen};
 ghost use Rattle.coder_c.specs.Call.{code_with, with_parities, FourHave, AddsData, IsLostIn};
 ghost use Rattle.coder_c.specs.Call.{LeftReach, RebuildsLost, AreLostIn, HasRoomFor, HaveRoomFor};
 ghost use Rattle.coder_c.specs.Call.{DecodesLost, chosen_by, chosen_of, terms_of};
+ghost use Rattle.coder_c.specs.PlanBytes.{format_in, code_in, missing_in, chosen_in, plan_in};
+ghost use Rattle.decode.specs.DecodePlan.{IsPlan, HasAllOf, IsRest};
 
-use decode::{SYNDROME_WIDTH, decode_to};
+use decode::{SYNDROME_WIDTH, decode_to, plan_for};
 use gf256::add_scaled;
 use lrc_code::{
     Code, Left, LostSet, Term, encode_to, is_alone_in, is_open_in, rebuild_to, recipe_in,
 };
+use plans::{decode_planned, plan_bytes, plan_from};
 
 /// The call was done; or the answer is no.
 const DONE: u32 = 0;
@@ -35,6 +40,9 @@ const OPEN: u32 = 1;
 
 /// An argument is invalid.
 const BAD_ARGUMENT: u32 = 2;
+
+/// The first byte of a plan. Another layout of its bytes gets another number.
+const PLAN_FORMAT: u8 = 1;
 
 /// The code whose stripes have so many data fragments.
 fn code_of(data_fragments: usize) -> Option<Code>
@@ -476,6 +484,124 @@ pub extern "C" fn lrc_decode(
     decode_left(
         code, fragments, lost, chosen, from, to, first, second, third, fourth,
     )
+}
+
+/// Makes a plan for up to four lost fragments, of which `numbers` has one for each target, and 255
+/// for a target that is not wanted. `reads` gets the fragments that `lrc_plan_decode` reads by it,
+/// as bits: none that is lost.
+///
+/// `OPEN` if and only if a chosen fragment is unrecoverable and no argument is invalid.
+/// `BAD_ARGUMENT` if and only if there is no such code, or a chosen fragment is not one of the
+/// code's or not lost.
+#[unsafe(no_mangle)]
+pub extern "C" fn lrc_plan(
+    data_fragments: usize,
+    lost: u16,
+    numbers: &[u8; 4],
+    plan: &mut [u8; 24],
+    reads: &mut u16,
+) -> u32
+    ensures format { result ≡ DONE → format_in plan.new ≡ PLAN_FORMAT }
+    ensures code { result ≡ DONE → code_in plan.new ≡ code_with data_fragments }
+    ensures chosen { result ≡ DONE → chosen_in plan.new ≡ chosen_of numbers.now }
+    ensures plan { result ≡ DONE → IfSome (code_with data_fragments)
+        (λ code. IsPlan (plan_in code plan.new)) }
+    ensures lost { result ≡ DONE → IfSome (code_with data_fragments)
+        (λ code. HasAllOf code lost (missing_in plan.new)) }
+    ensures reads { result ≡ DONE → IfSome (code_with data_fragments)
+        (λ code. IsRest code (missing_in plan.new) reads.new) }
+    ensures open { (result ≡ OPEN) ↔ ((result ≢ BAD_ARGUMENT)
+        × IsSomeAnd (code_with data_fragments) (λ code. HasOpen code (is_lost lost)
+        (chosen_of numbers.now))) }
+    ensures taken { (result ≢ BAD_ARGUMENT) ↔ IsSomeAnd (code_with data_fragments)
+        (λ code. AreLostIn code lost (chosen_of numbers.now)) }
+    ensures answers { (result ≡ DONE) ⊎ (result ≡ OPEN) ⊎ (result ≡ BAD_ARGUMENT) }
+    ensures kept { result ≢ DONE → (plan.new ≡ plan.old) × (reads.new ≡ reads.old) }
+{
+    let Some(code) = code_of(data_fragments) else {
+        return BAD_ARGUMENT;
+    };
+    let lost = LostSet::of_bits(lost);
+    let chosen = chosen_of(numbers);
+    if !are_lost(code, lost, &chosen) {
+        return BAD_ARGUMENT;
+    }
+    let Some(made) = plan_for(code, lost, chosen) else {
+        return OPEN;
+    };
+    *plan = plan_bytes(&made, numbers);
+    *reads = made.reads();
+    DONE
+}
+
+/// Writes the bytes `from..from + w` of the fragments that a plan of `lrc_plan` is for: those of
+/// every stripe that agrees with the fragments that it reads. A target for none is not accessed.
+/// What is passed for a fragment that the plan does not read is never read. Any bytes are safe as a
+/// plan; by bytes that `lrc_plan` did not make the targets get any bytes.
+///
+/// `BAD_ARGUMENT` if and only if the plan has another format, no code, or a chosen fragment that is
+/// not one of the code's or that it reads; or a target does not have `w` bytes, a fragment that is
+/// read is too short, or the last index is more than 2^64 - 1.
+#[unsafe(no_mangle)]
+pub extern "C" fn lrc_plan_decode(
+    plan: &[u8; 24],
+    fragments: &[&[u8]; 16],
+    from: usize,
+    w: usize,
+    first: &mut [u8],
+    second: &mut [u8],
+    third: &mut [u8],
+    fourth: &mut [u8],
+) -> u32
+    ensures first { result ≡ DONE → IfSome (code_in plan.now) (λ code.
+        IsPlan (plan_in code plan.now) → DecodesLost code (map (λ f. f.now) fragments.now)
+        (missing_in plan.now) (slice_index_or (chosen_in plan.now) 0 None) from (from + w)
+        first.old first.new) }
+    ensures second { result ≡ DONE → IfSome (code_in plan.now) (λ code.
+        IsPlan (plan_in code plan.now) → DecodesLost code (map (λ f. f.now) fragments.now)
+        (missing_in plan.now) (slice_index_or (chosen_in plan.now) 1 None) from (from + w)
+        second.old second.new) }
+    ensures third { result ≡ DONE → IfSome (code_in plan.now) (λ code.
+        IsPlan (plan_in code plan.now) → DecodesLost code (map (λ f. f.now) fragments.now)
+        (missing_in plan.now) (slice_index_or (chosen_in plan.now) 2 None) from (from + w)
+        third.old third.new) }
+    ensures fourth { result ≡ DONE → IfSome (code_in plan.now) (λ code.
+        IsPlan (plan_in code plan.now) → DecodesLost code (map (λ f. f.now) fragments.now)
+        (missing_in plan.now) (slice_index_or (chosen_in plan.now) 3 None) from (from + w)
+        fourth.old fourth.new) }
+    ensures taken { (result ≢ BAD_ARGUMENT) ↔ IsSomeAnd (code_in plan.now) (λ code.
+        (format_in plan.now ≡ PLAN_FORMAT) × AreLostIn code (missing_in plan.now) (chosen_in plan.now)
+        × HaveRoomFor (chosen_in plan.now) w first.old second.old third.old fourth.old
+        × LeftReach code (map (λ f. f.now) fragments.now) (missing_in plan.now) (from + w)
+        × (from + w < 2 ^ 64)) }
+    ensures answers { (result ≡ DONE) ⊎ (result ≡ BAD_ARGUMENT) }
+    ensures kept { result ≢ DONE → (first.new ≡ first.old) × (second.new ≡ second.old)
+        × (third.new ≡ third.old) × (fourth.new ≡ fourth.old) }
+{
+    let Some(planned) = plan_from(plan) else {
+        return BAD_ARGUMENT;
+    };
+    let Some(to) = from.checked_add(w) else {
+        return BAD_ARGUMENT;
+    };
+    let missing = LostSet::of_bits(planned.missing);
+    if !are_taken(
+        planned.code,
+        missing,
+        &planned.chosen,
+        w,
+        first,
+        second,
+        third,
+        fourth,
+    ) {
+        return BAD_ARGUMENT;
+    }
+    if decode_planned(&planned, fragments, from, to, first, second, third, fourth) {
+        DONE
+    } else {
+        BAD_ARGUMENT
+    }
 }
 
 /// Writes the terms into two slices, one of their fragments and one of their coefficients.

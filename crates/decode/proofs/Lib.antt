@@ -4,3 +4,4 @@ mod Equations
 pub mod Places
 pub mod Chosen
 pub mod Least
+pub mod Planned

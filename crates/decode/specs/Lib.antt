@@ -1,3 +1,4 @@
 pub mod Syndrome
 pub mod Decoding
 pub mod Coefficient
+pub mod DecodePlan

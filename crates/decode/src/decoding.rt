@@ -47,7 +47,7 @@ fn part_at<'a>(left: &Left<'a>, place: usize, from: usize, to: usize) -> Option<
 }
 
 /// The bytes `from..to` of the fragments that are present, at their places.
-fn parts_of<'a>(left: &Left<'a>, from: usize, to: usize) -> [Option<&'a [u8]>; 16]
+pub(crate) fn parts_of<'a>(left: &Left<'a>, from: usize, to: usize) -> [Option<&'a [u8]>; 16]
     requires reach { (i : ℕ) → i < fragment_count left.now.code
         → is_absent left.now.fragments i ≡ false → Reaches left.now.fragments to i }
     requires range { from ≤ to }

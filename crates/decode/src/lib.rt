@@ -8,9 +8,11 @@
 #![tactic(auto)]
 
 mod decoding;
+mod plans;
 mod reads;
 mod shares;
 
 pub use decoding::{SYNDROME_WIDTH, decode_to};
+pub use plans::{DecodePlan, decode_by_plan, plan_for};
 pub use reads::least_reads;
 pub use shares::shares_of;

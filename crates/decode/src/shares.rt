@@ -121,7 +121,7 @@ fn candidate(code: Code, lost: LostSet, f: usize) -> [u8; 4]
 }
 
 /// What a fragment weighs in the sum of the four equations, each times its share.
-fn weight_by(code: Code, shares: &[u8; 4], i: usize) -> u8
+pub(crate) fn weight_by(code: Code, shares: &[u8; 4], i: usize) -> u8
     requires { i < fragment_count code }
     ensures { result ≡ share_weight code shares.now i }
 {

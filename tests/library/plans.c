@@ -1,0 +1,208 @@
+/* Plans: every recoverable set of up to four lost fragments of both codes is decoded by a plan from
+ * the fragments that it reads alone. A plan reads no lost fragment and none that it can do without;
+ * any bytes are safe as a plan. */
+#include "lrc_coder.h"
+
+#include <stdio.h>
+#include <stdlib.h>
+#include <string.h>
+
+static int failures;
+
+#define CHECK(fact)                                                                                \
+    do {                                                                                           \
+        if (!(fact)) {                                                                             \
+            printf("line %d: not so: %s\n", __LINE__, #fact);                                      \
+            failures++;                                                                            \
+        }                                                                                          \
+    } while (0)
+
+enum { WIDTH = 200, FROM = 3, LEN = 190, WIDE = 12, SMALL = 6, MOST = 16, FILL = 0xEE };
+
+typedef struct {
+    size_t data_fragments;
+    uint8_t bytes[MOST][WIDTH];
+} stripe;
+
+static uint32_t drawn = 1;
+
+static uint8_t draw(void) {
+    drawn = drawn * 1664525u + 1013904223u;
+    return (uint8_t)(drawn >> 24);
+}
+
+static void make_stripe(stripe *made, size_t data_fragments) {
+    const uint8_t *data[WIDE];
+    uint8_t *parities[4];
+    made->data_fragments = data_fragments;
+    for (size_t i = 0; i < data_fragments; i++) {
+        for (size_t k = 0; k < WIDTH; k++) made->bytes[i][k] = draw();
+        data[i] = made->bytes[i];
+    }
+    for (size_t i = 0; i < 4; i++) parities[i] = made->bytes[data_fragments + i];
+    CHECK(lrc_encode_arrays(data_fragments, WIDTH, data, parities) == LRC_DONE);
+}
+
+/* The lost fragments of a set, and after them none. At most four. */
+static void numbers_of(unsigned lost, uint8_t numbers[4]) {
+    size_t count = 0;
+    memset(numbers, LRC_NONE, 4);
+    for (uint8_t f = 0; f < MOST; f++)
+        if (lost >> f & 1) numbers[count++] = f;
+}
+
+/* Decodes by a plan from the fragments of `given` alone. */
+static uint32_t decode(const stripe *made, const uint8_t plan[LRC_PLAN_BYTES], unsigned given,
+                       uint8_t targets[4][LEN]) {
+    static const uint8_t nothing = 0;
+    lrc_slice slices[MOST];
+    for (size_t i = 0; i < MOST; i++) {
+        slices[i].at = given >> i & 1 ? made->bytes[i] : &nothing;
+        slices[i].len = given >> i & 1 ? WIDTH : 0;
+    }
+    return lrc_plan_decode(plan, slices, FROM, LEN, targets[0], LEN, targets[1], LEN, targets[2],
+                           LEN, targets[3], LEN);
+}
+
+static void check_targets(const stripe *made, const uint8_t numbers[4], uint8_t targets[4][LEN]) {
+    for (size_t i = 0; i < 4; i++) {
+        if (numbers[i] != LRC_NONE) {
+            CHECK(memcmp(targets[i], made->bytes[numbers[i]] + FROM, LEN) == 0);
+            continue;
+        }
+        for (size_t k = 0; k < LEN; k++) CHECK(targets[i][k] == FILL);
+    }
+}
+
+/* Whether one of the chosen fragments is unrecoverable from the fragments of `given`. */
+static int is_some_open(const stripe *made, const uint8_t numbers[4], unsigned given) {
+    const uint16_t lost = (uint16_t)~given;
+    for (size_t i = 0; i < 4; i++)
+        if (numbers[i] != LRC_NONE &&
+            lrc_is_unrecoverable(made->data_fragments, lost, numbers[i]) != LRC_DONE)
+            return 1;
+    return 0;
+}
+
+/* A plan needs each fragment that it reads. */
+static void check_reads(const stripe *made, const uint8_t numbers[4], unsigned lost,
+                        unsigned reads) {
+    CHECK((reads & lost) == 0 && reads >> (made->data_fragments + 4) == 0);
+    CHECK(!is_some_open(made, numbers, reads));
+    for (size_t i = 0; i < MOST; i++)
+        CHECK(!(reads >> i & 1) || is_some_open(made, numbers, reads & ~(1u << i)));
+}
+
+/* The plan of a set for these fragments, and what it decodes. */
+static uint32_t plan_and_decode(const stripe *made, unsigned lost, const uint8_t numbers[4],
+                                uint16_t *reads) {
+    uint8_t plan[LRC_PLAN_BYTES], targets[4][LEN];
+    uint32_t status;
+    memset(plan, FILL, sizeof plan);
+    memset(targets, FILL, sizeof targets);
+    *reads = 77;
+    status = lrc_plan(made->data_fragments, (uint16_t)lost, numbers, plan, reads);
+    if (status != LRC_DONE) {
+        CHECK(*reads == 77 && plan[0] == FILL && plan[LRC_PLAN_BYTES - 1] == FILL);
+        return status;
+    }
+    CHECK(decode(made, plan, *reads, targets) == LRC_DONE);
+    check_targets(made, numbers, targets);
+    return status;
+}
+
+static void test_lost_sets(size_t data_fragments, unsigned wanted) {
+    stripe made;
+    uint16_t reads;
+    uint8_t numbers[4];
+    unsigned planned = 0;
+    make_stripe(&made, data_fragments);
+    for (unsigned lost = 0; lost < 1u << (data_fragments + 4); lost++) {
+        if (__builtin_popcount(lost) > 4) continue;
+        numbers_of(lost, numbers);
+        const int is_open = is_some_open(&made, numbers, ~lost);
+        CHECK(plan_and_decode(&made, lost, numbers, &reads) == (is_open ? LRC_OPEN : LRC_DONE));
+        planned += is_open ? 0 : 1;
+        for (uint8_t f = 0; f < MOST; f++) {
+            uint8_t one[4] = {LRC_NONE, f, LRC_NONE, LRC_NONE};
+            if (!(lost >> f & 1) || is_some_open(&made, one, ~lost)) continue;
+            CHECK(plan_and_decode(&made, lost, one, &reads) == LRC_DONE);
+            check_reads(&made, one, lost, reads);
+        }
+    }
+    CHECK(planned == wanted);
+    printf("%zu data fragments: plans for %u lost sets\n", data_fragments, planned);
+}
+
+/* Plans of random bytes, and plans with a byte changed: a status, and no byte outside. */
+static void test_any_bytes(void) {
+    stripe made;
+    uint8_t plan[LRC_PLAN_BYTES], whole[LRC_PLAN_BYTES], targets[4][LEN], numbers[4];
+    uint16_t reads;
+    unsigned taken = 0;
+    make_stripe(&made, WIDE);
+    numbers_of(0x00C3, numbers);
+    CHECK(lrc_plan(WIDE, 0x00C3, numbers, whole, &reads) == LRC_DONE);
+    for (unsigned i = 0; i < 100000; i++) {
+        memcpy(plan, whole, sizeof plan);
+        if (i & 1)
+            for (size_t k = 0; k < sizeof plan; k++) plan[k] = draw();
+        plan[0] = i & 2 ? 1 : plan[0];
+        plan[1] = i & 4 ? (i & 8 ? WIDE : SMALL) : plan[1];
+        plan[draw() % LRC_PLAN_BYTES] = draw();
+        const uint32_t status = decode(&made, plan, i & 16 ? 0xFFFF : reads, targets);
+        CHECK(status == LRC_DONE || status == LRC_BAD_ARGUMENT);
+        taken += status == LRC_DONE ? 1 : 0;
+    }
+    CHECK(taken > 0 && taken < 100000);
+    puts("plans: any bytes are safe");
+}
+
+static void test_refusals(void) {
+    stripe made;
+    uint8_t plan[LRC_PLAN_BYTES], other[LRC_PLAN_BYTES], targets[4][LEN], numbers[4];
+    uint16_t reads = 77;
+    make_stripe(&made, WIDE);
+    memset(targets, FILL, sizeof targets);
+    numbers_of(0x0001, numbers);
+    CHECK(lrc_plan(8, 0x0001, numbers, plan, &reads) == LRC_BAD_ARGUMENT);
+    CHECK(lrc_plan(WIDE, 0x0002, numbers, plan, &reads) == LRC_BAD_ARGUMENT);
+    numbers[3] = 16;
+    CHECK(lrc_plan(WIDE, 0xFFFF, numbers, plan, &reads) == LRC_BAD_ARGUMENT);
+    numbers[3] = 10;
+    CHECK(lrc_plan(SMALL, 0xFFFF, numbers, plan, &reads) == LRC_BAD_ARGUMENT);
+    numbers_of(0x000F, numbers);
+    numbers[3] = LRC_NONE;
+    CHECK(lrc_plan(WIDE, 0x001F, numbers, plan, &reads) == LRC_UNRECOVERABLE && reads == 77);
+
+    numbers_of(0x0001, numbers);
+    CHECK(lrc_plan(WIDE, 0x0001, numbers, plan, &reads) == LRC_DONE && reads == 0x103E);
+    CHECK(decode(&made, plan, reads, targets) == LRC_DONE);
+    memset(targets, FILL, sizeof targets);
+    CHECK(decode(&made, plan, reads & ~2u, targets) == LRC_BAD_ARGUMENT);
+    for (size_t i = 0; i < 4; i++) {
+        memcpy(other, plan, sizeof other);
+        other[i == 3 ? 4 : i] ^= 4; /* format, code, a fragment read, a number that is read */
+        if (i == 2) other[2] = 0;
+        CHECK(decode(&made, other, 0xFFFF, targets) == LRC_BAD_ARGUMENT);
+    }
+    lrc_slice slices[MOST];
+    for (size_t i = 0; i < MOST; i++) slices[i] = (lrc_slice){made.bytes[i], WIDTH};
+    CHECK(lrc_plan_decode(plan, slices, FROM, LEN, targets[0], LEN - 1, targets[1], 0, targets[2],
+                          0, targets[3], 0) == LRC_BAD_ARGUMENT);
+    CHECK(lrc_plan_decode(plan, slices, SIZE_MAX, LEN, targets[0], LEN, targets[1], 0, targets[2],
+                          0, targets[3], 0) == LRC_BAD_ARGUMENT);
+    CHECK(lrc_plan_decode(plan, slices, WIDTH, LEN, targets[0], LEN, targets[1], 0, targets[2], 0,
+                          targets[3], 0) == LRC_BAD_ARGUMENT);
+    for (size_t k = 0; k < LEN; k++) CHECK(targets[0][k] == FILL);
+    puts("plans: refusals");
+}
+
+int main(void) {
+    test_lost_sets(WIDE, 2265);
+    test_lost_sets(SMALL, 356);
+    test_any_bytes();
+    test_refusals();
+    if (failures) printf("%d checks failed\n", failures);
+    return failures != 0;
+}
