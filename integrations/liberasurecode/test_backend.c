@@ -76,6 +76,46 @@ static void test_reconstruct(int desc, char **fragments, uint64_t len)
          "twelve are needed");
 }
 
+/* Whether a fragment is reconstructed if these are lost. */
+static int is_reconstructed(int desc, char **fragments, int total, uint64_t len, unsigned lost,
+                            int wanted)
+{
+    char *left[FRAGMENTS], *rebuilt = calloc(1, len);
+    int count = 0, is_right;
+    for (int i = 0; i < total; i++)
+        if (!(lost >> i & 1))
+            left[count++] = fragments[i];
+    is_right = rebuilt &&
+               liberasurecode_reconstruct_fragment(desc, left, count, len, wanted, rebuilt) == 0 &&
+               memcmp(rebuilt, fragments[wanted], len) == 0;
+    free(rebuilt);
+    return is_right;
+}
+
+/* The plan that a thread keeps serves its own code, lost set and fragments alone. */
+static void test_kept_plan(int desc, char **fragments, uint64_t len)
+{
+    int small = lrc_backend_create(6, CHKSUM_CRC32);
+    char **data, **parity, *others[10];
+    uint64_t other_len;
+    CHECK(small > 0);
+    if (small <= 0 ||
+        liberasurecode_encode(small, object, sizeof object, &data, &parity, &other_len) != 0)
+        return;
+    for (int i = 0; i < 10; i++)
+        others[i] = i < 6 ? data[i] : parity[i - 6];
+    CHECK(is_reconstructed(desc, fragments, FRAGMENTS, len, 1, 0));
+    CHECK(is_reconstructed(desc, fragments, FRAGMENTS, len, 3, 0));
+    CHECK(is_reconstructed(desc, fragments, FRAGMENTS, len, 3, 1));
+    CHECK(is_reconstructed(small, others, 10, other_len, 3, 1));
+    CHECK(is_reconstructed(desc, fragments, FRAGMENTS, len, 3, 1));
+    CHECK(!is_reconstructed(desc, fragments, FRAGMENTS, len, 15, 1));
+    CHECK(is_reconstructed(desc, fragments, FRAGMENTS, len, 3, 1));
+    CHECK(liberasurecode_encode_cleanup(small, data, parity) == 0);
+    CHECK(liberasurecode_instance_destroy(small) == 0);
+    puts("liberasurecode: a kept plan serves its own fragments alone");
+}
+
 /* Fragments of another code are refused, although liberasurecode is not asked to compare headers.
  */
 static void test_other_code(int desc)
@@ -117,6 +157,7 @@ int main(void)
         fragments[i] = i < 12 ? data[i] : parity[i - 12];
     test_decode(desc, fragments, len);
     test_reconstruct(desc, fragments, len);
+    test_kept_plan(desc, fragments, len);
     test_other_code(desc);
     CHECK(liberasurecode_encode_cleanup(desc, data, parity) == 0);
     CHECK(liberasurecode_instance_destroy(desc) == 0);
