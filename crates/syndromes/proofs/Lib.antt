@@ -3,3 +3,4 @@ pub mod Made
 pub mod Parities
 pub mod Units
 pub mod Taken
+pub mod Patterns

@@ -7,12 +7,15 @@ use Rattle.syndromes.specs.declared.formulas.Formula.{Formula}
 use Rattle.syndromes.specs.declared.pass.Plan.{Plan}
 use Rattle.syndromes.specs.Syndromes.{syndrome, column_at}
 
--- where a formula is given, its factors but the first are 0 if those syndromes are not taken
+-- the factors but the first are 0 if those syndromes are not taken
+abbrev pub Takes : List ℕ → Bool → Bool → Bool → Type 0
+Takes factors second third fourth = (second ≡ false → slice_index factors 1 ≡ 0)
+    × (third ≡ false → slice_index factors 2 ≡ 0)
+    × (fourth ≡ false → slice_index factors 3 ≡ 0)
+
+-- where a formula is given, it takes none but those syndromes
 abbrev pub TakesOnly : Option Formula → Bool → Bool → Bool → Type 0
-TakesOnly formula second third fourth = IfSome formula (λ f.
-    (second ≡ false → slice_index f.factors 1 ≡ 0)
-    × (third ≡ false → slice_index f.factors 2 ≡ 0)
-    × (fourth ≡ false → slice_index f.factors 3 ≡ 0))
+TakesOnly formula second third fourth = IfSome formula (λ f. Takes f.factors second third fourth)
 
 pub record IsPlan (p : Plan) : Type 0 where
   pub first : TakesOnly p.formulas.first p.takes_second p.takes_third p.takes_fourth

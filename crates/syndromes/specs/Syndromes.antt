@@ -4,7 +4,7 @@ use Rattle.std.specs.Prelude.{◌≡◌, ℕ, ◌+◌, ◌<◌, ◌≤◌, bit_x
 use Rattle.std.specs.Prelude.{length, slice_index, slice_index_or}
 use Rattle.std.specs.Borrow.{Bor}
 use Rattle.gf256.specs.Field.{product}
-use Rattle.kernels.specs.Lists.{xor_sum}
+use Rattle.kernels.specs.Lists.{xor_sum, bytes_at}
 use Rattle.kernels.specs.Parities.{parity}
 
 -- the byte of a list at place k, or 0 where the list is missing
@@ -19,6 +19,10 @@ column_at lists k i = byte_of (slice_index_or lists i None) k
 -- what parity e of the first twelve bytes and the byte in its place differ by
 abbrev pub syndrome : ℕ → (ℕ → ℕ) → ℕ
 syndrome e column = bit_xor (parity e column) (column (12 + e))
+
+-- the syndromes of the bytes of the lists at place k
+abbrev pub syndromes_at : List (List ℕ) → ℕ → ℕ → ℕ
+syndromes_at lists k e = syndrome e (bytes_at lists k)
 
 -- each of the lists that are there has at least n bytes
 abbrev pub HaveBytes : List (Option (Bor (List ℕ))) → ℕ → Type 0

@@ -6,7 +6,8 @@ ghost use Rattle.syndromes.specs.Syndromes.{syndrome, column_at, HaveBytes, HasS
 ghost use Rattle.syndromes.specs.Formulas.{IsFormula, AreFormulas, addend, shares_for};
 ghost use Rattle.syndromes.specs.Plans.{IsPlan, TakesOnly, AreSyndromes};
 
-use crate::blocks::{BLOCK, part_or_zeros, write_syndromes};
+use crate::blocks::{BLOCK, sources_of, write_syndromes};
+use crate::dispatch::combine_in_one_pass;
 use crate::formulas::{Formula, formulas_for};
 use crate::pass::{Plan, add_list, plain_of, plan_for, weigh, write_sum, write_taken};
 use kernels::LANES;
@@ -200,10 +201,7 @@ fn write_block(
         write_syndromes(lists, at, end, first, second, third, fourth);
         return;
     }
-    let mut sources: [&[u8]; 16] = [&[]; 16];
-    for i in 0..16 {
-        sources[i] = part_or_zeros(lists, i, at, end);
-    }
+    let sources = sources_of(lists, at, end);
     write_taken(
         &sources, has_second, has_third, has_fourth, first, second, third, fourth,
     );
@@ -274,6 +272,61 @@ fn make_block(
     make_target(&block, fourth, &f.fourth, first, second, third);
 }
 
+/// Makes each target by its formula, block by block, by lists of the syndromes.
+fn combine_by_blocks(
+    lists: &[Option<&[u8]>; 16],
+    width: usize,
+    plan: &Plan,
+    first: &mut [u8],
+    second: &mut [u8],
+    third: &mut [u8],
+    fourth: &mut [u8],
+)
+    requires long { HaveBytes lists.now width }
+    requires formulas { AreFormulas plan.now.formulas }
+    requires plan { IsPlan plan.now }
+    requires first_room { HasRoom (shares_for plan.now.formulas.first) width first.old }
+    requires second_room { HasRoom (shares_for plan.now.formulas.second) width second.old }
+    requires third_room { HasRoom (shares_for plan.now.formulas.third) width third.old }
+    requires fourth_room { HasRoom (shares_for plan.now.formulas.fourth) width fourth.old }
+    ensures first { HasSums lists.now (shares_for plan.now.formulas.first) width first.new }
+    ensures second { HasSums lists.now (shares_for plan.now.formulas.second) width second.new }
+    ensures third { HasSums lists.now (shares_for plan.now.formulas.third) width third.new }
+    ensures fourth { HasSums lists.now (shares_for plan.now.formulas.fourth) width fourth.new }
+    ensures first_kept { plan.now.formulas.first ≡ None → first.new ≡ first.old }
+    ensures second_kept { plan.now.formulas.second ≡ None → second.new ≡ second.old }
+    ensures third_kept { plan.now.formulas.third ≡ None → third.new ≡ third.old }
+    ensures fourth_kept { plan.now.formulas.fourth ≡ None → fourth.new ≡ fourth.old }
+{
+    let mut one = [0; BLOCK];
+    let mut two = [0; BLOCK];
+    let mut three = [0; BLOCK];
+    let mut four = [0; BLOCK];
+    let mut at = 0;
+    'each: while at < width {
+        let count = if width - at > BLOCK {
+            BLOCK
+        } else {
+            width - at
+        };
+        make_block(
+            lists,
+            at,
+            at + count,
+            plan,
+            &mut one[..count],
+            &mut two[..count],
+            &mut three[..count],
+            &mut four[..count],
+            first,
+            second,
+            third,
+            fourth,
+        );
+        at += count;
+    }
+}
+
 /// Makes each of four targets the sum of the four syndromes of the lists, each times its share, at
 /// each of `width` places. A target for which no shares are given is unchanged.
 ///
@@ -305,32 +358,10 @@ pub fn combine_syndromes(
     ensures third_kept { c ≡ None → third.new ≡ third.old }
     ensures fourth_kept { d ≡ None → fourth.new ≡ fourth.old }
 {
-    let plan = plan_for(formulas_for(a, b, c, d));
-    let mut one = [0; BLOCK];
-    let mut two = [0; BLOCK];
-    let mut three = [0; BLOCK];
-    let mut four = [0; BLOCK];
-    let mut at = 0;
-    'each: while at < width {
-        let count = if width - at > BLOCK {
-            BLOCK
-        } else {
-            width - at
-        };
-        make_block(
-            lists,
-            at,
-            at + count,
-            &plan,
-            &mut one[..count],
-            &mut two[..count],
-            &mut three[..count],
-            &mut four[..count],
-            first,
-            second,
-            third,
-            fourth,
-        );
-        at += count;
+    if width < LANES
+        || !combine_in_one_pass(lists, width, a, b, c, d, first, second, third, fourth)
+    {
+        let plan = plan_for(formulas_for(a, b, c, d));
+        combine_by_blocks(lists, width, &plan, first, second, third, fourth);
     }
 }

@@ -16,7 +16,7 @@ pub(crate) struct Formula {
 }
 
 /// The shares less those of a target that is added.
-fn less(shares: [u8; 4], added: Option<[u8; 4]>) -> [u8; 4]
+pub(crate) fn less(shares: [u8; 4], added: Option<[u8; 4]>) -> [u8; 4]
     ensures four { length result ≡ 4 }
     ensures each { (e : ℕ) → e < 4 → slice_index result e
         ≡ bit_xor (slice_index shares e) (share_of added e) }

@@ -8,7 +8,10 @@
 mod blocks;
 mod columns;
 mod combine;
+mod dispatch;
 mod formulas;
+mod loops;
+mod one_pass;
 mod pass;
 mod weights;
 

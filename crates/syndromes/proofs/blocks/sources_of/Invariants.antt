@@ -1,7 +1,7 @@
 use Rattle.std.proofs.Common.{◌≡◌, ℕ, ◌<◌, ◌+◌, ◌-◌, length, get_or}
 use Rattle.kernels.proofs.GroupLemmas.{nothing}
 use Rattle.syndromes.specs.Syndromes.{column_at}
-use Rattle.syndromes.proofs.combine.write_block.Given as goal
+use Rattle.syndromes.proofs.blocks.sources_of.Given as goal
 
 abbrev pub invariant-loop-i : goal.invariant-loop-i
 invariant-loop-i l = record {
