@@ -182,7 +182,7 @@ fn far_count(code: Code, lost: LostSet, chosen: &[Option<u8>; 4]) -> u32
 
 /// The width from which the syndromes rebuild one fragment faster than a recipe with as many terms
 /// as the code has data fragments, as measured.
-pub const SYNDROME_WIDTH: usize = 4096;
+pub const SYNDROME_WIDTH: usize = 512;
 
 /// Whether the syndromes are faster than recipes, as measured: the wider the fragments are, and the
 /// more of them are not alone lost in their groups.
@@ -190,7 +190,7 @@ fn are_syndromes_faster(code: Code, lost: LostSet, chosen: &[Option<u8>; 4], wid
     requires { (i : ℕ) → i < 4 → IfSome (slice_index_or chosen.now i None)
         (λ f. f < fragment_count code) }
 {
-    if width < 128 {
+    if width < 64 {
         return false;
     }
     let last = code.fragments() - 1;
@@ -198,8 +198,8 @@ fn are_syndromes_faster(code: Code, lost: LostSet, chosen: &[Option<u8>; 4], wid
     match far_count(code, lost, chosen) {
         0 => false,
         1 => width >= SYNDROME_WIDTH,
-        2 if are_globals_lost => width >= 1024,
-        2 => width >= 256,
+        2 if are_globals_lost => width >= 512,
+        2 => width >= 64,
         _ => true,
     }
 }
