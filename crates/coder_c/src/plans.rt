@@ -2,7 +2,8 @@
 ghost use Rattle.std.specs.Prelude.{◌≡◌, ℕ, ◌-◌, ◌≤◌, ◌↔◌, IsSomeAnd, MatchOption, None, Some, map};
 ghost use Rattle.std.specs.Prelude.{slice_index_or, true, false};
 ghost use Rattle.decode.specs.DecodePlan.{IsPlan};
-ghost use Rattle.coder_c.specs.Call.{chosen_of, HaveRoomFor, LeftReach, DecodesLost};
+ghost use Rattle.coder_c.specs.Call.{chosen_of, AreLostIn, HaveRoomFor, LeftReach};
+ghost use Rattle.coder_c.specs.Call.{DecodesLost};
 ghost use Rattle.coder_c.specs.PlanBytes.{format_in, code_in, missing_in, chosen_in, shares_in};
 ghost use Rattle.coder_c.specs.PlanBytes.{plan_in, AreSameShares};
 
@@ -85,6 +86,7 @@ pub(crate) fn decode_planned(
     fourth: &mut [u8],
 ) -> bool
     requires range { from ≤ to }
+    requires lost { AreLostIn plan.now.code plan.now.missing plan.now.chosen }
     requires room { HaveRoomFor plan.now.chosen (to - from) first.old second.old third.old
         fourth.old }
     ensures first { result ≡ true → IsPlan plan.now → DecodesLost plan.now.code

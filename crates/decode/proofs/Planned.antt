@@ -10,7 +10,7 @@ use Rattle.lrc_code.specs.Stripe.{is_absent, byte_at}
 use Rattle.lrc_code.proofs.Witness.{weight-lt}
 use Rattle.syndromes.specs.Syndromes.{column_at, HasSums, sum_by}
 use Rattle.decode.specs.Syndrome.{syndrome, IsRemainderOf, AreShares, share_weight}
-use Rattle.decode.specs.Decoding.{AreAbsent, IsDecoded, fragment_at, byte_of}
+use Rattle.decode.specs.Decoding.{AreAbsent, IsDecodable, IsDecoded, fragment_at, byte_of}
 use Rattle.decode.specs.DecodePlan.{IsPlanned, HasAllOf, WeighsNothing, at_target}
 use Rattle.decode.proofs.Law.{remainder_bytes}
 use Rattle.decode.proofs.Places.{rebuilt_by}
@@ -107,3 +107,10 @@ planned code lost missing (Some f) shares k l known are small all rest = record 
 pub none_is_open : (code : Code) (lost : ℕ) (chosen : Option ℕ) (shares : List ℕ) → IfSome chosen (λ f. AreShares code (is_lost lost) f shares) → IsSomeAnd chosen (Open code (is_lost lost)) → ⊥
 none_is_open code lost None shares are h = h
 none_is_open code lost (Some f) shares are h = given_not_open code (is_lost lost) f shares are h
+
+-- a fragment that is planned can be decoded
+pub decodable_by : (code : Code) (fragments : List (Option (Bor (List ℕ)))) (missing : ℕ) (chosen : Option ℕ) (shares : List ℕ) → AreAbsent code fragments missing
+    → IfSome chosen (λ f. IsPlanned code missing f shares) → IsDecodable code fragments chosen
+decodable_by code fragments missing None shares absent known = tt
+decodable_by code fragments missing (Some f) shares absent known =
+    (known.inside, sym (absent f known.inside) ∙ known.gone, given_not_open code (is_absent fragments) f shares (shares_same code (is_lost missing) (is_absent fragments) f shares absent known.gives))

@@ -143,14 +143,22 @@ fn decode_by_syndromes(
     combine_syndromes(&parts, to - from, a, b, c, d, first, second, third, fourth);
 }
 
-/// Writes the bytes of a fragment that is chosen by its recipe.
-fn rebuild_chosen(left: &Left, chosen: Option<u8>, from: usize, to: usize, target: &mut [u8])
-    requires decodable { IsDecodable left.now.code left.now.fragments chosen }
+/// Writes the bytes of a fragment that is chosen by its recipe, if it has one.
+pub(crate) fn rebuild_chosen(
+    left: &Left,
+    chosen: Option<u8>,
+    from: usize,
+    to: usize,
+    target: &mut [u8],
+)
+    requires absent { IfSome chosen (λ f. (f < fragment_count left.now.code)
+        × (is_absent left.now.fragments f ≡ true)) }
     requires reach { (i : ℕ) → i < fragment_count left.now.code
         → is_absent left.now.fragments i ≡ false → Reaches left.now.fragments to i }
     requires range { from ≤ to }
     requires room { IfSome chosen (λ _. length target.old ≡ to - from) }
-    ensures { IsDecoded left.now.code left.now.fragments chosen from to target.old target.new }
+    ensures { IsDecodable left.now.code left.now.fragments chosen
+        → IsDecoded left.now.code left.now.fragments chosen from to target.old target.new }
 {
     if let Some(f) = chosen {
         let _ = rebuild_to(left, usize::from(f), from, to, target);
@@ -170,7 +178,7 @@ fn is_far(code: Code, lost: LostSet, chosen: Option<u8>) -> u32
 }
 
 /// How many fragments are chosen that are not alone lost in their groups.
-fn far_count(code: Code, lost: LostSet, chosen: &[Option<u8>; 4]) -> u32
+pub(crate) fn far_count(code: Code, lost: LostSet, chosen: &[Option<u8>; 4]) -> u32
     requires { (i : ℕ) → i < 4 → IfSome (slice_index_or chosen.now i None)
         (λ f. f < fragment_count code) }
 {

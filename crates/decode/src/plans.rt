@@ -8,7 +8,7 @@ ghost use Rattle.decode.specs.Syndrome.{AreShares, share_weight};
 ghost use Rattle.decode.specs.Decoding.{AreAbsent, HasOpen, IsDecoded};
 ghost use Rattle.decode.specs.DecodePlan.{IsPlan, HasAllOf, IsRest, WeighsNothing, at_target};
 
-use crate::decoding::parts_of;
+use crate::decoding::{far_count, parts_of, rebuild_chosen};
 use crate::shares::{shares_of, weight_by};
 use lrc_code::{Code, Left, LostSet};
 use syndromes::combine_syndromes;
@@ -127,12 +127,8 @@ fn given(chosen: Option<u8>, shares: [u8; 4]) -> Option<[u8; 4]>
     }
 }
 
-/// Writes the bytes `from..to` of the fragments that a plan is for, as every stripe has them that
-/// agrees with the fragments that it reads. A target for None is unchanged. `plan_for` makes such
-/// plans; by any other plan the targets have any bytes.
-///
-/// The fragments are made in one pass over those that are read. Does not allocate.
-pub fn decode_by_plan(
+/// `decode_by_plan` by the shares of the plan, in one pass over the fragments that are read.
+fn decode_by_shares(
     plan: &DecodePlan,
     left: &Left,
     from: usize,
@@ -170,4 +166,55 @@ pub fn decode_by_plan(
     let d = given(plan.chosen[3], plan.shares[3]);
     let parts = parts_of(left, from, to);
     combine_syndromes(&parts, to - from, a, b, c, d, first, second, third, fourth);
+}
+
+/// Writes the bytes `from..to` of the fragments that a plan is for, as every stripe has them that
+/// agrees with the fragments that it reads. A target for None is unchanged. `plan_for` makes such
+/// plans; by any other plan the targets have any bytes.
+///
+/// The fragments are made in one pass over those that are read, or each by its recipe if all are
+/// alone lost in their groups. Does not allocate.
+pub fn decode_by_plan(
+    plan: &DecodePlan,
+    left: &Left,
+    from: usize,
+    to: usize,
+    first: &mut [u8],
+    second: &mut [u8],
+    third: &mut [u8],
+    fourth: &mut [u8],
+)
+    requires code { left.now.code ≡ plan.now.code }
+    requires absent { AreAbsent left.now.code left.now.fragments plan.now.missing }
+    requires chosen { (k : ℕ) → k < 4 → IfSome (slice_index_or plan.now.chosen k None)
+        (λ f. (f < fragment_count plan.now.code) × (is_lost plan.now.missing f ≡ true)) }
+    requires reach { (i : ℕ) → i < fragment_count left.now.code
+        → is_absent left.now.fragments i ≡ false → Reaches left.now.fragments to i }
+    requires range { from ≤ to }
+    requires room { IfSome (slice_index_or plan.now.chosen 0 None)
+        (λ _. length first.old ≡ to - from) }
+    requires room_second { IfSome (slice_index_or plan.now.chosen 1 None)
+        (λ _. length second.old ≡ to - from) }
+    requires room_third { IfSome (slice_index_or plan.now.chosen 2 None)
+        (λ _. length third.old ≡ to - from) }
+    requires room_fourth { IfSome (slice_index_or plan.now.chosen 3 None)
+        (λ _. length fourth.old ≡ to - from) }
+    ensures first { IsPlan plan.now → IsDecoded left.now.code left.now.fragments
+        (slice_index_or plan.now.chosen 0 None) from to first.old first.new }
+    ensures second { IsPlan plan.now → IsDecoded left.now.code left.now.fragments
+        (slice_index_or plan.now.chosen 1 None) from to second.old second.new }
+    ensures third { IsPlan plan.now → IsDecoded left.now.code left.now.fragments
+        (slice_index_or plan.now.chosen 2 None) from to third.old third.new }
+    ensures fourth { IsPlan plan.now → IsDecoded left.now.code left.now.fragments
+        (slice_index_or plan.now.chosen 3 None) from to fourth.old fourth.new }
+{
+    let missing = LostSet::of_bits(plan.missing);
+    if far_count(plan.code, missing, &plan.chosen) > 0 {
+        decode_by_shares(plan, left, from, to, first, second, third, fourth);
+    } else {
+        rebuild_chosen(left, plan.chosen[0], from, to, first);
+        rebuild_chosen(left, plan.chosen[1], from, to, second);
+        rebuild_chosen(left, plan.chosen[2], from, to, third);
+        rebuild_chosen(left, plan.chosen[3], from, to, fourth);
+    }
 }

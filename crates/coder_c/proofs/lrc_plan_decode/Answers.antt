@@ -14,6 +14,10 @@ returns-then-not-are_taken-clause-taken c =
           absurd (true≢false (sym (c.if-not-are_taken.ensures.1 (are_lost_same p.code p.missing t p.chosen (λ i. sym (c.of_bits-missing.ensures i)) takes.0, takes.1)))),
     )
 
+pub decode_planned-requires-clause-lost : goal.decode_planned-requires-clause-lost
+decode_planned-requires-clause-lost c =
+    are_lost_same c.in-Some.planned.code c.of_bits-missing.result c.in-Some.planned.missing c.in-Some.planned.chosen c.of_bits-missing.ensures (c.if-not-are_taken.ensures.0 refl).0
+
 pub returns-then-decode_planned-clause-first : goal.returns-then-decode_planned-clause-first
 returns-then-decode_planned-clause-first c = λ _.
     decodes_by_bytes c.args.plan.now c.in-Some.planned c.in-Some.ensures.1 c.in-Some.ensures.2 (map (λ f. f.now) c.args.fragments.now) 0 c.args.from c.in-Some-checked_add.to (c.args.from + c.args.w) c.args.first.now c.decode_planned.new.first
