@@ -52,7 +52,9 @@ typedef struct {
     bool v##_timed_seal(const uint8_t *, size_t, uint8_t *, size_t, uint64_t, uint8_t, uint32_t);  \
     uint32_t v##_lrc_rebuild(size_t, const Slice *, uint16_t, uint8_t, size_t, uint8_t *, size_t); \
     uint32_t v##_lrc_decode(size_t, const Slice *, uint16_t, const uint8_t *, size_t, size_t,      \
-                            PARITIES);
+                            PARITIES);                                                             \
+    uint32_t v##_lrc_plan(size_t, uint16_t, const uint8_t *, uint8_t *, uint16_t *);               \
+    uint32_t v##_lrc_plan_decode(const uint8_t *, const Slice *, size_t, size_t, PARITIES);
 DECLARE(v2)
 DECLARE(v3)
 
@@ -168,6 +170,15 @@ static void isal_global(long n) {
     }
 }
 
+// Plans are plain bytes: both processors' code uses the same.
+enum { NONE = 255, PLAN = 24 };
+static uint8_t local_plan[PLAN], global_plan[PLAN], loss_plan[PLAN];
+
+static void make_plan(uint8_t *plan, uint16_t gone, const uint8_t numbers[4]) {
+    uint16_t reads;
+    if (v2_lrc_plan(DATA, gone, numbers, plan, &reads) != 0) abort();
+}
+
 // Fragment 0, where it alone is lost, and where fragment 1 is lost too.
 #define LOCAL 1
 #define GLOBAL 3
@@ -217,12 +228,16 @@ static void isal_global(long n) {
             seen = v##_lrc_rebuild(DATA, stripe, gone, 0, 0, made[0], width);                      \
     }                                                                                              \
     static void v##_local_call(long n) { v##_rebuild_one(LOCAL, n); }                              \
-    static void v##_global_call(long n) { v##_rebuild_one(GLOBAL, n); }
+    static void v##_global_call(long n) { v##_rebuild_one(GLOBAL, n); }                            \
+    static void v##_by_plan(const uint8_t *plan, long n) {                                         \
+        for (long j = 0; j < n; j++) seen = v##_lrc_plan_decode(plan, stripe, 0, width, MADE);     \
+    }                                                                                              \
+    static void v##_local_plan(long n) { v##_by_plan(local_plan, n); }                             \
+    static void v##_global_plan(long n) { v##_by_plan(global_plan, n); }
 CALLS(v2)
 CALLS(v3)
 
 // ---- several lost fragments at once
-enum { NONE = 255 };
 typedef struct {
     const char *name;
     int count;
@@ -289,7 +304,8 @@ static void isal_decode(long n) {
         for (long j = 0; j < n; j++)                                                               \
             for (int r = 0; r < loss->count; r++)                                                  \
                 seen = v##_lrc_rebuild(DATA, stripe, lost, loss->numbers[r], 0, made[r], width);   \
-    }
+    }                                                                                              \
+    static void v##_decode_by_plan(long n) { v##_by_plan(loss_plan, n); }
 DECODES(v2)
 DECODES(v3)
 
@@ -310,7 +326,8 @@ typedef struct {
         ROW(#v " encode", v##_encode, 2), ROW(#v " encode_joined", v##_encode_joined, 2)
 #define REBUILD(v, work)                                                                           \
     ROW(#v " combine_lists", v##_##work##_kernel, 1), ROW(#v " rebuild_to", v##_##work##_to, 1),   \
-        ROW(#v " lrc_rebuild", v##_##work##_call, 1), ROW(#v " rebuild", v##_##work, 2),           \
+        ROW(#v " lrc_rebuild", v##_##work##_call, 1),                                              \
+        ROW(#v " lrc_plan_decode", v##_##work##_plan, 1), ROW(#v " rebuild", v##_##work, 2),       \
         ROW(#v " Plans::rebuild", v##_##work##_kept, 2)
 
 static Row encode_rows[] = {ROW("memcpy", copy_data, 1), ROW("ISA-L", isal_encode_to, 1),
@@ -321,7 +338,7 @@ static Row local_rows[] = {ROW("memcpy", copy_one, 1), ROW("ISA-L", isal_local_t
 static Row global_rows[] = {ROW("memcpy", copy_one, 1), ROW("ISA-L", isal_global_to, 1),
                             ROW("ISA-L, malloc", isal_global, 2), REBUILD(v2, global),
                             REBUILD(v3, global)};
-#define DECODE_ROWS 5
+#define DECODE_ROWS 7
 static Row decode_rows[LOSSES][DECODE_ROWS];
 enum {
     ENCODE_ROWS = sizeof encode_rows / sizeof(Row),
@@ -480,11 +497,14 @@ static void print_blob(void) {
 static void run_losses(int w, int rounds) {
     static const Row rows[DECODE_ROWS] = {
         ROW("ISA-L", isal_decode, 0), ROW("v2 lrc_decode", v2_decode, 0),
+        ROW("v2 lrc_plan_decode", v2_decode_by_plan, 0),
         ROW("v2 lrc_rebuild, each", v2_rebuild_each, 0), ROW("v3 lrc_decode", v3_decode, 0),
+        ROW("v3 lrc_plan_decode", v3_decode_by_plan, 0),
         ROW("v3 lrc_rebuild, each", v3_rebuild_each, 0)};
     for (int i = 0; i < LOSSES; i++) {
         int wanted[4];
         set_loss(&losses[i]);
+        make_plan(loss_plan, lost, loss->numbers);
         for (int r = 0; r < loss->count; r++) wanted[r] = loss->numbers[r];
         for (int k = 0; w == 0 && k < DECODE_ROWS; k++) decode_rows[i][k] = rows[k];
         isal_decode(1);
@@ -518,6 +538,8 @@ int main(int argc, char **argv) {
     free(malloc(1 << 20)); // from now on malloc keeps what is given back, and asks the system for
                            // none of it again
     make_recipe();
+    make_plan(local_plan, LOCAL, (uint8_t[]){0, NONE, NONE, NONE});
+    make_plan(global_plan, GLOBAL, (uint8_t[]){0, NONE, NONE, NONE});
     ec_init_tables(DATA, 4, (uint8_t *)coefficients, encode_tables);
     ec_init_tables(DATA, 1, recipe, recipe_tables);
     ec_encode_data(WIDEST, DATA, 4, encode_tables, data, data + DATA);

@@ -1,7 +1,7 @@
 // For tests, loaded before the C library: the request for memory of number REFUSE is refused,
 // counted from 1 over malloc, calloc and realloc, and the thread of number REFUSE_THREAD is not
-// started. The file REFUSED is made when either happens. Each thread that is started adds a byte to
-// the file STARTED.
+// started. The file REFUSED is made when either happens: it has "thread" if that was in the start of
+// a thread, and else "memory". Each thread that is started adds a byte to the file STARTED.
 #define _GNU_SOURCE
 #include <dlfcn.h>
 #include <errno.h>
@@ -9,6 +9,7 @@
 #include <pthread.h>
 #include <stdatomic.h>
 #include <stdlib.h>
+#include <string.h>
 #include <unistd.h>
 
 // A thing that is counted, and which of them is refused: 0 for none, and -1 as long as nobody has
@@ -19,6 +20,9 @@ struct counted {
 };
 
 static struct counted memory = {"REFUSE", 0, -1}, threads = {"REFUSE_THREAD", 0, -1};
+
+// Whether this thread is starting another.
+static _Thread_local int is_starting;
 
 // The file that a variable names, made if it is not there.
 static int open_named(const char *variable) {
@@ -34,8 +38,12 @@ static int refused(struct counted *it) {
     if (atomic_fetch_add(&it->count, 1) + 1 != it->wanted) {
         return 0;
     }
+    const char *where = is_starting ? "thread" : "memory";
     int file = open_named("REFUSED");
     if (file >= 0) {
+        if (write(file, where, strlen(where)) < 0) {
+            abort();
+        }
         close(file);
     }
     return 1;
@@ -61,13 +69,13 @@ void *realloc(void *old, size_t size) {
 int pthread_create(pthread_t *thread, const pthread_attr_t *attributes, void *(*start)(void *),
                    void *argument) {
     static int (*_Atomic create)(pthread_t *, const pthread_attr_t *, void *(*)(void *), void *);
-    if (refused(&threads)) {
-        return EAGAIN;
-    }
     if (!create) {
         create = dlsym(RTLD_NEXT, "pthread_create");
     }
-    int status = create ? create(thread, attributes, start, argument) : EAGAIN;
+    is_starting = 1;
+    int is_refused = refused(&threads) || !create;
+    int status = is_refused ? EAGAIN : create(thread, attributes, start, argument);
+    is_starting = 0;
     int file = status == 0 ? open_named("STARTED") : -1;
     if (file >= 0) {
         if (write(file, "t", 1) != 1) {

@@ -37,13 +37,14 @@ THREADED = [
     ["meeting_16.csv", "--workers", "16"],
 ]
 NO_THREAD = b"lrcstore: cannot start a worker\n"
-# A thread is not started either where the memory for it is refused.
-MESSAGES = (b"lrcstore: out of memory\n", NO_THREAD)
+# What the program says, by where memory was refused. A thread for which there is no memory is not
+# started.
+MESSAGES = {b"memory": b"lrcstore: out of memory\n", b"thread": NO_THREAD}
 # So many numbers in a row at which nothing was refused end a range: with several threads the count
 # of requests differs between runs.
 BEHIND = 8
 
-Ran = namedtuple("Ran", "status out err threads is_refused")
+Ran = namedtuple("Ran", "status out err threads where")
 
 
 def meeting_of(workers):
@@ -96,11 +97,14 @@ class Runs:
             stderr=subprocess.PIPE,
         )
         threads = os.path.getsize(started) if os.path.exists(started) else 0
-        is_refused = os.path.exists(refused)
+        where = b""
+        if os.path.exists(refused):
+            with open(refused, "rb") as file:
+                where = file.read()
         for path in (refused, started):
             if os.path.exists(path):
                 os.remove(path)
-        return Ran(ran.returncode, ran.stdout, ran.stderr, threads, is_refused)
+        return Ran(ran.returncode, ran.stdout, ran.stderr, threads, where)
 
     def refusals(self, command, what="REFUSE"):
         """The runs in which something was refused, each with its number."""
@@ -108,8 +112,8 @@ class Runs:
         while behind < BEHIND:
             number += 1
             ran = self.run(command, what, number)
-            behind = 0 if ran.is_refused else behind + 1
-            if ran.is_refused:
+            behind = 0 if ran.where else behind + 1
+            if ran.where:
                 yield number, ran
 
 
@@ -137,7 +141,7 @@ class Test:
     def ample(self, command, threads=None):
         """A run with ample memory, whose threads are counted if it is said how many they are."""
         ran = self.runs.run(command)
-        if ran.status or ran.err or ran.is_refused or threads not in (None, ran.threads):
+        if ran.status or ran.err or ran.where or threads not in (None, ran.threads):
             self.complain(*command, "of", threads, "threads, with ample memory:", ran)
         return ran
 
@@ -161,7 +165,7 @@ def test_memory(test, words):
     ample = test.ample([program("lrcstore"), *words], threads)
 
     def is_right(_, ran):
-        is_ended = ran.status == 3 and not ran.out and ran.err in MESSAGES
+        is_ended = ran.status == 3 and not ran.out and ran.err == MESSAGES[ran.where]
         return ran[:4] == ample[:4] or is_ended and ran.threads <= threads
 
     test.check([program("lrcstore"), *words], 1, is_right)
