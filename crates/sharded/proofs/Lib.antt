@@ -1,5 +1,6 @@
 pub mod Hash
 pub mod OneMap
+pub mod Taken
 pub mod Passes
 pub mod Steps
 pub mod StepsTo

@@ -1,14 +1,15 @@
 -- Passes that are split and joined shard by shard.
-use Rattle.std.proofs.Common.{◌≡◌, ◌⊎◌, inl, inr, ℕ, zero, suc, ◌+◌, ◌<◌, ◌≤◌, List, [], ◌∷◌, ◌++◌, map, take, drop, set, get_or, length, None, Some, Result, Ok, Err, OnErr, slice_get, option_map, refl, ap, sym, subst, ◌∙◌, arith, add-one, length-append}
-use Rattle.std.proofs.lemmas.Option.{slice_get-map, slice_get_within, slice_get_read}
+use Rattle.std.proofs.Common.{◌≡◌, ◌⊎◌, inl, inr, ℕ, zero, suc, ◌+◌, ◌<◌, ◌≤◌, List, [], ◌∷◌, ◌++◌, map, take, drop, set, get_or, length, Some, Result, Ok, Err, OnErr, slice_get, refl, ap, sym, subst, ◌∙◌, arith, add-one}
+use Rattle.std.proofs.lemmas.Option.{slice_get_read}
 use Rattle.std.proofs.lemmas.List.{append-nil, set-get_or}
 use mathlib.Core.List.{IsPrefix}
 use Rattle.gate.specs.Places.{times}
 use Rattle.gate.proofs.Lists.{times-append}
 use Rattle.book.specs.Serial.{Act}
-use Rattle.shared.specs.Passes.{Which, Shows}
-use Rattle.sharded.specs.Passes.{stores_of, IsActOfShard, HasActsOfShard, HaveActsOfShards, fresh_pass, kept_in_split, given_in_split, IsJoined, AreJoined, IsRestored, AreRestored, HaveRoom, AreSplitInPart}
-use Rattle.sharded.proofs.Steps.{get_longer, same_some, some_of}
+use Rattle.shared.specs.Passes.{Which, Shows, ReceiptShows, seen_by}
+use Rattle.sharded.specs.Passes.{stores_of, IsActOfShard, HasActsOfShard, HaveActsOfShards, fresh_pass, kept_in_split, given_in_split, IsJoined, AreJoined, IsAccepted, AreAccepted, receipt_stores, IsRestored, AreRestored, HaveRoom, AreSplitInPart}
+use Rattle.sharded.proofs.Steps.{get_longer, some_of}
+use Rattle.sharded.proofs.Taken.{length_map, taken_at, taken_length, taken_stores}
 
 -- ---- the first of a list changed
 module _ {X : Type 0} where
@@ -35,93 +36,7 @@ room_next [] n v e l have = absurd (cc)
 room_next (x ∷ vs) zero v e l have = let same : x ≡ v = cc in (subst (λ (y : Shows). 1 ≤ y.room) (sym same) l, tt)
 room_next (x ∷ vs) (suc n) v e l have = (have.0, room_next vs n v e l have.1)
 
--- ---- joined from the last on
-pub record JoinedFrom (vs os ps left : List Shows) : Type 0 where
-  pub within : length left ≤ length os
-  pub left_is : left ≡ take (length left) os
-  pub same : take (length left) ps ≡ take (length left) vs
-  pub joined : AreJoined (drop (length left) vs) (drop (length left) os) (drop (length left) ps)
-  pub stores : stores_of ps ≡ stores_of vs
-
-joined_none : (vs : List Shows) → AreJoined vs [] vs
-joined_none [] = refl
-joined_none (v ∷ vs) = (refl, joined_none vs)
-
-drop_all : {X : Type 0} (xs : List X) → drop (length xs) xs ≡ []
-drop_all [] = refl
-drop_all (x ∷ xs) = drop_all xs
-
-take_all : {X : Type 0} (xs : List X) → xs ≡ take (length xs) xs
-take_all [] = refl
-take_all (x ∷ xs) = ap (λ l. x ∷ l) (take_all xs)
-
-pub joined_first : (vs os : List Shows) → JoinedFrom vs os vs os
-joined_first vs os = record {
-  within = omega arith;
-  left_is = take_all os;
-  same = refl;
-  joined = subst (λ l. AreJoined (drop (length os) vs) l (drop (length os) vs)) (sym (drop_all os)) (joined_none (drop (length os) vs));
-  stores = refl;
-}
-
--- one more
-step : (vs os ps : List Shows) (n : ℕ) (o v w : Shows) → n < length vs → n < length ps → take (suc n) ps ≡ take (suc n) vs → slice_get os n ≡ Some o → v ≡ get_or ps n v → IsJoined v o w
-    → AreJoined (drop (suc n) vs) (drop (suc n) os) (drop (suc n) ps) → (take n (set ps n w) ≡ take n vs) × AreJoined (drop n vs) (drop n os) (drop n (set ps n w))
-step [] os ps n o v w l m same e f one rest = absurd (omega arith)
-step (x ∷ vs) os [] n o v w l m same e f one rest = absurd (omega arith)
-step (x ∷ vs) [] (p ∷ ps) n o v w l m same e f one rest = absurd (cc)
-step (x ∷ vs) (y ∷ os) (p ∷ ps) zero o v w l m same e f one rest =
-    let old : v ≡ x = cc in let other : y ≡ o = cc in
-    (refl, (subst (λ a. IsJoined a y w) old (subst (λ a. IsJoined v a w) (sym other) one), rest))
-step (x ∷ vs) (y ∷ os) (p ∷ ps) (suc n) o v w l m same e f one rest =
-    let head : p ≡ x = cc in let tail : take (suc n) ps ≡ take (suc n) vs = cc in
-    let more = step vs os ps n o v w (omega arith) (omega arith) tail e f one rest in
-    ((λ i. head i ∷ more.0 i), more.1)
-
-stores_put : (ps : List Shows) (n : ℕ) (v w : Shows) → v ≡ get_or ps n v → w.store ≡ v.store → stores_of (set ps n w) ≡ stores_of ps
-stores_put [] n v w e s = refl
-stores_put (p ∷ ps) zero v w e s = ap (λ x. x ∷ stores_of ps) (s ∙ ap (λ (x : Shows). x.store) e)
-stores_put (p ∷ ps) (suc n) v w e s = ap (λ x. p.store ∷ x) (stores_put ps n v w e s)
-
-last_taken : {X : Type 0} (os left : List X) (o : X) → left ++ o ∷ [] ≡ take (suc (length left)) os → (left ≡ take (length left) os) × (slice_get os (length left) ≡ Some o) × (suc (length left) ≤ length os)
-last_taken [] [] o e = absurd (cc)
-last_taken [] (x ∷ left) o e = absurd (cc)
-last_taken (y ∷ os) [] o e = let same : o ≡ y = cc in (refl, ap Some (sym same), omega arith)
-last_taken (y ∷ os) (x ∷ left) o e =
-    let head : x ≡ y = cc in let tail : left ++ o ∷ [] ≡ take (suc (length left)) os = cc in
-    let more = last_taken os left o tail in
-    ((λ i. head i ∷ more.0 i), more.1, omega (arith, more.2))
-
-pub joined_more : (vs os ps left : List Shows) (whole : List Shows) (o v w : Shows) → whole ≡ left ++ o ∷ [] → length left < length ps → length ps ≡ length vs → v ≡ get_or ps (length left) v → IsJoined v o w
-    → JoinedFrom vs os ps whole → JoinedFrom vs os (set ps (length left) w) left
-joined_more vs os ps left whole o v w is l same e one from =
-    let long : length whole ≡ suc (length left) = ap length is ∙ length-append left (o ∷ []) ∙ omega arith in
-    let found = last_taken os left o (sym is ∙ from.left_is ∙ ap (λ n. take n os) long) in
-    let next = step vs os ps (length left) o v w (omega arith) l (subst (λ n. take n ps ≡ take n vs) long from.same) found.1 e one
-    (subst (λ n. AreJoined (drop n vs) (drop n os) (drop n ps)) long from.joined) in record {
-      within = omega (arith, found.2);
-      left_is = found.0;
-      same = next.0;
-      joined = next.1;
-      stores = stores_put ps (length left) v w e one.store ∙ from.stores;
-    }
-
 -- ---- own acts stay at their shards
-pub joined_at : (vs os ws : List Shows) → AreJoined vs os ws → (k : ℕ) (w : Shows) → slice_get ws k ≡ Some w
-    → (v : Shows) × (slice_get vs k ≡ Some v) × ((w ≡ v) ⊎ ((o : Shows) × (slice_get os k ≡ Some o) × IsJoined v o w))
-joined_at [] os ws are k w e = let none : slice_get ws k ≡ None = ap (λ l. slice_get l k) are in absurd (cc)
-joined_at (v ∷ vs) os [] are k w e = absurd are
-joined_at (v ∷ vs) [] (x ∷ ws) are zero w e = let same : x ≡ w = cc in (v, refl, inl (sym same ∙ are.0))
-joined_at (v ∷ vs) [] (x ∷ ws) are (suc k) w e = joined_at vs [] ws are.1 k w e
-joined_at (v ∷ vs) (o ∷ os) (x ∷ ws) are zero w e = let same : x ≡ w = cc in (v, refl, inr (o, refl, subst (λ a. IsJoined v o a) same are.0))
-joined_at (v ∷ vs) (o ∷ os) (x ∷ ws) are (suc k) w e = joined_at vs os ws are.1 k w e
-
-pub joined_length : (vs os ws : List Shows) → AreJoined vs os ws → length ws ≡ length vs
-joined_length [] os ws are = ap length are
-joined_length (v ∷ vs) os [] are = absurd are
-joined_length (v ∷ vs) [] (x ∷ ws) are = ap suc (joined_length vs [] ws are.1)
-joined_length (v ∷ vs) (o ∷ os) (x ∷ ws) are = ap suc (joined_length vs os ws are.1)
-
 -- what stood in a shorter list stands in the longer
 stands : (count k : ℕ) (v w : Shows) → HasActsOfShard count k v → IsPrefix v.acts w.acts → ((p : ℕ) → 1 ≤ times p w.did → 1 ≤ times p v.did) → HasActsOfShard count k w
 stands count k v w homed longer less p l =
@@ -140,23 +55,29 @@ joined_one count k v o w one other joined p l = by (some_of (times p v.did) (tim
         (had.0, ap (λ acts. slice_get acts p) (sym joined.acts.1.1) ∙ get_longer o.acts joined.acts.1.0 p had.0 had.1, had.2)
 
 pub joined_of_shards : (vs os ws : List Shows) → length os ≡ length vs → HaveActsOfShards vs → HaveActsOfShards os → AreJoined vs os ws → HaveActsOfShards ws
-joined_of_shards vs os ws long one other are k w e = subst (λ n. HasActsOfShard n k w) (sym (joined_length vs os ws are)) (by found.2)
+joined_of_shards vs os ws long one other are k w e = subst (λ n. HasActsOfShard n k w) (sym (taken_length IsJoined vs os ws are)) (by found.2)
   where
     found : (v : Shows) × (slice_get vs k ≡ Some v) × ((w ≡ v) ⊎ ((o : Shows) × (slice_get os k ≡ Some o) × IsJoined v o w))
-    found = joined_at vs os ws are k w e
+    found = taken_at IsJoined vs os ws are k w e
 
     by : (w ≡ found.0) ⊎ ((o : Shows) × (slice_get os k ≡ Some o) × IsJoined found.0 o w) → HasActsOfShard (length vs) k w
     by (inl same) = subst (HasActsOfShard (length vs) k) (sym same) (one k found.0 found.1)
     by (inr (o, there, joined)) = joined_one (length vs) k found.0 o w (one k found.0 found.1) (subst (λ n. HasActsOfShard n k o) long (other k o there)) joined
 
+pub accepted_of_shards : (vs : List Shows) (rs : List ReceiptShows) (ws : List Shows) → HaveActsOfShards vs → AreAccepted vs rs ws → HaveActsOfShards ws
+accepted_of_shards vs rs ws homed are k w e = subst (λ n. HasActsOfShard n k w) (sym (taken_length IsAccepted vs rs ws are)) (by found.2)
+  where
+    found : (v : Shows) × (slice_get vs k ≡ Some v) × ((w ≡ v) ⊎ ((r : ReceiptShows) × (slice_get rs k ≡ Some r) × IsAccepted v r w))
+    found = taken_at IsAccepted vs rs ws are k w e
+
+    by : (w ≡ found.0) ⊎ ((r : ReceiptShows) × (slice_get rs k ≡ Some r) × IsAccepted found.0 r w) → HasActsOfShard (length vs) k w
+    by (inl same) = subst (HasActsOfShard (length vs) k) (sym same) (homed k found.0 found.1)
+    by (inr (r, there, accepted)) = stands (length vs) k found.0 w (homed k found.0 found.1) accepted.acts.0 (λ p l. subst (λ (x : Shows). 1 ≤ times p x.did) accepted.kept l)
+
 map_at : {X Y : Type 0} (f : X → Y) (xs : List X) (k : ℕ) (y : Y) → slice_get (map f xs) k ≡ Some y → (x : X) × (slice_get xs k ≡ Some x) × (f x ≡ y)
 map_at f [] k y e = absurd (cc)
 map_at f (x ∷ xs) zero y e = let same : f x ≡ y = cc in (x, refl, same)
 map_at f (x ∷ xs) (suc k) y e = map_at f xs k y e
-
-length_map : {X Y : Type 0} (f : X → Y) (xs : List X) → length (map f xs) ≡ length xs
-length_map f [] = refl
-length_map f (x ∷ xs) = ap suc (length_map f xs)
 
 pub kept_of_shards : (vs : List Shows) → HaveActsOfShards vs → HaveActsOfShards (map kept_in_split vs)
 kept_of_shards vs homed k w e =
@@ -226,51 +147,6 @@ restored_of_shards vs ws homed are k w e =
     (stands (length vs) k found.0 w (homed k found.0 found.1) found.2.acts (λ p l. subst (λ d. 1 ≤ times p d) found.2.did l))
 
 -- ---- as the code knows it
-pub same_length : (vs ws : List Shows) → stores_of vs ≡ stores_of ws → length vs ≡ length ws
-same_length vs ws e = sym (length_map (λ (v : Shows). v.store) vs) ∙ ap length e ∙ length_map (λ (v : Shows). v.store) ws
-
-pub record Popped (vs os ps whole left : List Shows) (ss : List Which) (n : ℕ) (o v : Shows) (store : Which) : Type 0 where
-  pub stores : stores_of vs ≡ ss
-  pub others : IsPrefix (stores_of os) ss
-  pub from : JoinedFrom vs os ps whole
-  pub is : whole ≡ left ++ o ∷ []
-  pub count : n ≡ length left
-  pub own_is : v ≡ get_or ps n v
-  pub store_is : store ≡ get_or ss n store
-
-module _ (vs os ps whole left : List Shows) (ss : List Which) (n : ℕ) (o v : Shows) (store : Which) (p : Popped vs os ps whole left ss n o v store) where
-  popped_at : slice_get os (length left) ≡ Some o
-  popped_at =
-      let long : length whole ≡ suc (length left) = ap length p.is ∙ length-append left (o ∷ []) ∙ omega arith in
-      let found = last_taken os left o (sym p.is ∙ p.from.left_is ∙ ap (λ k. take k os) long) in found.1
-
-  other_at : slice_get ss n ≡ Some o.store
-  other_at =
-      let here : slice_get (stores_of os) (length left) ≡ Some o.store = slice_get-map (λ (x : Shows). x.store) os (length left) ∙ ap (option_map (λ (x : Shows). x.store)) popped_at in
-      ap (λ l. slice_get l n) (sym p.others.1) ∙ ap (slice_get (stores_of os ++ p.others.0)) p.count ∙ get_longer (stores_of os) p.others.0 (length left) o.store here
-
-  long_is : length ps ≡ length ss
-  long_is = sym (length_map (λ (x : Shows). x.store) ps) ∙ ap length (p.from.stores ∙ p.stores)
-
-  pub popped_below : n < length ps
-  popped_below = let l : n < length ss = slice_get_within ss n o.store other_at in omega (arith, long_is)
-
-  own_at : slice_get ss n ≡ Some v.store
-  own_at =
-      ap (λ l. slice_get l n) (sym p.stores ∙ sym p.from.stores) ∙ slice_get-map (λ (x : Shows). x.store) ps n
-      ∙ ap (option_map (λ (x : Shows). x.store)) (slice_get_read ps (length ps) n v refl popped_below p.own_is)
-
-  store_at : slice_get ss n ≡ Some store
-  store_at = slice_get_read ss (length ss) n store refl (slice_get_within ss n o.store other_at) p.store_is
-
-  pub popped_stores : (v.store ≡ store) × (o.store ≡ store)
-  popped_stores = (same_some v.store store (slice_get ss n) own_at store_at, same_some o.store store (slice_get ss n) other_at store_at)
-
-  pub popped_joined : (w : Shows) → IsJoined v o w → JoinedFrom vs os (set ps n w) left
-  popped_joined w one =
-      subst (λ k. JoinedFrom vs os (set ps k w) left) (sym p.count)
-      (joined_more vs os ps left whole o v w p.is (subst (λ k. k < length ps) p.count popped_below) (same_length ps vs p.from.stores) (subst (λ k. v ≡ get_or ps k v) p.count p.own_is) one p.from)
-
 -- a pass was split
 pub record SplitAt (who n : ℕ) (vs ws given : List Shows) (v : Shows) : Type 0 where
   pub passes : ws ≡ mapped kept_in_split n vs
@@ -341,10 +217,14 @@ restored_stores (v ∷ vs) [] are = absurd are
 restored_stores (v ∷ vs) (w ∷ ws) are = (λ i. are.0.stays.0 i ∷ restored_stores vs ws are.1 i)
 
 pub joined_stores : (vs os ws : List Shows) → AreJoined vs os ws → stores_of ws ≡ stores_of vs
-joined_stores [] os ws are = ap stores_of are
-joined_stores (v ∷ vs) os [] are = absurd are
-joined_stores (v ∷ vs) [] (w ∷ ws) are = (λ i. (are.0 i).store ∷ joined_stores vs [] ws are.1 i)
-joined_stores (v ∷ vs) (o ∷ os) (w ∷ ws) are = (λ i. are.0.store i ∷ joined_stores vs os ws are.1 i)
+joined_stores vs os ws are = taken_stores IsJoined (λ v o w joined. joined.store) vs os ws are
+
+pub accepted_stores : (vs : List Shows) (rs : List ReceiptShows) (ws : List Shows) → AreAccepted vs rs ws → stores_of ws ≡ stores_of vs
+accepted_stores vs rs ws are = taken_stores IsAccepted (λ v r w accepted. ap (λ (x : Shows). x.store) accepted.kept) vs rs ws are
+
+pub seen_stores : (vs : List Shows) → receipt_stores (map seen_by vs) ≡ stores_of vs
+seen_stores [] = refl
+seen_stores (v ∷ vs) = ap (λ l. v.store ∷ l) (seen_stores vs)
 
 pub fresh_stores : (ss : List Which) → stores_of (map fresh_pass ss) ≡ ss
 fresh_stores [] = refl
@@ -352,3 +232,12 @@ fresh_stores (s ∷ ss) = ap (λ l. s ∷ l) (fresh_stores ss)
 
 pub stores_length : (vs : List Shows) (ss : List Which) → stores_of vs ≡ ss → length vs ≡ length ss
 stores_length vs ss e = sym (length_map (λ (v : Shows). v.store) vs) ∙ ap length e
+
+-- a receipt more was made, and the pass shows what it showed
+pub receipt_next : (n : ℕ) (vs ws : List Shows) (rs : List ReceiptShows) (v w : Shows) (r : ReceiptShows) → ws ≡ vs → rs ≡ map seen_by (take n vs) → n < length vs → v ≡ get_or ws n v → w ≡ v → r ≡ seen_by v
+    → (set ws n w ≡ vs) × (rs ++ r ∷ [] ≡ map seen_by (take (n + 1) vs))
+receipt_next n vs ws rs v w r same before below own stays given =
+    let here : slice_get vs n ≡ Some v = slice_get_read vs (length vs) n v refl below (own ∙ ap (λ l. get_or l n v) same) in (
+      ap (set ws n) (stays ∙ own) ∙ set-get_or ws n v ∙ same,
+      subst (λ k. rs ++ r ∷ [] ≡ map seen_by (take k vs)) (sym (add-one n)) ((λ i. before i ++ given i ∷ []) ∙ taken_next seen_by vs n v here),
+    )

@@ -1,11 +1,13 @@
--- The passes to all shards, in the order of the shards: split, joined, and whose calls they show.
+-- The passes to all shards, in the order of the shards: split, joined, their receipts, and whose
+-- calls they show.
 use Rattle.std.specs.Prelude.{◌≡◌, ◌⊎◌, ℕ, ◌+◌, ◌-◌, ◌≤◌, List, [], ◌∷◌, ◌++◌, length, map}
-use Rattle.std.specs.Prelude.{take, drop, Some, slice_get}
+use Rattle.std.specs.Prelude.{take, drop, Option, Some, slice_get}
 use mathlib.Core.List.{IsPrefix}
 use Rattle.gate.specs.Places.{times, AreApart}
-use Rattle.book.specs.Serial.{Act, call, trim}
+use Rattle.book.specs.Serial.{Act, Deed, call, trim}
 use Rattle.history.specs.History.{IsLegal}
-use Rattle.shared.specs.Passes.{Which, Shows, IsWhole, Stays}
+use Rattle.shared.specs.Passes.{Which, Shows, ReceiptShows, seen_by, IsWhole, Stays, DoneAfter}
+use Rattle.shared.specs.Deeds.{Takes}
 use Rattle.sharded.specs.OneMap.{operation_shard}
 
 -- the stores that the passes are to
@@ -105,12 +107,40 @@ pub record IsJoined (v other w : Shows) : Type 0 where
   pub whole : w.room ≡ 64 → IsWhole w
   pub apart : AreApart v.made other.made
 
+-- each pass took in what is of its shard, where there is something, as R says
+abbrev pub AreTaken : {O : Type 0} → (Shows → O → Shows → Type 0)
+    → List Shows → List O → List Shows → Type 0
+AreTaken R [] others ws = ws ≡ []
+AreTaken R (v ∷ vs) others [] = ⊥
+AreTaken R (v ∷ vs) [] (w ∷ ws) = (w ≡ v) × AreTaken R vs [] ws
+AreTaken R (v ∷ vs) (o ∷ others) (w ∷ ws) = R v o w × AreTaken R vs others ws
+
 -- each took in the other of its shard, where there is one
 abbrev pub AreJoined : List Shows → List Shows → List Shows → Type 0
-AreJoined [] others ws = ws ≡ []
-AreJoined (v ∷ vs) others [] = ⊥
-AreJoined (v ∷ vs) [] (w ∷ ws) = (w ≡ v) × AreJoined vs [] ws
-AreJoined (v ∷ vs) (o ∷ others) (w ∷ ws) = IsJoined v o w × AreJoined vs others ws
+AreJoined vs others ws = AreTaken IsJoined vs others ws
+
+-- ---- receipts
+-- the stores that the receipts are of
+abbrev pub receipt_stores : List ReceiptShows → List Which
+receipt_stores rs = map (λ r. r.store) rs
+
+-- a pass took in a receipt
+pub record IsAccepted (v : Shows) (r : ReceiptShows) (w : Shows) : Type 0 where
+  pub kept : w ≡ record v {
+    seen = w.seen;
+    trimmed = w.trimmed;
+    acts = w.acts;
+    seen_visits = w.seen_visits;
+  }
+  pub one : (w ≡ v) ⊎ (seen_by w ≡ r)
+  pub seen : IsPrefix v.seen w.seen × IsPrefix r.seen w.seen
+  pub acts : IsPrefix v.acts w.acts × IsPrefix r.acts w.acts
+  pub later : (deed : Option Deed) (u : Shows) → Takes w deed u → DoneAfter r.acts w u
+  pub lone : v.room ≡ 64 → w ≡ v
+
+-- each took in the receipt of its shard, where there is one
+abbrev pub AreAccepted : List Shows → List ReceiptShows → List Shows → Type 0
+AreAccepted vs rs ws = AreTaken IsAccepted vs rs ws
 
 -- ---- own calls
 -- a call of a name of this shard. A trim has no name

@@ -9,11 +9,13 @@ mod journals;
 mod law;
 mod pass;
 mod placement;
+mod receipts;
 mod store;
 mod try_calls;
 
 pub use close::CloseFault;
 pub use law::prove_one_map;
 pub use placement::find_shard;
+pub use receipts::ShardedReceipt;
 pub use shared::{Answer, Book, Bytes, Code, Fault, Grant, Limit, Name, Pass, Plan, Plans, Store};
 pub use store::{ShardedPass, ShardedStore};

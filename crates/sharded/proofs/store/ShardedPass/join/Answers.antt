@@ -1,6 +1,7 @@
 use Rattle.std.proofs.Common.{ap, sym, ◌∙◌}
 use Rattle.sharded.specs.Passes.{stores_of}
-use Rattle.sharded.proofs.Passes.{joined_of_shards, joined_stores, same_length}
+use Rattle.sharded.proofs.Passes.{joined_of_shards, joined_stores}
+use Rattle.sharded.proofs.Taken.{same_length}
 use Rattle.sharded.proofs.store.ShardedPass.join.Goals as goal
 
 pub invariant_of-self : goal.invariant_of-self
