@@ -1,5 +1,5 @@
 -- What a worker did to a sharded store.
-use Rattle.std.specs.Prelude.{◌≡◌, ◌⊎◌, ℕ, List, [], ◌∷◌, Some, Ok, Err, slice_get}
+use Rattle.std.specs.Prelude.{◌≡◌, ◌⊎◌, ℕ, List, [], ◌∷◌, ◌++◌, length, Some, Ok, Err, slice_get}
 use Rattle.gate.specs.Places.{times}
 use Rattle.sealed.specs.declared.fault.Fault.{Fault}
 use Rattle.sealed.specs.declared.fault.Fault.TheVariants.{NoMemory}
@@ -9,6 +9,8 @@ use Rattle.mender.specs.Drawn.{DrawerState}
 use Rattle.mender.specs.Gathered.{tickets_of}
 use Rattle.mender.specs.Worked.{repair_of, Worked}
 use Rattle.shared.specs.Passes.{Shows}
+use Rattle.shared.specs.Calls.{HasJournalRoom}
+use Rattle.sharded.specs.Hash.{shard_of}
 use Rattle.sharded.specs.Steps.{IsCallAt}
 
 -- The results' repairs were made, in order: each is a call with its answer, at the shard of its
@@ -31,3 +33,14 @@ pub record IsStopped (plan : List Item) (old new : DrawerState)
   pub repaired : AreRepaired vs done before
   pub refused : ((fault ≡ NoMemory) × (ws ≡ before))
       ⊎ IsCallAt before (repair_of item) (Err fault) ws
+
+-- the journal had room at the shard of the item in hand, whose ticket was drawn last
+pub record HasRoomInHand (plan : List Item) (hand : DrawerState) (ws : List Shows) : Type 0 where
+  pub before : List ℕ
+  pub ticket : ℕ
+  pub drawn : hand.drawn ≡ before ++ ticket ∷ []
+  pub item : Item
+  pub there : slice_get plan ticket ≡ Some item
+  pub shown : Shows
+  pub here : slice_get ws (shard_of (length ws) item.name) ≡ Some shown
+  pub room : HasJournalRoom shown

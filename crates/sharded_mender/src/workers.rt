@@ -3,13 +3,14 @@
 // `mender` has these functions over one store. They repeat here, since no common contract could
 // name what a pass to a store and passes to all shards show.
 
-ghost use Rattle.std.specs.Prelude.{◌≡◌, ◌^◌, [], IfOk, IfErr, OnOk, OnErr};
+ghost use Rattle.std.specs.Prelude.{◌≡◌, ◌⊎◌, ◌^◌, [], length, IfOk, IfErr, OnOk, OnErr};
+ghost use Rattle.std.specs.Vec.{vec_capacity};
 ghost use Rattle.book.specs.Tells.{IsCallFault};
 ghost use Rattle.mender.specs.Drawn.{IsIntact};
 ghost use Rattle.mender.specs.Worked.{Finished, AreInOrder};
 ghost use Rattle.sharded.specs.Passes.{stores_of};
 ghost use Rattle.sharded.specs.StepsTo.{AreSteps, AreFirstSteps, HasLooked, lost_in_all};
-ghost use Rattle.sharded_mender.specs.Repairs.{AreRepaired, IsStopped};
+ghost use Rattle.sharded_mender.specs.Repairs.{AreRepaired, IsStopped, HasRoomInHand};
 
 use book::{Fault, Item, Plan};
 use mender::{Done, Drawer, Tickets, WorkFault};
@@ -49,9 +50,9 @@ pub fn scrub<R: Wait>(
 /// plan's order. A worker whose drawer has the whole allowance repairs the plan's items from the
 /// first on.
 ///
-/// `JournalFull` if the journal of an item's shard held as many entries as its limit; `NoMemory` if
-/// out of memory. The fault has the results so far. The ticket drawn last has none, and its repair
-/// was not made.
+/// `JournalFull` if the journal of an item's shard held as many entries as its limit. `NoMemory` if
+/// there is no memory for one more result, or for a repair of which its shard's journal had room.
+/// The fault has the results so far. The ticket drawn last has none, and its repair was not made.
 pub fn work<R: Wait>(
     rt: &R,
     alloc: Global,
@@ -73,6 +74,9 @@ pub fn work<R: Wait>(
     ensures in_order_by_then { IfErr result
         (λ stop. IsIntact drawer.old → AreInOrder plan.now.items.items stop.done.items) }
     ensures faults { IfErr result (λ stop. IsCallFault stop.fault) }
+    ensures no_memory { IfErr result (λ stop. stop.fault ≡ Fault.NoMemory
+        → HasRoomInHand plan.now.items.items drawer.new pass.new
+        ⊎ (vec_capacity stop.done ≡ length stop.done.items)) }
     ensures same { stores_of pass.new ≡ store.now }
 {
     let mut done = Vec::new(alloc);

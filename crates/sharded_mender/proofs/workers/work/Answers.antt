@@ -1,7 +1,7 @@
 use Rattle.std.proofs.Common.{rules, ◌≤◌, length, inl, inr, refl}
 use Rattle.mender.proofs.Answering.{answer_of_repair}
 use Rattle.mender.proofs.Working.{drew, in_hand, did_more, order_more}
-use Rattle.sharded_mender.proofs.Repairs.{repaired_more, stopped_at, refused_as}
+use Rattle.sharded_mender.proofs.Repairs.{repaired_more, stopped_at, refused_as, room_in_hand}
 use Rattle.sharded_mender.proofs.workers.work.Goals as goal
 
 pub returns-then-is_err-clause-err : goal.returns-then-is_err-clause-err
@@ -35,6 +35,14 @@ returns-in-Err-clause-err g c =
     let found = c.in-Some-get.ensures.lookup.3 in
     let h = in_hand _ _ _ _ c.draw.new.drawer _ c.in-Some.ticket c.in-Some-get.item.now inv.worked drew.some.0 drew.some.1 drew.fresh drew.rises c.deref.ensures.value found.0 (found.1 _) in
     stopped_at _ _ _ _ _ _ _ _ _ _ _ h inv.repaired (inr (refused_as (cc) c.in-Err.ensures.called)) c.reserve.ensures.items
+
+pub returns-in-Err-clause-no_memory : goal.returns-in-Err-clause-no_memory
+returns-in-Err-clause-no_memory g c =
+    let inv = c.loop-ticket.invariant in
+    let drew = c.in-Some.ensures in
+    let found = c.in-Some-get.ensures.lookup.3 in
+    let h = in_hand _ _ _ _ c.draw.new.drawer _ c.in-Some.ticket c.in-Some-get.item.now inv.worked drew.some.0 drew.some.1 drew.fresh drew.rises c.deref.ensures.value found.0 (found.1 _) in
+    λ lacks. inl (room_in_hand _ _ _ _ _ _ _ _ _ _ h c.in-Err.ensures.called (cc) lacks)
 
 pub returns-in_default-get-clause-ok : goal.returns-in_default-get-clause-ok
 returns-in_default-get-clause-ok g c =
