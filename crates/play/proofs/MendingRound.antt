@@ -1,8 +1,10 @@
 -- The effect of a mend's workers, as the pass shows it that joined them.
-use Rattle.std.proofs.Common.{◌≡◌, ◌∙◌, ℕ, ◌+◌, ◌<◌, ◌≤◌, List, [], ◌∷◌, ◌++◌, length, map, None, Some, Ok, Err, refl, ap, sym, subst, append-nil, length-append, arith, inl, inr}
+use Rattle.std.proofs.Common.{◌≡◌, ◌∙◌, ℕ, ◌+◌, ◌<◌, ◌≤◌, ◌==◌, Bool, true, false, List, [], ◌∷◌, ◌++◌, length, map, None, Some, Ok, Err, refl, ap, sym, subst, append-nil, length-append, arith, inl, inr, ne_eqb}
 use Rattle.std.specs.Prelude.{slice_get}
 use Rattle.std.proofs.lemmas.Grind.{flat_map-append}
 use Rattle.std.proofs.lemmas.List.{length-map, map-append}
+use Rattle.std.proofs.lemmas.List.Elements.{filter-append}
+use Rattle.std.proofs.lemmas.Bool.Decides.{nat_tests}
 use mathlib.Core.List.{IsPrefix}
 use Rattle.gate.specs.Events.{number_if}
 use Rattle.gate.specs.Places.{TableId, times}
@@ -34,15 +36,15 @@ use Rattle.rounds.specs.Pools.{IsAllOwn, AreWorkers, AreNew, HaveSeen, did_by, p
 use Rattle.play.specs.Mends.{IsMendingPart, AreMenders, HasEnded, AreEnded, TellsMend, AreDrawnOnce}
 use Rattle.play.specs.Runs.{IsMend, round_in}
 use Rattle.play.specs.Lists.{Each, Pairs}
-use Rattle.play.specs.Accounts.{Placed, act_at, Stands, own_places, Account, steps_in, found_of, Settles, IsMendOf, FindsAll, IsRound, IsOfWorker, IsBefore, IsGood, IsLater}
+use Rattle.play.specs.Accounts.{Placed, act_at, Stands, own_places, Account, steps_in, found_of, Settles, IsMendOf, FindsAll, IsRound, IsOfWorker, IsBefore, IsInTurn, IsGood, IsLater}
 use Rattle.transcript.specs.declared.outcome.NumberedOutcome.{NumberedOutcome}
 use Rattle.transcript.specs.declared.outcome.RowOutcome.{RowOutcome}
-use Rattle.play.proofs.Buckets.{each-append, each-across, each-both, each-weaker, pairs-append, pairs-weaker}
+use Rattle.play.proofs.Buckets.{each-append, each-across, each-both, each-weaker, filter-all, filter-none, pairs-append, pairs-weaker}
 use Rattle.play.proofs.Parts.{MendPart, mend_part}
-use Rattle.play.proofs.Taking.{Took, took_none, took_more, took_ok, took_full, deeds_finished, deeds_full}
+use Rattle.play.proofs.Taking.{Took, TookOne, TookInOrder, took_none, took_more, took_ok, took_full, in_order_none, in_order_first, in_order_later, deeds_finished, deeds_full}
 use Rattle.mender.specs.Drawn.{DrawerState}
 use Rattle.play.proofs.Mending.{back_with}
-use Rattle.play.proofs.Repaired.{deeds_in, mends_told}
+use Rattle.play.proofs.Repaired.{deeds_in, is_with, steps_with, HaveTookInOrder, mends_told}
 
 -- if each had a reply, all were asked for
 all_asked : (v w : Shows) (asks : List Ask) (replies : List Reply) (serves : Serves v asks replies w) → length replies ≡ length asks → map (λ (t : Turn). t.ask) serves.turns ≡ asks
@@ -58,10 +60,10 @@ module _ (store : Which) (rows : List Row) (round top base number : ℕ) (past :
     pub turns : List Turn
     pub did : w.did ≡ places_of who turns
     pub part : MendPart store.width store.limit rows round top acts who base (length before) number turns
-    pub took : Took plan (o ∷ []) (deeds_in part.steps)
+    pub took : TookOne plan o (deeds_in part.steps)
 
   turned : (who : ℕ) (o : Returned) (v w : Shows) (asks : List Ask) (replies : List Reply) → v.store ≡ store → (v.who ≡ who) × (v.acts ≡ before) × (v.did ≡ []) → (serves : Serves v asks replies w) → IsPrefix w.acts acts
-      → ((deeds : List Deed) → map Some deeds ≡ map (λ (t : Turn). deed_told t.ask t.reply) serves.turns → Took plan (o ∷ []) deeds) → Turned who o w
+      → ((deeds : List Deed) → map Some deeds ≡ map (λ (t : Turn). deed_told t.ask t.reply) serves.turns → TookOne plan o deeds) → Turned who o w
   turned who o v w asks replies at new serves later takes =
       let each : AreServed store.width store.limit acts who (length before) serves.turns =
       subst (λ (u : Which × (ℕ × List Act)). AreServed u.0.width u.0.limit acts u.1.0 (length u.1.1) serves.turns) (λ i. (at i, (new.0 i, new.1 i)))
@@ -106,6 +108,26 @@ module _ (store : Which) (rows : List Row) (round top base number : ℕ) (past :
     pub of_row : Each (λ (p : Placed). p.step.row ≡ number) steps
     pub below : Each (λ (p : Placed). p.step.who < who + length os) steps
     pub took : Took plan os (deeds_in steps)
+    pub in_order : HaveTookInOrder plan os steps
+    pub in_turn : Pairs IsInTurn steps
+
+  -- the steps of one worker and of those after it, by worker
+  in_order_both : (who : ℕ) (o : Returned) (os : List Returned) (xs ys : List Placed) → Each (λ (q : Placed). q.step.who ≡ who) xs → Each (λ (q : Placed). who + 1 ≤ q.step.who) ys
+      → TookInOrder plan (o ∷ []) (deeds_in xs) → HaveTookInOrder plan os ys → HaveTookInOrder plan (o ∷ os) (xs ++ ys)
+  in_order_both who o os xs ys of_one of_rest one rest v = by (who == v) refl
+    where
+      both : steps_with v (xs ++ ys) ≡ steps_with v xs ++ steps_with v ys
+      both = filter-append (is_with v) xs ys
+
+      by : (b : Bool) → (who == v) ≡ b → TookInOrder plan (o ∷ os) (deeds_in (steps_with v (xs ++ ys)))
+      by true e =
+          let mine = filter-all (is_with v) xs (each-weaker (λ (q : Placed). q.step.who ≡ who) (λ q. is_with v q ≡ true) (λ q is. ap (λ n. n == v) is ∙ e) xs of_one) in
+          let same : who ≡ v = grind (arith, nat_tests, e) in
+          let theirs = filter-none (is_with v) ys (each-weaker (λ (q : Placed). who + 1 ≤ q.step.who) (λ q. is_with v q ≡ false) (λ q le. ne_eqb q.step.who v (λ h. omega (arith, le, h, same))) ys of_rest) in
+          subst (λ (l : List Placed). TookInOrder plan (o ∷ os) (deeds_in l)) (sym (both ∙ (λ i. mine i ++ theirs i) ∙ append-nil xs)) (in_order_first plan o os (deeds_in xs) one)
+      by false e =
+          let none = filter-none (is_with v) xs (each-weaker (λ (q : Placed). q.step.who ≡ who) (λ q. is_with v q ≡ false) (λ q is. ap (λ n. n == v) is ∙ e) xs of_one) in
+          subst (λ (l : List Placed). TookInOrder plan (o ∷ os) (deeds_in l)) (sym (both ∙ ap (λ l. l ++ steps_with v ys) none)) (in_order_later plan o os (deeds_in (steps_with v ys)) (rest v))
 
   one_mender : (who : ℕ) (o : Returned) (os : List Returned) (w : Shows) (rest_did : List ℕ) → Turned who o w → MendersDid (who + 1) os rest_did → MendersDid who (o ∷ os) (w.did ++ rest_did)
   one_mender who o os w rest_did t rest =
@@ -115,6 +137,7 @@ module _ (store : Which) (rows : List Row) (round top base number : ℕ) (past :
       let later = each-weaker (IsOfWorker rows round top who base (length before)) (IsLater rows round top base (length before)) (λ q is. record { row = is.row; few = is.few; place = is.place; in_round = is.in_round }) xs p.are_of in
       let across : (x y : Placed) → (x.step.row ≡ number) → (y.step.row ≡ number) × (who + 1 ≤ y.step.who) → IsGood (round_in rows) x y = λ x y a b. (inl (omega (arith, a, b.0)), inl (inl (omega (arith, a, b.0)))) in
       let both = each-both (λ (q : Placed). q.step.row ≡ number) (λ (q : Placed). who + 1 ≤ q.step.who) ys rest.of_row rest.labels in
+      let of_one = each-weaker (IsOfWorker rows round top who base (length before)) (λ (q : Placed). q.step.who ≡ who) (λ q is. is.label) xs p.are_of in
       record {
         steps = xs ++ ys;
         places = (λ i. (t.did ∙ sym p.places) i ++ rest.places i) ∙ sym (flat_map-append (λ (q : Placed). number_if (length q.before) (act_at q)) xs ys);
@@ -129,12 +152,15 @@ module _ (store : Which) (rows : List Row) (round top base number : ℕ) (past :
         below = each-append (λ (q : Placed). q.step.who < who + length (o ∷ os)) xs ys
             (each-weaker (IsOfWorker rows round top who base (length before)) (λ (q : Placed). q.step.who < who + length (o ∷ os)) (λ q is. let e : q.step.who ≡ who = is.label in omega arith) xs p.are_of)
             (each-weaker (λ (q : Placed). q.step.who < who + 1 + length os) (λ (q : Placed). q.step.who < who + length (o ∷ os)) (λ q less. omega (arith, less)) ys rest.below);
-        took = subst (Took plan (o ∷ os)) (sym (map-append (λ (q : Placed). q.step.deed) xs ys)) (took_more plan (o ∷ []) os (deeds_in xs) (deeds_in ys) t.took rest.took);
+        took = subst (Took plan (o ∷ os)) (sym (map-append (λ (q : Placed). q.step.deed) xs ys)) (took_more plan (o ∷ []) os (deeds_in xs) (deeds_in ys) t.took.took rest.took);
+        in_order = in_order_both who o os xs ys of_one rest.labels t.took.in_order rest.in_order;
+        in_turn = pairs-append IsInTurn xs ys (pairs-weaker IsBefore IsInTurn (λ x y is same. is.1) xs p.order) rest.in_turn
+            (each-across (λ (q : Placed). q.step.who ≡ who) (λ (q : Placed). who + 1 ≤ q.step.who) IsInTurn (λ x y mine later same. absurd (omega (arith, mine, later, same))) xs ys of_one rest.labels);
       }
 
   pub menders_did : (who : ℕ) (works : List (Work Mending)) (rans : List (Ran Returned)) → AreWorkers store (passes_of works) → AreNew before who (passes_of works) → AreMenders plan tickets works → DidAll DidMend works rans
       → AreEnded (outcomes_of rans) → HaveSeen acts (passes_back rans) → MendersDid who (outcomes_of rans) (did_by (passes_back rans))
-  menders_did who [] [] at fresh are did ended seen = record { steps = []; places = refl; stand = tt; are_later = tt; labels = tt; order = tt; of_row = tt; below = tt; took = took_none plan }
+  menders_did who [] [] at fresh are did ended seen = record { steps = []; places = refl; stand = tt; are_later = tt; labels = tt; order = tt; of_row = tt; below = tt; took = took_none plan; in_order = λ v. in_order_none plan []; in_turn = tt }
   menders_did who [] (r ∷ rans) at fresh are did ended seen = absurd did
   menders_did who (w ∷ works) [] at fresh are did ended seen = absurd did
   menders_did who (w ∷ works) (r ∷ rans) at fresh are did ended seen =
@@ -173,9 +199,9 @@ mend_round store workers rows round top base number is old dismissed hired renew
     let did_same : hired.did ≡ old.did = same.1 ∙ joined ∙ none in
     let outcomes : length (outcomes_of rans) ≡ length rans = length-map rans (λ r. r.outcome) in
     let by_workers = each-both (λ (p : Placed). 1 ≤ p.step.who) (λ (p : Placed). p.step.who < 1 + length (outcomes_of rans)) m.steps m.labels m.below in
-    let mended = mends_told workers plan (outcomes_of rans) m.steps outcome m.took tells drawn
+    let mended = mends_told workers plan (outcomes_of rans) m.steps outcome m.in_order m.took tells drawn
     (each-weaker (λ (p : Placed). (1 ≤ p.step.who) × (p.step.who < 1 + length (outcomes_of rans))) (λ (p : Placed). (1 ≤ p.step.who) × (p.step.who ≤ workers)) (λ p h. (h.0, omega (arith, h.1, outcomes, many))) m.steps by_workers) in
-    let settles : Settles store.width workers is.row task.Mend one = (hired.acts, refl, subst (λ (items : List Item). IsMend workers items (map found_of m.steps)) planned mended.0, mended.1) in
+    let settles : Settles store.width workers is.row task.Mend one = (hired.acts, refl, subst (λ (items : List Item). IsMend workers items (map found_of m.steps)) planned mended.0, m.in_turn, mended.1) in
     record {
       accounts = one ∷ [];
       dones = refl;

@@ -135,7 +135,7 @@ key_high : (list : List Act) (place n : ℕ) → place + length list ≤ n → k
 key_high [] place n le = omega (arith, twice_is place, twice_is n)
 key_high (a ∷ list) place n le = omega (arith, twice_is place, twice_is n)
 
-key_before : (list bs : List Act) (place later : ℕ) → place + length list ≤ later → key_with list place ≤ key_with bs later
+pub key_before : (list bs : List Act) (place later : ℕ) → place + length list ≤ later → key_with list place ≤ key_with bs later
 key_before list bs place later le = let low = key_low bs later in let high = key_high list place later le in omega arith
 
 -- list many steps have the key of an act's place list that place stands among the places

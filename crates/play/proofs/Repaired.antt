@@ -1,5 +1,5 @@
 -- A mend's steps are repairs of its plan, and its outcome is their text.
-use Rattle.std.proofs.Common.{◌≡◌, ◌∙◌, ℕ, zero, suc, ◌<◌, ◌≤◌, ◌==◌, ◌||◌, Bool, true, false, cond, List, [], ◌∷◌, ◌++◌, length, map, take, drop, Some, IsPermutation, refl, ap, sym, subst, arith, true≢false}
+use Rattle.std.proofs.Common.{◌≡◌, ◌∙◌, ℕ, zero, suc, ◌+◌, ◌-◌, ◌<◌, ◌≤◌, ◌==◌, ◌||◌, Bool, true, false, cond, List, [], ◌∷◌, ◌++◌, length, map, take, drop, Some, IsPermutation, refl, ap, sym, subst, arith, true≢false}
 use Rattle.std.specs.Prelude.{slice_get, count_by, codes, decimal, if◌then◌else◌}
 use Rattle.std.specs.List.{filter, list_any}
 use Rattle.std.proofs.lemmas.Bool.Decides.{nat_tests}
@@ -8,6 +8,8 @@ use Rattle.std.proofs.lemmas.List.Sums.{length-filter, sum_by-cons}
 use Rattle.std.proofs.lemmas.List.Sorted.{IsPermutation-append_left, IsPermutation-map, IsPermutation-sym}
 use Rattle.std.proofs.lemmas.Option.{slice_get_within}
 use mathlib.Core.Logic.{dite}
+use mathlib.Core.List.{Sublist, nil-sublist}
+use mathlib.Core.List.Sublist
 use native.Mathlib.Decide.{dec_lt}
 use Rattle.gate.specs.Places.{times}
 use Rattle.history.specs.declared.note.Note.{Note}
@@ -28,15 +30,15 @@ use Rattle.rounds.specs.declared.kinds.Returned.{Returned}
 use Rattle.transcript.specs.declared.outcome.RowOutcome.{RowOutcome}
 use Rattle.transcript.specs.declared.outcome.RowOutcome.TheVariants as row
 use Rattle.transcript.specs.Lines.{line_text}
-use Rattle.play.specs.Lists.{Each}
+use Rattle.play.specs.Lists.{Each, Pairs}
 use Rattle.play.specs.Mends.{all_left, drawn_by, TellsMend, AreDrawnOnce}
 use Rattle.play.specs.Printed.{is_noted, noted, is_repaired, is_not_lost, is_gone, is_unrecoverable, mend_text}
-use Rattle.play.specs.Runs.{operation_in, operations_in, is_full, meets_full, IsByWorker, IsMend}
+use Rattle.play.specs.Runs.{operation_in, operations_in, is_full, meets_full, steps_by, IsByWorker, IsMend}
 use Rattle.play.specs.Steps.{Found}
 use Rattle.play.specs.Accounts.{Placed, found_of, IsMendTextOf}
-use Rattle.play.proofs.Buckets.{by_key, by_key-all, each-both, each-filter, each-passes, has_key}
+use Rattle.play.proofs.Buckets.{by_key, by_key-all, each-both, each-filter, each-passes, each-weaker, filter-map, has_key}
 use Rattle.play.proofs.Ordered.{all_each, each-map, one_alone}
-use Rattle.play.proofs.Taking.{Taken, tickets_in, items_in, deed_in, operations_by, Took}
+use Rattle.play.proofs.Taking.{Taken, tickets_in, items_in, deed_in, operations_by, Took, TookInOrder}
 
 -- ---- what was taken is the beginning of the plan, in some order
 take_next : {A : Type 0} (xs : List A) (n : ℕ) (x : A) → slice_get xs n ≡ Some x → take (suc n) xs ≡ take n xs ++ x ∷ []
@@ -89,6 +91,39 @@ module _ (plan : List Item) (taken : List Taken) (of_plan : Each (λ (t : Taken)
       subst (IsPermutation (items_in taken)) (first_items c (λ n less. once n ∙ once_below-in n c less))
       (IsPermutation-map (λ (t : Taken). t.1) taken (by_key (λ (t : Taken). t.0) c taken) (by_key-all (λ (t : Taken). t.0) c taken (tickets_below c taken (λ n le. once n ∙ once_below-out n c le))))
 
+-- items that were taken under rising tickets below `c` stand in the first `c` of the plan in their order. The plan begins at the ticket `base`
+abbrev IsFrom : List Item → ℕ → ℕ → Taken → Type 0
+IsFrom plan base c t = (base ≤ t.0) × (t.0 < base + c) × (slice_get plan (t.0 - base) ≡ Some t.1)
+
+from_next : (x : Item) (plan : List Item) (base c : ℕ) (t : Taken) → base < t.0 → IsFrom (x ∷ plan) base (suc c) t → IsFrom plan (suc base) c t
+from_next x plan base c t past is =
+    let shift : t.0 - base ≡ suc (t.0 - suc base) = omega (arith, past) in
+    (omega (arith, past), omega (arith, is.1), ap (slice_get (x ∷ plan)) (sym shift) ∙ is.2)
+
+in_order_from : (plan : List Item) (base c : ℕ) (taken : List Taken) → Each (IsFrom plan base c) taken → Pairs (λ (t u : Taken). t.0 < u.0) taken → Sublist (map repair_of (items_in taken)) (map repair_of (take c plan))
+in_order_from plan base c [] from rise = nil-sublist (map repair_of (take c plan))
+in_order_from [] base c (t ∷ taken) from rise = absurd (cc (from.0.2))
+in_order_from (x ∷ plan) base zero (t ∷ taken) from rise = absurd (omega (arith, from.0.0, from.0.1))
+in_order_from (x ∷ plan) base (suc c) (t ∷ taken) from rise = by (t.0 == base) refl (in_order_from plan (suc base) c)
+  where
+    Later : Type 0
+    Later = (us : List Taken) → Each (IsFrom plan (suc base) c) us → Pairs (λ (u v : Taken). u.0 < v.0) us → Sublist (map repair_of (items_in us)) (map repair_of (take c plan))
+
+    later : (u : Taken) → (t.0 < u.0) × IsFrom (x ∷ plan) base (suc c) u → IsFrom plan (suc base) c u
+    later u h = from_next x plan base c u (omega (arith, h.0, from.0.0)) h.1
+
+    rest : Each (IsFrom plan (suc base) c) taken
+    rest = each-weaker (λ (u : Taken). (t.0 < u.0) × IsFrom (x ∷ plan) base (suc c) u) (IsFrom plan (suc base) c) later taken (each-both (λ (u : Taken). t.0 < u.0) (IsFrom (x ∷ plan) base (suc c)) taken rise.0 from.1)
+
+    by : (b : Bool) → (t.0 == base) ≡ b → Later → Sublist (map repair_of (items_in (t ∷ taken))) (map repair_of (take (suc c) (x ∷ plan)))
+    by true e next =
+        let here : t.0 - base ≡ 0 = grind (arith, nat_tests, e) in
+        let same : x ≡ t.1 = cc (ap (slice_get (x ∷ plan)) (sym here) ∙ from.0.2) in
+        subst (λ (y : Item). Sublist (map repair_of (items_in (t ∷ taken))) (repair_of y ∷ map repair_of (take c plan))) (sym same) (Sublist.cons-cons (repair_of t.1) (next taken rest rise.1))
+    by false e next =
+        let past : base < t.0 = grind (arith, nat_tests, e, from.0.0) in
+        Sublist.cons (repair_of x) (next (t ∷ taken) (from_next x plan base c t past from.0, rest) rise)
+
 -- ---- the steps
 abbrev pub deeds_in : List Placed → List Deed
 deeds_in steps = map (λ (p : Placed). p.step.deed) steps
@@ -101,10 +136,38 @@ meets_are : (steps : List Placed) → meets_full (map found_of steps) ≡ list_a
 meets_are [] = refl
 meets_are (p ∷ steps) = ap (λ b. is_full p.step.deed || b) (meets_are steps)
 
+-- those of one worker
+abbrev pub is_with : ℕ → Placed → Bool
+is_with who p = p.step.who == who
+
+abbrev pub steps_with : ℕ → List Placed → List Placed
+steps_with who steps = filter (is_with who) steps
+
+-- each worker took its tickets in rising order
+abbrev pub HaveTookInOrder : List Item → List Returned → List Placed → Type 0
+HaveTookInOrder plan os steps = (who : ℕ) → TookInOrder plan os (deeds_in (steps_with who steps))
+
+-- and none of those that no worker took
+tickets_few : (plan : List Item) (os : List Returned) (all deeds : List Deed) (c : ℕ) (took : Took plan os all) → ((n : ℕ) → times n (tickets_in took.taken) ≡ once_below n c) → (t : TookInOrder plan os deeds)
+    → Each (λ (u : Taken). u.0 < c) t.taken
+tickets_few plan os all deeds c took once t = tickets_below c t.taken (λ n le. dite (dec_lt n (length plan))
+    (λ below. omega (arith, t.few n below, took.tickets n below, once n, once_below-out n c le))
+    (λ past. past_plan plan t.taken t.of_plan n (omega (arith, past))))
+
+mends_in_order : (plan : List Item) (os : List Returned) (steps : List Placed) (c : ℕ) → (took : Took plan os (deeds_in steps)) → ((n : ℕ) → times n (tickets_in took.taken) ≡ once_below n c)
+    → HaveTookInOrder plan os steps → (who : ℕ) → Sublist (operations_in (steps_by who (map found_of steps))) (map repair_of (take c plan))
+mends_in_order plan os steps c took once each who =
+    let mine = steps_with who steps in
+    let t = each who in
+    let few = each-both (λ (u : Taken). u.0 < c) (λ (u : Taken). slice_get plan u.0 ≡ Some u.1) t.taken (tickets_few plan os (deeds_in steps) (deeds_in mine) c took once t) t.of_plan in
+    let from = each-weaker (λ (u : Taken). (u.0 < c) × (slice_get plan u.0 ≡ Some u.1)) (IsFrom plan 0 c) (λ u h. let at : u.0 - 0 ≡ u.0 = omega arith in (omega arith, omega (arith, h.0), ap (slice_get plan) at ∙ h.1)) t.taken few in
+    subst (λ l. Sublist l (map repair_of (take c plan))) (sym (ap operations_in (filter-map found_of (λ (f : Found). f.1.who == who) steps) ∙ operations_are mine ∙ t.operations))
+    (in_order_from plan 0 c t.taken from t.rises)
+
 -- repairs of the first items of the plan, or of all of them if none met a full journal
-mends_first : (workers : ℕ) (plan : List Item) (os : List Returned) (steps : List Placed) (c : ℕ) → (took : Took plan os (deeds_in steps)) → ((n : ℕ) → times n (tickets_in took.taken) ≡ once_below n c)
+mends_first : (workers : ℕ) (plan : List Item) (os : List Returned) (steps : List Placed) (c : ℕ) → HaveTookInOrder plan os steps → (took : Took plan os (deeds_in steps)) → ((n : ℕ) → times n (tickets_in took.taken) ≡ once_below n c)
     → Each (λ (p : Placed). (1 ≤ p.step.who) × (p.step.who ≤ workers)) steps → (list_any is_full (deeds_in steps) ≡ false → drop c plan ≡ []) → IsMend workers plan (map found_of steps)
-mends_first workers plan os steps c took once are_by all =
+mends_first workers plan os steps c ordered took once are_by all =
     let operations = operations_are steps ∙ took.operations in
     let taken = IsPermutation-append_left (drop c plan) (take c plan) (items_in took.taken) (IsPermutation-sym (items_in took.taken) (take c plan) (first_taken plan took.taken took.of_plan c once)) in
     let whole = subst (λ l. IsPermutation l (items_in took.taken ++ drop c plan)) (take-append-drop c plan) taken in
@@ -119,6 +182,7 @@ mends_first workers plan os steps c took once are_by all =
           (IsPermutation-map repair_of plan (items_in took.taken ++ drop c plan) whole);
       only_calls = omega (arith, many, took.many, steps_many, found_many);
       workers_are = all_each (IsByWorker workers) (map found_of steps) (each-map found_of (IsByWorker workers) steps are_by);
+      in_order = mends_in_order plan os steps c took once ordered;
       all = λ none. ap (map repair_of) (all (sym (meets_are steps) ∙ none));
     }
 
@@ -166,25 +230,25 @@ module _ (steps : List Placed) (results : List Done) (are : deeds_in steps ≡ m
       ∙ (λ i. if sym none i then codes "full" else numbers_text (map found_of steps))
 
 -- ---- the whole
-pub mends_told : (workers : ℕ) (plan : List Item) (os : List Returned) (steps : List Placed) (outcome : RowOutcome) → Took plan os (deeds_in steps) → TellsMend plan os outcome → AreDrawnOnce os
+pub mends_told : (workers : ℕ) (plan : List Item) (os : List Returned) (steps : List Placed) (outcome : RowOutcome) → HaveTookInOrder plan os steps → Took plan os (deeds_in steps) → TellsMend plan os outcome → AreDrawnOnce os
     → Each (λ (p : Placed). (1 ≤ p.step.who) × (p.step.who ≤ workers)) steps → IsMend workers plan (map found_of steps) × IsMendTextOf (map found_of steps) outcome
-mends_told workers plan os steps (row.Replied reply) took tells drawn are_by = absurd tells
-mends_told workers plan os steps (row.Mended report) took tells drawn are_by =
+mends_told workers plan os steps (row.Replied reply) ordered took tells drawn are_by = absurd tells
+mends_told workers plan os steps (row.Mended report) ordered took tells drawn are_by =
     let results = results_of (all_left os) in
     let r = took.results tells.0 in
     let none : list_any is_full (deeds_in steps) ≡ false = took.full ∙ tells.0 in (
-      mends_first workers plan os steps (length plan) took (λ n. ap (times n) r.1 ∙ tells.1.1 n) are_by (λ no. drop_all (length plan) plan (omega arith)),
+      mends_first workers plan os steps (length plan) ordered took (λ n. ap (times n) r.1 ∙ tells.1.1 n) are_by (λ no. drop_all (length plan) plan (omega arith)),
       λ reply is. ap line_text is ∙ ap report_line tells.2 ∙ text_is steps results r.0 (meets_are steps ∙ none),
     )
-mends_told workers plan os steps row.Full took tells drawn are_by =
+mends_told workers plan os steps row.Full ordered took tells drawn are_by =
     let some : list_any is_full (deeds_in steps) ≡ true = took.full ∙ tells in
     let m = length (drawn_by os) in
     let impossible : (c : ℕ) → list_any is_full (deeds_in steps) ≡ false → drop c plan ≡ [] = λ c no. absurd (true≢false (sym some ∙ no)) in
     let none_past : (n : ℕ) → length plan ≤ n → times n (tickets_in took.taken) ≡ 0 = past_plan plan took.taken took.of_plan in (
       dite (dec_lt m (length plan))
-          (λ less. mends_first workers plan os steps m took
+          (λ less. mends_first workers plan os steps m ordered took
           (λ n. dite (dec_lt n (length plan)) (λ below. took.tickets n below ∙ drawn n) (λ past. none_past n (omega (arith, past)) ∙ sym (once_below-out n m (omega (arith, past, less))))) are_by (impossible m))
-          (λ many. mends_first workers plan os steps (length plan) took
+          (λ many. mends_first workers plan os steps (length plan) ordered took
           (λ n. dite (dec_lt n (length plan)) (λ below. took.tickets n below ∙ drawn n ∙ once_below-in n m (omega (arith, below, many)) ∙ sym (once_below-in n (length plan) below)) (λ past. none_past n (omega (arith, past)) ∙ sym (once_below-out n (length plan) (omega (arith, past)))))
           are_by (impossible (length plan))),
       λ reply is. ap line_text is ∙ (λ i. if sym (meets_are steps ∙ some) i then codes "full" else numbers_text (map found_of steps)),

@@ -1,6 +1,7 @@
 -- What the workers of a mend took of its plan, and what they did with it.
 use Rattle.std.proofs.Common.{◌≡◌, ◌∙◌, ℕ, suc, ◌+◌, ◌<◌, ◌≤◌, ◌==◌, ◌||◌, Bool, true, false, cond, List, [], ◌∷◌, ◌++◌, length, map, Option, Some, All, refl, ap, sym, subst, ⊎_elim, arith, append-nil, length-append, true≢false}
-use Rattle.std.specs.Prelude.{slice_get}
+use Rattle.std.specs.Prelude.{slice_get, slice_index}
+use Rattle.std.specs.List.Sorted.{IsStrictlyIncreasing}
 use Rattle.std.specs.List.{flat_map, list_any}
 use Rattle.std.proofs.lemmas.Bool.Decides.{nat_tests}
 use Rattle.std.proofs.lemmas.Grind.{flat_map-append}
@@ -25,10 +26,10 @@ use Rattle.mender.specs.Mended.{Left, results_of}
 use Rattle.mender.specs.Worked.{repair_of, ask_of, asks_of, replies_of, Worked, Finished}
 use Rattle.rounds.specs.declared.kinds.Mended.{Mended}
 use Rattle.rounds.specs.declared.kinds.Returned.{Returned}
-use Rattle.play.specs.Lists.{Each}
+use Rattle.play.specs.Lists.{Each, Pairs}
 use Rattle.play.specs.Mends.{left_of, all_left, is_stopped, drawn_by}
 use Rattle.play.specs.Runs.{operation_in, is_full}
-use Rattle.play.proofs.Buckets.{each-append}
+use Rattle.play.proofs.Buckets.{each-append, each-weaker}
 use Rattle.play.proofs.Mending.{back_with}
 
 -- a ticket with its item
@@ -89,7 +90,84 @@ took_more plan xs ys one two a b =
           );
     }
 
+-- What one of these workers took of the plan, in rising order, each with its repair
+pub record TookInOrder (plan : List Item) (os : List Returned) (deeds : List Deed) : Type 0 where
+  pub taken : List Taken
+  pub operations : operations_by deeds ≡ map repair_of (items_in taken)
+  pub of_plan : Each (λ (t : Taken). slice_get plan t.0 ≡ Some t.1) taken
+  pub rises : Pairs (λ (t u : Taken). t.0 < u.0) taken
+  pub few : (n : ℕ) → n < length plan → times n (tickets_in taken) ≤ times n (drawn_by os)
+
+pub in_order_none : (plan : List Item) (os : List Returned) → TookInOrder plan os []
+in_order_none plan os = record { taken = []; operations = refl; of_plan = tt; rises = tt; few = λ n below. omega arith }
+
+-- the same with more workers
+drawn_more : (n : ℕ) (o : Returned) (os : List Returned) → times n (drawn_by (o ∷ os)) ≡ times n o.drawer.drawn + times n (drawn_by os)
+drawn_more n o os = times-append n o.drawer.drawn (drawn_by os)
+
+pub in_order_first : (plan : List Item) (o : Returned) (os : List Returned) (deeds : List Deed) → TookInOrder plan (o ∷ []) deeds → TookInOrder plan (o ∷ os) deeds
+in_order_first plan o os deeds t = record {
+  taken = t.taken;
+  operations = t.operations;
+  of_plan = t.of_plan;
+  rises = t.rises;
+  few = λ n below. omega (arith, t.few n below, drawn_more n o [], drawn_more n o os);
+}
+
+pub in_order_later : (plan : List Item) (o : Returned) (os : List Returned) (deeds : List Deed) → TookInOrder plan os deeds → TookInOrder plan (o ∷ os) deeds
+in_order_later plan o os deeds t = record {
+  taken = t.taken;
+  operations = t.operations;
+  of_plan = t.of_plan;
+  rises = t.rises;
+  few = λ n below. omega (arith, t.few n below, drawn_more n o os);
+}
+
+-- ---- tickets that rise
+pairs_rise : (xs : List ℕ) → IsStrictlyIncreasing xs → Pairs (λ m n. m < n) xs
+pairs_rise [] rise = tt
+pairs_rise (x ∷ []) rise = (tt, tt)
+pairs_rise (x ∷ y ∷ ys) rise =
+    let next : (k : ℕ) → suc k + 1 ≡ suc (k + 1) = λ k. omega arith in
+    let rest = pairs_rise (y ∷ ys) (λ k less. subst (λ n. slice_index (y ∷ ys) k < slice_index (x ∷ y ∷ ys) n) (next k) (rise (suc k) (omega (arith, less)))) in
+    let first : x < y = rise 0 (omega arith) in
+    ((first, each-weaker (λ n. y < n) (λ n. x < n) (λ n less. omega (arith, less, first)) ys rest.0), rest)
+
+each_front : {X : Type 0} (P : X → Type 0) (xs ys : List X) → Each P (xs ++ ys) → Each P xs
+each_front P [] ys all = tt
+each_front P (x ∷ xs) ys all = (all.0, each_front P xs ys all.1)
+
+pairs_front : {X : Type 0} (R : X → X → Type 0) (xs ys : List X) → Pairs R (xs ++ ys) → Pairs R xs
+pairs_front R [] ys all = tt
+pairs_front R (x ∷ xs) ys all = (each_front (R x) xs ys all.0, pairs_front R xs ys all.1)
+
+each_unmapped : {X Y : Type 0} (f : X → Y) (P : Y → Type 0) (xs : List X) → Each P (map f xs) → Each (λ x. P (f x)) xs
+each_unmapped f P [] all = tt
+each_unmapped f P (x ∷ xs) all = (all.0, each_unmapped f P xs all.1)
+
+-- what was taken under tickets that rise
+taken_rise : (taken : List Taken) → Pairs (λ m n. m < n) (tickets_in taken) → Pairs (λ (t u : Taken). t.0 < u.0) taken
+taken_rise [] rise = tt
+taken_rise (t ∷ taken) rise = (each_unmapped (λ (u : Taken). u.0) (λ n. t.0 < n) taken rise.0, taken_rise taken rise.1)
+
 -- ---- one worker
+-- its deeds, and that it took the tickets in rising order
+pub record TookOne (plan : List Item) (o : Returned) (deeds : List Deed) : Type 0 where
+  pub took : Took plan (o ∷ []) deeds
+  pub in_order : TookInOrder plan (o ∷ []) deeds
+
+took_one : (plan : List Item) (o : Returned) (deeds : List Deed) (t : Took plan (o ∷ []) deeds) → Pairs (λ m n. m < n) (tickets_in t.taken) → TookOne plan o deeds
+took_one plan o deeds t rise = record {
+  took = t;
+  in_order = record {
+    taken = t.taken;
+    operations = t.operations;
+    of_plan = t.of_plan;
+    rises = taken_rise t.taken rise;
+    few = λ n below. omega (arith, t.tickets n below);
+  };
+}
+
 -- the deeds of the replies, in order
 abbrev told_all : List Ask → List Reply → List (Option Deed)
 told_all [] replies = []
@@ -160,35 +238,41 @@ drawn_finished plan old new done others w none n past =
 
 -- a worker that finished
 took_finished : (plan : List Item) (old new : DrawerState) (done : List Done) (m : Mended) (others : List ℕ) (deeds : List Deed) → Worked plan old new done others → old.drawn ≡ [] → ((n : ℕ) → n < length plan → times n others ≡ 0)
-    → is_stopped (back_with new m) ≡ false → results_of (all_left (back_with new m ∷ [])) ≡ done → deeds ≡ map deed_in done → Took plan (back_with new m ∷ []) deeds
-took_finished plan old new done m others deeds w none past not_stopped results are = subst (Took plan (back_with new m ∷ [])) (sym are) (record {
-  taken = map taken_in done;
-  operations = operations_done done;
-  many = many_done done;
-  of_plan = each_of_plan plan done w.of_plan;
-  tickets = λ n below. ap (times n) (tickets_done done) ∙ drawn_finished plan old new done others w none n (past n below);
-  full = none_full done ∙ sym (ap (λ b. b || false) not_stopped);
-  results = λ no. (ap (map deed_in) (sym results), tickets_done done ∙ ap tickets_of (sym results));
-})
+    → is_stopped (back_with new m) ≡ false → results_of (all_left (back_with new m ∷ [])) ≡ done → deeds ≡ map deed_in done → TookOne plan (back_with new m) deeds
+took_finished plan old new done m others deeds w none past not_stopped results are = subst (TookOne plan (back_with new m)) (sym are)
+    (took_one plan (back_with new m) (map deed_in done) (record {
+      taken = map taken_in done;
+      operations = operations_done done;
+      many = many_done done;
+      of_plan = each_of_plan plan done w.of_plan;
+      tickets = λ n below. ap (times n) (tickets_done done) ∙ drawn_finished plan old new done others w none n (past n below);
+      full = none_full done ∙ sym (ap (λ b. b || false) not_stopped);
+      results = λ no. (ap (map deed_in) (sym results), tickets_done done ∙ ap tickets_of (sym results));
+    })
+    (subst (Pairs (λ m n. m < n)) (sym (tickets_done done)) (pairs_front (λ m n. m < n) (tickets_of done) others (pairs_rise (tickets_of done ++ others) w.rises))))
 
 pub took_ok : (plan : List Item) (old new : DrawerState) (done : List Done) (m : Mended) (deeds : List Deed) → Finished plan old new done → old.drawn ≡ [] → is_stopped (back_with new m) ≡ false
-    → results_of (all_left (back_with new m ∷ [])) ≡ done → deeds ≡ map deed_in done → Took plan (back_with new m ∷ []) deeds
+    → results_of (all_left (back_with new m ∷ [])) ≡ done → deeds ≡ map deed_in done → TookOne plan (back_with new m) deeds
 took_ok plan old new done m deeds finished none not_stopped results are = ⊎_elim
     (λ t. took_finished plan old new done m [] deeds t.0 none (λ n below. refl) not_stopped results are)
     (λ t. took_finished plan old new done m (t.0 ∷ []) deeds t.2 none (λ n below. past_none n t.0 (length plan) below t.1) not_stopped results are)
     finished
 
 -- and one that met a full journal
+tickets_last : (done : List Done) (ticket : ℕ) (item : Item) → tickets_in (map taken_in done ++ (ticket, item) ∷ []) ≡ tickets_of done ++ ticket ∷ []
+tickets_last done ticket item = map-append (λ (t : Taken). t.0) (map taken_in done) ((ticket, item) ∷ []) ∙ ap (λ l. l ++ ticket ∷ []) (tickets_done done)
+
 pub took_full : (plan : List Item) (old new : DrawerState) (done : List Done) (m : Mended) (ticket : ℕ) (item : Item) (deeds : List Deed) → Worked plan old new done (ticket ∷ []) → slice_get plan ticket ≡ Some item → old.drawn ≡ []
-    → is_stopped (back_with new m) ≡ true → deeds ≡ map deed_in done ++ full (repair_of item) ∷ [] → Took plan (back_with new m ∷ []) deeds
-took_full plan old new done m ticket item deeds w there none stopped are = subst (Took plan (back_with new m ∷ [])) (sym are) (record {
-  taken = map taken_in done ++ (ticket, item) ∷ [];
-  operations = flat_map-append operation_in (map deed_in done) (full (repair_of item) ∷ []) ∙ ap (λ l. l ++ repair_of item ∷ []) (operations_done done)
-      ∙ sym (ap (map repair_of) (map-append (λ (t : Taken). t.1) (map taken_in done) ((ticket, item) ∷ [])) ∙ map-append repair_of (items_in (map taken_in done)) (item ∷ []));
-  many = omega (arith, length-append (map deed_in done) (full (repair_of item) ∷ []), length-append (map taken_in done) ((ticket, item) ∷ []), many_done done);
-  of_plan = each-append (λ (t : Taken). slice_get plan t.0 ≡ Some t.1) (map taken_in done) ((ticket, item) ∷ []) (each_of_plan plan done w.of_plan) (there, tt);
-  tickets = λ n below. ap (times n) (map-append (λ (t : Taken). t.0) (map taken_in done) ((ticket, item) ∷ []) ∙ ap (λ l. l ++ ticket ∷ []) (tickets_done done))
-      ∙ ap (times n) (sym (append-nil new.drawn ∙ w.draws.drawn ∙ ap (λ l. l ++ (tickets_of done ++ ticket ∷ [])) none));
-  full = list_any-append is_full (map deed_in done) (full (repair_of item) ∷ []) ∙ ap (λ b. b || true) (none_full done) ∙ sym (ap (λ b. b || false) stopped);
-  results = λ no. absurd (true≢false (sym (ap (λ b. b || false) stopped) ∙ no));
-})
+    → is_stopped (back_with new m) ≡ true → deeds ≡ map deed_in done ++ full (repair_of item) ∷ [] → TookOne plan (back_with new m) deeds
+took_full plan old new done m ticket item deeds w there none stopped are = subst (TookOne plan (back_with new m)) (sym are)
+    (took_one plan (back_with new m) (map deed_in done ++ full (repair_of item) ∷ []) (record {
+      taken = map taken_in done ++ (ticket, item) ∷ [];
+      operations = flat_map-append operation_in (map deed_in done) (full (repair_of item) ∷ []) ∙ ap (λ l. l ++ repair_of item ∷ []) (operations_done done)
+          ∙ sym (ap (map repair_of) (map-append (λ (t : Taken). t.1) (map taken_in done) ((ticket, item) ∷ [])) ∙ map-append repair_of (items_in (map taken_in done)) (item ∷ []));
+      many = omega (arith, length-append (map deed_in done) (full (repair_of item) ∷ []), length-append (map taken_in done) ((ticket, item) ∷ []), many_done done);
+      of_plan = each-append (λ (t : Taken). slice_get plan t.0 ≡ Some t.1) (map taken_in done) ((ticket, item) ∷ []) (each_of_plan plan done w.of_plan) (there, tt);
+      tickets = λ n below. ap (times n) (tickets_last done ticket item) ∙ ap (times n) (sym (append-nil new.drawn ∙ w.draws.drawn ∙ ap (λ l. l ++ (tickets_of done ++ ticket ∷ [])) none));
+      full = list_any-append is_full (map deed_in done) (full (repair_of item) ∷ []) ∙ ap (λ b. b || true) (none_full done) ∙ sym (ap (λ b. b || false) stopped);
+      results = λ no. absurd (true≢false (sym (ap (λ b. b || false) stopped) ∙ no));
+    })
+    (subst (Pairs (λ m n. m < n)) (sym (tickets_last done ticket item)) (pairs_rise (tickets_of done ++ ticket ∷ []) w.rises)))

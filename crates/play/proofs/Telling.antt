@@ -1,5 +1,5 @@
 -- Each row's steps among all, and its line.
-use Rattle.std.proofs.Common.{◌≡◌, ◌≢◌, ◌∙◌, ℕ, suc, ◌+◌, ◌<◌, ◌≤◌, ◌==◌, nat_lt, Bool, true, false, cond, List, [], ◌∷◌, ◌++◌, length, map, Some, All, IsPermutation, refl, ap, sym, subst, arith, append-nil, append_assoc, length-append, sum_by, ne_eqb}
+use Rattle.std.proofs.Common.{◌≡◌, ◌≢◌, ◌∙◌, ℕ, suc, ◌+◌, ◌<◌, ◌≤◌, ◌==◌, nat_lt, Bool, true, false, cond, List, [], ◌∷◌, ◌++◌, length, map, take, Some, All, IsPermutation, refl, ap, sym, subst, arith, append-nil, append_assoc, length-append, sum_by, ne_eqb}
 use Rattle.std.specs.Prelude.{slice_get, count_by, codes, decimal, if◌then◌else◌}
 use Rattle.std.specs.List.{filter, range_with_len}
 use Rattle.std.proofs.lemmas.Bool.Decides.{nat_tests}
@@ -7,7 +7,7 @@ use Rattle.std.proofs.lemmas.List.Elements.{All-head, All-tail, filter-append}
 use Rattle.std.proofs.lemmas.List.Sorted.{All-permutation, IsPermutation-map, IsPermutation-trans, list_any-IsPermutation, length_permutation, sum_by-IsPermutation, IsPermutation-append_left}
 use Rattle.std.proofs.lemmas.List.Sums.{sum_by-cons}
 use Rattle.std.proofs.lemmas.Option.{slice_get_within}
-use mathlib.Core.List.{IsPrefix}
+use mathlib.Core.List.{IsPrefix, Sublist}
 use Rattle.gate.specs.Places.{times, once_later}
 use Rattle.gate.proofs.Lists.{prefix_length, once_later-here, once_later-le}
 use Rattle.book.specs.Plan.{plan_of}
@@ -21,25 +21,17 @@ use Rattle.script.specs.declared.rows.Task.{Task}
 use Rattle.script.specs.declared.rows.Task.TheVariants.{Make, Mend}
 use Rattle.play.specs.Lists.{Each, Pairs}
 use Rattle.play.specs.Steps.{Step, Found, found, standing_after}
-use Rattle.play.specs.Runs.{steps_of, IsOne, IsRow, IsMend, IsByWorker, is_full, operation_in, operations_in}
+use Rattle.play.specs.Runs.{steps_of, steps_by, IsOne, IsRow, IsMend, IsByWorker, is_full, operation_in, operations_in}
 use Rattle.play.specs.Printed.{deed_text, is_noted, is_repaired, is_not_lost, is_gone, is_unrecoverable, mend_text, row_text, row_lines}
 use Rattle.transcript.specs.Lines.{AreLines, IsLineFor, line_text}
-use Rattle.play.specs.Accounts.{Placed, found_of, Account, dones_in, numbers_in, steps_in, earlier, HasDone, Settles, IsAccount, IsDone}
+use Rattle.play.specs.Accounts.{Placed, act_at, found_of, IsInTurn, Account, dones_in, numbers_in, steps_in, earlier, HasDone, Settles, IsAccount, IsDone}
 use Rattle.transcript.specs.declared.outcome.NumberedOutcome.{NumberedOutcome}
 use Rattle.transcript.specs.declared.line.Line.{Line}
-use Rattle.play.proofs.Buckets.{after, each-append, each-both, each-by_key, each-filter, each-weaker, by_key-all, by_key-one, filter-by_key, twice}
-use Rattle.play.proofs.Ordered.{key, keys_below, in_order_below, steps_at, Follow, follow, found_are, standing_is, goes_on, begins_at, each-map, all_each}
+use Rattle.play.proofs.Buckets.{after, each-append, each-both, each-by_key, each-filter, each-passes, each-weaker, by_key-all, by_key-one, by_key-same_order, filter-by_key, filter-map, pairs-filter, pairs-passing, pairs-weaker, twice}
+use Rattle.play.proofs.Ordered.{key, key_before, place_of, keys_below, in_order_below, steps_at, Follow, follow, found_are, standing_is, goes_on, begins_at, each-map, all_each}
 use Rattle.play.proofs.Sorting.{in_order}
 
 -- ---- filters
-filter-map : {A B : Type 0} (f : A → B) (p : B → Bool) (xs : List A) → filter p (map f xs) ≡ map f (filter (λ x. p (f x)) xs)
-filter-map f p [] = refl
-filter-map {A} {B} f p (x ∷ xs) = by (p (f x)) refl (filter-map f p xs)
-  where
-    by : (b : Bool) → p (f x) ≡ b → filter p (map f xs) ≡ map f (filter (λ y. p (f y)) xs) → cond b (f x ∷ filter p (map f xs)) (filter p (map f xs)) ≡ map f (cond b (x ∷ filter (λ y. p (f y)) xs) (filter (λ y. p (f y)) xs))
-    by true e rest = ap (λ l. f x ∷ l) rest
-    by false e rest = rest
-
 -- the steps of the row with this number
 abbrev of_row : ℕ → List Placed → List Placed
 of_row number steps = filter (λ p. p.step.row == number) steps
@@ -148,8 +140,9 @@ each_operation (f ∷ fs) all =
 only_calls_moved : (xs ys : List Found) → IsPermutation xs ys → length (operations_in xs) ≡ length xs → length (operations_in ys) ≡ length ys
 only_calls_moved xs ys moved all = omega (arith, all, many_operations xs, many_operations ys, sum_by-IsPermutation many_in xs ys moved, length_permutation xs ys moved)
 
-mends_moved : (workers : ℕ) (plan : List Item) (xs ys : List Found) → IsPermutation xs ys → IsMend workers plan xs → IsMend workers plan ys
-mends_moved workers plan xs ys moved m =
+-- each worker's steps keep their order
+mends_moved : (workers : ℕ) (plan : List Item) (xs ys : List Found) → IsPermutation xs ys → ((who : ℕ) → steps_by who xs ≡ steps_by who ys) → IsMend workers plan xs → IsMend workers plan ys
+mends_moved workers plan xs ys moved same m =
     let more = only_calls_moved xs ys moved m.only_calls in
     let f : Found → Operation = λ x. operation_for x.1.deed in
     let operations = subst (λ l. IsPermutation l (operations_in ys)) (sym (each_operation xs m.only_calls))
@@ -161,8 +154,23 @@ mends_moved workers plan xs ys moved m =
       each = IsPermutation-trans (map repair_of plan) (operations_in xs ++ m.left_out) (operations_in ys ++ m.left_out) m.each (IsPermutation-append_left m.left_out (operations_in xs) (operations_in ys) operations);
       only_calls = more;
       workers_are = All-permutation (IsByWorker workers) xs ys moved m.workers_are;
+      in_order = λ who. subst (λ l. Sublist (operations_in l) (map repair_of (take m.count plan))) (same who) (m.in_order who);
       all = λ none. m.all (list_any-IsPermutation (λ (x : Found). is_full x.1.deed) xs ys moved ∙ none);
     }
+
+-- steps of one worker that are done one after the other stay so in the order of the acts
+by_worker : (n who : ℕ) (steps : List Placed) → Each (λ (p : Placed). key p < suc (twice n)) steps → Pairs IsInTurn steps
+    → steps_by who (map found_of steps) ≡ steps_by who (map found_of (in_order_below n steps))
+by_worker n who steps below turns =
+    let test : Placed → Bool = λ p. p.step.who == who in
+    let mine = filter test steps in
+    let passes = each-passes test steps in
+    let rise = pairs-passing test (λ x y. key x ≤ key y) mine passes (pairs-weaker IsInTurn (λ x y. test x ≡ true → test y ≡ true → key x ≤ key y)
+    (λ x y turn a b. key_before (act_at x) (act_at y) (place_of x) (place_of y) (turn (grind (arith, nat_tests, a, b)))) mine (pairs-filter IsInTurn test steps turns)) in
+    let kept = by_key-same_order key (suc (twice n)) mine (each-filter (λ (p : Placed). key p < suc (twice n)) test steps below) rise in
+    filter-map found_of (λ (f : Found). f.1.who == who) steps
+    ∙ ap (map found_of) (sym kept ∙ sym (filter-by_key key test (suc (twice n)) steps))
+    ∙ sym (filter-map found_of (λ (f : Found). f.1.who == who) (in_order_below n steps))
 
 mend_text_moved : (xs ys : List Found) → IsPermutation xs ys → mend_text xs ≡ mend_text ys
 mend_text_moved xs ys moved =
@@ -232,12 +240,12 @@ module _ (w l workers : ℕ) (rows : List Row) (acts : List Act) (accounts : Lis
         subst (IsOne row ask) (sym one) (who, asked),
         λ reply is. text reply is ∙ sym (append-nil (deed_text w (standing_of p.before) p.step.deed)) ∙ ap (row_text w (Make ask)) (sym one),
       )
-  is_told a alone done row Mend (found, is, mends, text) =
+  is_told a alone done row Mend (found, is, mends, turns, text) =
       let finds = done.finds found is in
       let same = steps_for a alone in
       let moved = IsPermutation-map found_of a.steps (in_order_below (length acts) a.steps) (by_key-all key (suc (twice (length acts))) a.steps (keys_of a alone)) in
       let standing = standing_then a.done.number found finds.0 finds.1 in (
-        subst (λ (u : Standing × List Found). IsMend workers (plan_of u.0.state) u.1) (λ i. (sym standing i, sym same i)) (mends_moved workers (plan_of (standing_of found).state) (map found_of a.steps) (map found_of (in_order_below (length acts) a.steps)) moved mends),
+        subst (λ (u : Standing × List Found). IsMend workers (plan_of u.0.state) u.1) (λ i. (sym standing i, sym same i)) (mends_moved workers (plan_of (standing_of found).state) (map found_of a.steps) (map found_of (in_order_below (length acts) a.steps)) moved (λ who. by_worker (length acts) who a.steps (keys_of a alone) turns) mends),
         λ reply r_is. text reply r_is ∙ mend_text_moved (map found_of a.steps) (map found_of (in_order_below (length acts) a.steps)) moved ∙ ap mend_text (sym same),
       )
 

@@ -57,16 +57,23 @@ IsTextOf w p outcome = (line : Line) → IsLineFor outcome line → line_text li
 abbrev pub found_of : Placed → Found
 found_of p = (standing_of p.before, p.step)
 
+-- if both are of one worker, the one is done before the other begins
+abbrev pub IsInTurn : Placed → Placed → Type 0
+IsInTurn x y =
+    x.step.who ≡ y.step.who → length x.before + length (act_at x) ≤ length y.before
+
 -- the outcome is the text of a mend's steps
 abbrev pub IsMendTextOf : List Found → RowOutcome → Type 0
 IsMendTextOf steps outcome = (line : Line) → IsLineFor outcome line → line_text line ≡ mend_text steps
 
 -- the row's steps are what it asks for, and the outcome is their text. A mend's plan is that of the
--- standing after the acts that it found
+-- standing after the acts that it found, and each worker's steps stand in the order of their places
 abbrev pub Settles : ℕ → ℕ → Row → Task → Account → Type 0
 Settles w workers row (Make ask) a = (p : Placed) × (a.steps ≡ p ∷ []) × (p.step.who ≡ row.worker) × IsAsked ask p.step.deed × IsTextOf w p a.done.outcome
 Settles w workers row Mend a =
-    (acts : List Act) × (a.found ≡ Some acts) × IsMend workers (plan_of (standing_of acts).state) (map found_of a.steps) × IsMendTextOf (map found_of a.steps) a.done.outcome
+    (acts : List Act) × (a.found ≡ Some acts)
+    × IsMend workers (plan_of (standing_of acts).state) (map found_of a.steps)
+    × Pairs IsInTurn a.steps × IsMendTextOf (map found_of a.steps) a.done.outcome
 
 -- the account of a row of the script
 pub record IsAccount (w workers : ℕ) (rows : List Row) (a : Account) : Type 0 where
