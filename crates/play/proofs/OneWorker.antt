@@ -1,5 +1,5 @@
 -- A single worker repairs the first items of a mend's plan, in the plan's order.
-use Rattle.std.proofs.Common.{◌≡◌, ◌∙◌, ℕ, zero, suc, ◌≤◌, ◌==◌, true, List, [], ◌∷◌, ◌++◌, length, map, take, drop, All, refl, ap, sym, subst, arith, length-append}
+use Rattle.std.proofs.Common.{◌≡◌, ◌∙◌, ℕ, zero, suc, ◌==◌, true, List, [], ◌∷◌, ◌++◌, length, map, take, drop, refl, ap, sym, subst, arith, length-append}
 use Rattle.std.proofs.Math.Decide.{ℕ_discrete}
 use Rattle.std.proofs.lemmas.Bool.Decides.{nat_tests}
 use Rattle.std.proofs.lemmas.List.{length-map, take-append-drop}
@@ -15,7 +15,7 @@ use Rattle.book.specs.declared.plan.Item.{Item}
 use Rattle.mender.specs.Worked.{repair_of}
 use Rattle.play.specs.Lists.{Each}
 use Rattle.play.specs.Steps.{Found}
-use Rattle.play.specs.Runs.{IsByWorker, IsMend, operations_in, steps_by}
+use Rattle.play.specs.Runs.{IsByWorker, IsMend, operations_in}
 use Rattle.play.proofs.Buckets.{each-weaker, filter-all}
 use Rattle.play.proofs.Telling.{each_all}
 
