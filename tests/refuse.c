@@ -1,7 +1,8 @@
 // For tests, loaded before the C library: the request for memory of number REFUSE is refused,
 // counted from 1 over malloc, calloc and realloc, and the thread of number REFUSE_THREAD is not
-// started. The file REFUSED is made when either happens: it has "thread" if that was in the start of
-// a thread, and else "memory". Each thread that is started adds a byte to the file STARTED.
+// started. The file REFUSED is made when either happens: it has "start" if that was in a call that
+// starts a thread, and else "main" or "worker" for the thread that asked. Each thread that is started
+// adds a byte to the file STARTED.
 #define _GNU_SOURCE
 #include <dlfcn.h>
 #include <errno.h>
@@ -38,7 +39,7 @@ static int refused(struct counted *it) {
     if (atomic_fetch_add(&it->count, 1) + 1 != it->wanted) {
         return 0;
     }
-    const char *where = is_starting ? "thread" : "memory";
+    const char *where = is_starting ? "start" : gettid() == getpid() ? "main" : "worker";
     int file = open_named("REFUSED");
     if (file >= 0) {
         if (write(file, where, strlen(where)) < 0) {

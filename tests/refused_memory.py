@@ -37,9 +37,10 @@ THREADED = [
     ["meeting_16.csv", "--workers", "16"],
 ]
 NO_THREAD = b"lrcstore: cannot start a worker\n"
-# What the program says, by where memory was refused. A thread for which there is no memory is not
-# started.
-MESSAGES = {b"memory": b"lrcstore: out of memory\n", b"thread": NO_THREAD}
+NO_MEMORY = b"lrcstore: out of memory\n"
+# What the program may say, by where memory was refused. The main thread asks for a block for each
+# thread that it starts; if it gets none, the thread is not started.
+MESSAGES = {b"start": (NO_THREAD,), b"main": (NO_MEMORY, NO_THREAD), b"worker": (NO_MEMORY,)}
 # So many numbers in a row at which nothing was refused end a range: with several threads the count
 # of requests differs between runs.
 BEHIND = 8
@@ -161,14 +162,20 @@ def workers_of(words):
 
 
 def test_memory(test, words):
-    threads = threads_of(os.path.join(test.runs.folder, words[0]), workers_of(words))
-    ample = test.ample([program("lrcstore"), *words], threads)
+    workers = workers_of(words)
+    threads = threads_of(os.path.join(test.runs.folder, words[0]), workers)
+    ample, blocks = test.ample([program("lrcstore"), *words], threads), []
 
-    def is_right(_, ran):
-        is_ended = ran.status == 3 and not ran.out and ran.err == MESSAGES[ran.where]
+    def is_right(number, ran):
+        if ran.where == b"main" and ran.err == NO_THREAD:
+            blocks.append(number)
+        is_ended = ran.status == 3 and not ran.out and ran.err in MESSAGES[ran.where]
         return ran[:4] == ample[:4] or is_ended and ran.threads <= threads
 
     test.check([program("lrcstore"), *words], 1, is_right)
+    # With one worker each run asks in the same order: one block for each thread, and no more.
+    if workers == 1 and len(blocks) != threads:
+        test.complain(*words, "blocks of", threads, "threads are the requests", blocks)
 
 
 def test_threads(test, words):
