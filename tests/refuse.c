@@ -1,8 +1,8 @@
 // For tests, loaded before the C library: the request for memory of number REFUSE is refused,
 // counted from 1 over malloc, calloc and realloc, and the thread of number REFUSE_THREAD is not
 // started. The file REFUSED is made when either happens: it has "start" if that was in a call that
-// starts a thread, and else "main" or "worker" for the thread that asked. Each thread that is started
-// adds a byte to the file STARTED.
+// starts a thread, and else "main" or "worker" for the thread that asked. Each thread that is
+// started adds a byte to the file STARTED.
 #define _GNU_SOURCE
 #include <dlfcn.h>
 #include <errno.h>

@@ -570,7 +570,8 @@ pub extern "C" fn lrc_plan_decode(
         (missing_in plan.now) (slice_index_or (chosen_in plan.now) 3 None) from (from + w)
         fourth.old fourth.new) }
     ensures taken { (result ≢ BAD_ARGUMENT) ↔ IsSomeAnd (code_in plan.now) (λ code.
-        (format_in plan.now ≡ PLAN_FORMAT) × AreLostIn code (missing_in plan.now) (chosen_in plan.now)
+        (format_in plan.now ≡ PLAN_FORMAT)
+        × AreLostIn code (missing_in plan.now) (chosen_in plan.now)
         × HaveRoomFor (chosen_in plan.now) w first.old second.old third.old fourth.old
         × LeftReach code (map (λ f. f.now) fragments.now) (missing_in plan.now) (from + w)
         × (from + w < 2 ^ 64)) }

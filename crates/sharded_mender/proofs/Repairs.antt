@@ -44,7 +44,7 @@ stopped_at plan old new vs us ws done items n it fault h repaired refused kept =
 pub refused_as : {us ws : List Shows} {o p : Operation} {fault : Fault} → o ≡ p → IsCallAt us o (Err fault) ws → IsCallAt us p (Err fault) ws
 refused_as {us} {ws} {o} {p} {fault} same made = subst (λ x. IsCallAt us x (Err fault) ws) same made
 
--- a repair that was refused for want of memory found room in its shard's journal
+-- a repair that was out of memory found room in its shard's journal
 pub room_in_hand : (plan : List Item) (old new : DrawerState) (us ws : List Shows) (done : List Done) (n : ℕ) (it : Item) (o : Operation) (fault : Fault) → InHand plan old new done n it → IsCallAt us o (Err fault) ws → o ≡ repair_of it → fault ≡ NoMemory
     → HasRoomInHand plan new ws
 room_in_hand plan old new us ws done n it o fault h made same lacks =

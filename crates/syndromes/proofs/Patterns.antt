@@ -13,7 +13,7 @@ use Rattle.syndromes.specs.Plans.{Takes}
 use Rattle.syndromes.specs.Patterns.{group, AreSums}
 use Rattle.syndromes.proofs.Taken.{combined_taken}
 
--- the lanes are syndromes, but for those that are not taken
+-- the lanes are syndromes, where these are computed
 pub record AreLanes (s t : ℕ → ℕ) (second third fourth : Bool) : Type 0 where
   pub first : s 0 ≡ t 0
   pub second_is : second ≡ true → s 1 ≡ t 1
