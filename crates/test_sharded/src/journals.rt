@@ -1,12 +1,12 @@
 //! Trims, passes and books.
 ghost use Rattle.std.specs.Prelude.{◌≡◌, ◌<◌, length, IfOk};
-ghost use Rattle.sharded.specs.Passes.{stores_of, AreLone};
+ghost use Rattle.sharded.specs.Passes.{stores_of, receipt_stores, AreLone};
 
 use crate::calls::{Call, Form, expect};
 use crate::names::{CALLS, NAMES, count_at};
 use anyhow::{Result, bail, ensure};
 use book::{Book, Note, is_lawful_from};
-use sharded::{Name, ShardedPass, ShardedStore};
+use sharded::{Name, ShardedPass, ShardedReceipt, ShardedStore};
 use std::alloc::Global;
 use std::sync::Wait;
 
@@ -82,6 +82,18 @@ pub(crate) fn split(
     }
 }
 
+/// A receipt of what a pass has seen at each shard, again if out of memory.
+fn receipt_of(alloc: Global, store: &ShardedStore, pass: &mut ShardedPass) -> Result<ShardedReceipt>
+    requires { stores_of pass.old ≡ store.now }
+    ensures pass { stores_of pass.new ≡ store.now }
+    ensures given { IfOk result (λ r. receipt_stores r ≡ store.now) }
+{
+    match pass.receipt(alloc, store) {
+        Ok(receipt) => Ok(receipt),
+        Err(_) => Ok(pass.receipt(alloc, store)?),
+    }
+}
+
 /// Closes a store whose passes are all joined, again if out of memory, and returns its books.
 pub(crate) fn close(alloc: Global, store: ShardedStore, pass: ShardedPass) -> Result<Vec<Book>>
     requires { stores_of pass ≡ store }
@@ -111,7 +123,8 @@ pub(crate) fn count_entries(alloc: Global, books: &[Book]) -> Result<u64> {
     Ok(count)
 }
 
-/// A call by a second pass, which is then joined. The closed books have this call alone.
+/// A call by a second pass, which hands on a receipt of it and is then joined. The closed books have
+/// this call alone.
 pub(crate) fn split_and_close<R: Wait>(
     rt: &R,
     alloc: Global,
@@ -125,6 +138,9 @@ pub(crate) fn split_and_close<R: Wait>(
     let name = Name::new("no-blob")?;
     let step = (Call::Stat, Note::NoName);
     expect(rt, alloc, &store, &mut other, &name, Form::Waits, step)?;
+    let receipt = receipt_of(alloc, &store, &mut other)?;
+    pass.accept(&store, receipt);
+    ensure!(pass.room() == 63 && other.room() == 1, "other rooms");
     pass.join(&store, other);
     let count = store.count_shards();
     let books = close(alloc, store, pass)?;
