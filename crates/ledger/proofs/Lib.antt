@@ -1,0 +1,4 @@
+pub mod Lists
+pub mod Moves
+pub mod Opening
+pub mod Values

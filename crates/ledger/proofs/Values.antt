@@ -1,0 +1,56 @@
+-- The keeper in a lock has all acts between the values that were left there.
+use Rattle.std.proofs.Common.{◌≡◌, ℕ, List, [], ◌∷◌, ◌++◌, Some, ap, sym, subst, ◌∙◌, append_assoc, append-nil}
+use mathlib.Core.List.{IsPrefix}
+use Rattle.gate.specs.Places.{last_of, IsChain}
+use Rattle.gate.proofs.Lists.{last_of-snoc}
+use Rattle.gate.proofs.Events.{chain_from, history-append}
+use Rattle.ledger.specs.declared.held.Held.{Held}
+use Rattle.ledger.specs.Acts.{TableId, KeeperState}
+use Rattle.ledger.specs.Values.{grown, between_held, acts_in, acts_since, acts_to, MayFollowHeld, KeepsAll}
+
+module _ {T A : Type 0} (between : T → T → List A) where
+  last_from : (xs rest : List (Held T A)) (x : Held T A) → last_of xs ≡ Some x → last_of (x ∷ rest) ≡ last_of (xs ++ rest)
+  last_from [] rest x e = absurd (cc)
+  last_from (y ∷ []) rest x e = let same : x ≡ y = cc in ap (λ (h : Held T A). last_of (h ∷ rest)) same
+  last_from (y ∷ z ∷ zs) rest x e = last_from (z ∷ zs) rest x e
+
+  module _ (follows : T → T → Type 0) where
+    grown_from : (x : Held T A) (zs : List (Held T A)) (y : Held T A) → IsChain (MayFollowHeld between follows) (x ∷ zs) → last_of (x ∷ zs) ≡ Some y → y.keeper ≡ grown x.keeper (acts_in between (x ∷ zs))
+    grown_from x [] y c e =
+        let same : y ≡ x = cc in
+        ap (λ (h : Held T A). h.keeper) same ∙ ap (λ (l : List A). record { ledger = x.keeper.ledger; shard = x.keeper.shard; acts = l }) (sym (append-nil x.keeper.acts))
+    grown_from x (z ∷ zs) y c e =
+        grown_from z zs y c.1 e
+        ∙ (ap (λ (q : KeeperState A). grown q (acts_in between (z ∷ zs))) c.0.1
+        ∙ ap (λ (l : List A). record { ledger = x.keeper.ledger; shard = x.keeper.shard; acts = l }) (append_assoc x.keeper.acts (between x.value z.value) (acts_in between (z ∷ zs))))
+
+    -- a longer list of values that were left
+    pub keeps_longer : (id : TableId) (k : ℕ) (xs ys : List (Held T A)) (y : Held T A) → KeepsAll between id k xs → IsPrefix xs ys → IsChain (MayFollowHeld between follows) ys → last_of ys ≡ Some y → KeepsAll between id k ys
+    keeps_longer id k xs ys y has p c e =
+        let x : Held T A = has.0 in
+        let rest : List (Held T A) = p.0 in
+        let chain = chain_from (MayFollowHeld between follows) xs rest x has.1 (subst (IsChain (MayFollowHeld between follows)) (sym p.1) c) in
+        let last : last_of (x ∷ rest) ≡ Some y = last_from xs rest x has.1 ∙ (ap last_of p.1 ∙ e) in (
+          y,
+          e,
+          grown_from x rest y chain last
+              ∙ (ap (λ (q : KeeperState A). grown q (acts_in between (x ∷ rest))) has.2
+              ∙ ap (λ (l : List A). record { ledger = id; shard = k; acts = l }) (sym (history-append (between_held between) xs rest x has.1) ∙ ap (acts_in between) p.1)),
+        )
+
+  -- one value more
+  pub acts-snoc : (xs : List (Held T A)) (x h : Held T A) → last_of xs ≡ Some x → acts_in between (xs ++ h ∷ []) ≡ acts_in between xs ++ between x.value h.value
+  acts-snoc xs x h e = history-append (between_held between) xs (h ∷ []) x e ∙ ap (λ (l : List A). acts_in between xs ++ l) (append-nil (between x.value h.value))
+
+  pub acts_to-last : (xs : List (Held T A)) (x : Held T A) (y : T) → last_of xs ≡ Some x → acts_to between xs y ≡ between x.value y
+  acts_to-last xs x y e = ap (λ o. acts_since between o y) e
+
+  pub keeps_left : (id : TableId) (k : ℕ) (xs ys : List (Held T A)) (q : KeeperState A) (h : Held T A) → KeepsAll between id k xs → ((x : Held T A) → last_of xs ≡ Some x → q ≡ x.keeper) → h.keeper ≡ grown q (acts_to between xs h.value) → ys ≡ xs ++ h ∷ [] → KeepsAll between id k ys
+  keeps_left id k xs ys q h has found is list =
+      subst (KeepsAll between id k) (sym list) (
+        h,
+        last_of-snoc xs h,
+        is
+            ∙ (ap (λ (r : KeeperState A). grown r (acts_to between xs h.value)) (found has.0 has.1 ∙ has.2)
+            ∙ ap (λ (l : List A). record { ledger = id; shard = k; acts = l }) (ap (λ (l : List A). acts_in between xs ++ l) (acts_to-last xs has.0 h.value has.1) ∙ sym (acts-snoc xs has.0 h has.1))),
+      )
