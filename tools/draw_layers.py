@@ -25,7 +25,11 @@ ROW, WIDE, HIGH, GAP, LEFT, TOP_EDGE = 58, 106, 28, 12, 24, 84
 KINDS = [
     ("coding", FIRST, "gf256 kernels lrc_code syndromes decode"),
     ("blobs", SECOND, "sealed lent"),
-    ("store", FIRST_PARITY, "history book gate requests shared mender sharded sharded_mender"),
+    (
+        "store",
+        FIRST_PARITY,
+        "history book gate ledger requests shared mender sharded sharded_mender ledger_map",
+    ),
     ("scripts", MADE, "script command_line transcript rounds play program lrcstore"),
     ("for C", GLOBAL, "coder_c session store_c"),
 ]
