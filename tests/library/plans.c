@@ -134,6 +134,42 @@ static void test_lost_sets(size_t data_fragments, unsigned wanted) {
     printf("%zu data fragments: plans for %u lost sets\n", data_fragments, planned);
 }
 
+/* Lengths around a vector's and a block's, for sets that are decoded in different ways. */
+static void test_lengths(void) {
+    enum { LONGEST = 8201 };
+    static const size_t lengths[] = {0, 1, 31, 32, 33, 63, 64, 65, 511, 4095, 4096, 4097, LONGEST};
+    static const uint16_t sets[] = {0x0001, 0x0041, 0x0003, 0x0007, 0x00C3, 0x4000, 0xC000,
+                                    0x4001, 0x8001, 0xC001, 0xC041, 0x0047, 0x4003, 0x3000};
+    static uint8_t bytes[MOST][LONGEST], targets[4][LONGEST + 1];
+    const uint8_t *data[WIDE];
+    lrc_slice slices[MOST];
+    for (size_t i = 0; i < MOST; i++) {
+        for (size_t k = 0; i < WIDE && k < LONGEST; k++) bytes[i][k] = draw();
+        if (i < WIDE) data[i] = bytes[i];
+    }
+    uint8_t *parities[4] = {bytes[12], bytes[13], bytes[14], bytes[15]};
+    CHECK(lrc_encode_arrays(WIDE, LONGEST, data, parities) == LRC_DONE);
+    for (size_t s = 0; s < sizeof sets / sizeof *sets; s++) {
+        uint8_t plan[LRC_PLAN_BYTES], numbers[4];
+        uint16_t reads;
+        numbers_of(sets[s], numbers);
+        CHECK(lrc_plan(WIDE, sets[s], numbers, plan, &reads) == LRC_DONE);
+        for (size_t l = 0; l < sizeof lengths / sizeof *lengths; l++) {
+            const size_t len = lengths[l], from = LONGEST - len;
+            for (size_t i = 0; i < MOST; i++) slices[i] = (lrc_slice){bytes[i], LONGEST};
+            memset(targets, FILL, sizeof targets);
+            CHECK(lrc_plan_decode(plan, slices, from, len, targets[0], len, targets[1], len,
+                                  targets[2], len, targets[3], len) == LRC_DONE);
+            for (size_t i = 0; i < 4; i++) {
+                const size_t made = numbers[i] == LRC_NONE ? 0 : len;
+                if (made) CHECK(memcmp(targets[i], bytes[numbers[i]] + from, len) == 0);
+                CHECK(targets[i][made] == FILL);
+            }
+        }
+    }
+    puts("plans: lengths from 0 to 8201");
+}
+
 /* Plans of random bytes, and plans with a byte changed: a status, and no byte outside. */
 static void test_any_bytes(void) {
     stripe made;
@@ -201,6 +237,7 @@ static void test_refusals(void) {
 int main(void) {
     test_lost_sets(WIDE, 2265);
     test_lost_sets(SMALL, 356);
+    test_lengths();
     test_any_bytes();
     test_refusals();
     if (failures) printf("%d checks failed\n", failures);
