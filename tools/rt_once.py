@@ -9,7 +9,8 @@ Checksums. rt computes the checksum of a crate anew for each path of crates.txt 
 each once. The sums are the same.
 
 Mutants. rt tries the mutants of a crate in turn, each over the work of the one before, so each also
-proves again what that one changed. Here each starts from the work of a proof from nothing.
+proves again what that one changed. Here each starts from the work of a proof from nothing. Kit 13f
+does both by itself.
 
 Archives. `ci` proves a static library and builds none. `archive` builds it over the libraries that
 `ci` has proved, with one proof more of the crate itself for both processors. If the gate has not
@@ -27,7 +28,8 @@ import threading
 
 TOP = os.path.dirname(os.path.dirname(os.path.abspath(__file__)))
 SUM, KEPT = "out/gate.sum", "out/kept"
-KIT = "rattle-kit-13b "
+# The kits whose `ci` is known here, and the one whose checksums and mutants need help.
+KITS, OLD_KIT = ("rattle-kit-13b ", "rattle-kit-13f "), "rattle-kit-13b "
 
 
 def load_rt():
@@ -41,7 +43,7 @@ def load_rt():
 
 
 def kit_of(rt):
-    """The kit's name. What stands below is for one kit, and with another rt works as it is."""
+    """The kit's name. What stands below is for KITS, and with another rt works as it is."""
     with open(f"{rt.KIT}/KIT-ID", encoding="utf-8") as file:
         return file.read()
 
@@ -64,15 +66,30 @@ def sum_once(rtlib):
     rtlib.Crate.stamp = stamp
 
 
+def note_sum(crate):
+    """Leaves the checksum of a static library that `ci` has proved."""
+    if crate.is_static:
+        with open(f"{crate.folder}/{SUM}", "w", encoding="utf-8") as file:
+            file.write(crate.stamp())
+
+
 def note_sums(rt):
-    """Has `ci` leave the checksum of each static library that it has proved."""
-    whole = rt.Crate.ci
+    """Has `ci` leave these checksums: also of what an earlier run proved, if the kit keeps that."""
+    if hasattr(rt, "Kept"):
+        whole = rt.Kept.is_built
+
+        def is_built(self, crate):
+            whole(self, crate)
+            note_sum(crate)
+
+        rt.Kept.is_built = is_built
+        return
+    whole_ci = rt.Crate.ci
 
     def ci(self, flags, tests):
-        status = whole(self, flags, tests)
-        if not status and not tests and self.is_static:
-            with open(f"{self.folder}/{SUM}", "w", encoding="utf-8") as file:
-                file.write(self.stamp())
+        status = whole_ci(self, flags, tests)
+        if not status and not tests:
+            note_sum(self)
         return status
 
     rt.Crate.ci = ci
@@ -143,10 +160,11 @@ def build_archive(rt, name, cpu, archive):
 def main():
     words = sys.argv[1:]
     rt = load_rt()
-    if kit_of(rt).startswith(KIT):
+    if kit_of(rt).startswith(OLD_KIT):
         sum_once(rt.rtlib)
-        note_sums(rt)
         start_from_proof(rt)
+    if kit_of(rt).startswith(KITS):
+        note_sums(rt)
     if words[:1] == ["archive"]:
         if len(words) != 4 or words[2] not in ("v2", "v3"):
             sys.exit(__doc__)
