@@ -113,9 +113,12 @@ pub fn run_line<Rt: Threads + Wait + Sync>(
     ensures cause { IfErr result
         (λ fail. NamesRefusedRow line.now.options.workers script.items fail) }
     ensures never_paused { IfErr result (λ fail. fail ≢ Fail.Paused) }
+    ensures in_memory { IfErr result (λ fail. (fail ≢ Fail.Read) × (fail ≢ Fail.Write)) }
 {
     match text_of(rt, alloc, &line.options, Cursor::new(script), &Always) {
         Ok(text) => Ok(text),
+        // the script and the text are in memory: the first is read, and nothing is written
+        Err(Fail::Read | Fail::Write) => Err(Fail::Memory),
         Err(fail) => Err(fail),
     }
 }
