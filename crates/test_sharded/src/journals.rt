@@ -123,8 +123,8 @@ pub(crate) fn count_entries(alloc: Global, books: &[Book]) -> Result<u64> {
     Ok(count)
 }
 
-/// A call by a second pass, which hands on a receipt of it and is then joined. The closed books have
-/// this call alone.
+/// A call by a second pass, which hands on a receipt and is then joined. The closed books have this
+/// call alone.
 pub(crate) fn split_and_close<R: Wait>(
     rt: &R,
     alloc: Global,
