@@ -99,17 +99,19 @@ enum { LRC_PLAN_BYTES = 24 };
 /* Makes a plan for decoding up to four lost fragments, which are numbered as for lrc_decode. It
  * depends on the code, the lost set and the numbers alone: make it once and use it for any number
  * of stripes, with lrc_plan_decode. It is plain bytes: copy it, send it, keep it in a file. Nothing
- * is to be released. Bit i of `reads` is set if and only if lrc_plan_decode reads fragment i: no
- * lost one, and none that weighs nothing. LRC_UNRECOVERABLE and LRC_BAD_ARGUMENT as from
- * lrc_decode, where they are about these arguments. */
+ * is to be released. Bit i of `reads` is set if and only if lrc_plan_decode reads fragment i, which
+ * is never a lost one. LRC_UNRECOVERABLE if and only if all arguments are valid and a numbered
+ * fragment is unrecoverable. LRC_BAD_ARGUMENT if and only if there is no such code, or a numbered
+ * fragment is not the code's or not in `lost`. */
 uint32_t lrc_plan(size_t data_fragments, uint16_t lost, const uint8_t numbers[4],
                   uint8_t plan[LRC_PLAN_BYTES], uint16_t *reads);
 
 /* lrc_decode of the fragments that a plan is for. The slices of fragments that it does not read are
  * ignored, and the targets are those of its numbers. Any bytes are safe as a plan; by bytes that
  * lrc_plan did not make, the targets get any bytes. LRC_BAD_ARGUMENT if and only if one of these
- * holds: the plan's bytes are no plan of this version; a target does not have `len` bytes; a
- * fragment that the plan reads has fewer than from+len bytes; that sum is more than SIZE_MAX. */
+ * holds: the plan's bytes have another format, no code, or a number of a fragment that is not the
+ * code's or that the plan reads; a target does not have `len` bytes; a fragment that the plan reads
+ * has fewer than from+len bytes; that sum is more than SIZE_MAX. */
 uint32_t lrc_plan_decode(const uint8_t plan[LRC_PLAN_BYTES], const lrc_slice fragments[16],
                          size_t from, size_t len, uint8_t *first, size_t first_len,
                          uint8_t *second, size_t second_len, uint8_t *third, size_t third_len,
