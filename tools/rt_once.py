@@ -10,7 +10,7 @@ each once. The sums are the same.
 
 Mutants. rt tries the mutants of a crate in turn, each over the work of the one before, so each also
 proves again what that one changed. Here each starts from the work of a proof from nothing. Kit 13f
-does both by itself.
+starts mutants so by itself. These two are for kit 13b alone.
 
 Archives. `ci` proves a static library and builds none. `archive` builds it over the libraries that
 `ci` has proved, with one proof more of the crate itself for both processors. If the gate has not
@@ -28,7 +28,7 @@ import threading
 
 TOP = os.path.dirname(os.path.dirname(os.path.abspath(__file__)))
 SUM, KEPT = "out/gate.sum", "out/kept"
-# The kits whose `ci` is known here, and the one whose checksums and mutants need help.
+# The kits whose `ci` is known here, and the one whose checksums and mutants are helped.
 KITS, OLD_KIT = ("rattle-kit-13b ", "rattle-kit-13f "), "rattle-kit-13b "
 
 
