@@ -12,8 +12,7 @@ use Rattle.gf256.specs.Field.{product}
 use Rattle.gf256.proofs.Laws.{product_assoc}
 use Rattle.gf256.proofs.Linear.{product-xor_right}
 use Rattle.gf256.proofs.Ring.{Term, var, plus, times, same_by_ring}
-use Rattle.lrc_code.specs.declared.recipes.ParityCheck.TheVariants.{Global}
-use Rattle.lrc_code.specs.ParityCheck.{place_of, FirstOf, other_of, reduced_weight, determinant, AreFactors}
+use Rattle.lrc_code.specs.ParityCheck.{place_of, FirstOf, other_of, reduced_weight, determinant}
 use Rattle.lrc_code.proofs.Witness.{weight-lt}
 use Rattle.lrc_code.proofs.Opening.{reduced_weight-lt}
 use Rattle.lrc_code.proofs.Computed.{test_below, passes_below}
@@ -92,6 +91,17 @@ determined_first code lost f l h =
     let both = and_parts (list_any (λ i. i == f) (first_group code)) (count_by lost (first_group code) == 1) lost_and.1 in
     alone_in code lost 0 f l lost_and.0 (omega arith) (weight_first code f l both.0) (sym (first_count code lost) ∙ eqb-true (count_by lost (first_group code)) 1 both.1) (λ i il. (side code i il).first)
 
+-- such a fragment weighs 1 in the equation of its group
+pub one_in_first : (code : Code) → (lost : ℕ → Bool) (f : ℕ) → f < fragment_count code → is_only_lost_of lost (first_group code) f ≡ true → weight code 0 f ≡ 1
+unfolding is_only_lost_of
+one_in_first code lost f l h =
+    weight_first code f l (and_parts (list_any (λ i. i == f) (first_group code)) (count_by lost (first_group code) == 1) (and_parts (lost f) (list_any (λ i. i == f) (first_group code) && count_by lost (first_group code) == 1) h).1).0
+
+pub one_in_second : (code : Code) → (lost : ℕ → Bool) (f : ℕ) → f < fragment_count code → is_only_lost_of lost (second_group code) f ≡ true → weight code 1 f ≡ 1
+unfolding is_only_lost_of
+one_in_second code lost f l h =
+    weight_second code f l (and_parts (list_any (λ i. i == f) (second_group code)) (count_by lost (second_group code) == 1) (and_parts (lost f) (list_any (λ i. i == f) (second_group code) && count_by lost (second_group code) == 1) h).1).0
+
 pub determined_second : (code : Code) → (lost : ℕ → Bool) (f : ℕ) → f < fragment_count code → is_only_lost_of lost (second_group code) f ≡ true → Determines code lost f (weight code 1)
 unfolding is_only_lost_of
 determined_second code lost f l h =
@@ -100,10 +110,9 @@ determined_second code lost f l h =
     alone_in code lost 1 f l lost_and.0 (omega arith) (weight_second code f l both.0) (sym (second_count code lost) ∙ eqb-true (count_by lost (second_group code)) 1 both.1) (λ i il. (side code i il).second)
 
 pub one_group : (code : Code) → (lost : ℕ → Bool) (f : ℕ) → f < fragment_count code → is_only_lost_of lost (first_group code) f ≡ true → is_only_lost_of lost (second_group code) f ≡ true → ⊥
-unfolding is_only_lost_of
 one_group code lost f l h k =
-    let in_first = weight_first code f l (and_parts (list_any (λ i. i == f) (first_group code)) (count_by lost (first_group code) == 1) (and_parts (lost f) (list_any (λ i. i == f) (first_group code) && count_by lost (first_group code) == 1) h).1).0 in
-    let in_second = weight_second code f l (and_parts (list_any (λ i. i == f) (second_group code)) (count_by lost (second_group code) == 1) (and_parts (lost f) (list_any (λ i. i == f) (second_group code) && count_by lost (second_group code) == 1) k).1).0 in
+    let in_first = one_in_first code lost f l h in
+    let in_second = one_in_second code lost f l k in
     elim (side code f l).not_both [ inl z ↦ (let bad : ◌≡◌ {A = ℕ} 0 1 = sym z ∙ in_first in omega arith) | inr z ↦ (let bad : ◌≡◌ {A = ℕ} 0 1 = sym z ∙ in_second in omega arith) ]
 
 pub alone_in_none : (code : Code) → (lost : ℕ → Bool) (f : ℕ) → is_only_lost_of lost (first_group code) f ≡ false → is_only_lost_of lost (second_group code) f ≡ false → is_alone code lost f ≡ false
@@ -140,15 +149,16 @@ abbrev by_reduced : Term
 by_reduced =
     plus (times (var 0) (plus (plus (var 4) (times (var 6) (var 2))) (times (var 8) (var 3)))) (times (var 1) (plus (plus (var 5) (times (var 7) (var 2))) (times (var 9) (var 3))))
 
-pub check_by_weights : (code : Code) (p q g i scale first second third fourth : ℕ) → p ≤ fragment_count code → q ≤ fragment_count code → g < fragment_count code → i < fragment_count code → third < 256 → fourth < 256
-    → AreFactors code (Global p q g scale) first second third fourth
+pub check_by_weights : (code : Code) (p q g i scale first second third fourth : ℕ) → p ≤ fragment_count code → q ≤ fragment_count code → g < fragment_count code → i < fragment_count code → scale < 256 → third < 256 → fourth < 256
+    → third ≡ product scale (reduced_weight code p q 3 g) → fourth ≡ product scale (reduced_weight code p q 2 g)
+    → first ≡ bit_xor (product third (weight code 2 p)) (product fourth (weight code 3 p)) → second ≡ bit_xor (product third (weight code 2 q)) (product fourth (weight code 3 q))
     → bit_xor (bit_xor (bit_xor (product first (weight code 0 i)) (product second (weight code 1 i))) (product third (weight code 2 i))) (product fourth (weight code 3 i)) ≡ product scale (determinant code p q g i)
-check_by_weights code p q g i scale first second third fourth pl ql gl il l3 l4 are =
+check_by_weights code p q g i scale first second third fourth pl ql gl il small l3 l4 third_is fourth_is first_is second_is =
     let w = λ (e : ℕ). weight code e i in
-    let small : (e : ℕ) → e < 4 → w e < 256 = λ e l. weight-lt code e i l (omega arith) in
-    ap₂ (λ x y. bit_xor (bit_xor (bit_xor (product x (w 0)) (product y (w 1))) (product third (w 2))) (product fourth (w 3))) are.3 are.4
+    let below : (e : ℕ) → e < 4 → w e < 256 = λ e l. weight-lt code e i l (omega arith) in
+    ap₂ (λ x y. bit_xor (bit_xor (bit_xor (product x (w 0)) (product y (w 1))) (product third (w 2))) (product fourth (w 3))) first_is second_is
     ∙ same_by_ring (third ∷ fourth ∷ w 0 ∷ w 1 ∷ w 2 ∷ w 3 ∷ weight code 2 p ∷ weight code 3 p ∷ weight code 2 q ∷ weight code 3 q ∷ [])
-    (l3, (l4, (small 0 (omega arith), (small 1 (omega arith), (small 2 (omega arith), (small 3 (omega arith), (weight-lt code 2 p (omega arith) pl, (weight-lt code 3 p (omega arith) pl, (weight-lt code 2 q (omega arith) ql, (weight-lt code 3 q (omega arith) ql, (tt {0})))))))))))
+    (l3, (l4, (below 0 (omega arith), (below 1 (omega arith), (below 2 (omega arith), (below 3 (omega arith), (weight-lt code 2 p (omega arith) pl, (weight-lt code 3 p (omega arith) pl, (weight-lt code 2 q (omega arith) ql, (weight-lt code 3 q (omega arith) ql, (tt {0})))))))))))
     by_equations by_reduced refl
-    ∙ scaled_determinant code p q g i scale third fourth (reduced_weight code p q 2 i) (reduced_weight code p q 3 i) are.0 pl ql gl
-    (reduced_weight-lt code p q 2 i (omega arith) pl ql il) (reduced_weight-lt code p q 3 i (omega arith) pl ql il) are.1 are.2 refl refl
+    ∙ scaled_determinant code p q g i scale third fourth (reduced_weight code p q 2 i) (reduced_weight code p q 3 i) small pl ql gl
+    (reduced_weight-lt code p q 2 i (omega arith) pl ql il) (reduced_weight-lt code p q 3 i (omega arith) pl ql il) third_is fourth_is refl refl

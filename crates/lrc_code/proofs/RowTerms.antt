@@ -3,7 +3,7 @@ use Rattle.lrc_code.specs.declared.Code.{Code}
 use Rattle.lrc_code.specs.declared.Code.TheVariants.{Wide, Small}
 use Rattle.std.proofs.Common.{◌≡◌, ◌≢◌, ℕ, zero, suc, ◌+◌, ◌<◌, ◌≤◌, ◌⊎◌, Bool, cond, eqb, List, [], ◌∷◌, ◌++◌, length, bit_xor, refl, sym, ap, ap₂, ◌∙◌, arith, inl, inr, length-append, append-nil, add-one, take, get_or}
 use Rattle.std.proofs.lemmas.List.{take_more}
-use Rattle.std.specs.Prelude.{◌==◌}
+use Rattle.std.specs.Prelude.{◌==◌, ◌||◌, if◌then◌else◌}
 use Rattle.std.specs.List.{All}
 use Rattle.std.proofs.lemmas.List.Elements.{All-append, All-nil, All-cons}
 use Rattle.std.proofs.lemmas.Bool.{cases_eq, cases_lt, cases_Bool, eq-eqb, ne_eqb}
@@ -114,6 +114,13 @@ terms_pushed r f n w items e is d some =
 
 pub terms_skipped : (r : ℕ → ℕ) (f n : ℕ) (items : List Term) → items ≡ terms r f n → (n ≡ f) ⊎ (r n ≡ 0) → items ≡ terms r f (n + 1)
 terms_skipped r f n items e none = rw add-one (e ∙ terms_same r f n none)
+
+-- weights that are the same give the same terms
+pub terms_same_weights : (r s : ℕ → ℕ) (f n : ℕ) → ((i : ℕ) → i < n → r i ≡ s i) → terms r f n ≡ terms s f n
+unfolding terms
+terms_same_weights r s f zero same = refl
+terms_same_weights r s f (suc n) same =
+    ap₂ (λ xs w. xs ++ (if (n == f) || (w == 0) then [] else (record { fragment = n; coefficient = w } ∷ []))) (terms_same_weights r s f n (λ i l. same i (omega arith))) (same n (omega arith))
 
 -- one term more
 pub recipe_sum_more : (xs : List Term) (i : ℕ) (d : Term) (c : ℕ → ℕ) → i < length xs

@@ -3,7 +3,10 @@ use Rattle.lrc_code.specs.declared.Code.{Code}
 use Rattle.std.specs.Prelude.{◌≡◌, ℕ, ◌-◌, ◌<◌, ◌≤◌, bit_xor, Bool, true, false, List, Option, Some, None, MatchOption, ◌==◌, if◌then◌else◌}
 use Rattle.std.specs.List.{All, Contains}
 use Rattle.gf256.specs.Field.{product}
-use Rattle.lrc_code.specs.Code.{fragment_count, weight}
+use Rattle.lrc_code.specs.Code.{fragment_count, weight, first_group, second_group}
+use Rattle.lrc_code.specs.Recipe.{terms, local_recipe}
+use Rattle.lrc_code.specs.declared.recipes.Term.{Term}
+use Rattle.lrc_code.specs.Factors.{factored_weight}
 use Rattle.lrc_code.specs.declared.recipes.ParityCheck.{ParityCheck}
 use Rattle.lrc_code.specs.declared.recipes.ParityCheck.TheVariants.{First, Second, Global}
 
@@ -21,15 +24,9 @@ check_weight code First i = weight code 0 i
 check_weight code Second i = weight code 1 i
 check_weight code (Global p q g scale) i = product scale (determinant code p q g i)
 
--- what a global check multiplies the weights of a fragment in the four equations by
-abbrev pub AreFactors : Code → ParityCheck → ℕ → ℕ → ℕ → ℕ → Type 0
-AreFactors code First first second third fourth = Unit {0}
-AreFactors code Second first second third fourth = Unit {0}
-AreFactors code (Global p q g scale) first second third fourth = (scale < 256)
-    × (third ≡ product scale (reduced_weight code p q 3 g))
-    × (fourth ≡ product scale (reduced_weight code p q 2 g))
-    × (first ≡ bit_xor (product third (weight code 2 p)) (product fourth (weight code 3 p)))
-    × (second ≡ bit_xor (product third (weight code 2 q)) (product fourth (weight code 3 q)))
+-- what a check multiplies the weights of a fragment in the four equations by
+abbrev pub AreFactors : Code → ParityCheck → List ℕ → Type 0
+AreFactors code check factors = (i : ℕ) → i < fragment_count code → factored_weight code factors i ≡ check_weight code check i
 
 abbrev pub IsParityCheck : Code → ParityCheck → Type 0
 IsParityCheck code First = Unit {0}
@@ -49,3 +46,9 @@ FirstOf t fragments found = MatchOption found (All (λ i. t i ≡ false) fragmen
 abbrev pub other_of : Code → ℕ → Option ℕ → ℕ
 other_of code f (Some g) = g
 other_of code f None = if f == fragment_count code - 1 then fragment_count code - 2 else fragment_count code - 1
+
+-- the terms of a recipe by a check: of a group the others, each times 1
+abbrev pub terms_by : Code → ParityCheck → ℕ → List Term
+terms_by code First f = local_recipe (first_group code) f
+terms_by code Second f = local_recipe (second_group code) f
+terms_by code (Global p q g scale) f = terms (check_weight code (Global p q g scale)) f (fragment_count code)

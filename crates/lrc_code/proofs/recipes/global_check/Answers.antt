@@ -1,6 +1,7 @@
-use Rattle.std.proofs.Common.{◌≡◌, not, ◌&&◌, ap, sym, ◌∙◌}
+use Rattle.std.proofs.Common.{◌≡◌, not, ◌&&◌, ap, sym, ◌∙◌, arith}
 use Rattle.std.specs.Prelude.{◌==◌}
 use Rattle.gf256.specs.Field.{product}
+use Rattle.gf256.proofs.Laws.{product_comm}
 use Rattle.lrc_code.specs.Code.{is_lost}
 use Rattle.lrc_code.specs.ParityCheck.{place_of, determinant}
 use Rattle.lrc_code.proofs.Solved.{Solving, determinant_some, scaled_determines}
@@ -32,6 +33,13 @@ pub returns-clause-determines : goal.returns-clause-determines
 returns-clause-determines c =
     scaled_determines c.args.code (is_lost c.args.lost) c.args.f c.place-p.result c.place-q.result c.other-g.result c.inverse_of-scale.result (found c.before) c.inverse_of-scale.type_inv
     (ap (λ t. product t c.inverse_of-scale.result) (sym (determinant_is c.before)) ∙ c.inverse_of-scale.ensures)
+
+pub returns-clause-one : goal.returns-clause-one
+returns-clause-one c =
+    let is = determinant_is c.before in
+    ap (product c.inverse_of-scale.result) (sym is)
+    ∙ product_comm c.inverse_of-scale.result c.determinant_of.result (omega arith) (omega arith)
+    ∙ c.inverse_of-scale.ensures
 
 pub returns-clause-short : goal.returns-clause-short
 returns-clause-short c = short_global c.args.code (is_lost c.args.lost) c.args.f c.place-p.result c.place-q.result c.other-g.result (found c.before) c.inverse_of-scale.result
