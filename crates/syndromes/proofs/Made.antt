@@ -1,7 +1,5 @@
 -- Targets that are made by their formulas.
-use Rattle.std.proofs.Common.{◌≡◌, ℕ, ◌+◌, ◌-◌, ◌<◌, ◌≤◌, List, ◌++◌, Option, Some, None, IfSome, Bor, length, take, get_or, bit_xor, sym, ap, ap₂, ◌∙◌, subst, arith, inl, inr, length-take-le, get_or-take}
-use Rattle.std.proofs.lemmas.Bool.{cases_lt}
-use Rattle.std.proofs.lemmas.List.{get_or_append_left, get_or-append-add}
+use Rattle.std.proofs.Common.{◌≡◌, ℕ, ◌<◌, List, Option, Some, None, IfSome, Bor, get_or, bit_xor, sym, ap, ap₂, ◌∙◌, subst, arith, inl, inr}
 use lib.Bits.{xor_assoc, xor_self, xor_zero_r}
 use Rattle.gf256.specs.Field.{product}
 use Rattle.gf256.proofs.Laws.{product-zero_left}
@@ -65,24 +63,6 @@ made_by f lists x y z n k l is first second third =
     let with_second = bit_xor with_first (added f.second s) in
     ap₂ bit_xor (ap₂ bit_xor (ap₂ bit_xor (factors_give f s is) (added_is lists f.third n k z l third) ∙ xor_back with_second (added f.third s)) (added_is lists f.second n k y l second) ∙ xor_back with_first (added f.second s)) (added_is lists f.first n k x l first)
     ∙ xor_back whole (added f.first s)
-
--- a part that is written between others
-pub spliced : (old new post : List ℕ) (at end : ℕ) (P : ℕ → ℕ) → at ≤ length old → at ≤ end → length new ≡ end - at
-    → ((k : ℕ) → k < at → get_or old k 0 ≡ P k) → ((j : ℕ) → j < end - at → get_or new j 0 ≡ P (at + j))
-    → (k : ℕ) → k < end → get_or (take at old ++ (new ++ post)) k 0 ≡ P k
-spliced old new post at end P inside order long before here k l =
-    let front : length (take at old) ≡ at = length-take-le at old inside in
-    elim (cases_lt k at) [
-      | inl below ↦ get_or_append_left (take at old) (new ++ post) 0 k (omega (arith, front)) ∙ get_or-take at old k 0 below ∙ before k below
-      | inr past ↦
-          let j : ℕ = k - at in
-          let is : length (take at old) + j ≡ k = omega (arith, front) in
-          let is_at : at + j ≡ k = omega arith in
-          sym (ap (λ n. get_or (take at old ++ (new ++ post)) n 0) is)
-          ∙ get_or-append-add (take at old) (new ++ post) j 0
-          ∙ get_or_append_left new post 0 j (omega (arith, long))
-          ∙ here j (omega arith) ∙ ap P is_at
-    ]
 
 -- what is added was made before
 pub sums_if : (lists : List (Option (Bor (List ℕ)))) (o made : Option (List ℕ)) (n : ℕ) (bytes : List ℕ) → IsNoneOr o made → HasSums lists made n bytes → HasSums lists o n bytes

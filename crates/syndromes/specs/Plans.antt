@@ -1,17 +1,11 @@
 -- What is known before the lists are read: the formulas, and the syndromes they take.
-use Rattle.std.specs.Prelude.{◌≡◌, ℕ, ◌+◌, ◌-◌, ◌<◌, Bool, true, false, List, Option, IfSome}
-use Rattle.std.specs.Prelude.{slice_index}
+use Rattle.std.specs.Prelude.{◌≡◌, ℕ, ◌+◌, ◌-◌, ◌<◌, Bool, true, List, Option, IfSome}
 use Rattle.std.specs.Borrow.{Bor}
 use Rattle.kernels.specs.Lists.{bytes_at}
 use Rattle.syndromes.specs.declared.formulas.Formula.{Formula}
 use Rattle.syndromes.specs.declared.pass.Plan.{Plan}
+use Rattle.one_pass.specs.Weights.{Takes}
 use Rattle.syndromes.specs.Syndromes.{syndrome, column_at}
-
--- the factors but the first are 0 if those syndromes are not taken
-abbrev pub Takes : List ℕ → Bool → Bool → Bool → Type 0
-Takes factors second third fourth = (second ≡ false → slice_index factors 1 ≡ 0)
-    × (third ≡ false → slice_index factors 2 ≡ 0)
-    × (fourth ≡ false → slice_index factors 3 ≡ 0)
 
 -- where a formula is given, it takes none but those syndromes
 abbrev pub TakesOnly : Option Formula → Bool → Bool → Bool → Type 0

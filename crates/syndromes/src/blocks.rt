@@ -2,69 +2,15 @@
 ghost use Rattle.std.specs.Prelude.{◌≡◌, ℕ, ◌+◌, ◌-◌, ◌<◌, ◌≤◌, [], ◌∷◌, All, EachIndex, length};
 ghost use Rattle.std.specs.Prelude.{map, slice_index, bit_xor};
 ghost use Rattle.kernels.specs.Lists.{combined, bytes_at, list_at};
-ghost use Rattle.syndromes.specs.Syndromes.{syndrome, syndromes_at, column_at, HaveBytes};
+ghost use Rattle.syndromes.specs.Syndromes.{syndrome, column_at, HaveBytes};
 
 use gf256::xor_into;
 use kernels::{combine_lists, write_parities};
+use one_pass::part_or_zeros;
 
 /// How many places a block has at most: few enough that its syndromes stay in the first cache
 /// beside the lists.
 pub(crate) const BLOCK: usize = 1024;
-
-/// How many places a block of one pass has at most. A missing list has so many zeros.
-pub(crate) const LONG_BLOCK: usize = 4096;
-
-static ZEROS: [u8; LONG_BLOCK] = [0; LONG_BLOCK];
-
-/// So many zeros.
-fn zeros(count: usize) -> &'static [u8]
-    requires { count ≤ LONG_BLOCK }
-    ensures long { length result.now ≡ count }
-    ensures zeros { EachIndex result.now (λ k. slice_index result.now k ≡ 0) }
-{
-    &ZEROS[..count]
-}
-
-/// The bytes `at..end` of a list, or zeros where it is missing.
-pub(crate) fn part_or_zeros<'a>(
-    lists: &[Option<&'a [u8]>; 16],
-    i: usize,
-    at: usize,
-    end: usize,
-) -> &'a [u8]
-    requires inside { i < 16 }
-    requires long { HaveBytes lists.now end }
-    requires order { at ≤ end }
-    requires few { end ≤ at + LONG_BLOCK }
-    ensures long { length result.now ≡ end - at }
-    ensures bytes { EachIndex result.now (λ k. slice_index result.now k
-        ≡ column_at lists.now (at + k) i) }
-{
-    match lists[i] {
-        Some(list) => &list[at..end],
-        None => zeros(end - at),
-    }
-}
-
-/// The bytes `at..end` of each list, or zeros where it is missing.
-pub(crate) fn sources_of<'a>(
-    lists: &[Option<&'a [u8]>; 16],
-    at: usize,
-    end: usize,
-) -> [&'a [u8]; 16]
-    requires long { HaveBytes lists.now end }
-    requires order { at ≤ end }
-    requires few { end ≤ at + LONG_BLOCK }
-    ensures same { All (λ s. length s.now ≡ end - at) result }
-    ensures syndromes { (k e : ℕ) → k < end - at → e < 4
-        → syndromes_at (map (λ s. s.now) result) k e ≡ syndrome e (column_at lists.now (at + k)) }
-{
-    let mut sources: [&'a [u8]; 16] = [&[]; 16];
-    for i in 0..16 {
-        sources[i] = part_or_zeros(lists, i, at, end);
-    }
-    sources
-}
 
 /// Adds the bytes `at..end` of a list, where it is not missing.
 fn add_part(target: &mut [u8], lists: &[Option<&[u8]>; 16], i: usize, at: usize, end: usize)

@@ -6,11 +6,12 @@ ghost use Rattle.syndromes.specs.Syndromes.{syndrome, column_at, HaveBytes, HasS
 ghost use Rattle.syndromes.specs.Formulas.{IsFormula, AreFormulas, addend, shares_for};
 ghost use Rattle.syndromes.specs.Plans.{IsPlan, TakesOnly, AreSyndromes};
 
-use crate::blocks::{BLOCK, sources_of, write_syndromes};
+use crate::blocks::{BLOCK, write_syndromes};
 use crate::dispatch::combine_in_one_pass;
 use crate::formulas::{Formula, formulas_for};
-use crate::pass::{Plan, add_list, plain_of, plan_for, weigh, write_sum, write_taken};
+use crate::pass::{Plan, add_list, plan_for, weigh, write_sum, write_taken};
 use kernels::LANES;
+use one_pass::{plain_of, sources_of};
 
 /// Adds the places `at..end` of a target that was made before, where it is to be added.
 fn add_made(part: &mut [u8], shares: Option<[u8; 4]>, made: &[u8], at: usize, end: usize)

@@ -2,17 +2,16 @@
 //! patterns.
 ghost use Rattle.std.specs.Prelude.{◌≡◌, ◌≤◌, true, false, None, Some, length};
 ghost use Rattle.syndromes.specs.Syndromes.{HaveBytes, HasSums, HasRoom};
-ghost use Rattle.syndromes.specs.Weights.{unit};
-ghost use Rattle.syndromes.specs.Plans.{Takes};
-ghost use Rattle.syndromes.specs.Patterns.{group, ArePair, AreTriple, AreTwoPairs, AreGlobals};
-ghost use Rattle.syndromes.specs.Patterns.{ArePlainAndWeighed, AreGroups};
+ghost use Rattle.one_pass.specs.Weights.{Takes, unit};
+ghost use Rattle.one_pass.specs.Patterns.{group, ArePair, AreTriple, AreTwoPairs, AreGlobals};
+ghost use Rattle.one_pass.specs.Patterns.{ArePlainAndWeighed, AreGroups};
 
 use crate::formulas::less;
-use crate::one_pass::{
+use kernels::LANES;
+use one_pass::{
     combine_globals, combine_pair, combine_plain_and_weighed, combine_single, combine_triple,
     combine_two_of_each, combine_two_pairs,
 };
-use kernels::LANES;
 
 /// The shares of a target that is the syndrome of the first group, or of the second.
 fn group_shares(is_second: bool) -> [u8; 4]

@@ -2,7 +2,7 @@ use Rattle.std.proofs.Common.{◌<◌, ◌+◌, ℕ, bit_xor, map, get_or, sym, 
 use Rattle.kernels.specs.Lists.{combined, bytes_at}
 use Rattle.kernels.proofs.GroupLemmas.{source_is}
 use Rattle.syndromes.specs.Formulas.{addend}
-use Rattle.syndromes.proofs.Units.{unit_combined}
+use Rattle.one_pass.proofs.Units.{unit_combined}
 use Rattle.syndromes.proofs.combine.make_part.Goals as goal
 
 pub returns-in-Some : goal.returns-in-Some

@@ -2,8 +2,9 @@ use Rattle.std.proofs.Common.{◌≡◌, ℕ, ◌+◌, ◌-◌, ◌<◌, List, S
 use Rattle.kernels.specs.Lists.{combined, bytes_at}
 use Rattle.syndromes.specs.Syndromes.{syndrome, column_at, sum_by, HasSums, HasRoom}
 use Rattle.syndromes.specs.Formulas.{IsFormula, addend}
-use Rattle.syndromes.proofs.Made.{made_by, spliced}
-use Rattle.syndromes.proofs.Taken.{combined_taken}
+use Rattle.one_pass.proofs.Taken.{combined_taken}
+use Rattle.one_pass.proofs.Written.{spliced}
+use Rattle.syndromes.proofs.Made.{made_by}
 use Rattle.syndromes.proofs.combine.make_target.Goals as goal
 
 pub returns-in-Some-clause-made : goal.returns-in-Some-clause-made

@@ -1,5 +1,5 @@
 use Rattle.std.proofs.Common.{◌≡◌, ◌+◌, ℕ, get_or, bit_xor, ap₂, ◌∙◌, arith}
-use Rattle.syndromes.proofs.Taken.{written_more}
+use Rattle.one_pass.proofs.Written.{written_more}
 use Rattle.syndromes.proofs.pass.add_blocks.Goals as goal
 
 pub whole-preserved : goal.whole-preserved

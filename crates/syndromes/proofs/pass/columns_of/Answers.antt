@@ -1,8 +1,8 @@
 use Rattle.std.proofs.Common.{◌≡◌, ◌+◌, map, get_or, ap, ◌∙◌}
 use Rattle.kernels.specs.Lists.{bytes_at}
 use Rattle.kernels.proofs.GroupLemmas.{each_of_four, source_is}
-use Rattle.syndromes.specs.declared.columns.Columns.{Columns}
-use Rattle.syndromes.specs.Weights.{lane}
+use Rattle.one_pass.specs.declared.columns.Columns.{Columns}
+use Rattle.one_pass.specs.Weights.{lane}
 use Rattle.syndromes.proofs.pass.columns_of.Goals as goal
 
 pub returns : goal.returns

@@ -1,7 +1,8 @@
 use Rattle.std.proofs.Common.{◌≡◌, ◌+◌, ℕ, map, ◌∙◌, arith}
 use Rattle.kernels.specs.Lists.{combined, bytes_at}
-use Rattle.syndromes.specs.Weights.{lane}
-use Rattle.syndromes.proofs.Taken.{weighed_is, written_more}
+use Rattle.one_pass.specs.Weights.{lane}
+use Rattle.one_pass.proofs.Written.{written_more}
+use Rattle.syndromes.proofs.Taken.{weighed_is}
 use Rattle.syndromes.proofs.pass.sum_weighed.Goals as goal
 
 pub each-preserved : goal.each-preserved

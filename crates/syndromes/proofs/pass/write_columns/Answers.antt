@@ -1,7 +1,7 @@
 use Rattle.std.proofs.Common.{◌≡◌, ℕ, map, ◌∙◌, arith}
 use Rattle.kernels.specs.Lists.{bytes_at}
 use Rattle.syndromes.specs.Syndromes.{syndrome}
-use Rattle.syndromes.proofs.Taken.{written_more}
+use Rattle.one_pass.proofs.Written.{written_more}
 use Rattle.syndromes.proofs.pass.write_columns.Goals as goal
 
 pub each-preserved : goal.each-preserved

@@ -1,0 +1,18 @@
+use Rattle.std.proofs.Common.{◌≡◌, ℕ, ◌<◌, ◌≤◌, ◌-◌, length, map, get_or, bit_xor, not, eqb}
+use Rattle.kernels.specs.Lists.{combined}
+use Rattle.one_pass.specs.Syndromes.{syndromes_at}
+use Rattle.one_pass.specs.Weights.{weighed, unit}
+use Rattle.one_pass.specs.Patterns.{group}
+use Rattle.one_pass.proofs.loops.write_pair.Given as goal
+
+abbrev pub invariant-each : goal.invariant-each
+invariant-each g l = record {
+  inside : l.done ≤ l.width;
+  long : length l.x ≡ l.width;
+  same_y : length l.y ≡ l.width;
+  x : (k : ℕ) → k < l.done → get_or l.x k 0 ≡ weighed l.weights (syndromes_at (map (λ s. s.now) l.sources) k);
+  y : (k : ℕ) → k < l.done → get_or l.y k 0 ≡ bit_xor (combined (unit (group (not (eqb g.row.SECOND 0)))) (syndromes_at (map (λ s. s.now) l.sources) k)) (weighed l.weights (syndromes_at (map (λ s. s.now) l.sources) k));
+}
+
+abbrev pub decreases-each : goal.decreases-each
+decreases-each g l = l.width - l.done

@@ -1,0 +1,24 @@
+use Rattle.std.proofs.Common.{◌≡◌, ℕ, ◌+◌, ◌-◌, ◌<◌, map, sym, ◌∙◌, arith, ap, not, eqb}
+use Rattle.one_pass.specs.Syndromes.{syndrome, syndromes_at, column_at, sum_by}
+use Rattle.one_pass.specs.Patterns.{group}
+use Rattle.one_pass.proofs.Written.{spliced}
+use Rattle.one_pass.proofs.Patterns.{by_weights, by_unit, below_four}
+use Rattle.one_pass.proofs.targets.combine_plain_and_weighed.Goals as goal
+
+pub each-preserved : goal.each-preserved
+each-preserved g c =
+    let lists = c.args.lists.now in
+    let at : ℕ = c.next_block-at.result in
+    let end : ℕ = c.block_end-end.result in
+    let i = c.each.invariant in
+    let order = c.next_block-at.ensures.no_gap in
+    let s = λ (k e : ℕ). syndrome e (column_at lists k) in
+    let same : (j e : ℕ) → j < end - at → e < 4 → syndromes_at (map (λ s. s.now) c.sources_of-sources.result) j e ≡ s (at + j) e =
+    λ j e l m. c.sources_of-sources.ensures.syndromes j e l m in
+    record {
+      inside = omega arith;
+      first = spliced c.each.first c.write_plain_and_weighed.new.x _ at end (λ k. sum_by c.args.one.now (s k)) (omega arith) (omega arith) (omega arith) (λ k l. i.first k (omega (arith, l, order)))
+          (λ j l. c.write_plain_and_weighed.ensures.x j (omega arith) ∙ by_unit (group (not (eqb g.row.SECOND 0))) _ (s (at + j)) (below_four (not (eqb g.row.SECOND 0))) (λ e m. same j e l m) ∙ ap (λ a. sum_by a (s (at + j))) (sym c.requires.shares.plain));
+      second = spliced c.each.second c.write_plain_and_weighed.new.y _ at end (λ k. sum_by c.args.two.now (s k)) (omega arith) (omega arith) (omega arith) (λ k l. i.second k (omega (arith, l, order)))
+          (λ j l. c.write_plain_and_weighed.ensures.y j (omega arith) ∙ by_weights c.new-weights.result c.args.two.now _ (s (at + j)) c.new-weights.ensures (λ e m. same j e l m));
+    }

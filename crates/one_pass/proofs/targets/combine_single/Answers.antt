@@ -1,0 +1,21 @@
+use Rattle.std.proofs.Common.{◌≡◌, ℕ, ◌+◌, ◌-◌, ◌<◌, map, ◌∙◌, arith}
+use Rattle.one_pass.specs.Syndromes.{syndrome, syndromes_at, column_at, sum_by}
+use Rattle.one_pass.proofs.Written.{spliced}
+use Rattle.one_pass.proofs.Patterns.{sum_same}
+use Rattle.one_pass.proofs.targets.combine_single.Goals as goal
+
+pub each-preserved : goal.each-preserved
+each-preserved c =
+    let lists = c.args.lists.now in
+    let at : ℕ = c.next_block-at.result in
+    let end : ℕ = c.block_end-end.result in
+    let i = c.each.invariant in
+    let order = c.next_block-at.ensures.no_gap in
+    let s = λ (k e : ℕ). syndrome e (column_at lists k) in
+    let same : (j e : ℕ) → j < end - at → e < 4 → syndromes_at (map (λ s. s.now) c.sources_of-sources.result) j e ≡ s (at + j) e =
+    λ j e l m. c.sources_of-sources.ensures.syndromes j e l m in
+    record {
+      inside = omega arith;
+      first = spliced c.each.first c.write_single.new.x _ at end (λ k. sum_by c.args.one.now (s k)) (omega arith) (omega arith) (omega arith) (λ k l. i.first k (omega (arith, l, order)))
+          (λ j l. c.write_single.ensures j (omega arith) ∙ sum_same c.args.one.now _ (s (at + j)) (λ e m. same j e l m));
+    }

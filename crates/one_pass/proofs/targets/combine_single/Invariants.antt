@@ -1,0 +1,12 @@
+use Rattle.std.proofs.Common.{◌≤◌, ◌-◌, Some}
+use Rattle.one_pass.specs.Syndromes.{HasSums}
+use Rattle.one_pass.proofs.targets.combine_single.Given as goal
+
+abbrev pub invariant-each : goal.invariant-each
+invariant-each l = record {
+  inside : l.done ≤ l.width;
+  first : HasSums l.lists (Some l.one) l.done l.first;
+}
+
+abbrev pub decreases-each : goal.decreases-each
+decreases-each l = l.width - l.done
