@@ -25,11 +25,9 @@ ghost use Rattle.coder_c.specs.Call.{DecodesLost, chosen_by, chosen_of, terms_of
 ghost use Rattle.coder_c.specs.PlanBytes.{format_in, code_in, missing_in, chosen_in, plan_in};
 ghost use Rattle.decode.specs.DecodePlan.{IsPlan, HasAllOf, IsRest};
 
-use decode::{SYNDROME_WIDTH, decode_to, plan_for};
+use decode::{decode_to, plan_for, rebuild_to};
 use gf256::add_scaled;
-use lrc_code::{
-    Code, Left, LostSet, Term, encode_to, is_alone_in, is_open_in, rebuild_to, recipe_in,
-};
+use lrc_code::{Code, Left, LostSet, Term, encode_to, is_open_in, recipe_in};
 use plans::{decode_planned, plan_bytes, plan_from};
 
 /// The call was done; or the answer is no.
@@ -249,31 +247,6 @@ fn left_of<'a>(code: Code, fragments: &[&'a [u8]; 16], lost: LostSet) -> Left<'a
     }
 }
 
-/// Writes the bytes `from..to` of an absent fragment, by its recipe or by the syndromes, whichever
-/// is faster. Returns false if and only if the fragment is unrecoverable; then `target` is
-/// unchanged.
-fn rebuild_left(
-    left: &Left,
-    lost: LostSet,
-    f: u8,
-    from: usize,
-    to: usize,
-    target: &mut [u8],
-) -> bool
-    requires absent { is_absent left.now.fragments f ≡ true }
-    requires inside { HasRange left.now.code left.now.fragments f from to }
-    requires room { length target.old ≡ to - from }
-    ensures open { (result ≡ false) ↔ Open left.now.code (is_absent left.now.fragments) f }
-    ensures kept { result ≡ false → target.new ≡ target.old }
-    ensures ok { result ≡ true → Rebuilds left.now.code left.now.fragments f from to target.new }
-{
-    if target.len() < SYNDROME_WIDTH || is_alone_in(left.code, lost, f) {
-        return rebuild_to(left, usize::from(f), from, to, target);
-    }
-    let chosen = [Some(f), None, None, None];
-    decode_to(left, chosen, from, to, target, &mut [], &mut [], &mut [])
-}
-
 /// Writes the bytes of a lost fragment from index `from` on, as many as `target` has: those of
 /// every stripe that agrees with the remaining fragments. What is passed for a lost fragment is
 /// never read.
@@ -312,7 +285,7 @@ pub extern "C" fn lrc_rebuild(
     if !left.reaches(to) {
         return BAD_ARGUMENT;
     }
-    if rebuild_left(&left, asked.lost, asked.number, from, to, target) {
+    if rebuild_to(&left, asked.number, from, to, target) {
         DONE
     } else {
         OPEN

@@ -1,6 +1,6 @@
 -- Shares by which, of the lost fragments, one weighs 1 in the equations and the others nothing.
 use Rattle.lrc_code.specs.declared.Code.{Code}
-use Rattle.std.proofs.Common.{◌≡◌, ◌≢◌, ℕ, ◌<◌, Bool, true, cond, bit_xor, List, get_or, refl, sym, ap, ◌∙◌, arith, inl, inr}
+use Rattle.std.proofs.Common.{◌≡◌, ◌≢◌, ℕ, ◌<◌, Bool, true, cond, bit_xor, List, get_or, refl, sym, ap, ◌∙◌, subst, arith, inl, inr}
 use Rattle.std.proofs.lemmas.Bool.{cases_Bool, eq-eqb, ne_eqb}
 use Rattle.std.proofs.lemmas.Nat.{xor_of_8}
 use lib.Bits.{xor_self, xor_zero_r}
@@ -9,9 +9,17 @@ use Rattle.gf256.proofs.Linear.{product-xor_right}
 use Rattle.gf256.proofs.Laws.{product-lt, product_comm, product_assoc, product-zero_left, product-zero_right, product-one_right}
 use Rattle.kernels.proofs.Sums.{xor_sum_same, xor_sum-xor, xor_sum-scaled, xor_sum_swap, xor_sum_one}
 use Rattle.lrc_code.specs.Code.{fragment_count, xor_sum, weight, IsColumn}
+use Rattle.lrc_code.specs.Factors.{factored_weight, WeighsAlone}
 use Rattle.lrc_code.proofs.Witness.{weight-lt}
-use Rattle.decode.specs.Syndrome.{syndrome, IsRemainderOf, AreShares, share_weight, WeighsAlone}
-use Rattle.decode.proofs.Law.{remainder_bytes}
+use Rattle.decode.specs.Syndrome.{syndrome, IsRemainderOf, AreShares}
+
+-- what remains of a column is bytes
+pub remainder_bytes : (code : Code) (lost : ℕ → Bool) (c b : ℕ → ℕ) → IsColumn code c → IsRemainderOf code lost c b → (i : ℕ) → i < fragment_count code → b i < 256
+remainder_bytes code lost c b is left i l =
+    elim (cases_Bool (lost i)) [
+      | inl lo ↦ subst (λ x. x < 256) (sym (left i l ∙ ap (λ t. cond t 0 (c i)) lo)) (omega arith)
+      | inr le ↦ subst (λ x. x < 256) (sym (left i l ∙ ap (λ t. cond t 0 (c i)) le)) (is.bytes i l)
+    ]
 
 module _ (code : Code) (lost : ℕ → Bool) (f : ℕ) (shares : List ℕ) (c b : ℕ → ℕ) (is : IsColumn code c) (left : IsRemainderOf code lost c b) where
   abbrev n : ℕ
@@ -35,7 +43,7 @@ module _ (code : Code) (lost : ℕ → Bool) (f : ℕ) (shares : List ℕ) (c b 
       ∙ ap (λ x. bit_xor x (syndrome code e b)) (is.sums e l))
 
   -- what a fragment adds to the sum of the equations
-  adds : ((e : ℕ) → e < 4 → a e < 256) → (i : ℕ) → i < n → xor_sum 4 (λ e. product (a e) (product (weight code e i) (d i))) ≡ product (d i) (share_weight code shares i)
+  adds : ((e : ℕ) → e < 4 → a e < 256) → (i : ℕ) → i < n → xor_sum 4 (λ e. product (a e) (product (weight code e i) (d i))) ≡ product (d i) (factored_weight code shares i)
   adds small i l =
       xor_sum_same 4 _ _ (λ e m.
       let w : weight code e i < 256 = weight-lt code e i m (omega arith) in
@@ -43,11 +51,11 @@ module _ (code : Code) (lost : ℕ → Bool) (f : ℕ) (shares : List ℕ) (c b 
       ∙ product_comm (product (a e) (weight code e i)) (d i) (product-lt (a e) (weight code e i) (small e m) w) (d-lt i l))
       ∙ xor_sum-scaled 4 (d i) (λ e. product (a e) (weight code e i))
 
-  adds_none : WeighsAlone code lost f shares → (i : ℕ) → i < n → i ≢ f → product (d i) (share_weight code shares i) ≡ 0
+  adds_none : WeighsAlone code lost f shares → (i : ℕ) → i < n → i ≢ f → product (d i) (factored_weight code shares i) ≡ 0
   adds_none alone i l other =
       elim (cases_Bool (lost i)) [
         | inl lo ↦ ap (product (d i)) (alone i l lo ∙ ap (λ t. cond t 1 0) (ne_eqb i f other)) ∙ product-zero_right (d i)
-        | inr le ↦ ap (λ x. product x (share_weight code shares i)) (ap (bit_xor (c i)) (left i l ∙ ap (λ t. cond t 0 (c i)) le) ∙ xor_self (c i)) ∙ product-zero_left (share_weight code shares i)
+        | inr le ↦ ap (λ x. product x (factored_weight code shares i)) (ap (bit_xor (c i)) (left i l ∙ ap (λ t. cond t 0 (c i)) le) ∙ xor_self (c i)) ∙ product-zero_left (factored_weight code shares i)
       ]
 
   pub sum_by_shares : ((e : ℕ) → e < 4 → a e < 256) → f < n → lost f ≡ true → WeighsAlone code lost f shares → c f ≡ xor_sum 4 (λ e. product (a e) (syndrome code e b))
@@ -56,7 +64,7 @@ module _ (code : Code) (lost : ℕ → Bool) (f : ℕ) (shares : List ℕ) (c b 
       sym (xor_sum_same 4 _ _ (λ e l. ap (product (a e)) (same_sum e l) ∙ sym (xor_sum-scaled n (a e) (λ i. product (weight code e i) (d i))))
       ∙ xor_sum_swap 4 n (λ e i. product (a e) (product (weight code e i) (d i)))
       ∙ xor_sum_same n _ _ (adds small)
-      ∙ xor_sum_one n f (λ i. product (d i) (share_weight code shares i)) below (adds_none alone)
+      ∙ xor_sum_one n f (λ i. product (d i) (factored_weight code shares i)) below (adds_none alone)
       ∙ ap (product (d f)) (alone f below gone ∙ ap (λ t. cond t 1 0) (eq-eqb f f refl))
       ∙ product-one_right (d f) (d-lt f below) ∙ own)
 

@@ -1,6 +1,4 @@
-pub mod Terms
-pub mod Law
-mod Equations
+pub mod Equations
 pub mod Places
 pub mod Chosen
 pub mod Least

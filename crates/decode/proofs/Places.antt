@@ -21,7 +21,7 @@ use Rattle.syndromes.specs.Syndromes.{column_at, HasSums}
 use Rattle.syndromes.specs.Syndromes.{syndrome as syndrome_of_lists}
 use Rattle.decode.specs.Syndrome.{syndrome, AreShares}
 use Rattle.decode.specs.Decoding.{IsDecodable, IsDecoded, fragment_at, byte_of}
-use Rattle.decode.proofs.Law.{remainder_bytes}
+use Rattle.decode.proofs.Equations.{remainder_bytes}
 
 -- the parities of twelve lists are those of the wide code
 wide_parity : (b : ℕ → ℕ) (e : ℕ) → e < 4 → parity e b ≡ parity_of Wide e b

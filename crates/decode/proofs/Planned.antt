@@ -9,10 +9,11 @@ use Rattle.lrc_code.specs.Code.{fragment_count, xor_sum, weight, is_lost, Open}
 use Rattle.lrc_code.specs.Stripe.{is_absent, byte_at}
 use Rattle.lrc_code.proofs.Witness.{weight-lt}
 use Rattle.syndromes.specs.Syndromes.{column_at, HasSums, sum_by}
-use Rattle.decode.specs.Syndrome.{syndrome, IsRemainderOf, AreShares, share_weight}
+use Rattle.lrc_code.specs.Factors.{factored_weight}
+use Rattle.decode.specs.Syndrome.{syndrome, IsRemainderOf, AreShares}
 use Rattle.decode.specs.Decoding.{AreAbsent, IsDecodable, IsDecoded, fragment_at, byte_of}
 use Rattle.decode.specs.DecodePlan.{IsPlanned, HasAllOf, WeighsNothing, at_target}
-use Rattle.decode.proofs.Law.{remainder_bytes}
+use Rattle.decode.proofs.Equations.{remainder_bytes}
 use Rattle.decode.proofs.Places.{rebuilt_by}
 
 -- the sum of the syndromes, fragment by fragment
@@ -23,7 +24,7 @@ module _ (code : Code) (shares : List ℕ) (small : (e : ℕ) → e < 4 → get_
   abbrev a : ℕ → ℕ
   a e = get_or shares e 0
 
-  adds : (i : ℕ) → i < n → xor_sum 4 (λ e. product (a e) (product (weight code e i) (b i))) ≡ product (b i) (share_weight code shares i)
+  adds : (i : ℕ) → i < n → xor_sum 4 (λ e. product (a e) (product (weight code e i) (b i))) ≡ product (b i) (factored_weight code shares i)
   adds i l =
       xor_sum_same 4 _ _ (λ e m.
       let w : weight code e i < 256 = weight-lt code e i m (omega arith) in
@@ -31,7 +32,7 @@ module _ (code : Code) (shares : List ℕ) (small : (e : ℕ) → e < 4 → get_
       ∙ product_comm (product (a e) (weight code e i)) (b i) (product-lt (a e) (weight code e i) (small e m) w) (bytes i l))
       ∙ xor_sum-scaled 4 (b i) (λ e. product (a e) (weight code e i))
 
-  pub by_fragments : sum_by shares (λ e. syndrome code e b) ≡ xor_sum n (λ i. product (b i) (share_weight code shares i))
+  pub by_fragments : sum_by shares (λ e. syndrome code e b) ≡ xor_sum n (λ i. product (b i) (factored_weight code shares i))
   by_fragments =
       xor_sum_same 4 _ _ (λ e l. sym (xor_sum-scaled n (a e) (λ i. product (weight code e i) (b i))))
       ∙ xor_sum_swap 4 n (λ e i. product (a e) (product (weight code e i) (b i)))
@@ -44,20 +45,20 @@ remainder lost c i = cond (lost i) 0 (c i)
 -- shares give a fragment also from fewer fragments, if those that are left out weigh nothing
 pub from_fewer : (code : Code) (lost missing : ℕ → Bool) (f : ℕ) (shares : List ℕ) → ((e : ℕ) → e < 4 → get_or shares e 0 < 256)
     → ((i : ℕ) → i < fragment_count code → lost i ≡ true → missing i ≡ true)
-    → ((i : ℕ) → i < fragment_count code → missing i ≡ true → lost i ≡ false → share_weight code shares i ≡ 0)
+    → ((i : ℕ) → i < fragment_count code → missing i ≡ true → lost i ≡ false → factored_weight code shares i ≡ 0)
     → AreShares code lost f shares → AreShares code missing f shares
 from_fewer code lost missing f shares small all rest are c b is left =
     let d : ℕ → ℕ = remainder lost c in
     let remains : IsRemainderOf code lost c d = λ i l. refl in
-    let same : (i : ℕ) → i < fragment_count code → product (d i) (share_weight code shares i) ≡ product (b i) (share_weight code shares i) =
+    let same : (i : ℕ) → i < fragment_count code → product (d i) (factored_weight code shares i) ≡ product (b i) (factored_weight code shares i) =
     λ i l. elim (cases_Bool (missing i)) [
       | inl gone ↦ elim (cases_Bool (lost i)) [
-        | inl lo ↦ ap (λ t. product t (share_weight code shares i)) (ap (λ t. cond t 0 (c i)) lo ∙ sym (left i l ∙ ap (λ t. cond t 0 (c i)) gone))
+        | inl lo ↦ ap (λ t. product t (factored_weight code shares i)) (ap (λ t. cond t 0 (c i)) lo ∙ sym (left i l ∙ ap (λ t. cond t 0 (c i)) gone))
         | inr le ↦ ap (product (d i)) (rest i l gone le) ∙ product-zero_right (d i) ∙ sym (ap (product (b i)) (rest i l gone le) ∙ product-zero_right (b i))
       ]
       | inr here ↦ elim (cases_Bool (lost i)) [
         | inl lo ↦ absurd (true≢false (sym (all i l lo) ∙ here))
-        | inr le ↦ ap (λ t. product t (share_weight code shares i)) (ap (λ t. cond t 0 (c i)) le ∙ sym (left i l ∙ ap (λ t. cond t 0 (c i)) here))
+        | inr le ↦ ap (λ t. product t (factored_weight code shares i)) (ap (λ t. cond t 0 (c i)) le ∙ sym (left i l ∙ ap (λ t. cond t 0 (c i)) here))
       ]
     ] in
     are c d is remains

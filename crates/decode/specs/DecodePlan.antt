@@ -3,7 +3,8 @@ use Rattle.std.specs.Prelude.{◌≡◌, ◌↔◌, ℕ, ◌<◌, true, false, L
 use Rattle.std.specs.Prelude.{slice_index_or}
 use Rattle.lrc_code.specs.declared.Code.{Code}
 use Rattle.lrc_code.specs.Code.{fragment_count, is_lost}
-use Rattle.decode.specs.Syndrome.{AreShares, share_weight}
+use Rattle.lrc_code.specs.Factors.{factored_weight}
+use Rattle.decode.specs.Syndrome.{AreShares}
 use Rattle.decode.specs.declared.plans.DecodePlan.{DecodePlan}
 
 -- four numbers for each of the four targets
@@ -30,7 +31,7 @@ HasAllOf code lost missing = (i : ℕ) → i < fragment_count code → is_lost l
 abbrev pub WeighsNothing : Code → ℕ → ℕ → List (List ℕ) → Type 0
 WeighsNothing code lost missing shares = (i : ℕ) → i < fragment_count code
     → is_lost missing i ≡ true → is_lost lost i ≡ false → (k : ℕ) → k < 4
-    → share_weight code (at_target shares k) i ≡ 0
+    → factored_weight code (at_target shares k) i ≡ 0
 
 -- the set has the other fragments of the code, and no more
 abbrev pub IsRest : Code → ℕ → ℕ → Type 0

@@ -1,4 +1,3 @@
 pub mod Syndrome
 pub mod Decoding
-pub mod Coefficient
 pub mod DecodePlan

@@ -1,5 +1,5 @@
 -- The four syndromes of a column of which bytes are lost, and a lost byte as a sum of them.
-use Rattle.std.specs.Prelude.{◌≡◌, ℕ, ◌<◌, ◌==◌, Bool, true, cond, List}
+use Rattle.std.specs.Prelude.{◌≡◌, ℕ, ◌<◌, Bool, cond, List}
 use Rattle.gf256.specs.Field.{product}
 use Rattle.kernels.specs.Lists.{xor_sum}
 use Rattle.lrc_code.specs.declared.Code.{Code}
@@ -18,12 +18,3 @@ IsRemainderOf code lost c b = (i : ℕ) → i < fragment_count code → b i ≡ 
 abbrev pub AreShares : Code → (ℕ → Bool) → ℕ → List ℕ → Type 0
 AreShares code lost f shares = (c b : ℕ → ℕ) → IsColumn code c → IsRemainderOf code lost c b
     → c f ≡ sum_by shares (λ e. syndrome code e b)
-
--- what the fragment i weighs in the sum of the four equations, each times its share
-abbrev pub share_weight : Code → List ℕ → ℕ → ℕ
-share_weight code shares i = sum_by shares (λ e. weight code e i)
-
--- in that sum the fragment f weighs 1, and every other lost one nothing
-abbrev pub WeighsAlone : Code → (ℕ → Bool) → ℕ → List ℕ → Type 0
-WeighsAlone code lost f shares = (i : ℕ) → i < fragment_count code → lost i ≡ true
-    → share_weight code shares i ≡ cond (i == f) 1 0

@@ -2,16 +2,40 @@
 ghost use Rattle.std.specs.Prelude.{◌≡◌, ℕ, ◌+◌, ◌-◌, ◌<◌, ◌≤◌, ◌↔◌, IsTrue, true, false, None};
 ghost use Rattle.std.specs.Prelude.{IfSome, IsSomeAnd, MatchOption, length, slice_index};
 ghost use Rattle.std.specs.Prelude.{slice_index_or};
-ghost use Rattle.lrc_code.specs.Code.{fragment_count, Open};
+ghost use Rattle.lrc_code.specs.Code.{fragment_count, is_lost, Open};
 ghost use Rattle.lrc_code.specs.Stripe.{is_absent, byte_at, Reaches, HasRange, Rebuilds};
 ghost use Rattle.syndromes.specs.Syndromes.{column_at, HaveBytes};
 ghost use Rattle.decode.specs.Syndrome.{AreShares};
 ghost use Rattle.decode.specs.Decoding.{AreAbsent, HasOpen, IsDecodable, IsDecoded, fragment_at};
 ghost use Rattle.decode.specs.Decoding.{byte_of};
 
-use crate::shares::shares_of;
-use lrc_code::{Code, Left, LostSet, is_alone_in, is_open_in, rebuild_to};
+use lrc_code::{
+    Code, Left, LostSet, factors_in, is_alone_in, is_open_in, rebuild_to as rebuild_by_recipe,
+};
 use syndromes::combine_syndromes;
+
+/// The shares of a lost fragment: in every column it is the sum of the four syndromes of the
+/// remaining fragments, each times its share. They depend on the lost set alone. Returns None if
+/// and only if the fragment is open.
+pub fn shares_of(code: Code, lost: LostSet, f: u8) -> Option<[u8; 4]>
+    requires f_below { f < fragment_count code }
+    requires f_lost { is_lost lost f ≡ true }
+    ensures { MatchOption result (Open code (is_lost lost) f)
+        (λ shares. AreShares code (is_lost lost) f shares) }
+{
+    // A column's sums are 0, so in the sum of the four equations, each times its factor, the
+    // remaining bytes come to what the lost ones do: to the one lost byte that weighs anything.
+    let factors = factors_in(code, lost, f)?;
+    fit(&factors);
+    Some(factors)
+}
+
+/// States for the prover that each of four bytes is below 256.
+fn fit(bytes: &[u8; 4])
+    ensures { (i : ℕ) → i < 4 → slice_index bytes.now i < 256 }
+{
+    let [_first, _second, _third, _fourth] = *bytes;
+}
 
 /// The fragment at one of the sixteen places: the groups of LRC(6,2,2) leave the last three of each
 /// six free.
@@ -161,7 +185,7 @@ pub(crate) fn rebuild_chosen(
         → IsDecoded left.now.code left.now.fragments chosen from to target.old target.new }
 {
     if let Some(f) = chosen {
-        let _ = rebuild_to(left, usize::from(f), from, to, target);
+        let _ = rebuild_by_recipe(left, usize::from(f), from, to, target);
     }
 }
 
@@ -190,7 +214,15 @@ pub(crate) fn far_count(code: Code, lost: LostSet, chosen: &[Option<u8>; 4]) -> 
 
 /// The width from which the syndromes rebuild one fragment faster than a recipe with as many terms
 /// as the code has data fragments, as measured.
-pub const SYNDROME_WIDTH: usize = 512;
+const SYNDROME_WIDTH: usize = 512;
+
+/// Whether `width` bytes of one lost fragment are rebuilt faster by its recipe than by the
+/// syndromes, as measured: if they are few, or the fragment is alone lost in its group.
+pub fn is_recipe_faster(code: Code, lost: LostSet, f: u8, width: usize) -> bool
+    requires { f < fragment_count code }
+{
+    width < SYNDROME_WIDTH || is_alone_in(code, lost, f)
+}
 
 /// Whether the syndromes are faster than recipes, as measured: the wider the fragments are, and the
 /// more of them are not alone lost in their groups.
@@ -267,4 +299,22 @@ pub fn decode_to(
         rebuild_chosen(left, chosen[3], from, to, fourth);
     }
     true
+}
+
+/// Writes the bytes `from..to` of an absent fragment, as every stripe has them that agrees with
+/// what is present: by its recipe or by the syndromes, whichever is faster. Returns false if and
+/// only if the fragment is open; then `target` is unchanged. Does not allocate.
+pub fn rebuild_to(left: &Left, f: u8, from: usize, to: usize, target: &mut [u8]) -> bool
+    requires absent { is_absent left.now.fragments f ≡ true }
+    requires inside { HasRange left.now.code left.now.fragments f from to }
+    requires room { length target.old ≡ to - from }
+    ensures open { (result ≡ false) ↔ Open left.now.code (is_absent left.now.fragments) f }
+    ensures kept { result ≡ false → target.new ≡ target.old }
+    ensures ok { result ≡ true → Rebuilds left.now.code left.now.fragments f from to target.new }
+{
+    if is_recipe_faster(left.code, left.lost(), f, target.len()) {
+        return rebuild_by_recipe(left, usize::from(f), from, to, target);
+    }
+    let chosen = [Some(f), None, None, None];
+    decode_to(left, chosen, from, to, target, &mut [], &mut [], &mut [])
 }

@@ -10,9 +10,7 @@
 mod decoding;
 mod plans;
 mod reads;
-mod shares;
 
-pub use decoding::{SYNDROME_WIDTH, decode_to};
+pub use decoding::{decode_to, is_recipe_faster, rebuild_to, shares_of};
 pub use plans::{DecodePlan, decode_by_plan, plan_for};
 pub use reads::least_reads;
-pub use shares::shares_of;

@@ -4,13 +4,13 @@ ghost use Rattle.std.specs.Prelude.{IsSomeAnd, MatchOption, length, slice_index_
 ghost use Rattle.std.specs.Prelude.{slice_index};
 ghost use Rattle.lrc_code.specs.Code.{fragment_count, is_lost, Open};
 ghost use Rattle.lrc_code.specs.Stripe.{is_absent, Reaches};
-ghost use Rattle.decode.specs.Syndrome.{AreShares, share_weight};
+ghost use Rattle.lrc_code.specs.Factors.{factored_weight};
+ghost use Rattle.decode.specs.Syndrome.{AreShares};
 ghost use Rattle.decode.specs.Decoding.{AreAbsent, HasOpen, IsDecoded};
 ghost use Rattle.decode.specs.DecodePlan.{IsPlan, HasAllOf, IsRest, WeighsNothing, at_target};
 
-use crate::decoding::{far_count, parts_of, rebuild_chosen};
-use crate::shares::{shares_of, weight_by};
-use lrc_code::{Code, Left, LostSet};
+use crate::decoding::{far_count, parts_of, rebuild_chosen, shares_of};
+use lrc_code::{Code, Left, LostSet, factored_weight_of};
 use syndromes::combine_syndromes;
 
 /// How up to four fragments of a stripe are decoded: by which shares of the four syndromes, and
@@ -51,13 +51,13 @@ fn with_bit(bits: u16, f: u8) -> u16
 fn weighs_any(code: Code, shares: &[[u8; 4]; 4], i: u8) -> bool
     requires { i < fragment_count code }
     ensures { result ≡ false → (k : ℕ) → k < 4
-        → share_weight code (at_target shares.now k) i ≡ 0 }
+        → factored_weight code (at_target shares.now k) i ≡ 0 }
 {
     let i = usize::from(i);
-    weight_by(code, &shares[0], i) != 0
-        || weight_by(code, &shares[1], i) != 0
-        || weight_by(code, &shares[2], i) != 0
-        || weight_by(code, &shares[3], i) != 0
+    factored_weight_of(code, &shares[0], i) != 0
+        || factored_weight_of(code, &shares[1], i) != 0
+        || factored_weight_of(code, &shares[2], i) != 0
+        || factored_weight_of(code, &shares[3], i) != 0
 }
 
 /// The fragments that need not be read: those that are lost, and those that weigh nothing.
