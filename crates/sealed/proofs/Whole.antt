@@ -2,11 +2,8 @@
 use Rattle.std.proofs.Common.{◌≡◌, ℕ, zero, suc, ◌+◌, ◌-◌, ◌*◌, ◌/◌, ◌%◌, ◌<◌, ◌≤◌, ◌++◌, ◌∷◌, [], List, length, get_or, map, take, None, Some, Bor, cond, sym, ap, ap₂, ◌∙◌, subst, arith, inl, inr}
 use Rattle.std.specs.Prelude.{All, slice_index, slice_index_or, slice_range}
 use Rattle.std.specs.FinSet as set
-use Rattle.std.proofs.Math.ListN.{drop}
 use Rattle.std.proofs.lemmas.Bool.{cases_lt}
 use Rattle.std.proofs.lemmas.Nat.{div-mul-add}
-use Rattle.std.proofs.lemmas.Slice.{between_is, between-put_mid, take-put_mid_below}
-use borrow.Rule.Slice.PartMut.{put_mid}
 use Rattle.std.proofs.lemmas.Grind.{common_steps}
 use Rattle.std.proofs.lemmas.List.{get_or_append_left, get_or-append_right, get_or-map, get_or-take, length-map, length-take-le, length-append, get_or_default}
 use Rattle.std.proofs.lemmas.List.FromFn.{length-map-range_with_len, fill_by_all}
@@ -15,16 +12,16 @@ use Rattle.lrc_code.specs.Code.{data_count, fragment_count}
 use Rattle.lrc_code.specs.Column.{column}
 use Rattle.lrc_code.specs.Stripe.{IsStripe, list_at, quarters}
 use Rattle.lrc_code.proofs.Columns.{column_data}
-use Rattle.lrc_code.proofs.Parities.{quarters_joined, written_back}
+use Rattle.lrc_code.proofs.Parities.{quarters_joined}
 use Rattle.sealed.specs.Layout.{stripe_size}
 use Rattle.sealed.specs.Stripes.{Stripes, fragment_at}
-use Rattle.sealed.specs.Packed.{held_by, parities_by, part_of, packed, AreParitiesOf}
+use Rattle.sealed.specs.Packed.{held_by, parities_by, part_of, packed, AreParitiesOf, ArePackedOf, AreWhole}
 use Rattle.sealed.specs.Blob.{data_at, fragment, nothing, lost_in, pair_cmp}
 use Rattle.sealed.proofs.Fragments.{byte_or_zero, fragments_are, fragments_only}
 use Rattle.sealed.proofs.Counting.{few_data, parity_count}
-use Rattle.sealed.proofs.Packing.{slice_inside, part_data, part_parity, part_none, part_ends, packed_at}
+use Rattle.sealed.proofs.Packing.{slice_inside, part_data, part_parity, part_none, part_ends, packed_at, packed_count}
 use Rattle.sealed.proofs.Places.{rest_of}
-use Rattle.sealed.proofs.Ranges.{length_of_range, item_of_range}
+use Rattle.sealed.proofs.Ranges.{length_of_range, item_of_range, range_before, range_after}
 
 some_item : {X : Type 0} (xs : List X) → 0 < length xs → X
 some_item [] l = absurd (omega arith)
@@ -132,23 +129,19 @@ same_stripe code w j held b bytes long same =
           ∙ ap (λ i. get_or b i 0) (let e : stripe_size code w * j + (w * f + p) ≡ stripe_size code w * j + w * f + p = omega arith in e));
     })
 
-module _ (code : Code) (w : ℕ) (b last parities : List ℕ) (count : ℕ)
-    (begins : (j : ℕ) → j < count → stripe_size code w * j < length b)
-    (long : (j : ℕ) → stripe_size code w * j < length b → length (held_by (stripe_size code w) b last j) ≡ stripe_size code w)
-    (bytes : (j i : ℕ) → stripe_size code w * j < length b → i < stripe_size code w
-    → slice_index_or (held_by (stripe_size code w) b last j) i 0 ≡ slice_index_or b (stripe_size code w * j + i) 0)
-    (are : (j : ℕ) → j < count → AreParitiesOf code w (held_by (stripe_size code w) b last j) (parities_by w parities j)) where
-  pub packed_whole : All (λ x. x < 256) b → (j f : ℕ) → j < count → f < fragment_count code → fragment_at (packed code w b last parities count) j f ≡ Some (fragment code w b j f)
-  packed_whole fit j f l inside =
-      let held : List ℕ = held_by (stripe_size code w) b last j in
-      let below = begins j l in
-      packed_at code w b last parities count j f l
-      ∙ whole_part code w held (parities_by w parities j) f (long j below) (are j l) inside
-      ∙ ap (λ x. Some x) (same_stripe code w j held b fit (long j below) (λ i h. bytes j i below h) f inside)
-
-pub packed_others : (code : Code) (w : ℕ) (b last parities : List ℕ) (count j f : ℕ) → j < count → fragment_count code ≤ f → fragment_at (packed code w b last parities count) j f ≡ None
-packed_others code w b last parities count j f l past =
-    packed_at code w b last parities count j f l ∙ part_none code w (held_by (stripe_size code w) b last j) (parities_by w parities j) f past
+-- if the blob is held with zeros after it
+pub packed_whole : (code : Code) (w : ℕ) (b blob last parities : List ℕ) (count : ℕ) → All (λ x. x < 256) b → ArePackedOf code w b blob last parities count
+    → AreWhole code w b count (packed code w blob last parities count)
+packed_whole code w b blob last parities count fit are =
+    let held : ℕ → List ℕ = held_by (stripe_size code w) blob last in
+    record {
+      counted = packed_count code w blob last parities count;
+      present = λ j f l inside.
+          packed_at code w blob last parities count j f l
+          ∙ whole_part code w (held j) (parities_by w parities j) f (are.hold j l) (are.encoded j l) inside
+          ∙ ap (λ x. Some x) (same_stripe code w j (held j) b fit (are.hold j l) (λ i h. are.same j i l h) f inside);
+      others = λ j f l past. packed_at code w blob last parities count j f l ∙ part_none code w (held j) (parities_by w parities j) f past;
+    }
 
 -- ---- the last bytes, filled up
 held_whole : (size : ℕ) (b last : List ℕ) (j : ℕ) → size * j + size ≤ length b → held_by size b last j ≡ slice_range b (size * j) (size * j + size)
@@ -184,28 +177,63 @@ module _ (size : ℕ) (b last : List ℕ) (long : (length b % size ≡ 0 → ⊥
         | inr inside ↦ ap (λ (xs : List ℕ). get_or xs i 0) (held_whole size b last j inside) ∙ item_of_range b (size * j) (size * j + size) i inside (omega arith)
       ]
 
--- ---- the parities of one stripe after the other
-module _ (w j : ℕ) (xs ys : List ℕ) (inside : 4 * w * j + 4 * w ≤ length xs) (long : length ys ≡ 4 * w) where
-  abbrev pub after : List ℕ
-  after = put_mid (4 * w * j) (4 * w * j + 4 * w - 4 * w * j) xs ys
+-- ---- one stripe after the other
+pub parities_kept : (w i j : ℕ) (parities four : List ℕ) → length parities ≡ 4 * w * j → i < j → parities_by w (parities ++ four) i ≡ parities_by w parities i
+parities_kept w i j parities four long l =
+    let ends : 4 * w * i + 4 * w ≤ 4 * w * j = part_ends (4 * w) i j l in
+    range_before parities four (4 * w * i) (4 * w * i + 4 * w) (omega arith)
 
-  pub put_here : parities_by w after j ≡ ys
-  put_here = between-put_mid (4 * w * j) (4 * w * j + 4 * w - 4 * w * j) xs ys (4 * w * j + 4 * w) (omega arith) (omega arith)
+pub parities_here : (w j : ℕ) (parities four : List ℕ) → length parities ≡ 4 * w * j → length four ≡ 4 * w → parities_by w (parities ++ four) j ≡ four
+parities_here w j parities four long four_long = range_after parities four (4 * w * j) (4 * w * j + 4 * w) long (omega arith)
 
-  pub put_before : (i : ℕ) → i < j → parities_by w after i ≡ parities_by w xs i
-  put_before i l =
-      let to : ℕ = 4 * w * i + 4 * w in
-      let ends : to ≤ 4 * w * j = part_ends (4 * w) i j l in
-      between_is after (4 * w * i) to
-      ∙ ap (drop (4 * w * i)) (take-put_mid_below (4 * w * j) (4 * w * j + 4 * w - 4 * w * j) xs ys to ends (omega arith))
-      ∙ sym (between_is xs (4 * w * i) to)
+-- those of one more stripe
+pub parities_more : (code : Code) (w : ℕ) (held : ℕ → List ℕ) (parities four : List ℕ) (j : ℕ) → length parities ≡ 4 * w * j
+    → ((i : ℕ) → i < j → AreParitiesOf code w (held i) (parities_by w parities i)) → AreParitiesOf code w (held j) four
+    → (i : ℕ) → i < j + 1 → AreParitiesOf code w (held i) (parities_by w (parities ++ four) i)
+parities_more code w held parities four j long old are i l =
+    elim (cases_lt i j) [
+      | inl before ↦ subst (AreParitiesOf code w (held i)) (sym (parities_kept w i j parities four long before)) (old i before)
+      | inr last ↦
+          (let at : j ≡ i = omega arith in
+          subst (λ k. AreParitiesOf code w (held k) (parities_by w (parities ++ four) k)) at
+          (subst (AreParitiesOf code w (held j)) (sym (parities_here w j parities four long are.long)) are))
+    ]
 
-  pub put_long : length after ≡ length xs
-  put_long = grind (arith, common_steps, long, inside)
+held_kept : (size i j : ℕ) (blob more : List ℕ) → length blob ≡ size * j → i < j → held_by size (blob ++ more) [] i ≡ held_by size blob [] i
+held_kept size i j blob more long l =
+    let ends : size * i + size ≤ size * j = part_ends size i j l in
+    held_whole size (blob ++ more) [] i (omega (arith, length-append blob more))
+    ∙ range_before blob more (size * i) (size * i + size) (omega arith)
+    ∙ sym (held_whole size blob [] i (omega arith))
 
-  -- if they are a list's free capacity, they are written back into it
-  pub put_back : (n : ℕ) (rest : List ℕ) → length xs ≡ n → take n (after ++ rest) ≡ after
-  put_back n rest room = written_back n after rest (put_long ∙ room)
+held_here : (size j : ℕ) (blob more : List ℕ) → length blob ≡ size * j → length more ≡ size → held_by size (blob ++ more) [] j ≡ more
+held_here size j blob more long more_long =
+    held_whole size (blob ++ more) [] j (omega (arith, length-append blob more))
+    ∙ range_after blob more (size * j) (size * j + size) long (omega arith)
+
+-- one more stripe
+pub packed_more : (code : Code) (w : ℕ) (b blob more parities four : List ℕ) (j : ℕ) → length blob ≡ stripe_size code w * j → length more ≡ stripe_size code w → length parities ≡ 4 * w * j
+    → ((i : ℕ) → i < stripe_size code w → slice_index_or more i 0 ≡ slice_index_or b (stripe_size code w * j + i) 0)
+    → AreParitiesOf code w more four → ArePackedOf code w b blob [] parities j → ArePackedOf code w b (blob ++ more) [] (parities ++ four) (j + 1)
+packed_more code w b blob more parities four j long more_long parities_long same are old =
+    let size : ℕ = stripe_size code w in
+    let here : held_by size (blob ++ more) [] j ≡ more = held_here size j blob more long more_long in
+    let kept : (i : ℕ) → i < j → held_by size (blob ++ more) [] i ≡ held_by size blob [] i = λ i l. held_kept size i j blob more long l in
+    record {
+      hold = λ i l. elim (cases_lt i j) [
+        | inl before ↦ ap length (kept i before) ∙ old.hold i before
+        | inr last ↦ (let at : j ≡ i = omega arith in subst (λ k. length (held_by size (blob ++ more) [] k) ≡ size) at (ap length here ∙ more_long))
+      ];
+      same = λ i n l h. elim (cases_lt i j) [
+        | inl before ↦ ap (λ (xs : List ℕ). get_or xs n 0) (kept i before) ∙ old.same i n before h
+        | inr last ↦
+            (let at : j ≡ i = omega arith in
+            subst (λ k. get_or (held_by size (blob ++ more) [] k) n 0 ≡ get_or b (size * k + n) 0) at (ap (λ (xs : List ℕ). get_or xs n 0) here ∙ same n h))
+      ];
+      encoded = parities_more code w (held_by size (blob ++ more) []) parities four j parities_long
+          (λ i l. subst (λ h. AreParitiesOf code w h (parities_by w parities i)) (sym (kept i l)) (old.encoded i l))
+          (subst (λ h. AreParitiesOf code w h four) (sym here) are);
+    }
 
 -- ---- the sealed value
 none_is_no_some : (x : List ℕ) → None ≡ Some x → ⊥
@@ -219,21 +247,19 @@ stripe_of_fragment [] j f x e = absurd (none_is_no_some x e)
 stripe_of_fragment (row ∷ rows) zero f x e = omega arith
 stripe_of_fragment (row ∷ rows) (suc j) f x e = let below : j < length rows = stripe_of_fragment rows j f x e in omega arith
 
-module _ (stripes : Stripes) (code : Code) (w : ℕ) (b : List ℕ) (n : ℕ) (count : length stripes ≡ n)
-    (present : (j f : ℕ) → j < n → f < fragment_count code → fragment_at stripes j f ≡ Some (fragment code w b j f))
-    (others : (j f : ℕ) → j < n → fragment_count code ≤ f → fragment_at stripes j f ≡ None) where
+module _ (stripes : Stripes) (code : Code) (w : ℕ) (b : List ℕ) (n : ℕ) (whole : AreWhole code w b n stripes) where
   pub sized : (j f : ℕ) (x : List ℕ) → fragment_at stripes j f ≡ Some x → (f < fragment_count code) × (length x ≡ w)
   sized j f x e =
-      let below : j < n = (let l = stripe_of_fragment stripes j f x e in omega arith) in
+      let below : j < n = (let l = stripe_of_fragment stripes j f x e in let count = whole.counted in omega arith) in
       elim (cases_lt f (fragment_count code)) [
         | inl inside ↦ (
           inside,
-          ap length (sym (some_injective (fragment code w b j f) x (sym (present j f below inside) ∙ e)))
+          ap length (sym (some_injective (fragment code w b j f) x (sym (whole.present j f below inside) ∙ e)))
               ∙ length-map-range_with_len (λ p. column code (data_at code w b j p) f) 0 w,
         )
-        | inr past ↦ absurd (none_is_no_some x (sym (others j f below past) ∙ e))
+        | inr past ↦ absurd (none_is_no_some x (sym (whole.others j f below past) ∙ e))
       ]
 
   pub nothing_lost : (j f : ℕ) → j < n → f < fragment_count code → fragment_at stripes j f ≡ cond (lost_in nothing j f) None (Some (fragment code w b j f))
   nothing_lost j f below inside =
-      present j f below inside ∙ sym (ap (λ lost. cond lost None (Some (fragment code w b j f))) (set.contains-empty pair_cmp (j, f)))
+      whole.present j f below inside ∙ sym (ap (λ lost. cond lost None (Some (fragment code w b j f))) (set.contains-empty pair_cmp (j, f)))

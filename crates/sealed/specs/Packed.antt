@@ -4,7 +4,7 @@ use Rattle.std.specs.List.{range_with_len}
 use Rattle.lrc_code.specs.declared.Code.{Code}
 use Rattle.lrc_code.specs.Code.{data_count, fragment_count}
 use Rattle.sealed.specs.Layout.{stripe_size}
-use Rattle.sealed.specs.Stripes.{Stripes}
+use Rattle.sealed.specs.Stripes.{Stripes, fragment_at}
 use Rattle.sealed.specs.Blob.{fragment}
 
 -- the bytes that stripe j holds: those of the blob, or the padded last ones if the blob does not
@@ -43,6 +43,25 @@ pub record ArePacked (code : Code) (w : ℕ) (blob last parities : List ℕ) (co
   pub begin : (j : ℕ) → j < count → stripe_size code w * j < length blob
   pub hold : (j : ℕ) → j < count → length (held_by (stripe_size code w) blob last j) ≡ stripe_size code w
   pub complete : length parities ≡ 4 * w * count
+
+-- the bytes are those of b, with zeros after them
+pub record IsPadded (b bytes : List ℕ) : Type 0 where
+  pub long : length b ≤ length bytes
+  pub same : (i : ℕ) → slice_index_or bytes i 0 ≡ slice_index_or b i 0
+
+-- the first `count` stripes of `blob` and `last` hold the bytes of b, with zeros after them, and
+-- `parities` has their parities
+pub record ArePackedOf (code : Code) (w : ℕ) (b blob last parities : List ℕ) (count : ℕ) : Type 0 where
+  pub hold : (j : ℕ) → j < count → length (held_by (stripe_size code w) blob last j) ≡ stripe_size code w
+  pub same : (j i : ℕ) → j < count → i < stripe_size code w
+      → slice_index_or (held_by (stripe_size code w) blob last j) i 0 ≡ slice_index_or b (stripe_size code w * j + i) 0
+  pub encoded : (j : ℕ) → j < count → AreParitiesOf code w (held_by (stripe_size code w) blob last j) (parities_by w parities j)
+
+-- the first `count` stripes of b, without lost fragments. A slot that the code does not use is empty
+pub record AreWhole (code : Code) (w : ℕ) (b : List ℕ) (count : ℕ) (stripes : Stripes) : Type 0 where
+  pub counted : length stripes ≡ count
+  pub present : (j f : ℕ) → j < count → f < fragment_count code → fragment_at stripes j f ≡ Some (fragment code w b j f)
+  pub others : (j f : ℕ) → j < count → fragment_count code ≤ f → fragment_at stripes j f ≡ None
 
 -- a stripe of its own, or else this one
 abbrev pub own_or : {A : Type 0} → (A → List (Option (List ℕ))) → Option A → List (Option (List ℕ)) → List (Option (List ℕ))

@@ -1,5 +1,6 @@
 -- The fragments of a sealed value that can be rebuilt, and their bytes.
-use Rattle.std.specs.Prelude.{◌≡◌, ℕ, true, List, slice_range}
+use Rattle.std.specs.Prelude.{◌≡◌, ℕ, ◌-◌, true, List, Option, None, length, slice_range}
+use Rattle.std.specs.Prelude.{IsSomeAnd, MatchOption}
 use Rattle.lrc_code.specs.Code.{Open}
 use Rattle.sealed.specs.declared.value.Sealed.{Sealed}
 use Rattle.sealed.specs.Layout.{HasFragment}
@@ -21,3 +22,9 @@ IsPartOf s j f from to bytes = (b : List ℕ) (lost : Lost) → StandsFor s b lo
 -- the bytes are the fragment f of stripe j, in each blob that the value represents
 abbrev pub IsFragmentOf : Sealed → ℕ → ℕ → List ℕ → Type 0
 IsFragmentOf s j f bytes = (b : List ℕ) (lost : Lost) → StandsFor s b lost → bytes ≡ fragment s.code s.width b j f
+
+-- nothing if no fragment is chosen, and else the bytes from..to of the chosen fragment of stripe j,
+-- in each blob that the value represents
+abbrev pub IsChosenPart : Sealed → ℕ → ℕ → ℕ → Option ℕ → Option (List ℕ) → Type 0
+IsChosenPart s j from to chosen part = MatchOption chosen (part ≡ None)
+    (λ f. IsSomeAnd part (λ bytes. (length bytes ≡ to - from) × IsPartOf s j f from to bytes))

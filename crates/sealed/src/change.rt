@@ -25,13 +25,9 @@ impl Sealed {
             → StandsFor s b (set.insert lost (stripe, f))) }
         ensures err { IfErr result (λ e. e ≡ Fault.NoMemory) }
     {
-        let Ok(mut sealed) = self.share(alloc) else {
-            return Err(Fault::NoMemory);
-        };
-        match sealed.take_out(alloc, stripe, f) {
-            Ok(()) => Ok(sealed),
-            Err(_) => Err(Fault::NoMemory),
-        }
+        let mut sealed = self.share(alloc)?;
+        sealed.take_out(alloc, stripe, f)?;
+        Ok(sealed)
     }
 
     /// A copy with `bytes` as the fragment `f` of a stripe. It shares all other bytes with this
@@ -46,13 +42,9 @@ impl Sealed {
             → StandsFor s b (set.remove lost (stripe, f))) }
         ensures err { IfErr result (λ e. e ≡ Fault.NoMemory) }
     {
-        let Ok(mut sealed) = self.share(alloc) else {
-            return Err(Fault::NoMemory);
-        };
-        match sealed.put_back(alloc, stripe, f, bytes) {
-            Ok(()) => Ok(sealed),
-            Err(_) => Err(Fault::NoMemory),
-        }
+        let mut sealed = self.share(alloc)?;
+        sealed.put_back(alloc, stripe, f, bytes)?;
+        Ok(sealed)
     }
 
     /// Removes the fragment `f` of a stripe from this value. Other values that share the stripe
@@ -66,10 +58,7 @@ impl Sealed {
         ensures faults { IfErr result (λ e. e ≡ Fault.NoMemory) }
         ensures err { OnErr result (self.new ≡ self.old) }
     {
-        match self.change(alloc, stripe, f, None) {
-            Ok(()) => Ok(()),
-            Err(_) => Err(Fault::NoMemory),
-        }
+        Ok(self.change(alloc, stripe, f, None)?)
     }
 
     /// Sets the fragment `f` of a stripe to `bytes`, of the value's width. Other values that share
@@ -85,10 +74,7 @@ impl Sealed {
         ensures faults { IfErr result (λ e. e ≡ Fault.NoMemory) }
         ensures err { OnErr result (self.new ≡ self.old) }
     {
-        match self.change(alloc, stripe, f, Some(bytes)) {
-            Ok(()) => Ok(()),
-            Err(_) => Err(Fault::NoMemory),
-        }
+        Ok(self.change(alloc, stripe, f, Some(bytes))?)
     }
 
     /// Sets the slot of the fragment `f` of a stripe. On an error the value is unchanged.

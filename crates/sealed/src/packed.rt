@@ -1,11 +1,12 @@
 //! The stripes of a blob as `seal` makes them.
-ghost use Rattle.std.specs.Prelude.{◌≡◌, ◌+◌, ◌*◌, ◌<◌, ◌≤◌, ◌&&◌, ℕ, None, Some, [], length};
-ghost use Rattle.std.specs.Prelude.{nat_lt, is_none, slice_index_or, IfOk};
+ghost use Rattle.std.specs.Prelude.{◌≡◌, ◌+◌, ◌*◌, ◌/◌, ◌%◌, ◌<◌, ◌≤◌, ◌&&◌, ◌⊎◌, ℕ, None, Some};
+ghost use Rattle.std.specs.Prelude.{[], length, nat_lt, is_none, slice_index_or, IfOk};
 ghost use Rattle.std.specs.Option.{option_map};
 ghost use Rattle.lrc_code.specs.Code.{fragment_count, is_lost};
 ghost use Rattle.sealed.specs.Layout.{stripe_size};
 ghost use Rattle.sealed.specs.Stripes.{fragment_at};
 ghost use Rattle.sealed.specs.Packed.{packed, held_by, parities_by, part_of, ArePacked};
+ghost use Rattle.sealed.specs.Runs.{IsDataFrom};
 
 use crate::{Stripe, Width};
 use bytes::Bytes;
@@ -123,6 +124,45 @@ impl Packed {
             parities: self.parities.clone()?,
         })
     }
+
+    /// The bytes of the data from the byte `start` on that lie one behind another, up to the byte
+    /// `end`. They are empty if the stripes are of another code or width.
+    pub(crate) fn run(&self, code: Code, width: Width, start: usize, end: usize) -> &[u8]
+        requires some { start < end }
+        requires inside { end ≤ stripe_size code width * length self.now }
+        ensures bytes { IsDataFrom code width self.now start result.now }
+        ensures few { start + length result.now ≤ end }
+        ensures ends { (result.now ≡ []) ⊎ (start + length result.now ≡ end)
+            ⊎ ((start + length result.now) % stripe_size code width ≡ 0) }
+    {
+        if code != self.code || width != self.width {
+            return &[];
+        }
+        let size = usize::from(code.data_fragments()) * width.get() as usize;
+        run_in(self.blob.as_slice(), self.last.as_slice(), size, start, end)
+    }
+}
+
+/// The bytes of stripes that hold `size` bytes each, from the byte `start` on: those of the blob up
+/// to the end of its last full stripe, or those of a last, partial stripe. They end before the
+/// byte `end`.
+fn run_in<'a>(blob: &'a [u8], last: &'a [u8], size: usize, start: usize, end: usize) -> &'a [u8]
+    requires size { (1 ≤ size) × (size ≤ 786432) }
+    requires some { start < end }
+    requires hold { length (held_by size blob.now last.now (start / size)) ≡ size }
+    ensures bytes { (i : ℕ) → i < length result.now → slice_index_or result.now i 0
+        ≡ slice_index_or (held_by size blob.now last.now ((start + i) / size))
+        ((start + i) % size) 0 }
+    ensures few { start + length result.now ≤ end }
+    ensures ends { (start + length result.now ≡ end)
+        ⊎ ((start + length result.now) % size ≡ 0) }
+{
+    let full = blob.len() - blob.len() % size;
+    if start < full {
+        return &blob[start..end.min(full)];
+    }
+    let begin = start - start % size;
+    &last[start - begin..size.min(end - begin)]
 }
 
 /// The bytes that stripe `j` holds, if a stripe holds `size`.

@@ -11,23 +11,11 @@ use lrc_code::{Code, LostSet};
 
 impl Sealed {
     /// The same blob with another version.
-    pub fn with_version(self, version: u64) -> Sealed
+    pub fn with_version(mut self, version: u64) -> Sealed
         ensures { result ≡ record self { version = version } }
     {
-        let Sealed {
-            version: _,
-            len,
-            width,
-            code,
-            stripes,
-        } = self;
-        Sealed {
-            version,
-            len,
-            width,
-            code,
-            stripes,
-        }
+        self.version = version;
+        self
     }
 
     /// The bytes of the fragment `f` of a stripe, or `None` if it is lost.

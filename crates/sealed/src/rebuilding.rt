@@ -78,9 +78,8 @@ impl Sealed {
         combine(alloc, recipe, &sources[..terms.len()], to - from)
     }
 
-    /// The bytes `from..to` of a lost fragment, rebuilt from the remaining ones of its stripe.
-    /// `from..to` lies inside the width. `NoMemory` if memory runs out.
-    pub fn rebuild(
+    /// The bytes `from..to` of a lost fragment, computed by its recipe.
+    pub(crate) fn rebuild_by_recipe(
         &self,
         alloc: Global,
         stripe: u64,
@@ -99,9 +98,9 @@ impl Sealed {
         }
     }
 
-    /// Does the same with the recipe that `plans` has, or with a new one. It adds a new recipe to
-    /// `plans` and removes none. If only the memory to add it runs out, the bytes are returned all
-    /// the same.
+    /// Does the same as `rebuild` by the recipe that `plans` has, or by a new one. It adds a new
+    /// recipe to `plans` and removes none. If only the memory to add it runs out, the bytes are
+    /// returned all the same.
     pub fn rebuild_with(
         &self,
         alloc: Global,
@@ -146,11 +145,9 @@ impl Sealed {
         ensures err { IfErr result (λ e. e ≡ Fault.NoMemory) }
     {
         let width = self.width.get() as usize;
-        match self.rebuild(alloc, stripe, fragment as u8, 0, width) {
-            Ok(bytes) => match Bytes::from_vec(bytes) {
-                Ok(bytes) => Ok(bytes),
-                Err(_) => Err(Fault::NoMemory),
-            },
+        let bytes = self.rebuild(alloc, stripe, fragment as u8, 0, width)?;
+        match Bytes::from_vec(bytes) {
+            Ok(bytes) => Ok(bytes),
             Err(_) => Err(Fault::NoMemory),
         }
     }

@@ -1,25 +1,24 @@
 //! Sealing: cutting a blob into stripes.
-ghost use Rattle.std.specs.Prelude.{◌≡◌, ◌⊎◌, ◌<◌, ◌≤◌, ◌+◌, ◌*◌, ◌↔◌, ℕ, List, All, None, Some};
-ghost use Rattle.std.specs.Prelude.{length, slice_index_or, slice_range, IfOk, IfErr};
-ghost use Rattle.std.specs.Borrow.{Bor};
-ghost use Rattle.lrc_code.specs.Code.{data_count, fragment_count};
+ghost use Rattle.std.specs.Prelude.{◌≡◌, ◌⊎◌, ◌<◌, ◌≤◌, ◌*◌, ◌↔◌, ℕ, All, [], length, IfOk, IfErr};
 ghost use Rattle.sealed.specs.Layout.{stripe_count, stripe_size};
-ghost use Rattle.sealed.specs.Blob.{fragment, nothing};
-ghost use Rattle.sealed.specs.Stripes.{fragment_at};
-ghost use Rattle.sealed.specs.Packed.{held_by, parities_by, AreParitiesOf};
+ghost use Rattle.sealed.specs.Blob.{nothing};
+ghost use Rattle.sealed.specs.Packed.{ArePackedOf, AreWhole};
 ghost use Rattle.sealed.specs.Sealed.{StandsFor};
 
-use crate::packed::{Packed, held_in};
+use crate::packed::Packed;
+use crate::padding::{last_held, push_padded};
+use crate::parities::{all_parities, push_parities};
 use crate::{Fault, Sealed, Stripes, Width, count_stripes};
 use bytes::Bytes;
-use lrc_code::{Code, NoMemory, encode_to};
+use lrc_code::{Code, NoMemory};
 use std::alloc::Global;
 
 /// Cuts a blob into stripes of LRC(12,2,2) with fragments of `width` bytes. Every fragment is
 /// present, and the version is 0.
 ///
 /// The data fragments share the memory of `bytes`, except those of a last, partial stripe, which
-/// are padded with zeros. One allocation holds the parities of all stripes.
+/// lie in a copy that is padded with zeros. If `bytes` fill no stripe, all lie in that copy, and
+/// `bytes` are released. One allocation holds the parities of all stripes.
 ///
 /// `TooLong` if the blob needs more than 4,096 stripes; it has then not allocated. `NoMemory` if
 /// memory runs out.
@@ -42,21 +41,51 @@ pub fn seal_as(alloc: Global, bytes: Bytes, width: Width, code: Code) -> Result<
     ensures err { IfErr result (λ e. (e ≡ Fault.NoMemory) ⊎ (e ≡ Fault.TooLong)) }
 {
     let len = bytes.len() as u64;
+    let count = checked_count(code, width, len)?;
+    fits(bytes.as_slice());
+    let stripes = all_stripes(alloc, code, width, bytes, count)?;
+    Ok(Sealed {
+        version: 0,
+        len,
+        width,
+        code,
+        stripes,
+    })
+}
+
+/// Does the same as `seal_as`, with a copy of the bytes. Each stripe is encoded right after it is
+/// copied, while the processor's cache holds it. One allocation holds the copy with its padding.
+pub fn seal_copy(alloc: Global, bytes: &[u8], width: Width, code: Code) -> Result<Sealed, Fault>
+    ensures too_long { (result ≡ Err Fault.TooLong)
+        ↔ (4096 < stripe_count code width (length bytes.now)) }
+    ensures ok { IfOk result (λ s. StandsFor s bytes.now nothing) }
+    ensures shape { IfOk result (λ s. (s.version ≡ 0) × (s.width ≡ width) × (s.code ≡ code)) }
+    ensures err { IfErr result (λ e. (e ≡ Fault.NoMemory) ⊎ (e ≡ Fault.TooLong)) }
+{
+    let len = bytes.len() as u64;
+    let count = checked_count(code, width, len)?;
+    fits(bytes);
+    let stripes = stripes_of_copy(alloc, code, width, bytes, count)?;
+    Ok(Sealed {
+        version: 0,
+        len,
+        width,
+        code,
+        stripes,
+    })
+}
+
+/// How many stripes a blob of `len` bytes has. The only error is `TooLong`, if more than 4,096.
+fn checked_count(code: Code, width: Width, len: u64) -> Result<usize, Fault>
+    ensures many { (result ≡ Err Fault.TooLong) ↔ (4096 < stripe_count code width len) }
+    ensures few { IfOk result (λ count. (count ≡ stripe_count code width len) × (count ≤ 4096)) }
+    ensures err { IfErr result (λ e. e ≡ Fault.TooLong) }
+{
     let count = count_stripes(code, width, len);
     if count > 4096 {
         return Err(Fault::TooLong);
     }
-    fits(bytes.as_slice());
-    match all_stripes(alloc, code, width, bytes, count as usize) {
-        Ok(stripes) => Ok(Sealed {
-            version: 0,
-            len,
-            width,
-            code,
-            stripes,
-        }),
-        Err(_) => Err(Fault::NoMemory),
-    }
+    Ok(count as usize)
 }
 
 /// The stripes of a blob without lost fragments.
@@ -70,14 +99,13 @@ fn all_stripes(
     requires count { (count ≡ stripe_count code width (length bytes)) × (count ≤ 4096) }
     requires bytes { All (λ x. x < 256) bytes }
     ensures wide { 1 ≤ width }
-    ensures count { IfOk result (λ s. length s ≡ count) }
-    ensures present { IfOk result (λ s. (j f : ℕ) → j < count → f < fragment_count code
-        → fragment_at s j f ≡ Some (fragment code width bytes j f)) }
-    ensures others { IfOk result (λ s. (j f : ℕ) → j < count → fragment_count code ≤ f
-        → fragment_at s j f ≡ None) }
+    ensures ok { IfOk result (λ s. AreWhole code width bytes count s) }
 {
     let w = width.get() as usize;
     let size = usize::from(code.data_fragments()) * w;
+    if bytes.len() < size {
+        return stripes_of_copy(alloc, code, width, bytes.as_slice(), count);
+    }
     let last = last_held(alloc, &bytes, size)?;
     let parities = all_parities(alloc, code, w, bytes.as_slice(), last.as_slice(), count)?;
     let parities = Bytes::from_vec(parities)?;
@@ -85,93 +113,53 @@ fn all_stripes(
     Stripes::from_packed(alloc, packed)
 }
 
-/// The bytes of a last, partial stripe, padded with zeros. They are empty if the blob fills its
-/// last stripe.
-fn last_held(alloc: Global, bytes: &Bytes, size: usize) -> Result<Bytes, NoMemory>
-    requires { (1 ≤ size) × (size ≤ 786432) }
-    ensures long { IfOk result (λ last. (j : ℕ) → size * j < length bytes.now
-        → length (held_by size bytes.now last j) ≡ size) }
-    ensures bytes { IfOk result (λ last. (j i : ℕ) → size * j < length bytes.now → i < size
-        → slice_index_or (held_by size bytes.now last j) i 0
-        ≡ slice_index_or bytes.now (size * j + i) 0) }
+/// The stripes of a copy of a blob, without lost fragments.
+fn stripes_of_copy(
+    alloc: Global,
+    code: Code,
+    width: Width,
+    bytes: &[u8],
+    count: usize,
+) -> Result<Stripes, NoMemory>
+    requires count { (count ≡ stripe_count code width (length bytes.now)) × (count ≤ 4096) }
+    requires bytes { All (λ x. x < 256) bytes.now }
+    ensures wide { 1 ≤ width }
+    ensures ok { IfOk result (λ s. AreWhole code width bytes.now count s) }
 {
-    let rest = bytes.len() % size;
-    if rest == 0 {
-        return Ok(Bytes::new());
-    }
-    filled_up(alloc, &bytes.as_slice()[bytes.len() - rest..], size)
+    let w = width.get() as usize;
+    let (blob, parities) = copy_and_encode(alloc, code, w, bytes, count)?;
+    let blob = Bytes::from_vec(blob)?;
+    let parities = Bytes::from_vec(parities)?;
+    let packed = Packed::new(code, width, blob, Bytes::new(), parities, count);
+    Stripes::from_packed(alloc, packed)
 }
 
-/// A copy of the bytes, padded with zeros to `size` bytes.
-fn filled_up(alloc: Global, bytes: &[u8], size: usize) -> Result<Bytes, NoMemory>
-    requires { length bytes.now ≤ size }
-    ensures long { IfOk result (λ filled. length filled ≡ size) }
-    ensures bytes { IfOk result (λ filled. (i : ℕ)
-        → slice_index_or filled i 0 ≡ slice_index_or bytes.now i 0) }
-{
-    let mut filled = Vec::with_capacity(alloc, size)?;
-    filled.extend_from_slice(bytes)?;
-    filled.resize(size, 0)?;
-    Ok(Bytes::from_vec(filled)?)
-}
-
-/// The parities of `count` stripes: four for each stripe, one stripe after the other. `last` has
-/// the padded bytes of a last, partial stripe.
-fn all_parities(
+/// A copy of a blob's bytes, padded with zeros to `count` stripes, and the parities of each.
+fn copy_and_encode(
     alloc: Global,
     code: Code,
     w: usize,
-    blob: &[u8],
-    last: &[u8],
+    bytes: &[u8],
     count: usize,
-) -> Result<Vec<u8>, NoMemory>
+) -> Result<(Vec<u8>, Vec<u8>), NoMemory>
     requires width { w ≤ 65536 }
     requires count { count ≤ 4096 }
-    requires begin { (j : ℕ) → j < count → stripe_size code w * j < length blob.now }
-    requires hold { (j : ℕ) → j < count → length (held_by (stripe_size code w) blob.now last.now j)
-        ≡ stripe_size code w }
-    ensures long { IfOk result (λ parities. length parities.items ≡ 4 * w * count) }
-    ensures parities { IfOk result (λ parities. (j : ℕ) → j < count
-        → AreParitiesOf code w (held_by (stripe_size code w) blob.now last.now j)
-        (parities_by w parities.items j)) }
+    requires begin { (j : ℕ) → j < count → stripe_size code w * j < length bytes.now }
+    ensures blob { IfOk result (λ made. length made.0.items ≡ stripe_size code w * count) }
+    ensures parities { IfOk result (λ made. length made.1.items ≡ 4 * w * count) }
+    ensures packed { IfOk result (λ made.
+        ArePackedOf code w bytes.now made.0.items [] made.1.items count) }
 {
     let size = usize::from(code.data_fragments()) * w;
-    let mut parities = vec![in alloc; 0; 4 * w * count]?;
+    let mut blob = Vec::with_capacity(alloc, size * count)?;
+    let mut parities = Vec::with_capacity(alloc, 4 * w * count)?;
     for j in 0..count {
-        let held = held_in(blob, last, size, j);
-        write_parities(code, w, held, &mut parities[4 * w * j..4 * w * j + 4 * w]);
+        let start = size * j;
+        let end = bytes.len().min(start + size);
+        push_padded(&mut blob, &bytes[start..end], size)?;
+        push_parities(code, w, &blob[start..], &mut parities)?;
     }
-    Ok(parities)
-}
-
-/// Writes the four parities of the stripe that holds these bytes, one after the other.
-fn write_parities(code: Code, w: usize, held: &[u8], parities: &mut [u8])
-    requires width { w ≤ 65536 }
-    requires long { length held.now ≡ stripe_size code w }
-    requires room { length parities.old ≡ 4 * w }
-    ensures { AreParitiesOf code w held.now parities.new }
-{
-    let slices = data_slices(code, w, held);
-    let (first, rest) = parities.split_at_mut(w);
-    let (second, rest) = rest.split_at_mut(w);
-    let (third, fourth) = rest.split_at_mut(w);
-    let data = usize::from(code.data_fragments());
-    encode_to(code, &slices[..data], first, second, third, fourth);
-}
-
-/// The data fragments of the stripe that holds these bytes, and then empty slices.
-fn data_slices(code: Code, w: usize, held: &[u8]) -> [&[u8]; 12]
-    requires width { w ≤ 65536 }
-    requires long { length held.now ≡ stripe_size code w }
-    ensures count { length result ≡ 12 }
-    ensures slices { (f : ℕ) (other : Bor (List ℕ)) → f < data_count code
-        → (slice_index_or result f other).now ≡ slice_range held.now (w * f) (w * f + w) }
-{
-    let mut slices: [&[u8]; 12] = [&[]; 12];
-    for f in 0..usize::from(code.data_fragments()) {
-        slices[f] = &held[w * f..w * f + w];
-    }
-    slices
+    Ok((blob, parities))
 }
 
 /// States for the prover that each element of the slice is below 256.

@@ -8,18 +8,17 @@ invariant_of-result c =
     record {
       shaped = record {
         wide = c.all_stripes.ensures.wide;
-        count = c.in-Ok.ensures.count ∙ c.count_stripes-count.ensures;
-        few = omega (arith, c.in-Ok.ensures.count);
-        sized = sized c.in-Ok.stripes c.args.code c.args.width c.args.bytes c.count_stripes-count.result c.in-Ok.ensures.count c.in-Ok.ensures.present c.in-Ok.ensures.others;
+        count = c.in_ok-stripes.ensures.ok.counted ∙ c.in_ok-count.ensures.few.0;
+        few = omega (arith, c.in_ok-stripes.ensures.ok.counted, c.in_ok-count.ensures.few.1);
+        sized = sized c.in_ok-stripes.stripes c.args.code c.args.width c.args.bytes c.in_ok-count.count c.in_ok-stripes.ensures.ok;
       };
     }
 
-pub returns-in-Ok-clause-ok : goal.returns-in-Ok-clause-ok
-returns-in-Ok-clause-ok c =
+pub returns-clause-ok : goal.returns-clause-ok
+returns-clause-ok c =
     record {
       bytes = subst (λ (l : List ℕ). All (λ x. x < 256) l) c.as_slice.ensures c.fits.ensures;
       length_is = c.len-len.ensures.value;
       fragments = λ j f l inside.
-          nothing_lost c.in-Ok.stripes c.args.code c.args.width c.args.bytes c.count_stripes-count.result c.in-Ok.ensures.count
-          c.in-Ok.ensures.present c.in-Ok.ensures.others j f (omega (arith, l, c.count_stripes-count.ensures)) inside;
+          nothing_lost c.in_ok-stripes.stripes c.args.code c.args.width c.args.bytes c.in_ok-count.count c.in_ok-stripes.ensures.ok j f (omega (arith, l, c.in_ok-count.ensures.few.0)) inside;
     }

@@ -3,7 +3,7 @@ use Rattle.sealed.specs.Rebuilding.{IsFragmentOf}
 use Rattle.sealed.proofs.Rebuilt.{whole_part}
 use Rattle.sealed.proofs.value.Sealed.rebuild_fragment.Goals as goal
 
-pub returns-in-Ok-from_vec-clause-ok : goal.returns-in-Ok-from_vec-clause-ok
-returns-in-Ok-from_vec-clause-ok c =
-    subst (λ (x : List ℕ). IsFragmentOf c.args.self.now c.args.stripe c.args.fragment x) (sym c.in-Ok-from_vec.ensures.ok)
-    (whole_part c.args.self.now c.args.stripe c.args.fragment c.get-width.result c.in-Ok.bytes.items c.get-width.ensures.value c.in-Ok.ensures.ok)
+pub returns-in-Ok-clause-ok : goal.returns-in-Ok-clause-ok
+returns-in-Ok-clause-ok c =
+    subst (λ (x : List ℕ). IsFragmentOf c.args.self.now c.args.stripe c.args.fragment x) (sym c.in-Ok.ensures.ok)
+    (whole_part c.args.self.now c.args.stripe c.args.fragment c.get-width.result c.in_ok-bytes.bytes.items c.get-width.ensures.value c.in_ok-bytes.ensures.ok)

@@ -1,5 +1,5 @@
 use Rattle.sealed.proofs.Changing.{without_stands}
 use Rattle.sealed.proofs.value.Sealed.take_out.Goals as goal
 
-pub returns-in-Ok-clause-stands : goal.returns-in-Ok-clause-stands
-returns-in-Ok-clause-stands c b lost stands = without_stands c.args.self.now c.change.new.self b lost c.args.stripe c.args.f c.in-Ok.ensures.ok stands
+pub returns-clause-stands : goal.returns-clause-stands
+returns-clause-stands c b lost stands = without_stands c.args.self.now c.change.new.self b lost c.args.stripe c.args.f c.in_ok-change.ensures.ok stands

@@ -1,6 +1,6 @@
 use Rattle.std.proofs.Common.{◌≡◌, ◌+◌, ◌*◌, ◌<◌, ℕ, List, Bor, length, get_or}
 use Rattle.std.specs.Prelude.{slice_range}
-use Rattle.sealed.proofs.sealing.data_slices.Given as goal
+use Rattle.sealed.proofs.parities.data_slices.Given as goal
 
 abbrev pub invariant-loop-f : goal.invariant-loop-f
 invariant-loop-f l = record {

@@ -1,7 +1,7 @@
 use Rattle.std.proofs.Common.{◌≡◌, ℕ, ◌∙◌, ◌++◌, List, [], ◌∷◌, length, map, take, subst, arith}
 use Rattle.lrc_code.specs.Stripe.{IsStripe, list_at}
 use Rattle.sealed.proofs.Whole.{made_parities, parities_written}
-use Rattle.sealed.proofs.sealing.write_parities.Goals as goal
+use Rattle.sealed.proofs.parities.write_parities.Goals as goal
 
 pub returns : goal.returns
 returns c =
