@@ -29,13 +29,10 @@ impl Book {
         ensures told { IfOk result (λ b. HoldsHistory b []) }
         ensures err { IfErr result (λ e. e ≡ Fault.NoMemory) }
     {
-        let Ok(journal) = Journal::new(alloc, limit) else {
-            return Err(Fault::NoMemory);
-        };
         Ok(Book {
+            journal: Journal::new(alloc, limit)?,
             catalogue: Catalogue::new(alloc),
             base: Base::empty(alloc),
-            journal,
             width,
             puts: 0,
         })

@@ -78,12 +78,8 @@ impl Catalogue {
             ≡ cond (is_at (name_cmp name.now) q) (Some sealed.value) (value_at self.old q)) }
         ensures err { OnErr result (self.new ≡ self.old) }
     {
-        let Ok(_) = self
-            .blobs
-            .insert(name.duplicate(), StoredBlob::whole(sealed))
-        else {
-            return Err(AllocError);
-        };
+        self.blobs
+            .insert(name.duplicate(), StoredBlob::whole(sealed))?;
         self.lacking.remove(name);
         Ok(())
     }

@@ -43,9 +43,7 @@ impl Book {
         let Ok(sealed) = Arc::new(alloc, sealed.with_version(version)) else {
             return Err(Fault::NoMemory);
         };
-        let Ok(()) = self.catalogue.insert(&name, sealed) else {
-            return Err(Fault::NoMemory);
-        };
+        self.catalogue.insert(&name, sealed)?;
         self.puts = version;
         let call = Call::Put { name, code, len };
         let answer = Answer::Stored(version);

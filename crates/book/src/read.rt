@@ -30,10 +30,7 @@ impl Book {
         if self.is_full() {
             return Err(Fault::JournalFull);
         }
-        let answer = match answer_read(self.find(&name), start, len) {
-            Ok(answer) => answer,
-            Err(_) => return Err(Fault::NoMemory),
-        };
+        let answer = answer_read(self.find(&name), start, len)?;
         let call = Call::Read { name, start, len };
         Ok(note_call(&mut self.journal, who, call, answer))
     }
@@ -47,10 +44,9 @@ fn answer_read(found: Option<&Arc<Sealed>>, start: u64, len: u64) -> Result<Answ
     let Some(sealed) = found else {
         return Ok(Answer::NoName);
     };
-    match Grant::ask(sealed, start, len) {
-        Ok(Asked::Granted(grant)) => Ok(Answer::Granted(grant)),
-        Ok(Asked::OutOfRange) => Ok(Answer::OutOfRange),
-        Ok(Asked::Unrecoverable) => Ok(Answer::Unrecoverable(sealed.version)),
-        Err(error) => Err(error),
+    match Grant::ask(sealed, start, len)? {
+        Asked::Granted(grant) => Ok(Answer::Granted(grant)),
+        Asked::OutOfRange => Ok(Answer::OutOfRange),
+        Asked::Unrecoverable => Ok(Answer::Unrecoverable(sealed.version)),
     }
 }

@@ -136,10 +136,8 @@ impl StoredBlob {
             return Ok(Answer::AlreadyLost);
         }
         let version = self.sealed.version;
-        match self.take_out(alloc, stripe, fragment as u8) {
-            Ok(()) => Ok(Answer::Lost(version)),
-            Err(error) => Err(error),
-        }
+        self.take_out(alloc, stripe, fragment as u8)?;
+        Ok(Answer::Lost(version))
     }
 
     /// Takes out a fragment that is present.
@@ -151,13 +149,9 @@ impl StoredBlob {
         ensures faults { IfErr result (λ e. e ≡ Fault.NoMemory) }
         ensures err { OnErr result (self.new ≡ self.old) }
     {
-        match take_out_of(&mut self.sealed, alloc, stripe, f) {
-            Ok(()) => {
-                self.lost += 1;
-                Ok(())
-            }
-            Err(_) => Err(Fault::NoMemory),
-        }
+        take_out_of(&mut self.sealed, alloc, stripe, f)?;
+        self.lost += 1;
+        Ok(())
     }
 
     /// Rebuilds a lost fragment. The only error is `NoMemory`; the blob is then unchanged.
@@ -178,10 +172,8 @@ impl StoredBlob {
         if !self.sealed.is_rebuildable(stripe, fragment) {
             return Ok(Answer::Unrecoverable(self.sealed.version));
         }
-        match self.sealed.rebuild_fragment(alloc, stripe, fragment) {
-            Ok(bytes) => self.mend(alloc, stripe, fragment, bytes),
-            Err(_) => Err(Fault::NoMemory),
-        }
+        let bytes = self.sealed.rebuild_fragment(alloc, stripe, fragment)?;
+        self.mend(alloc, stripe, fragment, bytes)
     }
 
     /// Does the same as `repair`, but installs these bytes if the blob has this version. The only
@@ -228,10 +220,8 @@ impl StoredBlob {
         ensures err { OnErr result (self.new ≡ self.old) }
     {
         let version = self.sealed.version;
-        match self.put_back(alloc, stripe, fragment as u8, bytes) {
-            Ok(()) => Ok(Answer::Repaired(version)),
-            Err(error) => Err(error),
-        }
+        self.put_back(alloc, stripe, fragment as u8, bytes)?;
+        Ok(Answer::Repaired(version))
     }
 
     /// Puts back a lost fragment.
@@ -246,13 +236,9 @@ impl StoredBlob {
         ensures faults { IfErr result (λ e. e ≡ Fault.NoMemory) }
         ensures err { OnErr result (self.new ≡ self.old) }
     {
-        match put_back_in(&mut self.sealed, alloc, stripe, f, bytes) {
-            Ok(()) => {
-                self.lost -= 1;
-                Ok(())
-            }
-            Err(_) => Err(Fault::NoMemory),
-        }
+        put_back_in(&mut self.sealed, alloc, stripe, f, bytes)?;
+        self.lost -= 1;
+        Ok(())
     }
 }
 
@@ -269,9 +255,7 @@ fn take_out_of(sealed: &mut Arc<Sealed>, alloc: Global, stripe: u64, f: u8) -> R
     if let Some(own) = Arc::get_mut(sealed) {
         return own.take_out(alloc, stripe, f);
     }
-    let Ok(changed) = sealed.without(alloc, stripe, f) else {
-        return Err(Fault::NoMemory);
-    };
+    let changed = sealed.without(alloc, stripe, f)?;
     let Ok(changed) = Arc::new(alloc, changed) else {
         return Err(Fault::NoMemory);
     };
@@ -298,9 +282,7 @@ fn put_back_in(
     if let Some(own) = Arc::get_mut(sealed) {
         return own.put_back(alloc, stripe, f, bytes);
     }
-    let Ok(changed) = sealed.with(alloc, stripe, f, bytes) else {
-        return Err(Fault::NoMemory);
-    };
+    let changed = sealed.with(alloc, stripe, f, bytes)?;
     let Ok(changed) = Arc::new(alloc, changed) else {
         return Err(Fault::NoMemory);
     };

@@ -37,4 +37,4 @@ returns-clause-ok c b stands =
     (ap (λ (s : Contents). s.width) c.self.view_is)
     base
     (cc)
-    (λ q. c.in-Ok-insert.ensures.ok q ∙ (λ i. cond (is_at (name_cmp c.args.name) q) (Some ((c.in-Ok.ensures.ok ∙ c.with_version.ensures) i)) (sealed_at (c.self.view_is i) q))))
+    (λ q. c.in_ok-insert.ensures.ok q ∙ (λ i. cond (is_at (name_cmp c.args.name) q) (Some ((c.in-Ok.ensures.ok ∙ c.with_version.ensures) i)) (sealed_at (c.self.view_is i) q))))

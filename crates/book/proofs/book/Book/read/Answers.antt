@@ -7,11 +7,11 @@ use Rattle.book.proofs.book.Book.read.Goals as goal
 
 pub returns-clause-ok : goal.returns-clause-ok
 returns-clause-ok c =
-    let P : Option Sealed → Type 0 = λ found. IsReadAnswer found c.args.start c.args.len c.in-Ok.answer in
+    let P : Option Sealed → Type 0 = λ found. IsReadAnswer found c.args.start c.args.len c.in_ok-answer.answer in
     let entries : c.self.inside.journal.entries.items ≡ c.args.self.now.entries = ap (λ (s : Contents). s.entries) c.self.view_is in
     rw c.note_call.ensures.answer (
-    carries_read c.args.self.now _ c.args.who c.args.name c.args.start c.args.len c.in-Ok.answer
-    (subst P c.find.ensures c.in-Ok.ensures.ok)
+    carries_read c.args.self.now _ c.args.who c.args.name c.args.start c.args.len c.in_ok-answer.answer
+    (subst P c.find.ensures c.in_ok-answer.ensures.ok)
     (ap (λ (s : Contents). s.width) c.self.view_is)
     (ap (λ (s : Contents). s.base) c.self.view_is)
     (ap (λ (s : Contents). s.catalogue) c.self.view_is)

@@ -12,5 +12,5 @@ invariant_of-self-2 c =
     replaced c.self.inside.blobs.entries c.insert.new.self.entries c.args.name.now (Some c.args.sealed.value) (contains name_cmp c.self.inside.lacking) (contains name_cmp c.remove.new.self)
     (none_lacks c.args.sealed.value (none_lacked c.args.sealed.value c.requires.0 c.requires.1))
     c.self.invariant
-    (λ q. c.in-Ok.ensures.updates.0 q ∙ (λ i. cond (is_at (name_cmp (c.duplicate.ensures i)) q) (Some (c.whole.ensures i)) (value_at c.self.inside.blobs.entries q)))
+    (λ q. c.in_ok-insert.ensures.updates.0 q ∙ (λ i. cond (is_at (name_cmp (c.duplicate.ensures i)) q) (Some (c.whole.ensures i)) (value_at c.self.inside.blobs.entries q)))
     c.remove.ensures.updates.0

@@ -3,6 +3,6 @@ use Rattle.sealed.specs.declared.value.Sealed.{Sealed}
 use Rattle.book.proofs.Known.{replies_repaired}
 use Rattle.book.proofs.stored_blob.StoredBlob.mend.Goals as goal
 
-pub returns-in-Ok-clause-answer : goal.returns-in-Ok-clause-answer
-returns-in-Ok-clause-answer c =
+pub returns-clause-answer : goal.returns-clause-answer
+returns-clause-answer c =
     replies_repaired c.args.self.now c.args.stripe c.args.fragment c.deref.result.now.version c.requires.rebuildable (ap (λ (s : Sealed). s.version) (c.deref.ensures ∙ c.self.view_is))

@@ -16,4 +16,4 @@ returns-then-not-is_rebuildable-clause-answer c =
 
 pub mend-requires-clause-own : goal.mend-requires-clause-own
 mend-requires-clause-own c =
-    subst (λ (s : Sealed). IsFragmentOf s c.args.stripe c.args.fragment c.in-Ok.bytes) (c.deref-2.ensures ∙ c.self.view_is) c.in-Ok.ensures.ok
+    subst (λ (s : Sealed). IsFragmentOf s c.args.stripe c.args.fragment c.in_ok-bytes.bytes) (c.deref-2.ensures ∙ c.self.view_is) c.in_ok-bytes.ensures.ok
