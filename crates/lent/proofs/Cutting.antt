@@ -24,7 +24,7 @@ pub worked_small : cut Small 4 22 6 ≡ (record { stripe = 0; fragment = 5; from
 worked_small = refl
 
 -- ---- ranges of numbers
-range_split : (a m n : ℕ) → range_with_len a (m + n) ≡ range_with_len a m ++ range_with_len (a + m) n
+pub range_split : (a m n : ℕ) → range_with_len a (m + n) ≡ range_with_len a m ++ range_with_len (a + m) n
 range_split a zero n = ap₂ range_with_len (let e : a ≡ a + 0 = omega arith in e) (let e : 0 + n ≡ n = omega arith in e)
 range_split a (suc m) n =
     ap (λ k. range_with_len a k) (let e : suc m + n ≡ suc (m + n) = omega arith in e)
@@ -52,7 +52,7 @@ data_fragment Small k = omega arith
 
 -- ---- the parts of n data fragments from the k-th on, of which the last one is where the range ends
 module _ (code : Code) (w start end : ℕ) where
-  abbrev parts : ℕ → ℕ → List Part
+  abbrev pub parts : ℕ → ℕ → List Part
   parts k n = map (part_of code w start end) (range_with_len k n)
 
   apart : (k n : ℕ) → NeighboursDiffer (parts k n)
@@ -72,7 +72,7 @@ module _ (code : Code) (w start end : ℕ) where
       (record { some = omega arith; inside = omega arith; holds_data = data_fragment code k })
       (each (k + 1) n wide some (omega arith) (λ m e. subst (λ x. x * w < end) (let same : k + suc m ≡ k + 1 + m = omega arith in same) (last (suc m) (ap suc e))))
 
-  covers : (k n : ℕ) → start < end → start < (k + 1) * w → end ≤ (k + n) * w → ((m : ℕ) → n ≡ suc m → (k + m) * w < end)
+  pub covers : (k n : ℕ) → start < end → start < (k + 1) * w → end ≤ (k + n) * w → ((m : ℕ) → n ≡ suc m → (k + m) * w < end)
       → all_numbers code w (parts k n) ≡ range_with_len (k * w + (start - k * w)) (end - (k * w + (start - k * w)))
   covers k zero some first past last =
       let sum = times_sum k 0 w in

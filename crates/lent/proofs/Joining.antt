@@ -22,10 +22,10 @@ use Rattle.lent.specs.Ahead.{Ahead}
 use Rattle.lent.specs.Cut.{IsCut, part_of, numbers_of, all_numbers, cut}
 use Rattle.lent.proofs.Cutting.{cut_is}
 use Rattle.lent.specs.Pieces.{IsPieceBy, IsPieceOf, bytes_of}
-use Rattle.lent.specs.Walk.{Gives, Joins}
+use Rattle.lent.specs.Walk.{Gives, IsAbsent, Joins}
 use Rattle.lent.specs.Spans.{span_of, spans_of}
 
-fill_from : (g : ℕ → ℕ) (xs : List ℕ) (a n : ℕ) → length xs ≡ n → ((k : ℕ) → k < n → get_or xs k 0 ≡ g (a + k)) → xs ≡ map g (range_with_len a n)
+pub fill_from : (g : ℕ → ℕ) (xs : List ℕ) (a n : ℕ) → length xs ≡ n → ((k : ℕ) → k < n → get_or xs k 0 ≡ g (a + k)) → xs ≡ map g (range_with_len a n)
 fill_from g xs a n long at =
     ext_get_or 0 xs (map g (range_with_len a n)) (long ∙ sym (length-map-range_with_len g a n))
     (λ k l. at k (omega arith) ∙ sym (get_or-map-range_with_len g a n k (a + k) 0 (omega arith) refl))
@@ -93,12 +93,16 @@ next_parts s start end n k l part at =
     let parts_at : ℕ → List Part = λ m. map (part_of s.code s.width start end) (range_with_len m (n - m)) in
     ap (λ m. map (part_of s.code s.width start end) (range_with_len k m)) (let e : n - k ≡ suc (n - (k + 1)) = omega arith in e) ∙ ap (λ p. p ∷ parts_at (k + 1)) (sym at)
 
--- the same of the spans, for a walk that is seen as the value `old`
-pub step_spans : (s : Sealed) (start end n k : ℕ) → k < n → (part : Part) → part ≡ part_of s.code s.width start end k → (old : Ahead) → ahead_at s start end n k ≡ old
-    → (span : Part × Option (List ℕ)) → span ≡ span_of s part → spans_of old.sealed old.parts ≡ span ∷ spans_of s (ahead_at s start end n (k + 1)).parts
-step_spans s start end n k l part at old seen span is =
-    subst (λ (o : Ahead). spans_of o.sealed o.parts ≡ span ∷ spans_of s (ahead_at s start end n (k + 1)).parts) seen
-    (ap (spans_of s) (next_parts s start end n k l part at) ∙ ap (λ x. x ∷ spans_of s (ahead_at s start end n (k + 1)).parts) (sym is))
+-- the same of the spans
+pub step_spans : (s : Sealed) (start end n k : ℕ) → k < n → (part : Part) → part ≡ part_of s.code s.width start end k → (span : Part × Option (List ℕ)) → span ≡ span_of s part
+    → spans_of s (ahead_at s start end n k).parts ≡ span ∷ spans_of s (ahead_at s start end n (k + 1)).parts
+step_spans s start end n k l part at span is =
+    ap (spans_of s) (next_parts s start end n k l part at) ∙ ap (λ x. x ∷ spans_of s (ahead_at s start end n (k + 1)).parts) (sym is)
+
+-- where the next part's fragment is absent, a walk that is seen as the value `old` has an absent part first
+pub step_absent : (s : Sealed) (start end n k : ℕ) → k < n → (part : Part) → part ≡ part_of s.code s.width start end k → (old : Ahead) → ahead_at s start end n k ≡ old
+    → fragment_at s.stripes part.stripe part.fragment ≡ None → IsAbsent old.sealed old.parts
+step_absent s start end n k l part at old seen gone = subst (λ (o : Ahead). IsAbsent o.sealed o.parts) seen (subst (IsAbsent s) (sym (next_parts s start end n k l part at)) gone)
 
 module _ (s : Sealed) (start end n k : ℕ) (l : k < n) (part : Part) (at : part ≡ part_of s.code s.width start end k) (piece : Piece) (is : IsPieceOf s part piece) where
   gives : Gives (ahead_at s start end n k) (ahead_at s start end n (k + 1)) piece

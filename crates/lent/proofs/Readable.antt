@@ -14,7 +14,7 @@ pub record Meets (w start len k : ℕ) : Type 0 where
   pub first : start / w ≤ k
   pub last : k < cut_end w start len
 
-some_met : (w start len k : ℕ) → Meets w start len k → (0 < len) × (k ≤ (start + len - 1) / w)
+pub some_met : (w start len k : ℕ) → Meets w start len k → (0 < len) × (k ≤ (start + len - 1) / w)
 some_met w start len k met = grind (arith, met.first, met.last)
 
 end_above : (w start len : ℕ) → 0 < len → (start + len - 1) / w < cut_end w start len

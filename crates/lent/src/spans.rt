@@ -4,7 +4,8 @@ ghost use Rattle.sealed.specs.Layout.{stripe_count};
 ghost use Rattle.lent.specs.Granted.{cut_of};
 ghost use Rattle.lent.specs.Spans.{seen, span_of, spans_of};
 
-use crate::{Grant, Part, Span, Walk};
+use crate::cut::part_at;
+use crate::{Grant, Part, Span};
 use sealed::Sealed;
 use std::marker::Model;
 
@@ -12,17 +13,28 @@ use std::marker::Model;
 /// ahead, each as its part with its bytes.
 #[derive(Drop)]
 pub struct Spans<'a> {
-    walk: Walk<'a>,
+    grant: &'a Grant,
+    at: u64,
+    end: u64,
 }
 
 impl<'a> Model for Spans<'a> {
-    ghost use Rattle.std.specs.Prelude.{ℕ, List, Option};
+    ghost use Rattle.std.specs.Prelude.{◌≡◌, ◌+◌, ◌-◌, ◌/◌, ◌≤◌, ℕ, List, Option, map};
+    ghost use Rattle.std.specs.List.{range_with_len};
     ghost use Rattle.lent.specs.declared.part.Part.{Part as CutPart};
+    ghost use Rattle.lent.specs.Cut.{part_of, cut_end};
     ghost use Rattle.lent.specs.Spans.{spans_of};
 
     ghost Value = { List (CutPart × Option (List ℕ)) };
 
-    ghost view = { λ s. spans_of s.walk.sealed s.walk.parts };
+    ghost view = { λ s. spans_of s.grant.now.sealed.value
+        (map (part_of s.grant.now.sealed.value.code s.grant.now.sealed.value.width
+        s.grant.now.start (s.grant.now.start + s.grant.now.len))
+        (range_with_len s.at (s.end - s.at))) };
+
+    ghost invariant = { λ s. (s.grant.now.start / s.grant.now.sealed.value.width ≤ s.at)
+        × (s.at ≤ s.end) × (s.end ≡ cut_end s.grant.now.sealed.value.width s.grant.now.start
+        s.grant.now.len) };
 }
 
 impl Grant {
@@ -30,7 +42,12 @@ impl Grant {
     pub fn spans(&self) -> Spans<'_>
         ensures { result ≡ spans_of self.now.sealed.value (cut_of self.now) }
     {
-        Spans { walk: self.walk() }
+        let (at, end) = (self.met.start, self.met.end);
+        Spans {
+            grant: self,
+            at,
+            end,
+        }
     }
 }
 
@@ -44,12 +61,18 @@ impl<'a> Iterator for Spans<'a> {
     ghost remaining = { item_count (λ rest. rest) };
 
     fn next(&mut self) -> Option<Span<'a>> {
-        self.walk.next_span()
+        if self.at == self.end {
+            return None;
+        }
+        let grant: &'a Grant = self.grant;
+        let part = part_at(grant, self.at);
+        self.at += 1;
+        Some(span_at(&grant.sealed, part))
     }
 }
 
 /// The span of a part.
-pub(crate) fn span_at(sealed: &Sealed, part: Part) -> Span<'_>
+fn span_at(sealed: &Sealed, part: Part) -> Span<'_>
     requires stripe { part.stripe < stripe_count sealed.now.code sealed.now.width sealed.now.len }
     requires fragment { part.fragment < 16 }
     requires range { (part.from ≤ part.to) × (part.to ≤ sealed.now.width) }
