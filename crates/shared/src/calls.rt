@@ -15,7 +15,7 @@ use book::{Answer, Fault, Name};
 use bytes::Bytes;
 use lrc_code::Code;
 use requests::Request;
-use sealed::seal_as;
+use sealed::{seal_as, seal_copy};
 use std::alloc::Global;
 use std::sync::Wait;
 
@@ -60,6 +60,36 @@ impl Store {
         ensures faults { IfErr result (λ e. IsCallFault e ⊎ (e ≡ Fault.TooLong)) }
     {
         match seal_as(alloc, bytes, self.width, code) {
+            Ok(sealed) => self.make(
+                rt,
+                pass,
+                Request::Put {
+                    alloc,
+                    name,
+                    sealed,
+                },
+            ),
+            Err(fault) => pass.refuse(fault),
+        }
+    }
+
+    /// As `put_as`, of a copy of the bytes, which is made as the blob is sealed.
+    pub fn put_copy<R: Wait>(
+        &self,
+        rt: &R,
+        alloc: Global,
+        pass: &mut Pass,
+        name: Name,
+        bytes: &[u8],
+        code: Code,
+    ) -> Result<Answer, Fault>
+        requires { pass.old.store ≡ self.now }
+        ensures called { Called pass.old (put_of name code bytes.now) result pass.new }
+        ensures too_long { (result ≡ Err Fault.TooLong)
+            ↔ (4096 < stripe_count code self.now.width (length bytes.now)) }
+        ensures faults { IfErr result (λ e. IsCallFault e ⊎ (e ≡ Fault.TooLong)) }
+    {
+        match seal_copy(alloc, bytes, self.width, code) {
             Ok(sealed) => self.make(
                 rt,
                 pass,

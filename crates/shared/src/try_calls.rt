@@ -19,7 +19,7 @@ use book::{Answer, Fault, Name};
 use bytes::Bytes;
 use lrc_code::Code;
 use requests::Request;
-use sealed::seal_as;
+use sealed::{seal_as, seal_copy};
 use std::alloc::Global;
 
 impl Store {
@@ -66,6 +66,39 @@ impl Store {
         ensures lone { pass.old.room ≡ 64 → result ≢ Err Fault.Busy }
     {
         match seal_as(alloc, bytes, self.width, code) {
+            Ok(sealed) => self.try_make(
+                pass,
+                Request::Put {
+                    alloc,
+                    name,
+                    sealed,
+                },
+            ),
+            Err(fault) => pass.refuse(fault),
+        }
+    }
+
+    /// As `put_copy`, if no thread is in the critical section. The blob is sealed first.
+    pub fn try_put_copy(
+        &self,
+        alloc: Global,
+        pass: &mut Pass,
+        name: Name,
+        bytes: &[u8],
+        code: Code,
+    ) -> Result<Answer, Fault>
+        requires { pass.old.store ≡ self.now }
+        ensures called { Called pass.old (put_of name code bytes.now) result pass.new }
+        ensures too_long { (result ≡ Err Fault.TooLong)
+            ↔ (4096 < stripe_count code self.now.width (length bytes.now)) }
+        ensures faults { IfErr result
+            (λ e. (e ≡ Fault.Busy) ⊎ IsCallFault e ⊎ (e ≡ Fault.TooLong)) }
+        ensures busy { result ≡ Err Fault.Busy → FindsBusy pass.old pass.new }
+        ensures entered { result ≢ Err Fault.Busy
+            → VisitsOnce pass.old pass.new ⊎ IsRefusedOutside pass.old result pass.new }
+        ensures lone { pass.old.room ≡ 64 → result ≢ Err Fault.Busy }
+    {
+        match seal_copy(alloc, bytes, self.width, code) {
             Ok(sealed) => self.try_make(
                 pass,
                 Request::Put {

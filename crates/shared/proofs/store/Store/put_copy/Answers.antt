@@ -1,0 +1,19 @@
+use Rattle.std.proofs.Common.{Err, ap, sym, subst, ◌∙◌}
+use Rattle.history.specs.Step.{Operation, put}
+use Rattle.shared.specs.Passes.{Which}
+use Rattle.shared.specs.Calls.{Called}
+use Rattle.requests.proofs.Bytes.{bytes_are}
+use Rattle.shared.proofs.Requests.{refused_put}
+use Rattle.shared.proofs.store.Store.put_copy.Goals as goal
+
+pub returns-in-Ok-clause-called : goal.returns-in-Ok-clause-called
+returns-in-Ok-clause-called g c =
+    subst (λ (o : Operation). Called c.args.pass.now o c.make.result c.make.new.pass)
+    (λ i. put c.args.name (c.in-Ok.ensures.shape.2 i) (bytes_are c.in-Ok.sealed c.args.bytes.now c.in-Ok.ensures.ok i))
+    c.make.ensures.called
+
+pub returns-in-Err-clause-called : goal.returns-in-Err-clause-called
+returns-in-Err-clause-called g c =
+    subst (λ r. Called c.args.pass.now (put c.args.name c.args.code c.args.bytes.now) r c.args.pass.now) (sym c.refuse.ensures.refused)
+    (refused_put c.args.pass.now c.args.name c.args.code c.args.bytes.now c.self.inside.width c.in-Err.fault c.refuse.ensures.agrees
+    (ap (λ (s : Which). s.width) (c.self.view_is ∙ sym c.requires)) c.in-Err.ensures.err (λ long. c.seal_copy.ensures.too_long.0 (c.in-Err.is ∙ ap Err long)))
