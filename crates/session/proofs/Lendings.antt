@@ -94,7 +94,7 @@ lent_from g rebuilt has =
     ap (pieces_of (spans_of g.sealed.value (cut_of g))) has.rebuilt_is ∙ pieces_are g.sealed.value (cut_of g) has.pieces has.are in
     record { pieces = has.pieces; are = has.are; lent_is = e; range_is = λ b lost stands. ap concat e ∙ has.range_is b lost stands }
 
-pieces_count : (s : Sealed) (parts : List Part) (pieces : List Piece) → ArePieces s parts pieces → length pieces ≡ length parts
+pub pieces_count : (s : Sealed) (parts : List Part) (pieces : List Piece) → ArePieces s parts pieces → length pieces ≡ length parts
 pieces_count s [] [] are = refl
 pieces_count s [] (piece ∷ pieces) are = absurd are
 pieces_count s (part ∷ parts) [] are = absurd are

@@ -3,3 +3,4 @@ pub mod Slots
 pub mod CopiedPieces
 pub mod Lendings
 pub mod RepairSteps
+pub mod Running

@@ -5,3 +5,4 @@ pub mod CopyOf
 pub mod KnownFault
 pub mod LentFrom
 pub mod RepairStep
+pub mod Runs

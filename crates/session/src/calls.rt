@@ -40,6 +40,26 @@ impl Session {
             .try_put_as(alloc, &mut self.pass, name, bytes, code)
     }
 
+    /// As `put_as`, of a copy of the bytes, which is made as the blob is sealed.
+    pub fn put_copy(
+        &mut self,
+        alloc: Global,
+        name: Name,
+        bytes: &[u8],
+        code: Code,
+    ) -> Result<Answer, Fault>
+        ensures called { Called self.old (put_of name code bytes.now) result self.new }
+        ensures too_long { (result ≡ Err Fault.TooLong)
+            ↔ (4096 < stripe_count code self.old.store.width (length bytes.now)) }
+        ensures faults { IfErr result
+            (λ e. (e ≡ Fault.Busy) ⊎ IsCallFault e ⊎ (e ≡ Fault.TooLong)) }
+        ensures busy { result ≡ Err Fault.Busy → FindsBusy self.old self.new }
+        ensures lone { self.old.room ≡ 64 → result ≢ Err Fault.Busy }
+    {
+        self.store
+            .try_put_copy(alloc, &mut self.pass, name, bytes, code)
+    }
+
     /// Asks for `len` bytes of a blob, from the byte `start` on.
     pub fn read(&mut self, name: Name, start: u64, len: u64) -> Result<Answer, Fault>
         ensures called { Called self.old (read_of name start len) result self.new }

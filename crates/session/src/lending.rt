@@ -1,5 +1,7 @@
 //! Granted ranges that stay lent from call to call.
-ghost use Rattle.std.specs.Prelude.{◌≡◌, ◌++◌, length, map, min, take, drop, IfOk};
+ghost use Rattle.std.specs.Prelude.{◌≡◌, ◌++◌, ℕ, List, length, map, min, take, drop, IfOk};
+ghost use Rattle.sealed.specs.Blob.{Lost};
+ghost use Rattle.sealed.specs.Sealed.{StandsFor};
 ghost use Rattle.session.specs.LentFrom.{IsLentFrom, HasRebuilt, items_of, needed, chosen};
 ghost use Rattle.lent.specs.Spans.{seen};
 
@@ -26,28 +28,32 @@ pub struct LentBuffer<'a> {
 /// clause sees the bytes of each piece.
 #[derive(Drop)]
 pub struct Lending {
-    grant: Grant,
-    rebuilt: Vec<Vec<u8>>,
+    pub(crate) grant: Grant,
+    pub(crate) rebuilt: Vec<Vec<u8>>,
 }
 
 impl Model for Lending {
-    ghost use Rattle.std.specs.Prelude.{◌≡◌, ℕ, List, length};
+    ghost use Rattle.std.specs.Prelude.{ℕ, List};
+    ghost use Rattle.sealed.specs.Blob.{Lost};
+    ghost use Rattle.sealed.specs.Sealed.{StandsFor};
     ghost use Rattle.lent.specs.Granted.{cut_of};
     ghost use Rattle.lent.specs.Spans.{spans_of};
-    ghost use Rattle.session.specs.LentFrom.{items_of, pieces_of};
+    ghost use Rattle.session.specs.LentFrom.{HasRebuilt, items_of, pieces_of};
 
     ghost Value = { List (List ℕ) };
 
     ghost view = { λ l. pieces_of (spans_of l.grant.sealed.value (cut_of l.grant))
         (items_of l.rebuilt.items) };
 
-    ghost invariant = { λ l. length l.rebuilt.items ≡ length (cut_of l.grant) };
+    ghost invariant = { λ l. HasRebuilt l.grant (items_of l.rebuilt.items)
+        × ((b : List ℕ) × (lost : Lost) × StandsFor l.grant.sealed.value b lost) };
 }
 
 impl Lending {
-    /// Lends the range of a grant, and rebuilds its lost fragments at once. `NoMemory` if memory
-    /// runs out.
-    pub fn of(alloc: Global, grant: Grant) -> Result<Lending, NoMemory>
+    /// Lends the range that a read granted, and rebuilds its lost fragments at once. `NoMemory` if
+    /// memory runs out.
+    pub fn of_read(alloc: Global, grant: Grant) -> Result<Lending, NoMemory>
+        requires stands { (b : List ℕ) × (lost : Lost) × StandsFor grant.sealed.value b lost }
         ensures { IfOk result (IsLentFrom grant) }
     {
         let rebuilt = rebuilt_of(alloc, &grant)?;

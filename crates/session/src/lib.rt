@@ -8,6 +8,7 @@ mod held;
 mod lending;
 mod loose;
 mod repairs;
+mod runs;
 mod session;
 mod slot;
 mod slot_lends;
