@@ -1,5 +1,5 @@
 -- A range that is lent to C.
-use Rattle.std.specs.Prelude.{◌≡◌, ◌≢◌, ℕ, List, length, map, min, take, drop, Ok, Option, Some, None}
+use Rattle.std.specs.Prelude.{◌≡◌, ◌≢◌, ◌≤◌, ℕ, List, length, map, min, take, drop, Ok, Option, Some, None}
 use Rattle.std.specs.List.{concat}
 use Rattle.history.specs.Names.{IsName}
 use Rattle.history.specs.Step.{read}
@@ -10,6 +10,7 @@ use Rattle.session.specs.declared.held.Held.{Held}
 use Rattle.session.specs.declared.held.Held.TheVariants.{Lending}
 use Rattle.session.specs.declared.lending.LentSlice.{LentSlice}
 use Rattle.session.specs.LentFrom.{IsLentFrom}
+use Rattle.session.specs.Runs.{AreRunsFrom}
 use Rattle.store_c.specs.Status.{bad_name, done, empty, no_memory, not_rebuilt, occupied}
 use Rattle.store_c.specs.OnSession.{HasReply, HasSomeReply, HasBytes}
 
@@ -43,3 +44,14 @@ pub record IsLentTo (lent : List (List ℕ)) (count : ℕ) (old new : List LentS
 abbrev pub IsSlicesCall : Option Held → ℕ → ℕ × ℕ → List LentSlice → List LentSlice → Type 0
 IsSlicesCall (Some (Lending lent)) status counts old new = (status ≡ done) × IsLentTo lent counts.1 old new
 IsSlicesCall held status counts old new = (status ≡ empty) × (counts.1 ≡ counts.0) × (new ≡ old)
+
+-- runs of the range are lent, from its byte `from` on
+pub record AreRunsTo (lent : List (List ℕ)) (from count : ℕ) (old new : List LentSlice) : Type 0 where
+  pub few : count ≤ length old
+  pub runs : AreRunsFrom lent from (length old) (take count new)
+  pub kept : drop count new ≡ drop count old
+
+-- the slot holds a range that is lent; or nothing was done
+abbrev pub IsRunsCall : Option Held → ℕ → ℕ → ℕ × ℕ → List LentSlice → List LentSlice → Type 0
+IsRunsCall (Some (Lending lent)) from status counts old new = (status ≡ done) × AreRunsTo lent from counts.1 old new
+IsRunsCall held from status counts old new = (status ≡ empty) × (counts.1 ≡ counts.0) × (new ≡ old)

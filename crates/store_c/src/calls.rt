@@ -7,7 +7,7 @@ ghost use Rattle.store_c.specs.OnSession.{IsNamedCall, IsPutCall, IsReadCall, Is
 ghost use Rattle.store_c.specs.OnSession.{IsTrimCall, HasSomeReply};
 
 use crate::answers::{name_of, number_of, put_arguments, tell, tell_shape};
-use crate::status::{BAD_NAME, DONE, NO_MEMORY, NOT_REBUILT};
+use crate::status::{BAD_NAME, DONE, NOT_REBUILT};
 use session::{Answer, Bytes, Code, Name, Session, copy_out};
 use std::alloc::Global;
 
@@ -26,10 +26,23 @@ pub(crate) fn put(
         Ok(arguments) => arguments,
         Err(status) => return status,
     };
-    let Ok(bytes) = Bytes::copy_from_slice(alloc, blob) else {
-        return NO_MEMORY;
-    };
-    put_as(alloc, session, name, bytes, code, version)
+    put_copy(alloc, session, name, blob, code, version)
+}
+
+/// Puts a copy of a blob with a name in a code.
+fn put_copy(
+    alloc: Global,
+    session: &mut Session,
+    name: Name,
+    blob: &[u8],
+    code: Code,
+    version: &mut u64,
+) -> u32
+    ensures { HasSomeReply session.old (put_of name code blob.now) result version.old version.new
+        session.new }
+{
+    let reply = session.put_copy(alloc, name, blob, code);
+    tell(&reply, version)
 }
 
 /// Puts a blob with a name in a code.

@@ -33,7 +33,7 @@ fn lend(
     let Ok(Answer::Granted(grant)) = reply else {
         return status;
     };
-    match Lending::of(alloc, grant) {
+    match Lending::of_read(alloc, grant) {
         Ok(lending) => {
             *pieces = lending.len();
             *given = Some(Held::Lending(lending));

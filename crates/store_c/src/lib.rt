@@ -20,7 +20,7 @@ ghost use Rattle.store_c.specs.OnSession.{IsOnSession, IsNamedCall, IsPutCall, I
 ghost use Rattle.store_c.specs.OnSession.{IsStatCall, IsTrimCall};
 ghost use Rattle.store_c.specs.Buffers.{IsReserveCall, IsBufferCall, IsPutFrom};
 ghost use Rattle.store_c.specs.Journal.{IsCloseToCall, IsEntryCall};
-ghost use Rattle.store_c.specs.Lend.{IsLendTo, IsSlicesCall};
+ghost use Rattle.store_c.specs.Lend.{IsLendTo, IsSlicesCall, IsRunsCall};
 ghost use Rattle.store_c.specs.Plan.{IsPlanTo, IsMendCall};
 ghost use Rattle.store_c.specs.Sessions.{IsOpenCall, IsSplitCall, IsJoinCall, AreOfOneStore};
 ghost use Rattle.store_c.specs.Sessions.{IsCloseCall};
@@ -385,6 +385,32 @@ pub extern "C" fn lrc_slot_slices<'a>(
     match held {
         Some(Held::Lending(lending)) => {
             *count = lending.lend(target) as u64;
+            DONE
+        }
+        _ => EMPTY,
+    }
+}
+
+/// Writes runs of a lent range to `target`, from the byte `from` of the range on, in order, as many
+/// as there are and `target` takes. A run is as many bytes as lie one behind another in memory. They
+/// stay in place until the slot is passed to another call.
+#[unsafe(no_mangle)]
+pub extern "C" fn lrc_slot_runs<'a>(
+    alloc: Global,
+    slot: &'a mut Slot,
+    from: u64,
+    target: &mut [LentSlice<'a>],
+    count: &mut u64,
+) -> u32
+    ensures { IsRunsCall slot.old.held from result (count.old, count.new) target.old target.new }
+{
+    if slot.is_vacant(alloc) {
+        return EMPTY;
+    }
+    let held: &'a Option<Held> = slot.get_mut();
+    match held {
+        Some(Held::Lending(lending)) => {
+            *count = lending.lend_runs(from, target) as u64;
             DONE
         }
         _ => EMPTY,
