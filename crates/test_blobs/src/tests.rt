@@ -2,3 +2,4 @@ mod blobs;
 mod books;
 mod histories;
 mod ranges;
+mod runs;

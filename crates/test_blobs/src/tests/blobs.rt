@@ -1,6 +1,6 @@
 use bytes::Bytes;
 use lrc_code::Code;
-use sealed::{Fault, Sealed, Width, count_stripes, seal, seal_as};
+use sealed::{Fault, Sealed, Width, count_stripes, seal, seal_as, seal_copy};
 use std::alloc::Global;
 use std::process::Abort;
 use std::test::Fail;
@@ -24,18 +24,44 @@ fn fragment<'a>(rt: &impl Abort, sealed: &'a Sealed, stripe: u64, f: u8) -> &'a 
     sealed.fragment(stripe, f).expect(rt, "a fragment")
 }
 
-#[test]
-fn one_stripe_filled_up(rt: HostRuntime) -> Result<(), Fail> {
-    let value = sealed(&rt, rt.alloc(), Bytes::from_static(b"HELLO"), 1);
+/// Checks that it is the blob "HELLO" in fragments of one byte.
+fn check_hello(rt: &impl Abort, value: &Sealed) {
     assert_eq!(rt; value.version, 0);
     assert_eq!(rt; value.len, 5);
     assert_eq!(rt; value.stripes.len(), 1);
     let stripe = b"HELLO\0\0\0\0\0\0\0\x42\x00\x55\x5f";
     for f in 0..16u8 {
-        let bytes = fragment(&rt, &value, 0, f);
+        let bytes = fragment(rt, value, 0, f);
         assert!(rt; bytes.len() == 1);
         assert_eq!(rt; bytes[0], stripe[usize::from(f)]);
     }
+}
+
+#[test]
+fn one_stripe_filled_up(rt: HostRuntime) -> Result<(), Fail> {
+    check_hello(
+        &rt,
+        &sealed(&rt, rt.alloc(), Bytes::from_static(b"HELLO"), 1),
+    );
+    Ok(())
+}
+
+#[test]
+fn part_of_a_stripe(rt: HostRuntime) -> Result<(), Fail> {
+    let owned = Bytes::copy_from_slice(rt.alloc(), &LETTERS[..17]).expect(&rt, "memory");
+    let value = sealed(&rt, rt.alloc(), owned, 1);
+    assert_eq!(rt; value.len, 17);
+    assert_eq!(rt; value.stripes.len(), 2);
+    assert!(rt; fragment(&rt, &value, 0, 11) == b"L".as_slice());
+    assert!(rt; fragment(&rt, &value, 1, 4) == b"Q".as_slice());
+    assert!(rt; fragment(&rt, &value, 1, 5) == b"\0".as_slice());
+    Ok(())
+}
+
+#[test]
+fn one_stripe_of_a_slice(rt: HostRuntime) -> Result<(), Fail> {
+    let value = seal_copy(rt.alloc(), b"HELLO", width(&rt, 1), Code::Wide).expect(&rt, "memory");
+    check_hello(&rt, &value);
     Ok(())
 }
 

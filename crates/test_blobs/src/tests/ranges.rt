@@ -8,7 +8,7 @@ use std::sync::Arc;
 use std::test::Fail;
 
 /// A blob that is sealed in a code with fragments of `w` bytes.
-fn blob_in(
+pub(super) fn blob_in(
     rt: &impl Abort,
     alloc: Global,
     code: Code,
@@ -23,11 +23,11 @@ fn blob_in(
 }
 
 /// The same in LRC(12,2,2).
-fn blob(rt: &impl Abort, alloc: Global, bytes: &'static [u8], w: u32) -> Arc<Sealed> {
+pub(super) fn blob(rt: &impl Abort, alloc: Global, bytes: &'static [u8], w: u32) -> Arc<Sealed> {
     blob_in(rt, alloc, Code::Wide, bytes, w)
 }
 
-fn grant(rt: &impl Abort, sealed: &Arc<Sealed>, start: u64, len: u64) -> Grant {
+pub(super) fn grant(rt: &impl Abort, sealed: &Arc<Sealed>, start: u64, len: u64) -> Grant {
     match Grant::ask(sealed, start, len).expect(rt, "memory") {
         Asked::Granted(grant) => grant,
         Asked::OutOfRange => panic!(rt; "out of range"),
@@ -94,7 +94,7 @@ fn ranges_outside(rt: HostRuntime) -> Result<(), Fail> {
 }
 
 /// The value without these fragments of a stripe.
-fn without(
+pub(super) fn without(
     rt: &impl Abort,
     alloc: Global,
     sealed: &Arc<Sealed>,
