@@ -185,8 +185,17 @@ uint32_t lrc_store_lend(lrc_slot *slot, const uint8_t *name, size_t name_len, ui
 /* Writes the pieces of a lent range into `slices`, in order, as many as there are and at most
  * `capacity`. Before the call each element of `slices` is a valid slice, such as { (const
  * uint8_t *)"", 0 }. `count` gets the number of written pieces. They are valid until the slot is
- * passed to another function. */
+ * passed to a function other than this one and lrc_slot_runs. */
 uint32_t lrc_slot_slices(lrc_slot *slot, lrc_slice *slices, size_t capacity, uint64_t *count);
+
+/* Writes runs of a lent range into `runs`, from the byte `from` of the range on, in order, as many
+ * as there are and at most `capacity`. A run has all bytes that lie one behind another in memory,
+ * so it joins pieces. A blob that never lost a fragment is one run, or two if lrc_store_put_from
+ * stored it. Before the call each element of `runs` is a valid slice. `count` gets the number of
+ * written runs. If that is `capacity`, there may be further runs, behind the bytes of these. It is
+ * 0 if the range ends at `from` or before. The runs are valid as long as the pieces are. */
+uint32_t lrc_slot_runs(lrc_slot *slot, uint64_t from, lrc_slice *runs, size_t capacity,
+                       uint64_t *count);
 
 /* Lose a fragment of a stripe, as after a disk failure, and repair one from the remaining
  * fragments. Stripes and fragments count from 0. */

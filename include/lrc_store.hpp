@@ -11,6 +11,7 @@
 #include "lrc_store.h"
 
 #include <algorithm>
+#include <array>
 #include <chrono>
 #include <optional>
 #include <stdexcept>
@@ -76,22 +77,42 @@ private:
 class grant {
 public:
     uint64_t version() const { return number; }
+    // The pieces, each of one fragment.
     const std::vector<lrc_slice> &slices() const { return pieces; }
+    // The same bytes, with those that lie one behind another in memory as one slice.
+    const std::vector<lrc_slice> &runs() const { return joined; }
     std::string str() const {
         size_t len = 0;
-        for (const lrc_slice &piece : pieces) len += piece.len;
-        std::string joined;
-        joined.reserve(len);
-        for (const lrc_slice &piece : pieces)
-            joined.append(reinterpret_cast<const char *>(piece.at), piece.len);
-        return joined;
+        for (const lrc_slice &run : joined) len += run.len;
+        std::string text;
+        text.reserve(len);
+        for (const lrc_slice &run : joined)
+            text.append(reinterpret_cast<const char *>(run.at), run.len);
+        return text;
     }
 
 private:
     friend class session;
+
+    // Takes `count` pieces and all runs from the slot.
+    void take(uint64_t count) {
+        const lrc_slice none{reinterpret_cast<const uint8_t *>(""), 0};
+        uint64_t written = 0, from = 0;
+        pieces.assign(count + 1, none);
+        lrc_slot_slices(lent.get(), pieces.data(), count, &written);
+        pieces.resize(written);
+        std::array<lrc_slice, 16> some;
+        do {
+            some.fill(none);
+            lrc_slot_runs(lent.get(), from, some.data(), some.size(), &written);
+            for (size_t i = 0; i < written; i++) from += some[i].len;
+            joined.insert(joined.end(), some.data(), some.data() + written);
+        } while (written == some.size());
+    }
+
     slot lent;
     uint64_t number = 0;
-    std::vector<lrc_slice> pieces;
+    std::vector<lrc_slice> pieces, joined;
 };
 
 // Bytes that the caller fills, and that a put stores without a copy. After the put there are none.
@@ -214,13 +235,11 @@ public:
     // Lends `len` bytes of a blob, from the byte `start` on.
     grant read(std::string_view name, uint64_t start, uint64_t len) {
         grant made;
-        uint64_t count = 0, written = 0;
+        uint64_t count = 0;
         detail::check(lrc_store_lend_wait(held.get(), bytes(name), name.size(), start, len,
                                           made.lent.get(), &made.number, &count, wait_ms),
                       "read", name, start, len);
-        made.pieces.assign(count + 1, lrc_slice{bytes(""), 0});
-        lrc_slot_slices(made.lent.get(), made.pieces.data(), count, &written);
-        made.pieces.resize(written);
+        made.take(count);
         return made;
     }
 

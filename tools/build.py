@@ -91,7 +91,7 @@ def build_all(program, cpu="v2"):
             if file.read() == wanted:
                 print(f"{program} is as it was built before")
                 return built
-    print(f"{len(names)} crates. From nothing they take 20 to 25 minutes on 4 cores.", flush=True)
+    print(f"{len(names)} crates. From nothing they take 25 to 30 minutes on 4 cores.", flush=True)
     with subprocess.Popen(
         [sys.executable, RT, "run", f"--cpu=x86-64-{cpu}", "--", "--help"],
         cwd=os.path.join(TOP, "crates", program),

@@ -23,7 +23,7 @@ from svg import (
 ROW, WIDE, HIGH, GAP, LEFT, TOP_EDGE = 58, 106, 28, 12, 24, 84
 # The colours of the crates, by what they are for.
 KINDS = [
-    ("coding", FIRST, "gf256 kernels lrc_code syndromes decode"),
+    ("coding", FIRST, "gf256 kernels lrc_code one_pass syndromes decode"),
     ("blobs", SECOND, "sealed lent"),
     (
         "store",

@@ -131,6 +131,7 @@ DECLARED = {
     "lrc_store_read_wait": [*_NAMED, _U64, _ADDRESS, _SIZE, _OUT, _OUT, _OUT, _MS],
     "lrc_store_lend_wait": [*_NAMED, _U64, _U64, _SLOT, _OUT, _OUT, _MS],
     "lrc_slot_slices": [_SLOT, ctypes.POINTER(_Slice), _SIZE, _OUT],
+    "lrc_slot_runs": [_SLOT, _U64, ctypes.POINTER(_Slice), _SIZE, _OUT],
     "lrc_store_lose_wait": [*_NAMED, _U64, _U64, _OUT, _MS],
     "lrc_store_repair_wait": [*_NAMED, _U64, _U64, _OUT, _MS],
     "lrc_store_delete_wait": [*_NAMED, _OUT, _MS],
@@ -257,8 +258,31 @@ class Journal(NamedTuple):
     is_checked: bool
 
 
+def _slices(count: int) -> ctypes.Array[_Slice]:
+    """So many empty slices."""
+    empty = bytes(_Slice(ctypes.cast(_NOTHING, ctypes.c_void_p), 0))
+    return (_Slice * count).from_buffer_copy(empty * count)
+
+
+def _places(slices: ctypes.Array[_Slice], count: int) -> List[Tuple[int, ...]]:
+    """The address and the length of each of the first slices."""
+    return list(struct.iter_unpack("PN", bytes(slices)[: count * ctypes.sizeof(_Slice)]))
+
+
+def _runs(lent: _Slot) -> List[Tuple[int, ...]]:
+    """The address and the length of each run of a lent range."""
+    runs: List[Tuple[int, ...]] = []
+    start, slices, count = 0, _slices(64), _U64(64)
+    while count.value == len(slices):
+        _check(_library.lrc_slot_runs(lent, start, slices, len(slices), count), "read")
+        found = _places(slices, count.value)
+        start += sum(length for _, length in found)
+        runs += found
+    return runs
+
+
 class Grant:
-    """A lent range of a blob: `bytes(grant)` copies it, and `pieces` are read-only memoryviews.
+    """A lent range of a blob: `bytes(grant)` copies it, and `runs` are read-only memoryviews.
 
     Its memory is freed when the grant and the last of the views are gone.
     """
@@ -266,15 +290,22 @@ class Grant:
     def __init__(self, lent: _Slot, version: int, count: int) -> None:
         self.version = version
         self._lent: _Slot | None = lent
-        empty = bytes(_Slice(ctypes.cast(_NOTHING, ctypes.c_void_p), 0))
-        slices = (_Slice * (count + 1)).from_buffer_copy(empty * (count + 1))
-        _check(_library.lrc_slot_slices(lent, slices, count, _U64()), "read")
-        self._slices = list(struct.iter_unpack("PN", bytes(slices)))[:count]
+        self._slices, self._count = _slices(count + 1), count
+        _check(_library.lrc_slot_slices(lent, self._slices, count, _U64()), "read")
+        self._runs = _runs(lent)
 
     @functools.cached_property
     def pieces(self) -> List[memoryview]:
-        """The pieces of the range, in order."""
-        return [self._view(at, length) for at, length in self._slices]
+        """The pieces of the range, in order, each of one fragment."""
+        return [self._view(*place) for place in _places(self._slices, self._count)]
+
+    @functools.cached_property
+    def runs(self) -> List[memoryview]:
+        """The bytes of the range, in order: those that lie one behind another in memory are a run.
+
+        A blob that never lost a fragment is one run.
+        """
+        return [self._view(*place) for place in self._runs]
 
     def _view(self, at: int, length: int) -> memoryview:
         array: Any = (ctypes.c_uint8 * length).from_address(at)
@@ -282,13 +313,13 @@ class Grant:
         return memoryview(array).cast("B").toreadonly()
 
     def __bytes__(self) -> bytes:
-        return b"".join([ctypes.string_at(at, length) for at, length in self._slices])
+        return b"".join([ctypes.string_at(at, length) for at, length in self._runs])
 
     def __enter__(self) -> Grant:
         return self
 
     def __exit__(self, *_: object) -> None:
-        self._slices, self.pieces = [], []
+        self._runs, self.runs, self.pieces = [], [], []
         self._lent = None
 
 

@@ -142,7 +142,7 @@ private:
         if (kind < 215) return put_from();
         if (kind < 335) return read();
         if (kind < 400) return lend();
-        if (kind < 450) return slices();
+        if (kind < 450) return random.one_in(2) ? slices() : runs();
         if (kind < 780) return lose_or_repair(kind >= 720);
         if (kind < 800) return remove();
         if (kind < 850) return stat();

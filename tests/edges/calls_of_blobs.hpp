@@ -194,6 +194,33 @@ protected:
         }
         if (is_lending && capacity >= from.pieces) same(end - from.start, from.len, "their length");
     }
+
+    // The runs, as many as there are and fit, are the range from a byte on.
+    void runs() {
+        Held &from = with(Holds::lending);
+        const size_t capacity = random.below(from.pieces + 3);
+        const uint64_t first = random.below(from.len + 3);
+        std::vector<lrc_slice> got(capacity + 1, no_slice());
+        uint64_t count = untouched, left = from.len - std::min(first, from.len);
+        begin("runs", first, capacity);
+        const bool is_lending = from.holds == Holds::lending;
+        judge(lrc_slot_runs(&from.slot, first, got.data(), capacity, &count),
+              Statuses().add(!is_lending, LRC_STORE_EMPTY));
+        if (!is_lending) same(count, untouched, "`count`");
+        for (size_t i = 0; i < got.size(); i++) {
+            if (!is_lending || i >= count) {
+                same(got[i].len, 0, "the length of a slice after the last");
+                continue;
+            }
+            same(got[i].len == 0 || got[i].len > left, 0, "whether a run is empty or too long");
+            same_bytes(got[i].at, from.bytes->data() + from.start + from.len - left, got[i].len,
+                       "a run");
+            left -= got[i].len;
+        }
+        if (!is_lending) return;
+        same(count > capacity, 0, "whether there are more runs than fit");
+        if (count < capacity) same(left, 0, "the bytes behind the runs");
+    }
 };
 
 #endif

@@ -144,6 +144,9 @@ void reads() {
     EXPECT(target[0], 'x');
     EXPECT(s.read_into("a", 200, nullptr, 0), 2u);
     EXPECT(s.get("a"), blob);
+    const lrc::grant all = s.read("a", 0, 200);
+    EXPECT(all.runs().size(), 12u + 1u + 12u + 12u + 1u); // three stripes have lost fragments
+    EXPECT(all.str(), blob);
     const lrc::grant grant = s.read("a", 3, 80);
     EXPECT(s.repair("a", 0, 1), 2u);
     EXPECT(s.remove("a"), 2u);
@@ -154,12 +157,20 @@ void reads() {
     for (const lrc_slice &piece : grant.slices()) joined += text_of(piece);
     EXPECT(joined, grant.str());
     EXPECT(grant.slices().back().len > 0, true);
+    joined.clear();
+    for (const lrc_slice &run : grant.runs()) joined += text_of(run);
+    EXPECT(joined, grant.str());
+    EXPECT(grant.runs().size(), 12u + 1u); // the first stripe has lost fragments
+    EXPECT(s.read("old", 1, 0).runs().size(), 0u);
     EXPECT(s.read("old", 1, 0).slices().size(), 0u);
     EXPECT(grant.str().capacity() < 100, true); // reserved: doubling from 15 gives 120
     EXPECT(s.read("old", 1, 0).str(), "");
     for (size_t each : {0u, 1u, 47u, 48u, 49u, 10000u}) {
         s.put("b", bytes_of(each), 6);
         EXPECT(s.get("b"), bytes_of(each));
+        const lrc::grant whole = s.read("b", 0, each);
+        EXPECT(whole.runs().size(), each > 0 ? 1u : 0u);
+        EXPECT(whole.str(), bytes_of(each));
     }
     s.put("c", std::string_view());
     EXPECT(s.stat("c").len, 0u);

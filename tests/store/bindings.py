@@ -206,13 +206,35 @@ class Blobs(unittest.TestCase):
         pieces = grant.pieces
         self.assertIs(grant.pieces, pieces)
         self.assertTrue(len(pieces) > 1 and all(piece.readonly for piece in pieces))
+        runs = grant.runs
+        self.assertIs(grant.runs, runs)
+        self.assertTrue(all(run.readonly for run in runs))
         del grant
         gc.collect()
         self.assertEqual(b"".join(pieces), self.blob[2:92])
+        self.assertEqual(b"".join(runs), self.blob[2:92])
         with self.session.read("old", 0, 1) as grant:
             self.assertEqual((bytes(grant), [*map(bytes, grant.pieces)]), (b"x", [b"x"]))
-        self.assertEqual((bytes(grant), grant.pieces), (b"", []))
+        self.assertEqual((bytes(grant), grant.pieces, grant.runs), (b"", [], []))
         self.assertEqual(bytes(self.session.read("old", 1, 0)), b"")
+
+    def test_neighbours_in_memory_are_one_run(self):
+        for length in (0, 1, 47, 48, 49, 10000):
+            self.session.put("a", bytes_of(length))
+            runs = self.session.read("a", 0, length).runs
+            self.assertEqual([*map(bytes, runs)], [bytes_of(length)] if length else [])
+        self.session.lose("a", 1, 3)
+        grant = self.session.read("a", 0, 10000)
+        lengths = [48, *[4] * 12, 10000 - 2 * 48]
+        self.assertEqual([len(run) for run in grant.runs], lengths)
+        self.assertEqual(len(grant.pieces), 2500)
+        self.assertEqual(bytes(grant), bytes_of(10000))
+        for stripe in range(0, 200, 2):
+            self.session.lose("a", stripe, 5)
+        grant = self.session.read("a", 5, 9990)
+        self.assertTrue(len(grant.runs) > 1200)
+        self.assertEqual(b"".join(grant.runs), bytes_of(10000)[5:9995])
+        self.assertEqual(bytes(grant), bytes_of(10000)[5:9995])
 
     def test_a_blob_is_read_whole(self):
         for length in (0, 1, 2, 47, 48, 49, 10000):

@@ -93,6 +93,57 @@ static void lend_and_change(lrc_slot *slot) {
     EXPECT(lrc_slot_slices(&lent, &one, 1, &count), LRC_STORE_EMPTY);
 }
 
+/* The number of runs of a blob's bytes from `start` on, whose bytes are the text's. */
+static size_t runs_from(lrc_slot *slot, uint64_t start, size_t capacity) {
+    lrc_slot lent = LRC_SLOT_EMPTY;
+    uint64_t version = 0, pieces = 0;
+    uint8_t got[64] = {0};
+    EXPECT(lrc_store_lend(slot, NAME("fox"), start, 54 - start, &lent, &version, &pieces),
+           LRC_STORE_DONE);
+    EXPECT(gather_runs(&lent, 3, capacity, got), gather_runs(&lent, 3, 64, got));
+    EXPECT(memcmp(got, FOX + start + 3, 51 - start), 0);
+    EXPECT(gather(&lent, got), 54 - start);
+    const size_t number = gather_runs(&lent, 0, capacity, got);
+    EXPECT(memcmp(got, FOX + start, 54 - start), 0);
+    lrc_slot_release(&lent);
+    return number;
+}
+
+static void lend_runs(void) {
+    lrc_slot slot = LRC_SLOT_EMPTY, lent = LRC_SLOT_EMPTY;
+    lrc_slice one = {(const uint8_t *)"", 0};
+    lrc_buffer buffer = {(uint8_t *)"", 0};
+    uint64_t version = 0, pieces = 0, count = 9, entries = 0;
+    uint32_t lawful = 0;
+    EXPECT(lrc_store_open(4, 100, &slot), LRC_STORE_DONE);
+    EXPECT(lrc_slot_runs(&slot, 0, &one, 1, &count), LRC_STORE_EMPTY);
+    EXPECT(lrc_slot_runs(&lent, 0, &one, 1, &count), LRC_STORE_EMPTY);
+    EXPECT(count, 9);
+    EXPECT(lrc_store_put(&slot, NAME("fox"), FOX_BYTES, 12, &version), LRC_STORE_DONE);
+    for (uint64_t start = 0; start < 50; start++) EXPECT(runs_from(&slot, start, 2), 1);
+    EXPECT(lrc_store_lend(&slot, NAME("fox"), 2, 20, &lent, &version, &pieces), LRC_STORE_DONE);
+    EXPECT(lrc_slot_runs(&lent, 19, &one, 1, &count), LRC_STORE_DONE);
+    EXPECT(count * 100 + one.len * 10 + (one.at[0] == FOX[21]), 111);
+    const uint64_t past[] = {20, 21, UINT64_MAX};
+    for (size_t i = 0; i < 3; i++) {
+        EXPECT(lrc_slot_runs(&lent, past[i], &one, 1, &count), LRC_STORE_DONE);
+        EXPECT(count, 0);
+    }
+    lrc_slot_release(&lent);
+    EXPECT(lrc_store_lose(&slot, NAME("fox"), 0, 2, &version), LRC_STORE_DONE);
+    for (size_t capacity = 1; capacity < 15; capacity++)
+        EXPECT(runs_from(&slot, 0, capacity), 12 + 1); /* each fragment of one stripe alone */
+    EXPECT(runs_from(&slot, 9, 1), 10 + 1);
+    EXPECT(lrc_store_lose(&slot, NAME("fox"), 1, 1, &version), LRC_STORE_DONE);
+    EXPECT(runs_from(&slot, 0, 3), 12 + 2);
+    EXPECT(lrc_slot_reserve(54, &lent), LRC_STORE_DONE);
+    EXPECT(lrc_slot_buffer(&lent, &buffer), LRC_STORE_DONE);
+    memcpy(buffer.at, FOX_BYTES);
+    EXPECT(lrc_store_put_from(&slot, NAME("fox"), &lent, 12, &version), LRC_STORE_DONE);
+    EXPECT(runs_from(&slot, 0, 5), 2); /* the last stripe has memory of its own */
+    EXPECT(lrc_store_close(&slot, &entries, &lawful), LRC_STORE_DONE);
+}
+
 /* Filled, refused, and then put: by the journal's limit of one entry, the second put is refused at
  * first. */
 static void reserve_and_put(void) {
@@ -239,6 +290,7 @@ int main(void) {
     uint32_t lawful = 0;
     open_and_close();
     reserve_and_put();
+    lend_runs();
     close_to_journal();
     two_stores_are_not_joined();
     EXPECT(lrc_store_open(4, 1000, &slot), LRC_STORE_DONE);

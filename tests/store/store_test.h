@@ -40,6 +40,27 @@ static inline size_t gather(lrc_slot *lent, uint8_t *target) {
     return len;
 }
 
+/* Copies all runs of a range that is lent, from a byte on, so many at a time. Gives the number of
+ * runs. */
+static inline size_t gather_runs(lrc_slot *lent, uint64_t from, size_t capacity, uint8_t *target) {
+    lrc_slice runs[64];
+    uint64_t count = 0;
+    size_t number = 0;
+    do {
+        for (size_t i = 0; i < 64; i++) runs[i] = (lrc_slice){(const uint8_t *)"", 0};
+        EXPECT(lrc_slot_runs(lent, from, runs, capacity, &count), LRC_STORE_DONE);
+        for (uint64_t i = 0; i < count; i++) {
+            EXPECT(runs[i].len > 0, 1);
+            memcpy(target, runs[i].at, runs[i].len);
+            target += runs[i].len;
+            from += runs[i].len;
+        }
+        for (uint64_t i = count; i < 64; i++) EXPECT(runs[i].len, 0);
+        number += count;
+    } while (count == capacity);
+    return number;
+}
+
 static inline int report(const char *what) {
     printf("%s: %ld wrong\n", what, wrong);
     return wrong != 0;

@@ -98,6 +98,7 @@ pub struct Grant {
     _lent: Slot,
     version: u64,
     slices: Vec<Slice>,
+    runs: Vec<Slice>,
 }
 
 // A grant is only read, and the bytes that it points to never change.
@@ -110,20 +111,46 @@ impl Grant {
         self.version
     }
 
-    /// The pieces of the range, in order.
+    /// The pieces of the range, in order, each of one fragment.
     pub fn pieces(&self) -> impl Iterator<Item = &[u8]> {
+        self.lent(&self.slices)
+    }
+
+    /// The bytes of the range, in order, with those that lie one behind another in memory as one
+    /// slice. A blob that never lost a fragment is one run, or two if its last stripe has memory
+    /// of its own.
+    pub fn runs(&self) -> impl Iterator<Item = &[u8]> {
+        self.lent(&self.runs)
+    }
+
+    fn lent<'a>(&'a self, slices: &'a [Slice]) -> impl Iterator<Item = &'a [u8]> {
         // SAFETY: the slot has the bytes as long as it is not released.
-        self.slices
+        slices
             .iter()
             .map(|slice| unsafe { std::slice::from_raw_parts(slice.at, slice.len) })
     }
 
     /// A copy of the bytes of the range.
     pub fn to_vec(&self) -> Vec<u8> {
-        let mut bytes = Vec::with_capacity(self.slices.iter().map(|slice| slice.len).sum());
-        self.pieces()
-            .for_each(|piece| bytes.extend_from_slice(piece));
+        let mut bytes = Vec::with_capacity(self.runs.iter().map(|run| run.len).sum());
+        self.runs().for_each(|run| bytes.extend_from_slice(run));
         bytes
+    }
+}
+
+/// All runs of a slot's lent range.
+fn runs_of(lent: &mut Slot) -> Vec<Slice> {
+    let (mut runs, mut from) = (Vec::new(), 0);
+    loop {
+        let (mut some, mut count) = ([Slice::empty(); 16], 0);
+        // SAFETY: the slices are valid, and so many are passed. On an error none is written.
+        unsafe { lrc_slot_runs(lent, from, some.as_mut_ptr(), some.len(), &mut count) };
+        let written = &some[..count as usize];
+        from += written.iter().map(|run| run.len as u64).sum::<u64>();
+        runs.extend_from_slice(written);
+        if written.len() < some.len() {
+            return runs;
+        }
     }
 }
 
@@ -302,10 +329,12 @@ impl Session {
         let (at, capacity) = (slices.as_mut_ptr(), slices.len());
         let status = unsafe { lrc_slot_slices(&mut lent, at, capacity, &mut pieces) };
         check(status, call)?;
+        let runs = runs_of(&mut lent);
         Ok(Grant {
             _lent: lent,
             version,
             slices,
+            runs,
         })
     }
 

@@ -43,12 +43,18 @@ fn a_range_is_read_into_a_slice() {
 #[test]
 fn a_range_is_lent() {
     let (mut session, blob) = store(200);
+    let all = session.read("a", 0, 200).unwrap();
+    assert_eq!(all.runs().count(), 12 + 1 + 12 + 12 + 1); // three stripes have lost fragments
+    assert_eq!(all.to_vec(), blob);
     let grant = session.read("a", 3, 80).unwrap();
     session.put("a", b"", Code::Wide).unwrap();
     assert_eq!(grant.version(), 2);
     assert_eq!(grant.to_vec(), blob[3..83]);
     let pieces: Vec<&[u8]> = grant.pieces().collect();
     assert!(pieces.len() > 1 && pieces.concat() == blob[3..83]);
+    let runs: Vec<&[u8]> = grant.runs().collect();
+    assert_eq!(runs.concat(), blob[3..83]);
+    assert_eq!(runs.len(), 12 + 1); // the first stripe has lost fragments
     let joined = std::thread::scope(|scope| scope.spawn(|| grant.to_vec()).join().unwrap());
     assert_eq!(joined, grant.to_vec());
     assert!(session.read("a", 0, 0).unwrap().to_vec().is_empty());
@@ -60,6 +66,9 @@ fn a_blob_is_read_whole() {
         let mut session = Session::open(4, 1000).unwrap();
         session.put("a", &blob(len), Code::Small).unwrap();
         assert_eq!(session.get("a").unwrap(), blob(len));
+        let whole = session.read("a", 0, len as u64).unwrap();
+        assert_eq!(whole.runs().count(), usize::from(len > 0));
+        assert_eq!(whole.to_vec(), blob(len));
     }
     let (mut session, blob) = store(200);
     assert_eq!(session.get("a").unwrap(), blob);
