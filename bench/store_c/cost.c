@@ -2,34 +2,16 @@
  * nanoseconds, each the median of 31 rounds of 2,000 calls that take turns. `cost THREADS MILLIS`:
  * how many reads of 256 bytes so many threads make of one blob in that time, from C and then inside
  * Rattle. */
-#include "lrc_store.h"
+#include "../timing.h"
 #include <pthread.h>
-#include <stdio.h>
-#include <stdlib.h>
 
-enum { ROUNDS = 31, CALLS = 2000, WIDTH = 4096, MOST_THREADS = 63 };
+enum { CALLS = 2000, WIDTH = 4096, MOST_THREADS = 63 };
 #define NAME (const uint8_t *)"blob", 4
 
 uint64_t timed_reads(lrc_slot *slot, const uint8_t *name, size_t name_len, uint64_t start,
                      uint8_t *target, size_t len, uint64_t count);
 
 static uint8_t blob[1 << 18], got[1 << 16];
-
-static double now(void) {
-    struct timespec time;
-    clock_gettime(CLOCK_MONOTONIC, &time);
-    return (double)time.tv_sec * 1e9 + (double)time.tv_nsec;
-}
-
-static int by_size(const void *left, const void *right) {
-    const double a = *(const double *)left, b = *(const double *)right;
-    return (a > b) - (a < b);
-}
-
-static double median(double *times) {
-    qsort(times, ROUNDS, sizeof *times, by_size);
-    return times[ROUNDS / 2];
-}
 
 static void trim(lrc_slot *slot) {
     uint64_t discarded;
