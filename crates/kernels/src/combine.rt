@@ -1,25 +1,23 @@
-//! The sum of lists, each times its coefficient, thirty-two places at a time, by tables that are
-//! made once. Each list is read once.
+//! The sum of lists, each times its coefficient, block by block, by tables that are made once. Each
+//! list is read once.
 ghost use Rattle.std.specs.Prelude.{◌≡◌, ℕ, ◌<◌, ◌≤◌, ◌+◌, IsTrue, map, length, slice_index};
 ghost use Rattle.std.specs.Prelude.{bit_xor, All, EachIndex};
 ghost use Rattle.kernels.specs.Lists.{combined, bytes_at};
 ghost use Rattle.kernels.specs.Tables.{AreLow, AreHigh};
 
-use crate::blocks::{LANES, load, store, sum_2};
+use crate::blocks::{Block, LANES, load, store, sum_2};
 use crate::factor::{Factor, look_up};
 use gf256::add_scaled;
-use std::simd::prelude::*;
 
-/// The sum at thirty-two places from `at` on: the products with coefficient `i` stand in the tables
-/// `i`.
+/// The sum of the blocks from `at` on: the products with coefficient `i` stand in the tables `i`.
 #[inline(always)]
 fn sum_block(
     coefficients: &[u8],
-    lows: &[u8x32],
-    highs: &[u8x32],
+    lows: &[Block],
+    highs: &[Block],
     sources: &[&[u8]],
     at: usize,
-) -> u8x32
+) -> Block
     requires low { AreLow coefficients.now lows.now }
     requires high { AreHigh coefficients.now highs.now }
     requires count { length sources.now ≡ length coefficients.now }
@@ -29,26 +27,26 @@ fn sum_block(
     ensures { (k : ℕ) → k < LANES → slice_index result k
         ≡ combined coefficients.now (bytes_at (map (λ s. s.now) sources.now) (at + k)) }
 {
-    let mut sum = u8x32::splat(0);
+    let mut sum = Block::splat(0);
     for i in 0..coefficients.len() {
         sum = sum_2(sum, look_up(lows[i], highs[i], load(sources[i], at)));
     }
     sum
 }
 
-/// The sums at sixty-four places.
+/// The sums at the places of two blocks.
 #[derive(Drop)]
 struct Two {
-    first: u8x32,
-    second: u8x32,
+    first: Block,
+    second: Block,
 }
 
-/// The sums at sixty-four places from `at` on: each table is read once for both halves.
+/// The sums of the two blocks from `at` on: each table is read once for both.
 #[inline(always)]
 fn sum_two(
     coefficients: &[u8],
-    lows: &[u8x32],
-    highs: &[u8x32],
+    lows: &[Block],
+    highs: &[Block],
     sources: &[&[u8]],
     at: usize,
     next: usize,
@@ -65,8 +63,8 @@ fn sum_two(
     ensures second { (k : ℕ) → k < LANES → slice_index result.second k
         ≡ combined coefficients.now (bytes_at (map (λ s. s.now) sources.now) (next + k)) }
 {
-    let mut first = u8x32::splat(0);
-    let mut second = u8x32::splat(0);
+    let mut first = Block::splat(0);
+    let mut second = Block::splat(0);
     for i in 0..coefficients.len() {
         let low = lows[i];
         let high = highs[i];
@@ -77,8 +75,8 @@ fn sum_two(
     Two { first, second }
 }
 
-/// The sums at thirty-two places from `at` on, and from `next` on. The tables of a coefficient are
-/// made where they are used, and not kept.
+/// The sums of the blocks from `at` on, and of those from `next` on. The tables of a coefficient
+/// are made where they are used, and not kept.
 #[inline(always)]
 fn sum_once(coefficients: &[u8], sources: &[&[u8]], at: usize, next: usize) -> Two
     requires count { length sources.now ≡ length coefficients.now }
@@ -89,8 +87,8 @@ fn sum_once(coefficients: &[u8], sources: &[&[u8]], at: usize, next: usize) -> T
     ensures second { (k : ℕ) → k < LANES → slice_index result.second k
         ≡ combined coefficients.now (bytes_at (map (λ s. s.now) sources.now) (next + k)) }
 {
-    let mut first = u8x32::splat(0);
-    let mut second = u8x32::splat(0);
+    let mut first = Block::splat(0);
+    let mut second = Block::splat(0);
     for i in 0..coefficients.len() {
         let factor = Factor::new(coefficients[i]);
         let source = sources[i];
@@ -100,7 +98,7 @@ fn sum_once(coefficients: &[u8], sources: &[&[u8]], at: usize, next: usize) -> T
     Two { first, second }
 }
 
-/// Makes the target the sum at each place, where it has at most sixty-four.
+/// Makes the target the sum at each place, where it has at most two blocks.
 fn sum_few(target: &mut [u8], coefficients: &[u8], sources: &[&[u8]])
     requires count { length sources.now ≡ length coefficients.now }
     requires wide { LANES ≤ length target.old }
@@ -121,8 +119,8 @@ fn sum_few(target: &mut [u8], coefficients: &[u8], sources: &[&[u8]])
 fn sum_blocks(
     target: &mut [u8],
     coefficients: &[u8],
-    lows: &[u8x32],
-    highs: &[u8x32],
+    lows: &[Block],
+    highs: &[Block],
     sources: &[&[u8]],
 )
     requires low { AreLow coefficients.now lows.now }
@@ -160,16 +158,16 @@ fn sum_blocks(
     );
 }
 
-/// The sum at thirty-two places from `at` on, where each coefficient is 1.
+/// The sum of the blocks from `at` on, where each coefficient is 1.
 #[inline(always)]
-fn plain_block(coefficients: &[u8], sources: &[&[u8]], at: usize) -> u8x32
+fn plain_block(coefficients: &[u8], sources: &[&[u8]], at: usize) -> Block
     requires ones { All (λ c. c ≡ 1) coefficients.now }
     requires count { length sources.now ≡ length coefficients.now }
     requires inside { All (λ s. at + LANES ≤ length s.now) sources.now }
     ensures { (k : ℕ) → k < LANES → slice_index result k
         ≡ combined coefficients.now (bytes_at (map (λ s. s.now) sources.now) (at + k)) }
 {
-    let mut sum = u8x32::splat(0);
+    let mut sum = Block::splat(0);
     for i in 0..coefficients.len() {
         sum = sum_2(sum, load(sources[i], at));
     }
@@ -228,7 +226,7 @@ fn sum_plainly(target: &mut [u8], coefficients: &[u8], sources: &[&[u8]])
 
 /// Makes the tables of the coefficients.
 #[inline(always)]
-fn tables_of(coefficients: &[u8], lows: &mut [u8x32; 15], highs: &mut [u8x32; 15])
+fn tables_of(coefficients: &[u8], lows: &mut [Block; 15], highs: &mut [Block; 15])
     requires few { length coefficients.now ≤ 15 }
     ensures low { AreLow coefficients.now lows.new }
     ensures high { AreHigh coefficients.now highs.new }
@@ -251,8 +249,8 @@ fn sum_by_tables(target: &mut [u8], coefficients: &[u8], sources: &[&[u8]])
     ensures { EachIndex target.new (λ k. slice_index target.new k
         ≡ combined coefficients.now (bytes_at (map (λ s. s.now) sources.now) k)) }
 {
-    let mut lows = [u8x32::splat(0); 15];
-    let mut highs = [u8x32::splat(0); 15];
+    let mut lows = [Block::splat(0); 15];
+    let mut highs = [Block::splat(0); 15];
     tables_of(coefficients, &mut lows, &mut highs);
     let count = coefficients.len();
     let lows = &lows[..count];

@@ -1,16 +1,15 @@
-//! The parities of two groups of six lists, thirty-two places at a time. Each list is read once.
+//! The parities of two groups of six lists, block by block. Each list is read once.
 ghost use Rattle.std.specs.Prelude.{◌≡◌, ◌<◌, ◌≤◌, ◌+◌, ℕ, [], ◌∷◌, map, length, slice_index, All};
 ghost use Rattle.kernels.specs.Doublings.{sum_of_6, with_bit_0, with_bit_1, with_bit_2};
 ghost use Rattle.kernels.specs.Lists.{xor_sum, bytes_at, list_at};
 ghost use Rattle.kernels.specs.Parities.{AreParitiesOfTwelve};
 
-use crate::blocks::{LANES, fourth_each, load, store, sum_3, sum_4, third_each};
+use crate::blocks::{Block, LANES, fourth_each, load, store, sum_3, sum_4, third_each};
 use crate::place::parities;
-use std::simd::prelude::*;
 
-/// The thirty-two bytes of list `f` from `at` on.
+/// The block of list `f` from `at` on.
 #[inline(always)]
-pub fn load_from(sources: &[&[u8]], f: usize, at: usize) -> u8x32
+pub fn load_from(sources: &[&[u8]], f: usize, at: usize) -> Block
     requires f_below { f < length sources.now }
     requires inside { All (λ s. at + LANES ≤ length s.now) sources.now }
     ensures lanes { (k : ℕ) → k < LANES → slice_index result k
@@ -20,18 +19,18 @@ pub fn load_from(sources: &[&[u8]], f: usize, at: usize) -> u8x32
     load(sources[f], at)
 }
 
-/// The sums of thirty-two places of a group: of all six fragments, and of those whose number in the
-/// group, counted from 1, has bit 0, bit 1 or bit 2.
+/// The sums of a block of a group: of all six fragments, and of those whose number in the group,
+/// counted from 1, has bit 0, bit 1 or bit 2.
 #[derive(Clone, Copy, Drop)]
 pub struct GroupSums {
     /// The sum of all six lists.
-    pub whole: u8x32,
+    pub whole: Block,
     /// The sum of those whose number has bit 0.
-    pub bit_0: u8x32,
+    pub bit_0: Block,
     /// The sum of those whose number has bit 1.
-    pub bit_1: u8x32,
+    pub bit_1: Block,
     /// The sum of those whose number has bit 2.
-    pub bit_2: u8x32,
+    pub bit_2: Block,
 }
 
 /// The sums of the six fragments from `first` on.
@@ -65,7 +64,7 @@ pub fn sums_of(sources: &[&[u8]], first: usize, at: usize) -> GroupSums
     }
 }
 
-/// Writes the parities of thirty-two places from `at` on.
+/// Writes the parities of the block from `at` on.
 #[inline(always)]
 fn encode_block(
     sources: &[&[u8]],
@@ -178,7 +177,7 @@ fn encode_lists(
     encode_block(sources, width - LANES, first, second, third, fourth);
 }
 
-/// Writes the parities of twelve lists, thirty-two places at a time.
+/// Writes the parities of twelve lists, block by block.
 pub fn write_parities(
     sources: &[&[u8]],
     first: &mut [u8],

@@ -11,7 +11,7 @@ mod groups;
 mod halves;
 mod place;
 
-pub use blocks::{LANES, fourth_each, load, store, sum_2, third_each};
+pub use blocks::{Block, LANES, fourth_each, load, store, sum_2, third_each};
 pub use combine::combine_lists;
 pub use factor::Factor;
 pub use groups::{GroupSums, load_from, sums_of, write_parities};

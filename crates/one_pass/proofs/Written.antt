@@ -2,10 +2,11 @@
 use Rattle.std.proofs.Common.{◌≡◌, ℕ, ◌+◌, ◌-◌, ◌<◌, ◌≤◌, List, ◌++◌, length, take, get_or, sym, ap, ◌∙◌, subst, arith, inl, inr, length-take-le, get_or-take}
 use Rattle.std.proofs.lemmas.Bool.{cases_lt}
 use Rattle.std.proofs.lemmas.List.{get_or_append_left, get_or-append-add}
+use Rattle.kernels.specs.declared.blocks.TheConstants.{LANES}
 
 -- a fact of each place that is written stays where the bytes stay, and holds of the next block
 pub written_more : (P : ℕ → ℕ → Type 0) (old new : List ℕ) (done at : ℕ) → at ≤ done → ((k : ℕ) → k < done → P k (get_or old k 0)) → ((k : ℕ) → k < at → get_or new k 0 ≡ get_or old k 0)
-    → ((k : ℕ) → k < 32 → P (at + k) (get_or new (at + k) 0)) → (k : ℕ) → k < at + 32 → P k (get_or new k 0)
+    → ((k : ℕ) → k < LANES → P (at + k) (get_or new (at + k) 0)) → (k : ℕ) → k < at + LANES → P k (get_or new k 0)
 written_more P old new done at order were same are k l =
     elim (cases_lt k at) [
       | inl below ↦ subst (P k) (sym (same k below)) (were k (omega arith))

@@ -1,29 +1,28 @@
-//! The four syndromes of sixteen lists at thirty-two places.
+//! The four syndromes of sixteen lists at the places of a block.
 ghost use Rattle.std.specs.Prelude.{◌≡◌, ◌<◌, ◌≤◌, ◌+◌, ℕ, true, map, length, slice_index, bit_xor};
 ghost use Rattle.std.specs.Prelude.{All};
 ghost use Rattle.kernels.specs.Doublings.{third_apart, fourth_apart};
 ghost use Rattle.kernels.specs.Lists.{bytes_at, list_at};
 ghost use Rattle.one_pass.specs.Syndromes.{syndrome};
 
-use kernels::{GroupSums, LANES, fourth_each, load_from, sum_2, sums_of, third_each};
-use std::simd::prelude::*;
+use kernels::{Block, GroupSums, LANES, fourth_each, load_from, sum_2, sums_of, third_each};
 
-/// The four syndromes at thirty-two places.
+/// The four syndromes at the places of a block.
 #[derive(Clone, Copy, Drop)]
 pub struct Columns {
     /// The first syndrome.
-    pub first: u8x32,
+    pub first: Block,
     /// The second syndrome.
-    pub second: u8x32,
+    pub second: Block,
     /// The third syndrome.
-    pub third: u8x32,
+    pub third: Block,
     /// The fourth syndrome.
-    pub fourth: u8x32,
+    pub fourth: Block,
 }
 
 /// The sum of a group, and the byte in the place of its parity.
 #[inline(always)]
-fn second_of(wanted: bool, t: GroupSums, sources: &[&[u8]], at: usize) -> u8x32
+fn second_of(wanted: bool, t: GroupSums, sources: &[&[u8]], at: usize) -> Block
     requires count { length sources.now ≡ 16 }
     requires inside { All (λ s. at + LANES ≤ length s.now) sources.now }
     ensures { wanted ≡ true → (k : ℕ) → k < LANES → slice_index result k ≡ bit_xor
@@ -32,13 +31,13 @@ fn second_of(wanted: bool, t: GroupSums, sources: &[&[u8]], at: usize) -> u8x32
     if wanted {
         sum_2(t.whole, load_from(sources, 13, at))
     } else {
-        u8x32::splat(0)
+        Block::splat(0)
     }
 }
 
 /// The parity of the sums of two groups, and the byte in its place.
 #[inline(always)]
-fn third_of(wanted: bool, s: GroupSums, t: GroupSums, sources: &[&[u8]], at: usize) -> u8x32
+fn third_of(wanted: bool, s: GroupSums, t: GroupSums, sources: &[&[u8]], at: usize) -> Block
     requires count { length sources.now ≡ 16 }
     requires inside { All (λ s. at + LANES ≤ length s.now) sources.now }
     ensures { wanted ≡ true → (k : ℕ) → k < LANES → slice_index result k ≡ bit_xor (third_apart
@@ -50,13 +49,13 @@ fn third_of(wanted: bool, s: GroupSums, t: GroupSums, sources: &[&[u8]], at: usi
         let parity = third_each(s.bit_0, s.bit_1, s.bit_2, t.bit_0, t.bit_1, t.bit_2);
         sum_2(parity, load_from(sources, 14, at))
     } else {
-        u8x32::splat(0)
+        Block::splat(0)
     }
 }
 
 /// As `third_of` for the fourth parity, which has other doublings.
 #[inline(always)]
-fn fourth_of(wanted: bool, s: GroupSums, t: GroupSums, sources: &[&[u8]], at: usize) -> u8x32
+fn fourth_of(wanted: bool, s: GroupSums, t: GroupSums, sources: &[&[u8]], at: usize) -> Block
     requires count { length sources.now ≡ 16 }
     requires inside { All (λ s. at + LANES ≤ length s.now) sources.now }
     ensures { wanted ≡ true → (k : ℕ) → k < LANES → slice_index result k ≡ bit_xor (fourth_apart
@@ -68,11 +67,11 @@ fn fourth_of(wanted: bool, s: GroupSums, t: GroupSums, sources: &[&[u8]], at: us
         let parity = fourth_each(s.bit_0, s.bit_1, s.bit_2, t.bit_0, t.bit_1, t.bit_2);
         sum_2(parity, load_from(sources, 15, at))
     } else {
-        u8x32::splat(0)
+        Block::splat(0)
     }
 }
 
-/// The syndromes at thirty-two places from `at` on; all but the first only if they are wanted.
+/// The syndromes of the block from `at` on; all but the first only if they are wanted.
 #[inline(always)]
 pub fn columns_at(sources: &[&[u8]], second: bool, third: bool, fourth: bool, at: usize) -> Columns
     requires count { length sources.now ≡ 16 }

@@ -1,4 +1,4 @@
-//! Computes targets thirty-two places at a time. The syndromes stay in registers.
+//! Computes targets block by block. The syndromes stay in registers.
 ghost use Rattle.std.specs.Prelude.{◌≡◌, ◌<◌, ◌≤◌, ℕ, false, [], ◌∷◌, map, All, EachIndex};
 ghost use Rattle.std.specs.Prelude.{length, slice_index, bit_xor};
 ghost use Rattle.kernels.specs.Lists.{combined, bytes_at};
@@ -9,12 +9,11 @@ ghost use Rattle.one_pass.specs.Patterns.{group};
 use crate::blocks::next_block;
 use crate::columns::columns_at;
 use crate::weights::{Weights, plain_of};
-use kernels::{LANES, store, sum_2};
-use std::simd::prelude::*;
+use kernels::{Block, LANES, store, sum_2};
 
 /// The syndrome with the index `e`.
 #[inline(always)]
-fn syndrome_of(first: u8x32, second: u8x32, third: u8x32, fourth: u8x32, e: usize) -> u8x32
+fn syndrome_of(first: Block, second: Block, third: Block, fourth: Block, e: usize) -> Block
     requires { e < 4 }
     ensures { (k : ℕ) → k < LANES → slice_index result k
         ≡ combined (unit e) (λ i. bytes_at (first ∷ second ∷ third ∷ fourth ∷ []) k i) }

@@ -1,10 +1,9 @@
-//! Sums of the syndromes at thirty-two places, each times its weight.
+//! Sums of the syndromes at the places of a block, each times its weight.
 ghost use Rattle.std.specs.Prelude.{◌≡◌, ◌<◌, ℕ, false, IfSome, slice_index};
 ghost use Rattle.one_pass.specs.Weights.{AreWeights, lane, weighed, unit};
 
 use crate::columns::Columns;
-use kernels::{Factor, LANES};
-use std::simd::prelude::*;
+use kernels::{Block, Factor, LANES};
 
 /// What the syndromes are multiplied by for a target, with the tables of the products.
 #[derive(Clone, Copy, Drop)]
@@ -34,12 +33,12 @@ impl Weights {
 
     /// The sums. The second and the fourth factor are left out if they are not taken.
     #[inline(always)]
-    pub fn sums_at(&self, s: Columns, takes_second: bool, takes_fourth: bool) -> u8x32
+    pub fn sums_at(&self, s: Columns, takes_second: bool, takes_fourth: bool) -> Block
         requires second { takes_second ≡ false → self.now.second.scale ≡ 0 }
         requires fourth { takes_fourth ≡ false → self.now.fourth.scale ≡ 0 }
         ensures { (k : ℕ) → k < LANES → slice_index result k ≡ weighed self.now (lane s k) }
     {
-        let one = self.first.plus_times(u8x32::splat(0), s.first);
+        let one = self.first.plus_times(Block::splat(0), s.first);
         let two = self.second.plus_times_if(takes_second, one, s.second);
         let three = self.third.plus_times(two, s.third);
         self.fourth.plus_times_if(takes_fourth, three, s.fourth)

@@ -9,6 +9,7 @@ use Rattle.kernels.proofs.Sums.{xor_sum_same, xor_sum-xor, xor_sum_zero}
 use Rattle.syndromes.specs.declared.formulas.Formula.{Formula}
 use Rattle.syndromes.specs.Syndromes.{syndrome, column_at, sum_by, HasSums, HasRoom}
 use Rattle.syndromes.specs.Formulas.{IsFormula, IsNoneOr, share_of, addend}
+use Rattle.kernels.specs.declared.blocks.TheConstants.{LANES}
 
 pub xor_back : (a b : ℕ) → bit_xor (bit_xor a b) b ≡ a
 xor_back a b = xor_assoc a b b ∙ ap (bit_xor a) (xor_self b) ∙ xor_zero_r a
@@ -39,7 +40,7 @@ factors_give f s is =
     ∙ ap (λ w. bit_xor w (added f.second s)) (xor_sum-xor 4 (λ e. product (shares e) (s e)) (λ e. product (x e) (s e))))
 
 -- what is added at one lane
-pub addend_is : (shares : Option (List ℕ)) (made : List ℕ) (s : ℕ → ℕ → ℕ) (k : ℕ) → k < 32 → IfSome shares (λ a. (j : ℕ) → j < 32 → get_or made j 0 ≡ sum_by a (s j)) → addend shares made k ≡ added shares (s k)
+pub addend_is : (shares : Option (List ℕ)) (made : List ℕ) (s : ℕ → ℕ → ℕ) (k : ℕ) → k < LANES → IfSome shares (λ a. (j : ℕ) → j < LANES → get_or made j 0 ≡ sum_by a (s j)) → addend shares made k ≡ added shares (s k)
 addend_is None made s k l is = sym (xor_sum_zero 4 (λ e. product 0 (s k e)) (λ e m. product-zero_left (s k e)))
 addend_is (Some a) made s k l is = is k l
 

@@ -1,6 +1,7 @@
 use Rattle.std.proofs.Common.{◌≡◌, ℕ, ◌<◌, ◌+◌, ◌-◌, List, map, length, get_or, ◌∙◌, arith}
 use Rattle.kernels.specs.Lists.{bytes_at, combined}
 use Rattle.kernels.proofs.GroupLemmas.{facts_more}
+use Rattle.kernels.specs.declared.blocks.TheConstants.{LANES}
 use Rattle.kernels.proofs.combine.sum_blocks.Goals as goal
 
 -- The steps of `plain_blocks`, from the clauses of other calls: a proof names its own calls.
@@ -14,12 +15,12 @@ pairs-preserved c =
     let coefficients = c.args.coefficients.now in
     let sources : List (List ℕ) = map (λ s. s.now) c.args.sources.now in
     let at : ℕ = c.pairs.at in
-    let one : (k : ℕ) → k < at + 32 → IsSum coefficients sources c.store.new.target k = facts_more (IsSum coefficients sources c.store.new.target) at (at + 32)
+    let one : (k : ℕ) → k < at + LANES → IsSum coefficients sources c.store.new.target k = facts_more (IsSum coefficients sources c.store.new.target) at (at + LANES)
     (λ k h. c.store.ensures.before k h ∙ c.pairs.invariant.done k h)
     (λ k h. c.store.ensures.lanes k (omega arith) ∙ c.sum_two-sums.ensures.first k (omega arith)) in
     record {
       inside = omega arith;
-      done = facts_more (IsSum coefficients sources c.store-in-pairs.new.target) (at + 32) (at + 64)
+      done = facts_more (IsSum coefficients sources c.store-in-pairs.new.target) (at + LANES) (at + (LANES + LANES))
           (λ k h. c.store-in-pairs.ensures.before k h ∙ one k h)
           (λ k h. c.store-in-pairs.ensures.lanes k (omega arith) ∙ c.sum_two-sums.ensures.second k (omega arith));
     }
@@ -30,7 +31,7 @@ whole-preserved c =
     let sources : List (List ℕ) = map (λ s. s.now) c.args.sources.now in
     record {
       inside = omega arith;
-      done = facts_more (IsSum coefficients sources c.store-in-whole.new.target) c.whole.at (c.whole.at + 32)
+      done = facts_more (IsSum coefficients sources c.store-in-whole.new.target) c.whole.at (c.whole.at + LANES)
           (λ k h. c.store-in-whole.ensures.before k h ∙ c.whole.invariant.done k h)
           (λ k h. c.store-in-whole.ensures.lanes k (omega arith) ∙ c.sum_block.ensures k (omega arith));
     }
@@ -40,6 +41,6 @@ returns c k h =
     let coefficients = c.args.coefficients.now in
     let sources : List (List ℕ) = map (λ s. s.now) c.args.sources.now in
     let w : ℕ = length c.args.target.now in
-    facts_more (IsSum coefficients sources c.store-2.new.target) (w - 32) w
+    facts_more (IsSum coefficients sources c.store-2.new.target) (w - LANES) w
     (λ k h. c.store-2.ensures.before k h ∙ c.whole.invariant.done k (omega arith))
     (λ k h. c.store-2.ensures.lanes k (omega arith) ∙ c.sum_block-2.ensures k (omega arith)) k (omega arith)

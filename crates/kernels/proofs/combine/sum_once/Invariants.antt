@@ -1,10 +1,11 @@
 use Rattle.std.proofs.Common.{◌≡◌, ℕ, ◌<◌, ◌+◌, get_or}
 use Rattle.kernels.specs.Lists.{xor_sum}
 use Rattle.kernels.proofs.CombineLemmas.{products}
+use Rattle.kernels.specs.declared.blocks.TheConstants.{LANES}
 use Rattle.kernels.proofs.combine.sum_once.Given as goal
 
 abbrev pub invariant-loop-i : goal.invariant-loop-i
 invariant-loop-i l = record {
-  first : (k : ℕ) → k < 32 → get_or l.first k 0 ≡ xor_sum l.i (products l.coefficients l.sources (l.at + k));
-  second : (k : ℕ) → k < 32 → get_or l.second k 0 ≡ xor_sum l.i (products l.coefficients l.sources (l.next + k));
+  first : (k : ℕ) → k < LANES → get_or l.first k 0 ≡ xor_sum l.i (products l.coefficients l.sources (l.at + k));
+  second : (k : ℕ) → k < LANES → get_or l.second k 0 ≡ xor_sum l.i (products l.coefficients l.sources (l.next + k));
 }

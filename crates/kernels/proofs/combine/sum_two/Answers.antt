@@ -5,12 +5,13 @@ use Rattle.kernels.specs.Lists.{xor_sum}
 use Rattle.kernels.proofs.CombineLemmas.{products, xor_sum_none, xor_sum_more}
 use Rattle.kernels.proofs.FactorLemmas.{product_from_tables}
 use Rattle.kernels.proofs.GroupLemmas.{source_is}
+use Rattle.kernels.specs.declared.blocks.TheConstants.{LANES}
 use Rattle.kernels.proofs.combine.sum_two.Goals as goal
 
 pub loop-i-init : goal.loop-i-init
 loop-i-init c = record {
-  first = λ k h. get_or-replicate 32 k 0 0 h ∙ sym (xor_sum_none (products c.args.coefficients.now c.args.sources.now (c.args.at + k)));
-  second = λ k h. get_or-replicate 32 k 0 0 h ∙ sym (xor_sum_none (products c.args.coefficients.now c.args.sources.now (c.args.next + k)));
+  first = λ k h. get_or-replicate LANES k 0 0 h ∙ sym (xor_sum_none (products c.args.coefficients.now c.args.sources.now (c.args.at + k)));
+  second = λ k h. get_or-replicate LANES k 0 0 h ∙ sym (xor_sum_none (products c.args.coefficients.now c.args.sources.now (c.args.next + k)));
 }
 
 pub loop-i-preserved : goal.loop-i-preserved

@@ -1,6 +1,7 @@
 use Rattle.std.proofs.Common.{◌≡◌, ◌+◌, ◌-◌, length, map, [], ◌∷◌, arith}
 use Rattle.kernels.specs.Parities.{AreParitiesOfTwelve}
 use Rattle.kernels.proofs.GroupLemmas.{parities_more, at_last}
+use Rattle.kernels.specs.declared.blocks.TheConstants.{LANES}
 use Rattle.kernels.proofs.groups.encode_lists.Goals as goal
 
 pub loop-at-preserved : goal.loop-at-preserved
@@ -20,7 +21,7 @@ whole-preserved c =
     record {
       inside = omega arith;
       done = parities_more (map (λ s. s.now) c.args.sources.now) c.whole.first c.whole.second c.whole.third c.whole.fourth
-          c.encode_block.new.first c.encode_block.new.second c.encode_block.new.third c.encode_block.new.fourth c.whole.at (c.whole.at + 32)
+          c.encode_block.new.first c.encode_block.new.second c.encode_block.new.third c.encode_block.new.fourth c.whole.at (c.whole.at + LANES)
           c.whole.invariant.done b.first_before b.second_before b.third_before b.fourth_before
           (λ k h. b.parities k (omega arith));
     }
@@ -31,7 +32,7 @@ returns c =
     let w = length c.args.first.now in
     let same : length c.encode_block-2.new.first ≡ w = omega arith in
     let all = parities_more (map (λ s. s.now) c.args.sources.now) c.whole.first c.whole.second c.whole.third c.whole.fourth
-    c.encode_block-2.new.first c.encode_block-2.new.second c.encode_block-2.new.third c.encode_block-2.new.fourth (w - 32) w
+    c.encode_block-2.new.first c.encode_block-2.new.second c.encode_block-2.new.third c.encode_block-2.new.fourth (w - LANES) w
     (λ k h. c.whole.invariant.done k (omega arith)) b.first_before b.second_before b.third_before b.fourth_before
     (λ k h. b.parities k (omega arith)) in
     λ k h. all k (omega arith)

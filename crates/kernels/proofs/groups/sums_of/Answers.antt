@@ -1,6 +1,7 @@
 use Rattle.std.proofs.Common.{◌≡◌, ◌+◌, ℕ, ◌<◌, List, [], ◌∷◌, bit_xor, get_or, map, ap, ◌∙◌, subst}
 use Rattle.kernels.specs.Lists.{bytes_at}
 use Rattle.kernels.proofs.GroupLemmas.{each_of_six, read_six, bit_0_same, bit_1_same, bit_2_same, six_same}
+use Rattle.kernels.specs.declared.blocks.TheConstants.{LANES}
 use Rattle.kernels.proofs.groups.sums_of.Goals.{After-sum_3-2}
 use Rattle.kernels.proofs.groups.sums_of.Goals as goal
 
@@ -12,7 +13,7 @@ loaded c k = get_or c.load_from-x0.result k 0 ∷ get_or c.load_from-x1.result k
 abbrev six : After-sum_3-2 → ℕ → ℕ → ℕ
 six c k i = bytes_at (map (λ s. s.now) c.args.sources.now) (c.args.at + k) (c.args.first + i)
 
-are_loaded : (c : After-sum_3-2) (k : ℕ) → k < 32 → (i : ℕ) → i < 6 → get_or (loaded c k) i 0 ≡ six c k i
+are_loaded : (c : After-sum_3-2) (k : ℕ) → k < LANES → (i : ℕ) → i < 6 → get_or (loaded c k) i 0 ≡ six c k i
 are_loaded c k h =
     read_six (map (λ s. s.now) c.args.sources.now) c.args.first (c.args.at + k) _ _ _ _ _ _
     (c.load_from-x0.ensures.lanes k h) (c.load_from-x1.ensures.lanes k h) (c.load_from-x2.ensures.lanes k h)

@@ -4,10 +4,11 @@ use lib.Lanes.{Each1}
 use Rattle.kernels.specs.Lists.{combined, bytes_at}
 use Rattle.one_pass.specs.Weights.{unit}
 use Rattle.one_pass.proofs.Units.{unit_combined}
+use Rattle.kernels.specs.declared.blocks.TheConstants.{LANES}
 use Rattle.one_pass.proofs.loops.syndrome_of.Goals.{in-0, in-1, in-2, in_default}
 use Rattle.one_pass.proofs.loops.syndrome_of.Goals as goal
 
-byte : (x : List ℕ) (k : ℕ) → k < 32 → length x ≡ 32 → Each1 (Fits w8) x → get_or x k 0 < 256
+byte : (x : List ℕ) (k : ℕ) → k < LANES → length x ≡ LANES → Each1 (Fits w8) x → get_or x k 0 < 256
 byte x k h long fits = Each1-get_or (λ y. y < 256) x k 0 (omega (arith, long, h)) (below_from_Fits w8 x fits)
 
 pub returns : goal.returns

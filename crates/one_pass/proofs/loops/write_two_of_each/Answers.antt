@@ -5,6 +5,7 @@ use Rattle.one_pass.specs.Syndromes.{syndromes_at}
 use Rattle.one_pass.specs.Weights.{lane, weighed, unit}
 use Rattle.one_pass.proofs.Patterns.{AreLanes, plain_taken, weighed_taken, takes_all}
 use Rattle.one_pass.proofs.Written.{written_more}
+use Rattle.kernels.specs.declared.blocks.TheConstants.{LANES}
 use Rattle.one_pass.proofs.loops.write_two_of_each.Goals as goal
 
 pub each-preserved : goal.each-preserved
@@ -14,15 +15,15 @@ each-preserved c =
     let s = c.columns_at-s.ensures in
     let at : ℕ = c.next_block-at.result in
     let order = c.next_block-at.ensures.no_gap in
-    let lanes : (k : ℕ) → k < 32 → AreLanes (lane c.columns_at-s.result k) (syndromes_at sources (at + k)) true true true =
+    let lanes : (k : ℕ) → k < LANES → AreLanes (lane c.columns_at-s.result k) (syndromes_at sources (at + k)) true true true =
     λ k h. record { first = s.first k h; second_is = λ on. s.second refl k h; third_is = λ on. s.third refl k h; fourth_is = λ on. s.fourth refl k h } in
-    let first : (k : ℕ) → k < 32 → get_or c.syndrome_of-first.result k 0 ≡ combined (unit 0) (syndromes_at sources (at + k)) =
+    let first : (k : ℕ) → k < LANES → get_or c.syndrome_of-first.result k 0 ≡ combined (unit 0) (syndromes_at sources (at + k)) =
     λ k h. c.syndrome_of-first.ensures k h ∙ plain_taken 0 _ (syndromes_at sources (at + k)) true true true (omega arith) (lanes k h) (takes_all (unit 0)) in
-    let second : (k : ℕ) → k < 32 → get_or c.syndrome_of-second.result k 0 ≡ combined (unit 1) (syndromes_at sources (at + k)) =
+    let second : (k : ℕ) → k < LANES → get_or c.syndrome_of-second.result k 0 ≡ combined (unit 1) (syndromes_at sources (at + k)) =
     λ k h. c.syndrome_of-second.ensures k h ∙ plain_taken 1 _ (syndromes_at sources (at + k)) true true true (omega arith) (lanes k h) (takes_all (unit 1)) in
-    let sum : (k : ℕ) → k < 32 → get_or c.sums_at-sum.result k 0 ≡ weighed c.args.weights.now (syndromes_at sources (at + k)) =
+    let sum : (k : ℕ) → k < LANES → get_or c.sums_at-sum.result k 0 ≡ weighed c.args.weights.now (syndromes_at sources (at + k)) =
     λ k h. c.sums_at-sum.ensures k h ∙ weighed_taken c.args.weights.now _ (syndromes_at sources (at + k)) true true (lanes k h) (λ off. absurd (true≢false off)) (λ off. absurd (true≢false off)) in
-    let other : (k : ℕ) → k < 32 → get_or c.sums_at-other.result k 0 ≡ weighed c.args.others.now (syndromes_at sources (at + k)) =
+    let other : (k : ℕ) → k < LANES → get_or c.sums_at-other.result k 0 ≡ weighed c.args.others.now (syndromes_at sources (at + k)) =
     λ k h. c.sums_at-other.ensures k h ∙ weighed_taken c.args.others.now _ (syndromes_at sources (at + k)) true true (lanes k h) (λ off. absurd (true≢false off)) (λ off. absurd (true≢false off)) in
     record {
       inside = omega (arith, c.next_block-at.ensures.inside);

@@ -3,6 +3,7 @@ use Rattle.one_pass.specs.Syndromes.{syndromes_at}
 use Rattle.one_pass.specs.Weights.{lane, weighed}
 use Rattle.one_pass.proofs.Patterns.{AreLanes, weighed_taken}
 use Rattle.one_pass.proofs.Written.{written_more}
+use Rattle.kernels.specs.declared.blocks.TheConstants.{LANES}
 use Rattle.one_pass.proofs.loops.write_weighed.Goals as goal
 
 pub each-preserved : goal.each-preserved
@@ -12,9 +13,9 @@ each-preserved g c =
     let s = c.columns_at-s.ensures in
     let at : ℕ = c.next_block-at.result in
     let order = c.next_block-at.ensures.no_gap in
-    let lanes : (k : ℕ) → k < 32 → AreLanes (lane c.columns_at-s.result k) (syndromes_at sources (at + k)) (not (eqb g.row.SECOND 0)) true (not (eqb g.row.FOURTH 0)) =
+    let lanes : (k : ℕ) → k < LANES → AreLanes (lane c.columns_at-s.result k) (syndromes_at sources (at + k)) (not (eqb g.row.SECOND 0)) true (not (eqb g.row.FOURTH 0)) =
     λ k h. record { first = s.first k h; second_is = λ on. s.second on k h; third_is = λ on. s.third refl k h; fourth_is = λ on. s.fourth on k h } in
-    let sum : (k : ℕ) → k < 32 → get_or c.sums_at-sum.result k 0 ≡ weighed c.args.weights.now (syndromes_at sources (at + k)) =
+    let sum : (k : ℕ) → k < LANES → get_or c.sums_at-sum.result k 0 ≡ weighed c.args.weights.now (syndromes_at sources (at + k)) =
     λ k h. c.sums_at-sum.ensures k h ∙ weighed_taken c.args.weights.now _ (syndromes_at sources (at + k)) (not (eqb g.row.SECOND 0)) (not (eqb g.row.FOURTH 0)) (lanes k h) c.requires.second c.requires.fourth in
     record {
       inside = omega (arith, c.next_block-at.ensures.inside);

@@ -12,6 +12,8 @@ invariant_of-result c =
     let l_few : l < 16 = omega (arith, l_is) in
     let u_few : u < 16 = omega (arith, u_is) in
     record {
-      low_is = λ k h. c.sum_2.ensures k h ∙ product_of_halves s l u (k % 16) _ _ (omega arith) l_is u_is (low_low l k l_few h) (high_low u k u_few h);
-      high_is = λ k h. c.sum_2-2.ensures k h ∙ product_of_halves s l u (16 * (k % 16)) _ _ (omega arith) l_is u_is (low_high l k l_few h) (high_high u k u_few h);
+      low_is = λ k h. c.sum_2.ensures k h ∙ product_of_halves s l u (k % 16) _ _ (omega arith) l_is u_is
+          (c.spread.ensures k h ∙ low_low l (k % 16) l_few (omega arith)) (c.spread-2.ensures k h ∙ high_low u (k % 16) u_few (omega arith));
+      high_is = λ k h. c.sum_2-2.ensures k h ∙ product_of_halves s l u (16 * (k % 16)) _ _ (omega arith) l_is u_is
+          (c.spread-3.ensures k h ∙ low_high l (k % 16) l_few (omega arith)) (c.spread-4.ensures k h ∙ high_high u (k % 16) u_few (omega arith));
     }
