@@ -51,3 +51,13 @@ Agrees code fragments from to s = (i : ℕ) → i < fragment_count code → IfSo
 -- each stripe that agrees with the present fragments at from..to has these bytes there at f
 abbrev pub Rebuilds : Code → List (Option (Bor (List ℕ))) → ℕ → ℕ → ℕ → List ℕ → Type 0
 Rebuilds code fragments f from to bytes = (w : ℕ) (s : ℕ → List ℕ) → to ≤ w → IsStripe code w s → Agrees code fragments from to s → bytes ≡ slice_range (s f) from to
+
+-- the stripe has the bytes from..to of each list that is not lost
+abbrev pub AgreesWith : Code → (ℕ → Bool) → (ℕ → List ℕ) → ℕ → ℕ → (ℕ → List ℕ) → Type 0
+AgreesWith code lost lists from to s = (i : ℕ) → i < fragment_count code → lost i ≡ false
+    → slice_range (s i) from to ≡ slice_range (lists i) from to
+
+-- each stripe that agrees with the lists that are not lost at from..to has these bytes there at f
+abbrev pub RebuildsFrom : Code → (ℕ → Bool) → (ℕ → List ℕ) → ℕ → ℕ → ℕ → List ℕ → Type 0
+RebuildsFrom code lost lists f from to bytes = (w : ℕ) (s : ℕ → List ℕ) → to ≤ w
+    → IsStripe code w s → AgreesWith code lost lists from to s → bytes ≡ slice_range (s f) from to

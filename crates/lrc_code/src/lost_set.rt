@@ -68,6 +68,15 @@ impl LostSet {
         self.bits >> f & 1 == 0
     }
 
+    /// Whether `f` is lost, and the only lost one of the fragments whose bits are set in `group`.
+    pub(crate) fn has_only(self, group: u16, f: u8) -> bool
+        requires { f < 16 }
+        ensures { IsTrue result ↔ ((i : ℕ) → i < 16 → (is_lost self i && is_lost group i)
+            ≡ (i == f)) }
+    {
+        self.bits & group == 1 << f
+    }
+
     /// The first of `fragments` that is lost.
     pub(crate) fn first_of(self, fragments: &[u8]) -> Option<u8>
         requires { All (λ f. f < 16) fragments.now }

@@ -1,26 +1,16 @@
 //! Which fragments are unrecoverable.
-ghost use Rattle.std.specs.Prelude.{◌≡◌, ◌<◌, ◌↔◌, IsTrue, All};
+ghost use Rattle.std.specs.Prelude.{◌≡◌, ◌<◌, ◌↔◌, IsTrue};
 ghost use Rattle.lrc_code.specs.Code.{fragment_count, first_group, second_group, is_lost, is_alone};
 ghost use Rattle.lrc_code.specs.Code.{is_only_lost_of, Open};
 
 use crate::{Code, LostSet};
-
-/// Whether `f` is lost, and the only lost fragment of `group`.
-#[tactic(auto, unfolding(crate::specs::Code::is_only_lost_of))]
-fn is_only_lost(lost: LostSet, group: &[u8], f: u8) -> bool
-    requires f_below { f < 16 }
-    requires group_below { All (λ i. i < 16) group.now }
-    ensures { result ≡ is_only_lost_of (is_lost lost) group.now f }
-{
-    !lost.left(f) && group.contains(&f) && lost.count(group) == 1
-}
 
 /// Whether `f` is the only lost fragment of the first group.
 pub(crate) fn is_only_lost_of_first(code: Code, lost: LostSet, f: u8) -> bool
     requires { f < 16 }
     ensures { result ≡ is_only_lost_of (is_lost lost) (first_group code) f }
 {
-    is_only_lost(lost, code.first_group(), f)
+    lost.has_only(code.first_bits(), f)
 }
 
 /// Whether `f` is the only lost fragment of the second group.
@@ -28,20 +18,16 @@ pub(crate) fn is_only_lost_of_second(code: Code, lost: LostSet, f: u8) -> bool
     requires { f < 16 }
     ensures { result ≡ is_only_lost_of (is_lost lost) (second_group code) f }
 {
-    is_only_lost(lost, code.second_group(), f)
+    lost.has_only(code.second_bits(), f)
 }
 
 /// Whether `f` is alone lost in its group, so that it is the sum of the others of the group: what
-/// `rebuild_local` requires. If nothing else is lost, nothing is counted: each fragment except the
-/// two global parities is in a group.
+/// `rebuild_local` and `rebuild_local_in` require.
 #[tactic(auto, unfolding(crate::specs::Code::is_alone))]
 pub fn is_alone_in(code: Code, lost: LostSet, f: u8) -> bool
     requires { f < 16 }
     ensures { result ≡ is_alone code (is_lost lost) f }
 {
-    if lost == LostSet::empty().with(f) {
-        return f < code.data_fragments() + 2;
-    }
     is_only_lost_of_first(code, lost, f) || is_only_lost_of_second(code, lost, f)
 }
 

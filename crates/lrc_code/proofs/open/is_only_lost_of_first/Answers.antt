@@ -1,0 +1,6 @@
+use Rattle.lrc_code.specs.Code.{is_lost}
+use Rattle.lrc_code.proofs.Only.{first_only}
+use Rattle.lrc_code.proofs.open.is_only_lost_of_first.Goals as goal
+
+pub returns : goal.returns
+returns c = first_only c.args.code (is_lost c.args.lost) (is_lost c.first_bits.result) c.args.f c.requires c.first_bits.ensures c.has_only.result c.has_only.ensures
