@@ -1,12 +1,12 @@
 -- What C passes and gets: the code by its number of data fragments, the lost fragments as the bits
 -- of a number, the bytes of a stripe, a recipe in two lists.
-use Rattle.std.specs.Prelude.{◌≡◌, ℕ, ◌<◌, ◌≤◌, ◌++◌, ◌==◌, true, false, List, [], ◌∷◌, Option, Some, None, IfSome, MatchOption, if◌then◌else◌, find, map, length, slice_index, slice_index_or, slice_range, bit_xor, EachIndex}
+use Rattle.std.specs.Prelude.{◌≡◌, ℕ, ◌<◌, ◌≤◌, ◌++◌, ◌==◌, true, false, List, [], ◌∷◌, Option, Some, None, IfSome, MatchOption, if◌then◌else◌, find, map, length, slice_index, slice_index_or, bit_xor, EachIndex}
 use Rattle.std.specs.List.{range_with_len}
 use Rattle.gf256.specs.Field.{product}
 use Rattle.lrc_code.specs.declared.Code.{Code}
 use Rattle.lrc_code.specs.declared.Code.TheVariants.{Wide, Small}
 use Rattle.lrc_code.specs.Code.{fragment_count, data_count, weight, is_lost}
-use Rattle.lrc_code.specs.Stripe.{IsStripe, list_at}
+use Rattle.lrc_code.specs.Stripe.{list_at, RebuildsFrom}
 use Rattle.lrc_code.specs.declared.recipes.Term.{Term}
 
 -- the code whose stripes have so many data fragments
@@ -36,16 +36,10 @@ IsLostIn code lost fragment = (fragment < fragment_count code) × (is_lost lost 
 abbrev pub LeftReach : Code → List (List ℕ) → ℕ → ℕ → Type 0
 LeftReach code fragments lost to = (i : ℕ) → i < fragment_count code → is_lost lost i ≡ false → to ≤ length (list_at fragments i)
 
--- the stripe has the bytes from..to of each remaining fragment
-abbrev pub AgreesWithLeft : Code → List (List ℕ) → ℕ → ℕ → ℕ → (ℕ → List ℕ) → Type 0
-AgreesWithLeft code fragments lost from to s =
-    (i : ℕ) → i < fragment_count code → is_lost lost i ≡ false → slice_range (s i) from to ≡ slice_range (list_at fragments i) from to
-
 -- each stripe that agrees with the remaining fragments at from..to has these bytes there at the
 -- fragment
 abbrev pub RebuildsLost : Code → List (List ℕ) → ℕ → ℕ → ℕ → ℕ → List ℕ → Type 0
-RebuildsLost code fragments lost fragment from to bytes =
-    (w : ℕ) (s : ℕ → List ℕ) → to ≤ w → IsStripe code w s → AgreesWithLeft code fragments lost from to s → bytes ≡ slice_range (s fragment) from to
+RebuildsLost code fragments lost = RebuildsFrom code (is_lost lost) (list_at fragments)
 
 -- ---- decoding
 -- the fragment that a number chooses; 255 chooses none

@@ -7,6 +7,7 @@
 #![tactic(auto)]
 
 mod plans;
+mod remaining;
 
 ghost use Rattle.std.specs.Prelude.{◌≡◌, ◌≢◌, ℕ, ◌+◌, ◌-◌, ◌<◌, ◌≤◌, ◌^◌, ◌↔◌, ◌⊎◌, IsTrue, All};
 ghost use Rattle.std.specs.Prelude.{IfSome, IsSomeAnd, MatchOption, EachIndex, length, map};
@@ -15,8 +16,7 @@ ghost use Rattle.std.specs.Prelude.{◌∷◌, ◌==◌, if◌then◌else◌};
 ghost use Rattle.gf256.specs.Field.{product};
 ghost use Rattle.lrc_code.specs.Code.{fragment_count, data_count, weight, is_lost, is_alone};
 ghost use Rattle.lrc_code.specs.Code.{is_only_lost_of, first_group, second_group, Open};
-ghost use Rattle.lrc_code.specs.Stripe.{IsStripe, list_at, is_absent, slot, bytes_of};
-ghost use Rattle.lrc_code.specs.Stripe.{HasRange, Rebuilds};
+ghost use Rattle.lrc_code.specs.Stripe.{IsStripe, list_at};
 ghost use Rattle.lrc_code.specs.Recipe.{IsRecipe, IsLeast, local_recipe};
 ghost use Rattle.decode.specs.Decoding.{HasOpen};
 ghost use Rattle.coder_c.specs.Call.{code_with, with_parities, FourHave, AddsData, IsLostIn};
@@ -25,10 +25,11 @@ ghost use Rattle.coder_c.specs.Call.{DecodesLost, chosen_by, chosen_of, terms_of
 ghost use Rattle.coder_c.specs.PlanBytes.{format_in, code_in, missing_in, chosen_in, plan_in};
 ghost use Rattle.decode.specs.DecodePlan.{IsPlan, HasAllOf, IsRest};
 
-use decode::{decode_to, plan_for, rebuild_to};
+use decode::plan_for;
 use gf256::add_scaled;
-use lrc_code::{Code, Left, LostSet, Term, encode_to, is_open_in, recipe_in};
+use lrc_code::{Code, LostSet, Term, encode_to, is_open_in, recipe_in};
 use plans::{decode_planned, plan_bytes, plan_from};
+use remaining::{decode_lost, left_reach, rebuild_lost};
 
 /// The call was done; or the answer is no.
 const DONE: u32 = 0;
@@ -228,25 +229,6 @@ fn lost_fragment(data_fragments: usize, lost: u16, number: u8) -> Option<LostFra
     Some(LostFragment { code, lost, number })
 }
 
-/// The remaining fragments of a stripe of which these are lost.
-fn left_of<'a>(code: Code, fragments: &[&'a [u8]; 16], lost: LostSet) -> Left<'a>
-    ensures code { result.code ≡ code }
-    ensures absent { (i : ℕ) → i < 16 → is_absent result.fragments i ≡ is_lost lost i }
-    ensures bytes { (i : ℕ) → i < 16 → is_lost lost i ≡ false
-        → bytes_of (slot result.fragments i) ≡ list_at (map (λ f. f.now) fragments.now) i }
-{
-    let mut slots: [Option<&'a [u8]>; 16] = [None; 16];
-    for i in 0..16 {
-        if lost.left(i as u8) {
-            slots[i] = Some(fragments[i]);
-        }
-    }
-    Left {
-        code,
-        fragments: slots,
-    }
-}
-
 /// Writes the bytes of a lost fragment from index `from` on, as many as `target` has: those of
 /// every stripe that agrees with the remaining fragments. What is passed for a lost fragment is
 /// never read.
@@ -281,11 +263,11 @@ pub extern "C" fn lrc_rebuild(
     let Some(to) = from.checked_add(target.len()) else {
         return BAD_ARGUMENT;
     };
-    let left = left_of(asked.code, fragments, asked.lost);
-    if !left.reaches(to) {
+    let LostFragment { code, lost, number } = asked;
+    if !left_reach(code, fragments, lost, to) {
         return BAD_ARGUMENT;
     }
-    if rebuild_to(&left, asked.number, from, to, target) {
+    if rebuild_lost(code, fragments, lost, number, from, to, target) {
         DONE
     } else {
         OPEN
@@ -357,7 +339,7 @@ fn are_taken(
         && has_room(chosen[3], w, fourth)
 }
 
-/// `decode_to` of the remaining fragments, if they are long enough.
+/// `decode_lost`, if the remaining fragments are long enough.
 fn decode_left(
     code: Code,
     fragments: &[&[u8]; 16],
@@ -389,10 +371,12 @@ fn decode_left(
     ensures kept { result ≢ DONE → (first.new ≡ first.old) × (second.new ≡ second.old)
         × (third.new ≡ third.old) × (fourth.new ≡ fourth.old) }
 {
-    let left = left_of(code, fragments, lost);
-    if !left.reaches(end) {
-        BAD_ARGUMENT
-    } else if decode_to(&left, chosen, from, end, first, second, third, fourth) {
+    if !left_reach(code, fragments, lost, end) {
+        return BAD_ARGUMENT;
+    }
+    if decode_lost(
+        code, fragments, lost, chosen, from, end, first, second, third, fourth,
+    ) {
         DONE
     } else {
         OPEN

@@ -7,7 +7,8 @@ ghost use Rattle.coder_c.specs.Call.{DecodesLost};
 ghost use Rattle.coder_c.specs.PlanBytes.{format_in, code_in, missing_in, chosen_in, shares_in};
 ghost use Rattle.coder_c.specs.PlanBytes.{plan_in, AreSameShares};
 
-use crate::{PLAN_FORMAT, chosen_of, code_of, left_of};
+use crate::remaining::{are_alone, left_of, left_reach, rebuild_alone};
+use crate::{PLAN_FORMAT, chosen_of, code_of};
 use decode::{DecodePlan, decode_by_plan};
 use lrc_code::LostSet;
 
@@ -73,6 +74,40 @@ pub(crate) fn plan_from(bytes: &[u8; 24]) -> Option<DecodePlan>
     })
 }
 
+/// `decode_by_plan` of the fragments that a plan reads.
+#[inline(never)]
+fn decode_from_slots(
+    plan: &DecodePlan,
+    fragments: &[&[u8]; 16],
+    from: usize,
+    to: usize,
+    first: &mut [u8],
+    second: &mut [u8],
+    third: &mut [u8],
+    fourth: &mut [u8],
+)
+    requires reach { LeftReach plan.now.code (map (λ f. f.now) fragments.now) plan.now.missing to }
+    requires range { from ≤ to }
+    requires lost { AreLostIn plan.now.code plan.now.missing plan.now.chosen }
+    requires room { HaveRoomFor plan.now.chosen (to - from) first.old second.old third.old
+        fourth.old }
+    ensures first { IsPlan plan.now → DecodesLost plan.now.code
+        (map (λ f. f.now) fragments.now) plan.now.missing (slice_index_or plan.now.chosen 0 None)
+        from to first.old first.new }
+    ensures second { IsPlan plan.now → DecodesLost plan.now.code
+        (map (λ f. f.now) fragments.now) plan.now.missing (slice_index_or plan.now.chosen 1 None)
+        from to second.old second.new }
+    ensures third { IsPlan plan.now → DecodesLost plan.now.code
+        (map (λ f. f.now) fragments.now) plan.now.missing (slice_index_or plan.now.chosen 2 None)
+        from to third.old third.new }
+    ensures fourth { IsPlan plan.now → DecodesLost plan.now.code
+        (map (λ f. f.now) fragments.now) plan.now.missing (slice_index_or plan.now.chosen 3 None)
+        from to fourth.old fourth.new }
+{
+    let left = left_of(plan.code, fragments, LostSet::of_bits(plan.missing));
+    decode_by_plan(plan, &left, from, to, first, second, third, fourth);
+}
+
 /// `decode_by_plan` of the fragments that a plan reads, if they are long enough. Returns whether
 /// they are; if not, the targets are unchanged.
 pub(crate) fn decode_planned(
@@ -106,10 +141,49 @@ pub(crate) fn decode_planned(
     ensures kept { result ≡ false → (first.new ≡ first.old) × (second.new ≡ second.old)
         × (third.new ≡ third.old) × (fourth.new ≡ fourth.old) }
 {
-    let left = left_of(plan.code, fragments, LostSet::of_bits(plan.missing));
-    if !left.reaches(to) {
+    let missing = LostSet::of_bits(plan.missing);
+    if !left_reach(plan.code, fragments, missing, to) {
         return false;
     }
-    decode_by_plan(plan, &left, from, to, first, second, third, fourth);
+    if are_alone(plan.code, missing, &plan.chosen) {
+        rebuild_alone(
+            plan.code,
+            fragments,
+            missing,
+            plan.chosen[0],
+            from,
+            to,
+            first,
+        );
+        rebuild_alone(
+            plan.code,
+            fragments,
+            missing,
+            plan.chosen[1],
+            from,
+            to,
+            second,
+        );
+        rebuild_alone(
+            plan.code,
+            fragments,
+            missing,
+            plan.chosen[2],
+            from,
+            to,
+            third,
+        );
+        rebuild_alone(
+            plan.code,
+            fragments,
+            missing,
+            plan.chosen[3],
+            from,
+            to,
+            fourth,
+        );
+    } else {
+        decode_from_slots(plan, fragments, from, to, first, second, third, fourth);
+    }
     true
 }

@@ -1,7 +1,7 @@
 use Rattle.std.proofs.Common.{◌≡◌, ℕ, ◌<◌, ◌≤◌, [], Some, None, true, false, get_or, length}
 use Rattle.lrc_code.specs.Code.{is_lost}
 use Rattle.lrc_code.specs.Stripe.{slot}
-use Rattle.coder_c.proofs.left_of.Given as goal
+use Rattle.coder_c.proofs.remaining.left_of.Given as goal
 
 abbrev pub invariant-loop-i : goal.invariant-loop-i
 invariant-loop-i l = record {
