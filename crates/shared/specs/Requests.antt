@@ -1,5 +1,10 @@
 -- Calls as they are asked of a store.
-use Rattle.std.specs.Prelude.{◌≡◌, ℕ, List}
+use Rattle.std.specs.Prelude.{◌≡◌, ◌⊎◌, ◌<◌, ℕ, List, length, Result, Ok, Err}
+use Rattle.lrc_code.specs.declared.Code.{Code}
+use Rattle.sealed.specs.declared.fault.Fault.{Fault}
+use Rattle.sealed.specs.declared.fault.Fault.TheVariants.{NoMemory, TooLong}
+use Rattle.sealed.specs.declared.value.Sealed.{Sealed}
+use Rattle.sealed.specs.Layout.{stripe_count}
 use Rattle.sealed.specs.Blob.{nothing}
 use Rattle.sealed.specs.Sealed.{StandsFor}
 use Rattle.history.specs.History.{History}
@@ -25,3 +30,9 @@ IsGrantedTo h w request answer = Unit {0}
 abbrev pub WantedFor : History → ℕ → Request → Type 0
 WantedFor h w (Read n start len) = CanGrant h w n start len
 WantedFor h w request = Unit {0}
+
+-- what sealing these bytes gives, in this width and code. The value has no lost fragment. A fault is
+-- `NoMemory`, or `TooLong` if the blob needs more than 4,096 stripes
+abbrev pub IsSealing : ℕ → Code → List ℕ → Result Sealed Fault → Type 0
+IsSealing w code b (Ok s) = (s.width ≡ w) × (s.code ≡ code) × StandsFor s b nothing
+IsSealing w code b (Err e) = (e ≡ NoMemory) ⊎ ((e ≡ TooLong) × (4096 < stripe_count code w (length b)))

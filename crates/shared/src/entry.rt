@@ -29,6 +29,7 @@ impl Store {
         let mut inside = self.gate.enter(rt, &mut pass.seat);
         let result = request.make_on(&mut inside.value, pass.who);
         self.gate.leave(&mut pass.seat, inside);
+        self.gate.wake();
         result
     }
 
@@ -45,11 +46,9 @@ impl Store {
         ensures entered { result ≢ Err Fault.Busy → VisitsOnce pass.old pass.new }
         ensures lone { pass.old.room ≡ 64 → result ≢ Err Fault.Busy }
     {
-        let Some(mut inside) = self.gate.try_enter(&mut pass.seat) else {
-            return Err(Fault::Busy);
-        };
-        let result = request.make_on(&mut inside.value, pass.who);
-        self.gate.leave(&mut pass.seat, inside);
-        result
+        match self.try_prepared(pass, request) {
+            Ok(reply) => reply,
+            Err(_) => Err(Fault::Busy),
+        }
     }
 }
