@@ -37,7 +37,7 @@ numbered : (b : List ℕ) (from to : ℕ) → to ≤ length b → slice_range b 
 numbered b from to inside =
     fill_from (λ i. slice_index_or b i 0) (slice_range b from to) from (to - from) (length_of_range b from to inside) (λ i l. item_of_range b from to i inside l)
 
--- what is left of a range
+-- the rest of a range
 rest_of : (b : List ℕ) (from mid to : ℕ) → from ≤ mid → mid ≤ to → drop (mid - from) (slice_range b from to) ≡ slice_range b mid to
 rest_of b from mid to low high =
     let d = mid - from in

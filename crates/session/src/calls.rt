@@ -15,7 +15,7 @@ ghost use Rattle.shared.specs.Mends.{FoundBusy};
 ghost use Rattle.shared.specs.Passes.{FindsBusy};
 ghost use Rattle.session.specs.KnownFault.{IsBusyOrCallFault, IsBusyOrFull};
 
-use crate::Session;
+use crate::{Refused, Session};
 use shared::{Answer, Bytes, Code, Fault, Name, Plan};
 use std::alloc::Global;
 
@@ -58,6 +58,45 @@ impl Session {
     {
         self.store
             .try_put_copy(alloc, &mut self.pass, name, bytes, code)
+    }
+
+    /// As `put_as`, of bytes whose put may have been refused before. They stay there. After `Busy`
+    /// they stay there sealed, and the next put in this code, to a store of this width, does not
+    /// seal them again.
+    pub fn put_again(
+        &mut self,
+        alloc: Global,
+        name: Name,
+        refused: &mut Refused,
+        code: Code,
+    ) -> Result<Answer, Fault>
+        ensures called { Called self.old (put_of name code refused.old) result self.new }
+        ensures kept { refused.new ≡ refused.old }
+        ensures too_long { (result ≡ Err Fault.TooLong)
+            ↔ (4096 < stripe_count code self.old.store.width (length refused.old)) }
+        ensures faults { IfErr result
+            (λ e. (e ≡ Fault.Busy) ⊎ IsCallFault e ⊎ (e ≡ Fault.TooLong)) }
+        ensures busy { result ≡ Err Fault.Busy → FindsBusy self.old self.new }
+        ensures lone { self.old.room ≡ 64 → result ≢ Err Fault.Busy }
+    {
+        let sealed = match refused.seal_for(alloc, &self.store, code) {
+            Ok(sealed) => sealed,
+            Err(fault) => {
+                // Once the label is asked for, it is known what the pass shows.
+                let _who = self.pass.who();
+                return Err(fault);
+            }
+        };
+        match self
+            .store
+            .try_put_sealed(alloc, &mut self.pass, name, sealed)
+        {
+            Ok(reply) => reply,
+            Err(sealed) => {
+                refused.keep(sealed);
+                Err(Fault::Busy)
+            }
+        }
     }
 
     /// Asks for `len` bytes of a blob, from the byte `start` on.

@@ -1,7 +1,7 @@
 //! The contents of a slot.
 
-use crate::{Lending, Repairs, Session};
-use shared::{Book, Bytes};
+use crate::{Lending, Refused, Repairs, Session};
+use shared::Book;
 
 /// The contents of a slot.
 #[derive(Drop)]
@@ -15,7 +15,7 @@ pub enum Held {
     /// Bytes that C fills, and then stores as a blob.
     Buffer(Vec<u8>),
     /// The bytes of a buffer whose put was refused. They can be put again, and not be written.
-    Refused(Bytes),
+    Refused(Refused),
     /// The journal of a closed store.
     Journal(Book),
 }

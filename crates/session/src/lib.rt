@@ -7,6 +7,7 @@ mod copying;
 mod held;
 mod lending;
 mod loose;
+mod refused;
 mod repairs;
 mod runs;
 mod session;
@@ -16,6 +17,7 @@ mod slot_lends;
 pub use copying::{Copied, copy_out};
 pub use held::Held;
 pub use lending::{Lending, LentBuffer, LentSlice};
+pub use refused::Refused;
 pub use repairs::Repairs;
 pub use session::Session;
 pub use shared::{
