@@ -66,6 +66,12 @@ abbrev pub AreOfOneStore : Option Held → Option Held → Type 0
 AreOfOneStore (Some (Session v number)) (Some (Session x theirs)) = theirs ≡ number → x.store ≡ v.store
 AreOfOneStore old other = Unit {0}
 
+-- C gets the number of the store of the session in the slot; or nothing was done. The slot is as it
+-- was
+abbrev pub IsNumberCall : Option Held → ℕ → ℕ × ℕ → Option Held → Type 0
+IsNumberCall (Some (Session v number)) status numbers new = (status ≡ done) × (numbers.1 ≡ number) × (new ≡ Some (Session v number))
+IsNumberCall old status numbers new = (status ≡ empty) × (numbers.1 ≡ numbers.0) × (new ≡ old)
+
 -- The book that was closed. C gets the number of its entries, and that these are lawful: 1, or 2 if
 -- there was no memory to check it
 pub record IsReportOf (v : Shows) (entries lawful : ℕ) : Type 0 where

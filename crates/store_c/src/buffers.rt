@@ -1,13 +1,13 @@
 //! Buffers: bytes that C fills, and that are put without a copy.
 ghost use Rattle.std.specs.Prelude.{◌≡◌, ◌≢◌, None, Some};
 ghost use Rattle.store_c.specs.Status.{done};
-ghost use Rattle.store_c.specs.OnSession.{IsPutCall, IsPutOf};
+ghost use Rattle.history.specs.Step.{put as put_of};
+ghost use Rattle.store_c.specs.OnSession.{IsPutCall, HasSomeReply};
 ghost use Rattle.store_c.specs.Buffers.{IsReserve, IsPutFrom, IsSpent};
 
-use crate::answers::put_arguments;
-use crate::calls::put_as;
+use crate::answers::{put_arguments, tell};
 use crate::status::{DONE, EMPTY, NO_MEMORY};
-use session::{Bytes, Code, Held, Name, Session, Slot};
+use session::{Bytes, Code, Held, Name, Refused, Session, Slot};
 use std::alloc::Global;
 use std::boxed::Box;
 
@@ -66,8 +66,16 @@ fn put_held(
         Some(Held::Buffer(bytes)) => {
             put_buffer(alloc, session, name, bytes, given, data_fragments, version)
         }
-        Some(Held::Refused(blob)) => {
-            put_refused(alloc, session, name, blob, given, data_fragments, version)
+        Some(Held::Refused(refused)) => {
+            put_refused(
+                alloc,
+                session,
+                name,
+                refused,
+                given,
+                data_fragments,
+                version,
+            )
         }
         kept => {
             *given = kept;
@@ -99,7 +107,10 @@ fn put_buffer(
         }
     };
     match Bytes::from_vec(bytes) {
-        Ok(blob) => put_blob(alloc, session, name, blob, code, given, version),
+        Ok(blob) => {
+            let unsealed = Refused::of(blob);
+            put_blob(alloc, session, name, unsealed, code, given, version)
+        }
         Err(refused) => {
             *given = Some(Held::Buffer(refused.value));
             NO_MEMORY
@@ -107,52 +118,51 @@ fn put_buffer(
     }
 }
 
-/// Puts the bytes of a put that was refused.
+/// Puts the bytes of a put that was refused. They are still sealed if the arguments are refused.
 fn put_refused(
     alloc: Global,
     session: &mut Session,
     name: &[u8],
-    blob: Bytes,
+    refused: Refused,
     given: &mut Option<Held>,
     data_fragments: u32,
     version: &mut u64,
 ) -> u32
     requires { given.old ≡ None }
-    ensures put { IsPutCall session.old name.now blob data_fragments result version.old version.new
-        session.new }
-    ensures spent { IsSpent blob result given.new }
+    ensures put { IsPutCall session.old name.now refused data_fragments result version.old
+        version.new session.new }
+    ensures spent { IsSpent refused result given.new }
 {
     let (name, code) = match put_arguments(name, data_fragments) {
         Ok(arguments) => arguments,
         Err(status) => {
-            *given = Some(Held::Refused(blob));
+            *given = Some(Held::Refused(refused));
             return status;
         }
     };
-    put_blob(alloc, session, name, blob, code, given, version)
+    put_blob(alloc, session, name, refused, code, given, version)
 }
 
-/// Puts this blob, and keeps it if the put is refused.
+/// Puts these bytes, and keeps them if the put is refused: sealed, if another thread was in the
+/// critical section.
 fn put_blob(
     alloc: Global,
     session: &mut Session,
     name: Name,
-    blob: Bytes,
+    mut refused: Refused,
     code: Code,
     given: &mut Option<Held>,
     version: &mut u64,
 ) -> u32
     requires { given.old ≡ None }
-    ensures put { IsPutOf session.old name code blob result version.old version.new session.new }
-    ensures spent { IsSpent blob result given.new }
+    ensures put { HasSomeReply session.old (put_of name code refused) result version.old
+        version.new session.new }
+    ensures spent { IsSpent refused result given.new }
 {
-    let Ok(copy) = blob.clone() else {
-        *given = Some(Held::Refused(blob));
-        return NO_MEMORY;
-    };
-    let status = put_as(alloc, session, name, copy, code, version);
+    let reply = session.put_again(alloc, name, &mut refused, code);
+    let status = tell(&reply, version);
     if status != DONE {
-        *given = Some(Held::Refused(blob));
+        *given = Some(Held::Refused(refused));
     }
     status
 }

@@ -8,7 +8,7 @@ ghost use Rattle.store_c.specs.OnSession.{IsTrimCall, HasSomeReply};
 
 use crate::answers::{name_of, number_of, put_arguments, tell, tell_shape};
 use crate::status::{BAD_NAME, DONE, NOT_REBUILT};
-use session::{Answer, Bytes, Code, Name, Session, copy_out};
+use session::{Answer, Code, Name, Session, copy_out};
 use std::alloc::Global;
 
 pub(crate) fn put(
@@ -42,22 +42,6 @@ fn put_copy(
         session.new }
 {
     let reply = session.put_copy(alloc, name, blob, code);
-    tell(&reply, version)
-}
-
-/// Puts a blob with a name in a code.
-pub(crate) fn put_as(
-    alloc: Global,
-    session: &mut Session,
-    name: Name,
-    blob: Bytes,
-    code: Code,
-    version: &mut u64,
-) -> u32
-    ensures { HasSomeReply session.old (put_of name code blob) result version.old version.new
-        session.new }
-{
-    let reply = session.put_as(alloc, name, blob, code);
     tell(&reply, version)
 }
 

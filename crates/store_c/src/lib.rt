@@ -23,7 +23,7 @@ ghost use Rattle.store_c.specs.Journal.{IsCloseToCall, IsEntryCall};
 ghost use Rattle.store_c.specs.Lend.{IsLendTo, IsSlicesCall, IsRunsCall};
 ghost use Rattle.store_c.specs.Plan.{IsPlanTo, IsMendCall};
 ghost use Rattle.store_c.specs.Sessions.{IsOpenCall, IsSplitCall, IsJoinCall, AreOfOneStore};
-ghost use Rattle.store_c.specs.Sessions.{IsCloseCall};
+ghost use Rattle.store_c.specs.Sessions.{IsCloseCall, IsNumberCall};
 
 use crate::journal::JournalEntry;
 use crate::status::{DONE, EMPTY, OCCUPIED};
@@ -98,6 +98,26 @@ pub extern "C" fn lrc_store_join(alloc: Global, slot: &mut Slot, other: &mut Slo
     if given.is_some() {
         other.put(given);
     }
+    status
+}
+
+/// Writes the number of the store of the slot's session, as `lrc_store_open` got it. It is for the
+/// library's own use.
+#[unsafe(no_mangle)]
+pub extern "C" fn lrc_slot_number(alloc: Global, slot: &mut Slot, number: &mut u64) -> u32
+    ensures { IsNumberCall slot.old.held result (number.old, number.new) slot.new.held }
+{
+    let Some(held) = slot.take(alloc) else {
+        return EMPTY;
+    };
+    let status = match &*held {
+        Some(Held::Session { number: own, .. }) => {
+            *number = *own;
+            DONE
+        }
+        _ => EMPTY,
+    };
+    slot.put(held);
     status
 }
 

@@ -14,5 +14,5 @@ pub returns-in-Some-Refused : goal.returns-in-Some-Refused
 returns-in-Some-Refused c =
     let put = c.put_refused in
     let had = ap bytes_in (sym c.take.ensures.value ∙ c.in-Some-Refused.is ∙ ap Some c.in-Some-Refused.field-0-is) in
-    put_from c.args.session.now c.args.given.now c.args.name.now c.args.data_fragments put.result (c.args.version.now, put.new.version) put.new.session put.new.given c.in-Some-Refused.blob had put.ensures.put
+    put_from c.args.session.now c.args.given.now c.args.name.now c.args.data_fragments put.result (c.args.version.now, put.new.version) put.new.session put.new.given c.in-Some-Refused.refused had put.ensures.put
     put.ensures.spent
