@@ -310,7 +310,7 @@ module _ {A : Type 0} (legal : ℕ → List A → Type 0) (count : ℕ) where
   abbrev recorded : View A → List (ShardAct A) → ShardActs A → List A → View A
   recorded v all part acts = settled (shown (all ++ acts_of part.shard acts) (v.shown.own ++ indices (length all) (length acts))) v.room (shard_acts part.shard (part.acts ++ acts) ∷ [])
 
-  records_at : (views : List (View A)) (k : IsLedger legal count views) (id : ℕ) (v : View A) (part : ShardActs A) (acts : List A) → get_elem? views id ≡ some v → v.heard ≡ nothing → v.kept ≡ part ∷ [] → 0 < v.room → legal part.shard (part.acts ++ acts)
+  records_at : (views : List (View A)) (k : IsLedger legal count views) (id : ℕ) (v : View A) (part : ShardActs A) (acts : List A) → get_elem? views id ≡ some v → v.heard ≡ nothing → v.kept ≡ part ∷ [] → 0 < v.room → (legal part.shard part.acts → legal part.shard (part.acts ++ acts))
       → IsLedger legal count (set views id (recorded v k.all part acts))
   records_at views k id v part acts at quiet keeps_it some_room may =
       let all : List (ShardAct A) = k.all in
@@ -326,7 +326,7 @@ module _ {A : Type 0} (legal : ℕ → List A → Type 0) (count : ℕ) where
       let long : length (all ++ more) ≡ length all + length acts = length-append all more ∙ ap (λ (n : ℕ). length all + n) (length-acts part.shard acts) in record {
         all = all ++ more;
         lawful = λ j. dite (ℕ_discrete part.shard j)
-            (λ same. subst (λ (i : ℕ). legal i (acts_at i (all ++ more))) same (subst (legal part.shard) (sym (acts_at-more part.shard all acts ∙ ap (λ (l : List A). l ++ acts) whole)) may))
+            (λ same. subst (λ (i : ℕ). legal i (acts_at i (all ++ more))) same (subst (legal part.shard) (sym (acts_at-more part.shard all acts ∙ ap (λ (l : List A). l ++ acts) whole)) (may (subst (legal part.shard) whole (k.lawful part.shard)))))
             (λ apart. subst (legal j) (sym (acts_at-same part.shard j all acts apart)) (k.lawful j));
         each = fits_set (all ++ more) views id w
             (λ j u apart there.
@@ -360,7 +360,7 @@ module _ {A : Type 0} (legal : ℕ → List A → Type 0) (count : ℕ) where
           sum_same (weigh (keeper j)) views id v (recorded v k.all part acts) at (sym (ap (λ (l : List (ShardActs A)). count_by (λ (x : ShardActs A). x.shard == j) l) keeps_it))
           ∙ k.sums (keeper j)
 
-  pub records : {S : Type 0} (slots id : ℕ) (me : Me S (View A)) (part : ShardActs A) (acts : List A) → me.0.heard ≡ nothing → me.0.kept ≡ part ∷ [] → 0 < me.0.room → legal part.shard (part.acts ++ acts)
+  pub records : {S : Type 0} (slots id : ℕ) (me : Me S (View A)) (part : ShardActs A) (acts : List A) → me.0.heard ≡ nothing → me.0.kept ≡ part ∷ [] → 0 < me.0.room → (legal part.shard part.acts → legal part.shard (part.acts ++ acts))
       → Allows (Kept {A = A} {S = S} legal count) slots id me 0 (λ n. n) (Recorded {A = A} {S = S} legal acts (step slots 0 0 0 none) me)
   unfolding records_at
   records {S} slots id me part acts quiet keeps_it some_room may s k long at small =
@@ -432,7 +432,7 @@ module _ {A : Type 0} (legal : ℕ → List A → Type 0) (count : ℕ) where
   pub settles_as : {S : Type 0} (slots id : ℕ) (me : Me S (View A)) (v w : View A) (l : List (ℕ × S)) → me ≡ (heard_by v w, l) → 0 < v.room → Allows (Kept {A = A} {S = S} legal count) slots id me 0 (λ n. n) (Settled {A = A} {S = S} (step slots 0 0 0 none) me)
   settles_as {S} slots id me v w l is some_room = settles slots id me (let room : me.0.room ≡ v.room + w.room = ap (λ (m : Me S (View A)). m.0.room) is in omega arith)
 
-  pub records_as : {S : Type 0} (slots id : ℕ) (me : Me S (View A)) (v w : View A) (l : List (ℕ × S)) (part : ShardActs A) (acts : List A) (told : ℕ → List A → Type 0) → legal ≡ told → me ≡ (heard_by v w, l) → v.kept ≡ [] → w ≡ keeps part → 0 < v.room → legal part.shard (part.acts ++ acts)
+  pub records_as : {S : Type 0} (slots id : ℕ) (me : Me S (View A)) (v w : View A) (l : List (ℕ × S)) (part : ShardActs A) (acts : List A) (told : ℕ → List A → Type 0) → legal ≡ told → me ≡ (heard_by v w, l) → v.kept ≡ [] → w ≡ keeps part → 0 < v.room → (legal part.shard part.acts → legal part.shard (part.acts ++ acts))
       → Allows (Kept {A = A} {S = S} legal count) slots id me 0 (λ n. n) (Recorded {A = A} {S = S} told acts (step slots 0 0 0 none) me)
   records_as {S} slots id me v w l part acts told same is none_kept keeper_is some_room may =
       subst (λ (t : ℕ → List A → Type 0). Allows (Kept {A = A} {S = S} legal count) slots id me 0 (λ n. n) (Recorded {A = A} {S = S} t acts (step slots 0 0 0 none) me)) same

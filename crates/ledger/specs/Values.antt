@@ -9,6 +9,10 @@ use Rattle.ledger.specs.Acts.{TableId, KeeperState}
 abbrev pub grown : {A : Type 0} → KeeperState A → List A → KeeperState A
 grown q more = record { ledger = q.ledger; shard = q.shard; acts = q.acts ++ more }
 
+-- a value that is left beside its keeper, which has these acts more
+abbrev pub left_beside : {T A : Type 0} → Held T A → List A → Held T A
+left_beside h more = record { value = h.value; keeper = grown h.keeper more }
+
 module _ {T A : Type 0} (between : T → T → List A) where
   abbrev pub between_held : Held T A → Held T A → List A
   between_held a b = between a.value b.value

@@ -5,7 +5,7 @@ ghost use Rattle.std.specs.Prelude.{IfOk, IfSome, IfNone};
 ghost use mathlib.Core.List.{IsPrefix};
 ghost use Rattle.gate.specs.Places.{last_of, IsChain, HasAll as HasAllPlaces};
 ghost use Rattle.ledger.specs.Acts.{IsRecorded, acts_at, AreLegal, IsWithin, HasAll};
-ghost use Rattle.ledger.specs.Values.{MayFollowHeld, KeepsAll, acts_in, acts_to};
+ghost use Rattle.ledger.specs.Values.{MayFollowHeld, KeepsAll, acts_in, acts_to, left_beside};
 
 use crate::ledger::{Follower, Keeper, Ledger};
 use crate::steps::ActChoice;
@@ -77,14 +77,16 @@ impl<A: Lawful> Ledger<A> {
         ensures seen { IsPrefix seat.old.list seat.new.list
             × IsChain (MayFollowHeld T.between T.follows) seat.new.list }
         ensures found { last_of seat.new.list ≡ Some result.value }
+        ensures lone { seat.old.room ≡ 64 → HasAllPlaces seat.new.list seat.new.own }
         ensures keeps { (k : ℕ) → KeepsAll T.between self.now.table k seat.old.list
             → KeepsAll T.between self.now.table k seat.new.list }
     {
         gate.enter(rt, seat)
     }
 
-    /// Leaves a value. The acts between the value that was found and this one are the next acts of
-    /// the shard. In the list of all shards they stand after all that the follower had seen.
+    /// Leaves a value, and wakes a thread that waits. The acts between the value that was found and
+    /// this one are the next acts of the shard. In the list of all shards they stand after all that
+    /// the follower had seen.
     pub fn leave<T: Changes<A>>(
         &self,
         gate: &Gate<Held<T, A>>,
@@ -98,10 +100,13 @@ impl<A: Lawful> Ledger<A> {
             × (inside.value.keeper.ledger ≡ self.now.table) }
         requires found { IfSome (last_of seat.old.list) (λ found.
             T.follows found.value inside.value.value × (inside.value.keeper ≡ found.keeper)) }
-        requires legal { A.legal self.now.setup inside.value.keeper.shard (inside.value.keeper.acts
+        requires legal { A.legal self.now.setup inside.value.keeper.shard inside.value.keeper.acts
+            → A.legal self.now.setup inside.value.keeper.shard (inside.value.keeper.acts
             ++ acts_to T.between seat.old.list inside.value.value) }
         ensures kept { (seat.new.gate ≡ seat.old.gate) × (seat.new.room ≡ seat.old.room)
             × (seat.new.inside ≡ false) }
+        ensures list { seat.new.list ≡ seat.old.list ++ left_beside inside.value
+            (acts_to T.between seat.old.list inside.value.value) ∷ [] }
         ensures own { seat.new.own ≡ seat.old.own ++ length seat.old.list ∷ [] }
         ensures keeps { (k : ℕ) → KeepsAll T.between self.now.table k seat.old.list
             → KeepsAll T.between self.now.table k seat.new.list }
@@ -129,12 +134,15 @@ impl<A: Lawful> Ledger<A> {
             × (inside.value.keeper.ledger ≡ self.now.table) }
         requires found { IfSome (last_of seat.old.list) (λ found.
             T.follows found.value inside.value.value × (inside.value.keeper ≡ found.keeper)) }
-        requires legal { A.legal self.now.setup inside.value.keeper.shard
+        requires legal { A.legal self.now.setup inside.value.keeper.shard inside.value.keeper.acts
+            → A.legal self.now.setup inside.value.keeper.shard
             (inside.value.keeper.acts ++ W.acts) }
         requires setup { W.setup ≡ self.now.setup }
         requires acts { W.acts ≡ acts_to T.between seat.old.list inside.value.value }
         ensures kept { (seat.new.gate ≡ seat.old.gate) × (seat.new.room ≡ seat.old.room)
             × (seat.new.inside ≡ false) }
+        ensures list { seat.new.list
+            ≡ seat.old.list ++ left_beside inside.value W.acts ∷ [] }
         ensures own { seat.new.own ≡ seat.old.own ++ length seat.old.list ∷ [] }
         ensures keeps { (k : ℕ) → KeepsAll T.between self.now.table k seat.old.list
             → KeepsAll T.between self.now.table k seat.new.list }
@@ -148,6 +156,7 @@ impl<A: Lawful> Ledger<A> {
         let mut inside = inside;
         follower.record::<W>(self, &mut inside.value.keeper);
         gate.leave(seat, inside);
+        gate.wake();
     }
 
     /// Closes a lock whose seats are all joined, and returns the value that was left last. The

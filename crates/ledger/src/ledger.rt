@@ -38,14 +38,14 @@ impl<A: Lawful> Model for Ledger<A> {
         × (l.table.shared.table_id.slots ≡ 0) × (l.table.shared.key.value ≡ l.setup) };
 }
 
-/// A caller's token at a ledger. It has no bytes. Dropping it drops its room, and then no other
-/// follower comes to a room of 64 again.
+/// A caller's token at a ledger. Its only bytes are a copy of the setup. Dropping it drops its
+/// room, and then no other follower comes to a room of 64 again.
 ///
 /// A clause sees the acts that it has seen, and the indices of those that it recorded itself.
 #[derive(Drop)]
 pub struct Follower<A: Lawful> {
     table_seat: TableSeat<A>,
-    setup: Snapshot<Setup>,
+    setup: Setup,
 }
 
 impl<A: Lawful> Model for Follower<A> {
@@ -55,9 +55,9 @@ impl<A: Lawful> Model for Follower<A> {
 
     ghost use Rattle.ledger.specs.Rule.{follower_state, IsFollower};
 
-    ghost view = { λ f. follower_state f.table_seat.table_id f.setup.value f.table_seat.me };
+    ghost view = { λ f. follower_state f.table_seat.table_id f.setup f.table_seat.me };
 
-    ghost invariant = { λ f. IsFollower (A.legal f.setup.value) f.table_seat.me };
+    ghost invariant = { λ f. IsFollower (A.legal f.setup) f.table_seat.me };
 }
 
 /// A shard's token at a ledger. It has no bytes, and lies with the shard under the shard's lock.
@@ -80,11 +80,12 @@ impl<A> Model for Keeper<A> {
     ghost invariant = { λ k. IsKeeper k.badge.views };
 }
 
-/// All that a follower had seen when the receipt was made. It has no bytes and no room.
+/// All that a follower had seen when the receipt was made. It has no room, and its only bytes are a
+/// copy of the setup.
 #[derive(Drop)]
 pub struct Receipt<A: Lawful> {
     table_seat: TableSeat<A>,
-    setup: Snapshot<Setup>,
+    setup: Setup,
 }
 
 impl<A: Lawful> Model for Receipt<A> {
@@ -94,9 +95,9 @@ impl<A: Lawful> Model for Receipt<A> {
 
     ghost use Rattle.ledger.specs.Rule.{receipt_state, IsReceipt};
 
-    ghost view = { λ r. receipt_state r.table_seat.table_id r.setup.value r.table_seat.me };
+    ghost view = { λ r. receipt_state r.table_seat.table_id r.setup r.table_seat.me };
 
-    ghost invariant = { λ r. IsReceipt (A.legal r.setup.value) r.table_seat.me };
+    ghost invariant = { λ r. IsReceipt (A.legal r.setup) r.table_seat.me };
 }
 
 impl<A: Lawful> Ledger<A> {
@@ -123,10 +124,7 @@ impl<A: Lawful> Ledger<A> {
                 badge: seat.into_badge(),
             });
         }
-        let follower = Follower {
-            table_seat,
-            setup: key,
-        };
+        let follower = Follower { table_seat, setup };
         Ok((Ledger { table, setup }, follower, keepers))
     }
 }
@@ -144,7 +142,7 @@ impl<A: Lawful> Follower<A> {
         let table_seat = shared.split_seat::<SplitStep>(&mut self.table_seat);
         Follower {
             table_seat,
-            setup: Snapshot::of(&ledger.setup),
+            setup: ledger.setup,
         }
     }
 
@@ -178,7 +176,8 @@ impl<A: Lawful> Follower<A> {
         requires ledger { (self.old.ledger ≡ ledger.now)
             × (keeper.old.ledger ≡ ledger.now.table) }
         requires setup { W.setup ≡ ledger.now.setup }
-        requires legal { A.legal ledger.now.setup keeper.old.shard (keeper.old.acts ++ W.acts) }
+        requires legal { A.legal ledger.now.setup keeper.old.shard keeper.old.acts
+            → A.legal ledger.now.setup keeper.old.shard (keeper.old.acts ++ W.acts) }
         ensures kept { (self.new.ledger ≡ self.old.ledger) × (self.new.room ≡ self.old.room) }
         ensures keeper { keeper.new
             ≡ record keeper.old { acts = keeper.old.acts ++ W.acts } }
@@ -241,7 +240,7 @@ impl<A: Lawful> Follower<A> {
         let table_seat = shared.split_seat::<ReceiptStep>(&mut self.table_seat);
         Receipt {
             table_seat,
-            setup: Snapshot::of(&ledger.setup),
+            setup: ledger.setup,
         }
     }
 

@@ -8,8 +8,8 @@ use Rattle.requests.proofs.Between.{events-append}
 use Rattle.ledger.specs.declared.view.Setup.{Setup}
 use Rattle.ledger.specs.declared.view.ShardAct.{ShardAct}
 use Rattle.ledger.specs.Acts.{KeeperState, AreLegal}
-use Rattle.sharded.specs.OneMap.{IsLegalOneMap}
-use Rattle.sharded.proofs.OneMap.{legal_both_ways}
+use Rattle.one_map.specs.OneMap.{IsLegalOneMap}
+use Rattle.one_map.proofs.OneMap.{legal_both_ways}
 use Rattle.ledger_map.specs.Legal.{AreCallsAt, event_shard, AreActsOfShard, calls_of}
 use Rattle.ledger_map.proofs.Parts.{part-calls}
 use Rattle.ledger.specs.declared.held.Held.{Held}
@@ -28,12 +28,12 @@ module _ (setup : Setup) (list : List (Held ShardBook Act)) (x y : Held ShardBoo
       let told = may.1.told x.keeper.acts may.0.told in
       subst (λ (acts : List Act). TellsActs (book_of y.value) acts) (λ i. (sym may.2 i).acts ++ sym (acts_to-last between_books list x y.value last) i) told
 
-  pub left_legal : AreActsOfShard setup y.keeper.shard (y.keeper.acts ++ acts_to between_books list y.value)
-  left_legal = (
+  pub left_legal : AreActsOfShard setup y.keeper.shard y.keeper.acts → AreActsOfShard setup y.keeper.shard (y.keeper.acts ++ acts_to between_books list y.value)
+  left_legal before = (
     subst (λ w. IsLegal w (events_in (y.keeper.acts ++ acts_to between_books list y.value))) (may.1.width ∙ may.0.width) left_told.tells.legal,
     subst (AreCallsAt (event_shard setup.count) y.keeper.shard) (sym (events-append y.keeper.acts (acts_to between_books list y.value)))
         (calls-append (event_shard setup.count) y.keeper.shard (events_in y.keeper.acts) (events_in (acts_to between_books list y.value))
-        (subst (λ (q : KeeperState Act). AreCallsAt (event_shard setup.count) q.shard (events_in q.acts)) (sym may.2) may.0.calls)
+        before.1
         (subst (λ (p : KeeperState Act × List Act). AreCallsAt (event_shard setup.count) p.0.shard (events_in p.1)) (λ i. (sym may.2 i, sym (acts_to-last between_books list x y.value last) i)) may.3)),
   )
 

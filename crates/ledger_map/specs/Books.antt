@@ -18,7 +18,6 @@ between_books a b = acts_between (book_of a) (book_of b)
 pub record IsShard (setup : Setup) (h : Held ShardBook Act) : Type 0 where
   pub width : (book_of h.value).width ≡ setup.about
   pub told : TellsActs (book_of h.value) h.keeper.acts
-  pub calls : AreCallsAt (event_shard setup.count) h.keeper.shard (events_in h.keeper.acts)
 
 -- a book may follow the one that was found, beside the keeper that was found. The calls between
 -- them are of the keeper's shard

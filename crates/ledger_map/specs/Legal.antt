@@ -4,7 +4,7 @@ use Rattle.history.specs.History.{Event, History, IsLegal}
 use Rattle.book.specs.Serial.{Act, events_in}
 use Rattle.ledger.specs.declared.view.Setup.{Setup}
 use Rattle.ledger.specs.declared.view.ShardAct.{ShardAct}
-use Rattle.sharded.specs.OneMap.{operation_shard}
+use Rattle.one_map.specs.OneMap.{operation_shard}
 
 -- these calls are on names of this shard
 abbrev pub AreCallsAt : (Event → ℕ) → ℕ → History → Type 0

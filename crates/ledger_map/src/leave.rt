@@ -5,9 +5,9 @@ ghost use Rattle.book.specs.Serial.{Act};
 ghost use Rattle.ledger.specs.declared.held.Held.{Held};
 ghost use Rattle.ledger_map.specs.declared.acts.ShardBook.{ShardBook};
 ghost use Rattle.requests.specs.Between.{TellsActs};
-ghost use Rattle.ledger.specs.Acts.{IsRecorded, IsWithin};
-ghost use Rattle.ledger.specs.Values.{KeepsAll, acts_to};
-ghost use Rattle.sharded.specs.OneMap.{IsLegalOneMap};
+ghost use Rattle.ledger.specs.Acts.{IsRecorded, IsWithin, HasAll};
+ghost use Rattle.ledger.specs.Values.{KeepsAll, acts_to, left_beside};
+ghost use Rattle.one_map.specs.OneMap.{IsLegalOneMap};
 ghost use Rattle.ledger_map.specs.Legal.{calls_of};
 ghost use Rattle.ledger_map.specs.Books.{book_of, between_books, MayLeave};
 
@@ -34,6 +34,8 @@ pub fn leave_book(
         × MayLeave ledger.now.setup x inside.value }
     ensures kept { (seat.new.gate ≡ seat.old.gate) × (seat.new.room ≡ seat.old.room)
         × (seat.new.inside ≡ false) }
+    ensures list { seat.new.list ≡ seat.old.list ++ left_beside inside.value
+        (acts_to between_books seat.old.list inside.value.value) ∷ [] }
     ensures own { seat.new.own ≡ seat.old.own ++ length seat.old.list ∷ [] }
     ensures told { TellsActs (book_of inside.value.value) (inside.value.keeper.acts
         ++ acts_to between_books seat.old.list inside.value.value) }
@@ -42,6 +44,9 @@ pub fn leave_book(
     ensures recorded { IsRecorded follower.old inside.value.keeper
         (acts_to between_books seat.old.list inside.value.value) follower.new }
     ensures earlier { IsWithin follower.old.list follower.old.own }
+    ensures follower { (follower.new.ledger ≡ follower.old.ledger)
+        × (follower.new.room ≡ follower.old.room) }
+    ensures lone { follower.new.room ≡ 64 → HasAll follower.new.list follower.new.own }
     ensures one_map { IsLegalOneMap ledger.now.setup.count ledger.now.setup.about
         (calls_of follower.new.list) }
 {

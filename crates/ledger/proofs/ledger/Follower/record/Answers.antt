@@ -21,8 +21,8 @@ load-requires g c =
       c.join_seat.ensures.0 ∙ mine,
       omega arith,
       records_as (g.A.Lawful.legal c.ledger.inside.table.shared.key.value) c.ledger.inside.table.shared.key.value.count _ _ _ c.self.inside.table_seat.me.0 c.into_seat.result.me.0 _ c.keeper.invariant.0 g.W.ActChoice.acts (g.A.Lawful.legal g.W.ActChoice.setup) (ap g.A.Lawful.legal setup) c.join_seat.ensures.2 c.self.invariant.kept is c.self.invariant.some_room
-          (subst (λ s. g.A.Lawful.legal s c.keeper.invariant.0.shard (c.keeper.invariant.0.acts ++ g.W.ActChoice.acts)) (sym (c.ledger.invariant.2 ∙ ap (λ l. l.setup) c.ledger.view_is))
-          (subst (λ s. g.A.Lawful.legal c.args.ledger.now.setup s.shard (s.acts ++ g.W.ActChoice.acts)) (sym c.keeper.view_is ∙ ap (keeper_state c.keeper.inside.badge.table_id) c.keeper.invariant.1) c.requires.legal)),
+          (subst (λ s. g.A.Lawful.legal s c.keeper.invariant.0.shard c.keeper.invariant.0.acts → g.A.Lawful.legal s c.keeper.invariant.0.shard (c.keeper.invariant.0.acts ++ g.W.ActChoice.acts)) (sym (c.ledger.invariant.2 ∙ ap (λ l. l.setup) c.ledger.view_is))
+          (subst (λ s. g.A.Lawful.legal c.args.ledger.now.setup s.shard s.acts → g.A.Lawful.legal c.args.ledger.now.setup s.shard (s.acts ++ g.W.ActChoice.acts)) (sym c.keeper.view_is ∙ ap (keeper_state c.keeper.inside.badge.table_id) c.keeper.invariant.1) c.requires.legal)),
     )
 
 pub split_seat-seat-requires : goal.split_seat-seat-requires

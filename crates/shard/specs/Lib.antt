@@ -1,0 +1,3 @@
+pub mod Seats
+pub mod Listed
+pub mod Looked

@@ -1,0 +1,93 @@
+//! One call in a shard's critical section.
+ghost use Rattle.std.specs.Prelude.{◌≡◌, ◌≢◌, ◌⊎◌, ◌+◌, IfOk, IfErr};
+ghost use Rattle.one_map.specs.OneMap.{operation_shard};
+ghost use Rattle.shared.specs.Calls.{Called};
+ghost use Rattle.shared.specs.Deeds.{deed_of, act_if};
+ghost use Rattle.shared.specs.Passes.{FindsBusy, VisitsOnce};
+ghost use Rattle.requests.specs.Requests.{operation_of, IsFaultOf};
+ghost use Rattle.shared.specs.Requests.{CanAsk, IsGrantedTo, WantedFor};
+ghost use Rattle.shard.specs.Seats.{IsSeatOf};
+ghost use Rattle.shard.specs.Listed.{IsListed, IsKeptUp, listing_of};
+
+use crate::{Shard, ShardSeat};
+use book::{Answer, Fault};
+use ledger::{Follower, Ledger};
+use ledger_map::{StoreAct, leave_book};
+use requests::Request;
+use std::sync::Wait;
+
+impl Shard {
+    /// Enters the critical section, makes a call on a name of this shard, and leaves.
+    pub fn make<R: Wait>(
+        &self,
+        rt: &R,
+        ledger: &Ledger<StoreAct>,
+        seat: &mut ShardSeat,
+        follower: &mut Follower<StoreAct>,
+        request: Request,
+    ) -> Result<Answer, Fault>
+        requires shard { seat.old.shows.store ≡ self.now }
+        requires at { IsSeatOf ledger.now seat.old }
+        requires ledger { follower.old.ledger ≡ ledger.now }
+        requires name { operation_shard ledger.now.setup.count (operation_of request)
+            ≡ seat.old.shard }
+        requires can { CanAsk seat.old.shows request }
+        ensures called { Called seat.old.shows (operation_of request) result seat.new.shows }
+        ensures granted { IfOk result
+            (IsGrantedTo seat.new.shows.seen self.now.width request) }
+        ensures no_memory { result ≡ Err Fault.NoMemory
+            → WantedFor seat.new.shows.seen self.now.width request }
+        ensures faults { IfErr result (IsFaultOf request) }
+        ensures same { (seat.new.ledger ≡ seat.old.ledger) × (seat.new.shard ≡ seat.old.shard) }
+        ensures listed { IsListed seat.old.shard
+            (act_if seat.old.shows.who (deed_of (operation_of request) result))
+            seat.old.shows.acts seat.new.shows.acts (listing_of follower.old)
+            (listing_of follower.new) }
+        ensures follower { IsKeptUp ledger.now.setup seat.old.shard seat.old.shows.acts
+            seat.new.shows.acts follower.old follower.new }
+    {
+        let mut inside = ledger.enter(rt, &self.gate, &mut seat.seat);
+        let result = request.make_on(&mut inside.value.value.0, seat.who);
+        leave_book(ledger, &self.gate, &mut seat.seat, follower, inside);
+        result
+    }
+
+    /// As `make`, if no other thread is in the critical section. Else `Busy`.
+    pub fn try_make(
+        &self,
+        ledger: &Ledger<StoreAct>,
+        seat: &mut ShardSeat,
+        follower: &mut Follower<StoreAct>,
+        request: Request,
+    ) -> Result<Answer, Fault>
+        requires shard { seat.old.shows.store ≡ self.now }
+        requires at { IsSeatOf ledger.now seat.old }
+        requires ledger { follower.old.ledger ≡ ledger.now }
+        requires name { operation_shard ledger.now.setup.count (operation_of request)
+            ≡ seat.old.shard }
+        requires can { CanAsk seat.old.shows request }
+        ensures called { Called seat.old.shows (operation_of request) result seat.new.shows }
+        ensures granted { IfOk result
+            (IsGrantedTo seat.new.shows.seen self.now.width request) }
+        ensures no_memory { result ≡ Err Fault.NoMemory
+            → WantedFor seat.new.shows.seen self.now.width request }
+        ensures faults { IfErr result (λ e. (e ≡ Fault.Busy) ⊎ IsFaultOf request e) }
+        ensures busy { result ≡ Err Fault.Busy → FindsBusy seat.old.shows seat.new.shows }
+        ensures entered { result ≢ Err Fault.Busy → VisitsOnce seat.old.shows seat.new.shows }
+        ensures lone { seat.old.shows.room ≡ 64 → result ≢ Err Fault.Busy }
+        ensures same { (seat.new.ledger ≡ seat.old.ledger) × (seat.new.shard ≡ seat.old.shard) }
+        ensures listed { IsListed seat.old.shard
+            (act_if seat.old.shows.who (deed_of (operation_of request) result))
+            seat.old.shows.acts seat.new.shows.acts (listing_of follower.old)
+            (listing_of follower.new) }
+        ensures follower { IsKeptUp ledger.now.setup seat.old.shard seat.old.shows.acts
+            seat.new.shows.acts follower.old follower.new }
+    {
+        let Some(mut inside) = self.gate.try_enter(&mut seat.seat) else {
+            return Err(Fault::Busy);
+        };
+        let result = request.make_on(&mut inside.value.value.0, seat.who);
+        leave_book(ledger, &self.gate, &mut seat.seat, follower, inside);
+        result
+    }
+}

@@ -1,0 +1,43 @@
+//! The lost fragments of a shard.
+ghost use Rattle.std.specs.Prelude.{◌≡◌, [], None, IfOk, IfErr};
+ghost use Rattle.history.specs.History.{state_of};
+ghost use Rattle.book.specs.Plan.{plan_of};
+ghost use Rattle.shared.specs.Deeds.{Takes};
+ghost use Rattle.shard.specs.Seats.{IsSeatOf};
+ghost use Rattle.shard.specs.Listed.{IsListed, IsKeptUp, listing_of};
+
+use crate::{Shard, ShardSeat};
+use book::{Fault, Plan};
+use ledger::{Follower, Ledger};
+use ledger_map::{StoreAct, leave_book};
+use std::alloc::Global;
+use std::sync::Wait;
+
+impl Shard {
+    /// The lost fragments of all blobs, as `Store::plan` lists them.
+    pub fn plan<R: Wait>(
+        &self,
+        rt: &R,
+        alloc: Global,
+        ledger: &Ledger<StoreAct>,
+        seat: &mut ShardSeat,
+        follower: &mut Follower<StoreAct>,
+    ) -> Result<Plan, Fault>
+        requires shard { seat.old.shows.store ≡ self.now }
+        requires at { IsSeatOf ledger.now seat.old }
+        requires ledger { follower.old.ledger ≡ ledger.now }
+        ensures takes { Takes seat.old.shows None seat.new.shows }
+        ensures ok { IfOk result (λ p. p.items.items ≡ plan_of (state_of seat.new.shows.seen)) }
+        ensures faults { IfErr result (λ e. e ≡ Fault.NoMemory) }
+        ensures same { (seat.new.ledger ≡ seat.old.ledger) × (seat.new.shard ≡ seat.old.shard) }
+        ensures listed { IsListed seat.old.shard [] seat.old.shows.acts seat.new.shows.acts
+            (listing_of follower.old) (listing_of follower.new) }
+        ensures follower { IsKeptUp ledger.now.setup seat.old.shard seat.old.shows.acts
+            seat.new.shows.acts follower.old follower.new }
+    {
+        let inside = ledger.enter(rt, &self.gate, &mut seat.seat);
+        let plan = inside.value.value.0.plan(alloc);
+        leave_book(ledger, &self.gate, &mut seat.seat, follower, inside);
+        plan.map_err(|_| Fault::NoMemory)
+    }
+}
