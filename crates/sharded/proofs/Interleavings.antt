@@ -9,12 +9,12 @@ use Rattle.gate.specs.Places.{times}
 use Rattle.history.specs.History.{History, IsLegal, state_of}
 use Rattle.book.specs.Serial.{Act, call, trim, events_in}
 use Rattle.shared.specs.Passes.{Shows, IsConsistent, IsWhole}
-use Rattle.sharded.specs.Hash.{shard_of}
-use Rattle.sharded.specs.OneMap.{operation_shard, part}
+use Rattle.one_map.specs.Hash.{shard_of}
+use Rattle.one_map.specs.OneMap.{operation_shard, part}
 use Rattle.sharded.specs.Passes.{IsActOfShard, HasActsOfShard, AreLegal, HaveWidth}
 use Rattle.sharded.specs.Interleavings.{IsInterleavingOf, HasOneMap, AreCallsOfShard}
 use Rattle.sharded.proofs.Steps.{same_some}
-use Rattle.sharded.proofs.OneMap.{legal_both_ways, map_has}
+use Rattle.one_map.proofs.OneMap.{legal_both_ways, map_has}
 
 -- ---- every order is legal
 at_below : {X : Type 0} (xs : List X) (k : ℕ) → k < length xs → (x : X) × (slice_get xs k ≡ Some x)

@@ -1,5 +1,3 @@
-pub mod Hash
-pub mod OneMap
 pub mod Taken
 pub mod Passes
 pub mod Steps
@@ -7,3 +5,7 @@ pub mod StepsTo
 pub mod Interleavings
 pub mod Closings
 pub mod Rooms
+pub mod Seats
+pub mod Listings
+pub mod Joins
+pub mod Openings

@@ -1,7 +1,6 @@
 -- Passes that are split and joined shard by shard.
-use Rattle.std.proofs.Common.{◌≡◌, ◌⊎◌, inl, inr, ℕ, zero, suc, ◌+◌, ◌<◌, ◌≤◌, List, [], ◌∷◌, ◌++◌, map, take, drop, set, get_or, length, Some, Result, Ok, Err, OnErr, slice_get, refl, ap, sym, subst, ◌∙◌, arith, add-one}
-use Rattle.std.proofs.lemmas.Option.{slice_get_read}
-use Rattle.std.proofs.lemmas.List.{append-nil, set-get_or}
+use Rattle.std.proofs.Common.{◌≡◌, ◌⊎◌, inl, inr, ℕ, zero, suc, ◌<◌, ◌≤◌, List, [], ◌∷◌, ◌++◌, map, take, drop, set, get_or, length, Some, Result, Ok, Err, OnErr, slice_get, refl, ap, sym, subst, ◌∙◌, arith}
+use Rattle.std.proofs.lemmas.List.{append-nil}
 use mathlib.Core.List.{IsPrefix}
 use Rattle.gate.specs.Places.{times}
 use Rattle.gate.proofs.Lists.{times-append}
@@ -55,20 +54,20 @@ joined_one count k v o w one other joined p l = by (some_of (times p v.did) (tim
         (had.0, ap (λ acts. slice_get acts p) (sym joined.acts.1.1) ∙ get_longer o.acts joined.acts.1.0 p had.0 had.1, had.2)
 
 pub joined_of_shards : (vs os ws : List Shows) → length os ≡ length vs → HaveActsOfShards vs → HaveActsOfShards os → AreJoined vs os ws → HaveActsOfShards ws
-joined_of_shards vs os ws long one other are k w e = subst (λ n. HasActsOfShard n k w) (sym (taken_length IsJoined vs os ws are)) (by found.2)
+joined_of_shards vs os ws long one other are k w e = subst (λ n. HasActsOfShard n k w) (sym (taken_length (λ (x : Shows). x.store) IsJoined vs os ws are)) (by found.2)
   where
     found : (v : Shows) × (slice_get vs k ≡ Some v) × ((w ≡ v) ⊎ ((o : Shows) × (slice_get os k ≡ Some o) × IsJoined v o w))
-    found = taken_at IsJoined vs os ws are k w e
+    found = taken_at (λ (x : Shows). x.store) IsJoined vs os ws are k w e
 
     by : (w ≡ found.0) ⊎ ((o : Shows) × (slice_get os k ≡ Some o) × IsJoined found.0 o w) → HasActsOfShard (length vs) k w
     by (inl same) = subst (HasActsOfShard (length vs) k) (sym same) (one k found.0 found.1)
     by (inr (o, there, joined)) = joined_one (length vs) k found.0 o w (one k found.0 found.1) (subst (λ n. HasActsOfShard n k o) long (other k o there)) joined
 
 pub accepted_of_shards : (vs : List Shows) (rs : List ReceiptShows) (ws : List Shows) → HaveActsOfShards vs → AreAccepted vs rs ws → HaveActsOfShards ws
-accepted_of_shards vs rs ws homed are k w e = subst (λ n. HasActsOfShard n k w) (sym (taken_length IsAccepted vs rs ws are)) (by found.2)
+accepted_of_shards vs rs ws homed are k w e = subst (λ n. HasActsOfShard n k w) (sym (taken_length (λ (x : Shows). x.store) IsAccepted vs rs ws are)) (by found.2)
   where
     found : (v : Shows) × (slice_get vs k ≡ Some v) × ((w ≡ v) ⊎ ((r : ReceiptShows) × (slice_get rs k ≡ Some r) × IsAccepted v r w))
-    found = taken_at IsAccepted vs rs ws are k w e
+    found = taken_at (λ (x : Shows). x.store) IsAccepted vs rs ws are k w e
 
     by : (w ≡ found.0) ⊎ ((r : ReceiptShows) × (slice_get rs k ≡ Some r) × IsAccepted found.0 r w) → HasActsOfShard (length vs) k w
     by (inl same) = subst (HasActsOfShard (length vs) k) (sym same) (homed k found.0 found.1)
@@ -148,35 +147,6 @@ restored_of_shards vs ws homed are k w e =
 
 -- ---- as the code knows it
 -- a pass was split
-pub record SplitAt (who n : ℕ) (vs ws given : List Shows) (v : Shows) : Type 0 where
-  pub passes : ws ≡ mapped kept_in_split n vs
-  pub given_is : given ≡ map (given_in_split who) (take n vs)
-  pub room : HaveRoom (take n vs)
-  pub below : n < length vs
-  pub own_is : v ≡ get_or ws n v
-  pub some : 1 ≤ v.room
-
-pub split_at : (who n : ℕ) (vs ws given : List Shows) (v : Shows) → SplitAt who n vs ws given v → slice_get vs n ≡ Some v
-split_at who n vs ws given v s = mapped_at kept_in_split vs n v s.below (s.own_is ∙ ap (λ l. get_or l n v) s.passes)
-
-pub split_next : (who n : ℕ) (vs ws given : List Shows) (v w g : Shows) → SplitAt who n vs ws given v → w ≡ kept_in_split v → g ≡ given_in_split who v
-    → (set ws n w ≡ mapped kept_in_split (n + 1) vs) × (given ++ g ∷ [] ≡ map (given_in_split who) (take (n + 1) vs)) × HaveRoom (take (n + 1) vs)
-split_next who n vs ws given v w g s is new =
-    let here : slice_get vs n ≡ Some v = split_at who n vs ws given v s in
-    subst (λ k. (set ws n w ≡ mapped kept_in_split k vs) × (given ++ g ∷ [] ≡ map (given_in_split who) (take k vs)) × HaveRoom (take k vs)) (sym (add-one n)) (
-      (λ i. set (s.passes i) n (is i)) ∙ mapped_next kept_in_split vs n v here,
-      (λ i. s.given_is i ++ new i ∷ []) ∙ taken_next (given_in_split who) vs n v here,
-      room_next vs n v here s.some s.room,
-    )
-
-pub split_stopped : (who n : ℕ) (vs ws given later : List Shows) (v w : Shows) → SplitAt who n vs ws given v → w ≡ v → later ≡ given → AreSplitInPart who vs (set ws n w) later
-split_stopped who n vs ws given later v w s same less = (
-  n,
-  ap (set ws n) (same ∙ s.own_is) ∙ set-get_or ws n v ∙ s.passes,
-  less ∙ s.given_is,
-  s.room,
-)
-
 pub on_err : {A E : Type 0} (r : Result A E) (P : Type 0) → P → OnErr r P
 on_err (Ok a) P p = tt
 on_err (Err e) P p = p
@@ -217,10 +187,10 @@ restored_stores (v ∷ vs) [] are = absurd are
 restored_stores (v ∷ vs) (w ∷ ws) are = (λ i. are.0.stays.0 i ∷ restored_stores vs ws are.1 i)
 
 pub joined_stores : (vs os ws : List Shows) → AreJoined vs os ws → stores_of ws ≡ stores_of vs
-joined_stores vs os ws are = taken_stores IsJoined (λ v o w joined. joined.store) vs os ws are
+joined_stores vs os ws are = taken_stores (λ (x : Shows). x.store) IsJoined (λ v o w joined. joined.store) vs os ws are
 
 pub accepted_stores : (vs : List Shows) (rs : List ReceiptShows) (ws : List Shows) → AreAccepted vs rs ws → stores_of ws ≡ stores_of vs
-accepted_stores vs rs ws are = taken_stores IsAccepted (λ v r w accepted. ap (λ (x : Shows). x.store) accepted.kept) vs rs ws are
+accepted_stores vs rs ws are = taken_stores (λ (x : Shows). x.store) IsAccepted (λ v r w accepted. ap (λ (x : Shows). x.store) accepted.kept) vs rs ws are
 
 pub seen_stores : (vs : List Shows) → receipt_stores (map seen_by vs) ≡ stores_of vs
 seen_stores [] = refl
@@ -232,12 +202,3 @@ fresh_stores (s ∷ ss) = ap (λ l. s ∷ l) (fresh_stores ss)
 
 pub stores_length : (vs : List Shows) (ss : List Which) → stores_of vs ≡ ss → length vs ≡ length ss
 stores_length vs ss e = sym (length_map (λ (v : Shows). v.store) vs) ∙ ap length e
-
--- a receipt more was made, and the pass shows what it showed
-pub receipt_next : (n : ℕ) (vs ws : List Shows) (rs : List ReceiptShows) (v w : Shows) (r : ReceiptShows) → ws ≡ vs → rs ≡ map seen_by (take n vs) → n < length vs → v ≡ get_or ws n v → w ≡ v → r ≡ seen_by v
-    → (set ws n w ≡ vs) × (rs ++ r ∷ [] ≡ map seen_by (take (n + 1) vs))
-receipt_next n vs ws rs v w r same before below own stays given =
-    let here : slice_get vs n ≡ Some v = slice_get_read vs (length vs) n v refl below (own ∙ ap (λ l. get_or l n v) same) in (
-      ap (set ws n) (stays ∙ own) ∙ set-get_or ws n v ∙ same,
-      subst (λ k. rs ++ r ∷ [] ≡ map seen_by (take k vs)) (sym (add-one n)) ((λ i. before i ++ given i ∷ []) ∙ taken_next seen_by vs n v here),
-    )

@@ -15,8 +15,8 @@ use Rattle.shared.specs.Passes.{Which, Shows, FindsBusy}
 use Rattle.shared.specs.Deeds.{deed_of, trim_deed, act_if, Takes}
 use Rattle.shared.specs.Calls.{Called}
 use Rattle.shared.specs.Mends.{FoundBusy}
-use Rattle.sharded.specs.Hash.{shard_of}
-use Rattle.sharded.specs.OneMap.{name_of, operation_shard}
+use Rattle.one_map.specs.Hash.{shard_of}
+use Rattle.one_map.specs.OneMap.{name_of, operation_shard}
 use Rattle.sharded.specs.Passes.{stores_of, IsActOfShard, HasActsOfShard, HaveActsOfShards}
 use Rattle.sharded.specs.Steps.{IsStepAt, IsCallAt, IsBusyAt, IsBusyRepairAt, width_at, width_for, seen_at, seen_for}
 
@@ -97,7 +97,7 @@ takes_of_shard count k v w deed homed of takes p l =
         (had.0, ap (λ acts. slice_get acts p) takes.acts ∙ get_longer (v.acts ++ takes.others) (act_if v.who deed) p had.0 (get_longer v.acts takes.others p had.0 had.1), had.2)
     by (inr new) = subst (λ acts. StandsAt count k acts p) (sym takes.acts) (last_act count k v.who deed of (v.acts ++ takes.others) p new)
 
-deed_of_shard : (count k : ℕ) (o : Operation) (r : Result Answer Fault) → operation_shard count o ≡ k → IfSome (deed_of o r) (IsDeedOfShard count k)
+pub deed_of_shard : (count k : ℕ) (o : Operation) (r : Result Answer Fault) → operation_shard count o ≡ k → IfSome (deed_of o r) (IsDeedOfShard count k)
 deed_of_shard count k o (Ok a) e = e
 deed_of_shard count k o (Err JournalFull) e = tt
 deed_of_shard count k o (Err TooLong) e = tt

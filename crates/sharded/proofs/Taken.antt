@@ -1,9 +1,9 @@
 -- Passes that each take in what is of their shard, from the last on.
-use Rattle.std.proofs.Common.{◌≡◌, ◌⊎◌, inl, inr, ℕ, zero, suc, ◌+◌, ◌<◌, ◌≤◌, List, [], ◌∷◌, ◌++◌, map, take, drop, set, get_or, length, None, Some, slice_get, option_map, refl, ap, sym, subst, ◌∙◌, arith, length-append}
+use Rattle.std.proofs.Common.{◌≡◌, ◌⊎◌, inl, inr, ℕ, zero, suc, ◌<◌, ◌≤◌, List, [], ◌∷◌, ◌++◌, map, take, drop, set, get_or, length, None, Some, slice_get, option_map, refl, ap, sym, subst, ◌∙◌, arith, length-append}
 use Rattle.std.proofs.lemmas.Option.{slice_get-map, slice_get_within, slice_get_read}
 use mathlib.Core.List.{IsPrefix}
-use Rattle.shared.specs.Passes.{Which, Shows}
-use Rattle.sharded.specs.Passes.{stores_of, AreTaken}
+use Rattle.shared.specs.Passes.{Which}
+use Rattle.sharded.specs.Passes.{AreTaken}
 use Rattle.sharded.proofs.Steps.{get_longer, same_some}
 
 -- ---- lists
@@ -19,8 +19,8 @@ pub length_map : {X Y : Type 0} (f : X → Y) (xs : List X) → length (map f xs
 length_map f [] = refl
 length_map f (x ∷ xs) = ap suc (length_map f xs)
 
-pub same_length : (vs ws : List Shows) → stores_of vs ≡ stores_of ws → length vs ≡ length ws
-same_length vs ws e = sym (length_map (λ (v : Shows). v.store) vs) ∙ ap length e ∙ length_map (λ (v : Shows). v.store) ws
+pub same_length : {V W : Type 0} (store : V → Which) (other : W → Which) (vs : List V) (ws : List W) → map store vs ≡ map other ws → length vs ≡ length ws
+same_length store other vs ws e = sym (length_map store vs) ∙ ap length e ∙ length_map other ws
 
 last_taken : {X : Type 0} (os left : List X) (o : X) → left ++ o ∷ [] ≡ take (suc (length left)) os → (left ≡ take (length left) os) × (slice_get os (length left) ≡ Some o) × (suc (length left) ≤ length os)
 last_taken [] [] o e = absurd (cc)
@@ -31,25 +31,25 @@ last_taken (y ∷ os) (x ∷ left) o e =
     let more = last_taken os left o tail in
     ((λ i. head i ∷ more.0 i), more.1, omega (arith, more.2))
 
-stores_put : (ps : List Shows) (n : ℕ) (v w : Shows) → v ≡ get_or ps n v → w.store ≡ v.store → stores_of (set ps n w) ≡ stores_of ps
-stores_put [] n v w e s = refl
-stores_put (p ∷ ps) zero v w e s = ap (λ x. x ∷ stores_of ps) (s ∙ ap (λ (x : Shows). x.store) e)
-stores_put (p ∷ ps) (suc n) v w e s = ap (λ x. p.store ∷ x) (stores_put ps n v w e s)
+module _ {V O : Type 0} (store : V → Which) (R : V → O → V → Type 0) where
+  stores_put : (ps : List V) (n : ℕ) (v w : V) → v ≡ get_or ps n v → store w ≡ store v → map store (set ps n w) ≡ map store ps
+  stores_put [] n v w e s = refl
+  stores_put (p ∷ ps) zero v w e s = ap (λ x. x ∷ map store ps) (s ∙ ap store e)
+  stores_put (p ∷ ps) (suc n) v w e s = ap (λ x. store p ∷ x) (stores_put ps n v w e s)
 
-module _ {O : Type 0} (R : Shows → O → Shows → Type 0) where
   -- ---- from the last on
-  pub record TakenFrom (vs : List Shows) (os : List O) (ps : List Shows) (left : List O) : Type 0 where
+  pub record TakenFrom (vs : List V) (os : List O) (ps : List V) (left : List O) : Type 0 where
     pub within : length left ≤ length os
     pub left_is : left ≡ take (length left) os
     pub same : take (length left) ps ≡ take (length left) vs
     pub taken : AreTaken R (drop (length left) vs) (drop (length left) os) (drop (length left) ps)
-    pub stores : stores_of ps ≡ stores_of vs
+    pub stores : map store ps ≡ map store vs
 
-  taken_none : (vs : List Shows) → AreTaken R vs [] vs
+  taken_none : (vs : List V) → AreTaken R vs [] vs
   taken_none [] = refl
   taken_none (v ∷ vs) = (refl, taken_none vs)
 
-  pub taken_first : (vs : List Shows) (os : List O) → TakenFrom vs os vs os
+  pub taken_first : (vs : List V) (os : List O) → TakenFrom vs os vs os
   taken_first vs os = record {
     within = omega arith;
     left_is = take_all os;
@@ -59,7 +59,7 @@ module _ {O : Type 0} (R : Shows → O → Shows → Type 0) where
   }
 
   -- one more
-  step : (vs : List Shows) (os : List O) (ps : List Shows) (n : ℕ) (o : O) (v w : Shows) → n < length vs → n < length ps → take (suc n) ps ≡ take (suc n) vs → slice_get os n ≡ Some o → v ≡ get_or ps n v → R v o w
+  step : (vs : List V) (os : List O) (ps : List V) (n : ℕ) (o : O) (v w : V) → n < length vs → n < length ps → take (suc n) ps ≡ take (suc n) vs → slice_get os n ≡ Some o → v ≡ get_or ps n v → R v o w
       → AreTaken R (drop (suc n) vs) (drop (suc n) os) (drop (suc n) ps) → (take n (set ps n w) ≡ take n vs) × AreTaken R (drop n vs) (drop n os) (drop n (set ps n w))
   step [] os ps n o v w l m same e f one rest = absurd (omega arith)
   step (x ∷ vs) os [] n o v w l m same e f one rest = absurd (omega arith)
@@ -72,7 +72,7 @@ module _ {O : Type 0} (R : Shows → O → Shows → Type 0) where
       let more = step vs os ps n o v w (omega arith) (omega arith) tail e f one rest in
       ((λ i. head i ∷ more.0 i), more.1)
 
-  taken_more : (vs : List Shows) (os : List O) (ps : List Shows) (left whole : List O) (o : O) (v w : Shows) → whole ≡ left ++ o ∷ [] → length left < length ps → length ps ≡ length vs → v ≡ get_or ps (length left) v → R v o w → w.store ≡ v.store
+  taken_more : (vs : List V) (os : List O) (ps : List V) (left whole : List O) (o : O) (v w : V) → whole ≡ left ++ o ∷ [] → length left < length ps → length ps ≡ length vs → v ≡ get_or ps (length left) v → R v o w → store w ≡ store v
       → TakenFrom vs os ps whole → TakenFrom vs os (set ps (length left) w) left
   taken_more vs os ps left whole o v w is l same e one store from =
       let long : length whole ≡ suc (length left) = ap length is ∙ length-append left (o ∷ []) ∙ omega arith in
@@ -87,8 +87,8 @@ module _ {O : Type 0} (R : Shows → O → Shows → Type 0) where
       }
 
   -- ---- each of the passes
-  pub taken_at : (vs : List Shows) (os : List O) (ws : List Shows) → AreTaken R vs os ws → (k : ℕ) (w : Shows) → slice_get ws k ≡ Some w
-      → (v : Shows) × (slice_get vs k ≡ Some v) × ((w ≡ v) ⊎ ((o : O) × (slice_get os k ≡ Some o) × R v o w))
+  pub taken_at : (vs : List V) (os : List O) (ws : List V) → AreTaken R vs os ws → (k : ℕ) (w : V) → slice_get ws k ≡ Some w
+      → (v : V) × (slice_get vs k ≡ Some v) × ((w ≡ v) ⊎ ((o : O) × (slice_get os k ≡ Some o) × R v o w))
   taken_at [] os ws are k w e = let none : slice_get ws k ≡ None = ap (λ l. slice_get l k) are in absurd (cc)
   taken_at (v ∷ vs) os [] are k w e = absurd are
   taken_at (v ∷ vs) [] (x ∷ ws) are zero w e = let same : x ≡ w = cc in (v, refl, inl (sym same ∙ are.0))
@@ -96,30 +96,30 @@ module _ {O : Type 0} (R : Shows → O → Shows → Type 0) where
   taken_at (v ∷ vs) (o ∷ os) (x ∷ ws) are zero w e = let same : x ≡ w = cc in (v, refl, inr (o, refl, subst (λ a. R v o a) same are.0))
   taken_at (v ∷ vs) (o ∷ os) (x ∷ ws) are (suc k) w e = taken_at vs os ws are.1 k w e
 
-  pub taken_length : (vs : List Shows) (os : List O) (ws : List Shows) → AreTaken R vs os ws → length ws ≡ length vs
+  pub taken_length : (vs : List V) (os : List O) (ws : List V) → AreTaken R vs os ws → length ws ≡ length vs
   taken_length [] os ws are = ap length are
   taken_length (v ∷ vs) os [] are = absurd are
   taken_length (v ∷ vs) [] (x ∷ ws) are = ap suc (taken_length vs [] ws are.1)
   taken_length (v ∷ vs) (o ∷ os) (x ∷ ws) are = ap suc (taken_length vs os ws are.1)
 
-  pub taken_stores : ((v : Shows) (o : O) (w : Shows) → R v o w → w.store ≡ v.store) → (vs : List Shows) (os : List O) (ws : List Shows) → AreTaken R vs os ws → stores_of ws ≡ stores_of vs
-  taken_stores kept [] os ws are = ap stores_of are
+  pub taken_stores : ((v : V) (o : O) (w : V) → R v o w → store w ≡ store v) → (vs : List V) (os : List O) (ws : List V) → AreTaken R vs os ws → map store ws ≡ map store vs
+  taken_stores kept [] os ws are = ap (map store) are
   taken_stores kept (v ∷ vs) os [] are = absurd are
-  taken_stores kept (v ∷ vs) [] (w ∷ ws) are = (λ i. (are.0 i).store ∷ taken_stores kept vs [] ws are.1 i)
+  taken_stores kept (v ∷ vs) [] (w ∷ ws) are = (λ i. store (are.0 i) ∷ taken_stores kept vs [] ws are.1 i)
   taken_stores kept (v ∷ vs) (o ∷ os) (w ∷ ws) are = (λ i. kept v o w are.0 i ∷ taken_stores kept vs os ws are.1 i)
 
   -- ---- as the code knows it: the last of those that are left is taken
   module _ (store_of : O → Which) where
-    pub record Popped (vs : List Shows) (os : List O) (ps : List Shows) (whole left : List O) (ss : List Which) (n : ℕ) (o : O) (v : Shows) (store : Which) : Type 0 where
-      pub stores : stores_of vs ≡ ss
+    pub record Popped (vs : List V) (os : List O) (ps : List V) (whole left : List O) (ss : List Which) (n : ℕ) (o : O) (v : V) (here : Which) : Type 0 where
+      pub stores : map store vs ≡ ss
       pub others : IsPrefix (map store_of os) ss
       pub from : TakenFrom vs os ps whole
       pub is : whole ≡ left ++ o ∷ []
       pub count : n ≡ length left
       pub own_is : v ≡ get_or ps n v
-      pub store_is : store ≡ get_or ss n store
+      pub store_is : here ≡ get_or ss n here
 
-    module _ (vs : List Shows) (os : List O) (ps : List Shows) (whole left : List O) (ss : List Which) (n : ℕ) (o : O) (v : Shows) (store : Which) (p : Popped vs os ps whole left ss n o v store) where
+    module _ (vs : List V) (os : List O) (ps : List V) (whole left : List O) (ss : List Which) (n : ℕ) (o : O) (v : V) (here : Which) (p : Popped vs os ps whole left ss n o v here) where
       popped_at : slice_get os (length left) ≡ Some o
       popped_at =
           let long : length whole ≡ suc (length left) = ap length p.is ∙ length-append left (o ∷ []) ∙ omega arith in
@@ -131,23 +131,23 @@ module _ {O : Type 0} (R : Shows → O → Shows → Type 0) where
           ap (λ l. slice_get l n) (sym p.others.1) ∙ ap (slice_get (map store_of os ++ p.others.0)) p.count ∙ get_longer (map store_of os) p.others.0 (length left) (store_of o) here
 
       long_is : length ps ≡ length ss
-      long_is = sym (length_map (λ (x : Shows). x.store) ps) ∙ ap length (p.from.stores ∙ p.stores)
+      long_is = sym (length_map store ps) ∙ ap length (p.from.stores ∙ p.stores)
 
       pub popped_below : n < length ps
       popped_below = let l : n < length ss = slice_get_within ss n (store_of o) other_at in omega (arith, long_is)
 
-      own_at : slice_get ss n ≡ Some v.store
+      own_at : slice_get ss n ≡ Some (store v)
       own_at =
-          ap (λ l. slice_get l n) (sym p.stores ∙ sym p.from.stores) ∙ slice_get-map (λ (x : Shows). x.store) ps n
-          ∙ ap (option_map (λ (x : Shows). x.store)) (slice_get_read ps (length ps) n v refl popped_below p.own_is)
+          ap (λ l. slice_get l n) (sym p.stores ∙ sym p.from.stores) ∙ slice_get-map store ps n
+          ∙ ap (option_map store) (slice_get_read ps (length ps) n v refl popped_below p.own_is)
 
-      store_at : slice_get ss n ≡ Some store
-      store_at = slice_get_read ss (length ss) n store refl (slice_get_within ss n (store_of o) other_at) p.store_is
+      store_at : slice_get ss n ≡ Some here
+      store_at = slice_get_read ss (length ss) n here refl (slice_get_within ss n (store_of o) other_at) p.store_is
 
-      pub popped_stores : (v.store ≡ store) × (store_of o ≡ store)
-      popped_stores = (same_some v.store store (slice_get ss n) own_at store_at, same_some (store_of o) store (slice_get ss n) other_at store_at)
+      pub popped_stores : (store v ≡ here) × (store_of o ≡ here)
+      popped_stores = (same_some (store v) here (slice_get ss n) own_at store_at, same_some (store_of o) here (slice_get ss n) other_at store_at)
 
-      pub popped_taken : (w : Shows) → R v o w → w.store ≡ v.store → TakenFrom vs os (set ps n w) left
+      pub popped_taken : (w : V) → R v o w → store w ≡ store v → TakenFrom vs os (set ps n w) left
       popped_taken w one kept =
           subst (λ k. TakenFrom vs os (set ps k w) left) (sym p.count)
-          (taken_more vs os ps left whole o v w p.is (subst (λ k. k < length ps) p.count popped_below) (same_length ps vs p.from.stores) (subst (λ k. v ≡ get_or ps k v) p.count p.own_is) one kept p.from)
+          (taken_more vs os ps left whole o v w p.is (subst (λ k. k < length ps) p.count popped_below) (same_length store store ps vs p.from.stores) (subst (λ k. v ≡ get_or ps k v) p.count p.own_is) one kept p.from)

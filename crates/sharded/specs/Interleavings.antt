@@ -3,8 +3,8 @@ use Rattle.std.specs.Prelude.{◌≡◌, ℕ, List, [], ◌∷◌, length, Some,
 use Rattle.std.specs.FinMap as map
 use Rattle.history.specs.History.{History, state_of}
 use Rattle.shared.specs.Passes.{Shows}
-use Rattle.sharded.specs.Hash.{shard_of}
-use Rattle.sharded.specs.OneMap.{operation_shard, part, map_of, IsLegalOneMap}
+use Rattle.one_map.specs.Hash.{shard_of}
+use Rattle.one_map.specs.OneMap.{operation_shard, part, map_of, IsLegalOneMap}
 
 -- An order of all calls that the passes have seen. The calls on names of each shard are those that
 -- its pass has seen, in their order

@@ -1,5 +1,5 @@
 -- The passes to all shards, in the order of the shards: split, joined, their receipts, and whose
--- calls they show.
+-- calls they show. With them goes a beginning of the list of all shards' acts.
 use Rattle.std.specs.Prelude.{◌≡◌, ◌⊎◌, ℕ, ◌+◌, ◌-◌, ◌≤◌, List, [], ◌∷◌, ◌++◌, length, map}
 use Rattle.std.specs.Prelude.{take, drop, Option, Some, slice_get}
 use mathlib.Core.List.{IsPrefix}
@@ -8,11 +8,38 @@ use Rattle.book.specs.Serial.{Act, Deed, call, trim}
 use Rattle.history.specs.History.{IsLegal}
 use Rattle.shared.specs.Passes.{Which, Shows, ReceiptShows, seen_by, IsWhole, Stays, DoneAfter}
 use Rattle.shared.specs.Deeds.{Takes}
-use Rattle.sharded.specs.OneMap.{operation_shard}
+use Rattle.one_map.specs.OneMap.{operation_shard}
+use Rattle.ledger.specs.declared.view.ShardAct.{ShardAct}
+use Rattle.ledger.specs.Acts.{LedgerState}
+
+-- What a clause sees of a store: which stores its shards are, in their order, and which ledger
+-- lists the acts of all
+pub record StoreShows : Type 0 where
+  pub shards : List Which
+  pub ledger : LedgerState
+
+-- What a clause sees of a pass: what it shows at each shard, in the order of the shards; a
+-- beginning of the list of all shards' acts; and the indices in this list of its own acts, with
+-- those of the passes that it joined
+pub record PassShows : Type 0 where
+  pub shards : List Shows
+  pub ledger : LedgerState
+  pub list : List (ShardAct Act)
+  pub own : List ℕ
+
+-- What a clause sees of a receipt: what was seen at each shard, and of the list of all shards' acts
+pub record ReceiptsShow : Type 0 where
+  pub shards : List ReceiptShows
+  pub ledger : LedgerState
+  pub list : List (ShardAct Act)
 
 -- the stores that the passes are to
 abbrev pub stores_of : List Shows → List Which
 stores_of vs = map (λ v. v.store) vs
+
+-- the store that a pass is to
+abbrev pub store_of : PassShows → StoreShows
+store_of v = record { shards = stores_of v.shards; ledger = v.ledger }
 
 -- no other pass is out
 abbrev pub AreLone : List Shows → Type 0
@@ -108,8 +135,7 @@ pub record IsJoined (v other w : Shows) : Type 0 where
   pub apart : AreApart v.made other.made
 
 -- each pass took in what is of its shard, where there is something, as R says
-abbrev pub AreTaken : {O : Type 0} → (Shows → O → Shows → Type 0)
-    → List Shows → List O → List Shows → Type 0
+abbrev pub AreTaken : {V O : Type 0} → (V → O → V → Type 0) → List V → List O → List V → Type 0
 AreTaken R [] others ws = ws ≡ []
 AreTaken R (v ∷ vs) others [] = ⊥
 AreTaken R (v ∷ vs) [] (w ∷ ws) = (w ≡ v) × AreTaken R vs [] ws
@@ -123,6 +149,10 @@ AreJoined vs others ws = AreTaken IsJoined vs others ws
 -- the stores that the receipts are of
 abbrev pub receipt_stores : List ReceiptShows → List Which
 receipt_stores rs = map (λ r. r.store) rs
+
+-- the store that a receipt is of
+abbrev pub receipt_store : ReceiptsShow → StoreShows
+receipt_store r = record { shards = receipt_stores r.shards; ledger = r.ledger }
 
 -- a pass took in a receipt
 pub record IsAccepted (v : Shows) (r : ReceiptShows) (w : Shows) : Type 0 where

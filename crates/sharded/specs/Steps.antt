@@ -11,8 +11,8 @@ use Rattle.shared.specs.Passes.{Which, Shows, FindsBusy}
 use Rattle.shared.specs.Deeds.{Takes}
 use Rattle.shared.specs.Calls.{Called}
 use Rattle.shared.specs.Mends.{FoundBusy}
-use Rattle.sharded.specs.Hash.{shard_of}
-use Rattle.sharded.specs.OneMap.{operation_shard}
+use Rattle.one_map.specs.Hash.{shard_of}
+use Rattle.one_map.specs.OneMap.{operation_shard}
 
 -- The pass to one shard made this step, and each other pass is as it was
 pub record IsStepAt (k : ℕ) (P : Shows → Shows → Type 0) (vs ws : List Shows) : Type 0 where

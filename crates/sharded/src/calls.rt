@@ -10,13 +10,15 @@ ghost use Rattle.history.specs.Step.{put as put_of, read as read_of, lose as los
 ghost use Rattle.history.specs.Step.{repair as repair_of, delete as delete_of, stat as stat_of};
 ghost use Rattle.book.specs.Tells.{IsCallFault};
 ghost use Rattle.shared.specs.Calls.{CanGrant, GrantedIn, IfGranted};
-ghost use Rattle.sharded.specs.Passes.{stores_of};
+ghost use Rattle.sharded.specs.Passes.{store_of};
+ghost use Rattle.sharded.specs.Listings.{IsListedCall};
 ghost use Rattle.sharded.specs.Steps.{seen_for, width_for, IsCallAt};
 
 use crate::{ShardedPass, ShardedStore};
 use book::{Answer, Fault, Name};
 use bytes::Bytes;
 use lrc_code::Code;
+use requests::Request;
 use std::alloc::Global;
 use std::sync::Wait;
 
@@ -32,11 +34,13 @@ impl ShardedStore {
         name: Name,
         bytes: Bytes,
     ) -> Result<Answer, Fault>
-        requires { stores_of pass.old ≡ self.now }
-        ensures called { IsCallAt pass.old (put_of name Code.Wide bytes) result pass.new }
-        ensures same { stores_of pass.new ≡ self.now }
+        requires { store_of pass.old ≡ self.now }
+        ensures called { IsCallAt pass.old.shards (put_of name Code.Wide bytes) result
+            pass.new.shards }
+        ensures listed { IsListedCall pass.old (put_of name Code.Wide bytes) result pass.new }
+        ensures same { store_of pass.new ≡ self.now }
         ensures too_long { (result ≡ Err Fault.TooLong)
-            ↔ (4096 < stripe_count Code.Wide (width_for self.now name) (length bytes)) }
+            ↔ (4096 < stripe_count Code.Wide (width_for self.now.shards name) (length bytes)) }
         ensures faults { IfErr result (λ e. IsCallFault e ⊎ (e ≡ Fault.TooLong)) }
     {
         self.put_as(rt, alloc, pass, name, bytes, Code::Wide)
@@ -54,17 +58,19 @@ impl ShardedStore {
         bytes: Bytes,
         code: Code,
     ) -> Result<Answer, Fault>
-        requires { stores_of pass.old ≡ self.now }
-        ensures called { IsCallAt pass.old (put_of name code bytes) result pass.new }
-        ensures same { stores_of pass.new ≡ self.now }
+        requires { store_of pass.old ≡ self.now }
+        ensures called { IsCallAt pass.old.shards (put_of name code bytes) result pass.new.shards }
+        ensures listed { IsListedCall pass.old (put_of name code bytes) result pass.new }
+        ensures same { store_of pass.new ≡ self.now }
         ensures too_long { (result ≡ Err Fault.TooLong)
-            ↔ (4096 < stripe_count code (width_for self.now name) (length bytes)) }
+            ↔ (4096 < stripe_count code (width_for self.now.shards name) (length bytes)) }
         ensures faults { IfErr result (λ e. IsCallFault e ⊎ (e ≡ Fault.TooLong)) }
     {
-        let shard = self.find_shard(&name);
-        let store = &self.shards[shard];
-        let own = &mut pass.passes[shard];
-        store.put_as(rt, alloc, own, name, bytes, code)
+        let place = self.find_shard(&name);
+        let shard = &self.shards[place];
+        let seat = &mut pass.seats[place];
+        let (ledger, follower) = (&self.ledger, &mut pass.follower);
+        shard.put_as(rt, alloc, ledger, seat, follower, name, bytes, code)
     }
 
     /// Grants `len` bytes of the blob of a name, from the byte `start` on, as `Store::read` does.
@@ -78,19 +84,23 @@ impl ShardedStore {
         start: u64,
         len: u64,
     ) -> Result<Answer, Fault>
-        requires { stores_of pass.old ≡ self.now }
-        ensures called { IsCallAt pass.old (read_of name start len) result pass.new }
-        ensures same { stores_of pass.new ≡ self.now }
+        requires { store_of pass.old ≡ self.now }
+        ensures called { IsCallAt pass.old.shards (read_of name start len) result pass.new.shards }
+        ensures listed { IsListedCall pass.old (read_of name start len) result pass.new }
+        ensures same { store_of pass.new ≡ self.now }
         ensures grant { IfOk result (λ a. IfGranted a
-            (GrantedIn (seen_for pass.new name) (width_for self.now name) name start len)) }
+            (GrantedIn (seen_for pass.new.shards name)
+            (width_for self.now.shards name) name start len)) }
         ensures no_memory { result ≡ Err Fault.NoMemory
-            → CanGrant (seen_for pass.new name) (width_for self.now name) name start len }
+            → CanGrant (seen_for pass.new.shards name)
+            (width_for self.now.shards name) name start len }
         ensures faults { IfErr result IsCallFault }
     {
-        let shard = self.find_shard(&name);
-        let store = &self.shards[shard];
-        let own = &mut pass.passes[shard];
-        store.read(rt, own, name, start, len)
+        let place = self.find_shard(&name);
+        let shard = &self.shards[place];
+        let seat = &mut pass.seats[place];
+        let request = Request::Read { name, start, len };
+        shard.make(rt, &self.ledger, seat, &mut pass.follower, request)
     }
 
     /// Loses a fragment of a stripe of a name's blob, as `Store::lose` does.
@@ -103,15 +113,23 @@ impl ShardedStore {
         stripe: u64,
         fragment: u64,
     ) -> Result<Answer, Fault>
-        requires { stores_of pass.old ≡ self.now }
-        ensures called { IsCallAt pass.old (lose_of name stripe fragment) result pass.new }
-        ensures same { stores_of pass.new ≡ self.now }
+        requires { store_of pass.old ≡ self.now }
+        ensures called { IsCallAt pass.old.shards (lose_of name stripe fragment) result
+            pass.new.shards }
+        ensures listed { IsListedCall pass.old (lose_of name stripe fragment) result pass.new }
+        ensures same { store_of pass.new ≡ self.now }
         ensures faults { IfErr result IsCallFault }
     {
-        let shard = self.find_shard(&name);
-        let store = &self.shards[shard];
-        let own = &mut pass.passes[shard];
-        store.lose(rt, alloc, own, name, stripe, fragment)
+        let place = self.find_shard(&name);
+        let shard = &self.shards[place];
+        let seat = &mut pass.seats[place];
+        let request = Request::Lose {
+            alloc,
+            name,
+            stripe,
+            fragment,
+        };
+        shard.make(rt, &self.ledger, seat, &mut pass.follower, request)
     }
 
     /// Rebuilds a lost fragment of a stripe of a name's blob, as `Store::repair` does.
@@ -124,15 +142,18 @@ impl ShardedStore {
         stripe: u64,
         fragment: u64,
     ) -> Result<Answer, Fault>
-        requires { stores_of pass.old ≡ self.now }
-        ensures called { IsCallAt pass.old (repair_of name stripe fragment) result pass.new }
-        ensures same { stores_of pass.new ≡ self.now }
+        requires { store_of pass.old ≡ self.now }
+        ensures called { IsCallAt pass.old.shards (repair_of name stripe fragment) result
+            pass.new.shards }
+        ensures listed { IsListedCall pass.old (repair_of name stripe fragment) result pass.new }
+        ensures same { store_of pass.new ≡ self.now }
         ensures faults { IfErr result IsCallFault }
     {
-        let shard = self.find_shard(&name);
-        let store = &self.shards[shard];
-        let own = &mut pass.passes[shard];
-        store.repair(rt, alloc, own, name, stripe, fragment)
+        let place = self.find_shard(&name);
+        let shard = &self.shards[place];
+        let seat = &mut pass.seats[place];
+        let (ledger, follower) = (&self.ledger, &mut pass.follower);
+        shard.repair(rt, alloc, ledger, seat, follower, name, stripe, fragment)
     }
 
     /// Deletes a name, as `Store::delete` does.
@@ -142,28 +163,32 @@ impl ShardedStore {
         pass: &mut ShardedPass,
         name: Name,
     ) -> Result<Answer, Fault>
-        requires { stores_of pass.old ≡ self.now }
-        ensures called { IsCallAt pass.old (delete_of name) result pass.new }
-        ensures same { stores_of pass.new ≡ self.now }
+        requires { store_of pass.old ≡ self.now }
+        ensures called { IsCallAt pass.old.shards (delete_of name) result pass.new.shards }
+        ensures listed { IsListedCall pass.old (delete_of name) result pass.new }
+        ensures same { store_of pass.new ≡ self.now }
         ensures faults { IfErr result (λ e. e ≡ Fault.JournalFull) }
     {
-        let shard = self.find_shard(&name);
-        let store = &self.shards[shard];
-        let own = &mut pass.passes[shard];
-        store.delete(rt, own, name)
+        let place = self.find_shard(&name);
+        let shard = &self.shards[place];
+        let seat = &mut pass.seats[place];
+        let request = Request::Delete { name };
+        shard.make(rt, &self.ledger, seat, &mut pass.follower, request)
     }
 
     /// The shape of a name's blob: how many bytes, stripes and lost fragments it has, as
     /// `Store::stat` does.
     pub fn stat<R: Wait>(&self, rt: &R, pass: &mut ShardedPass, name: Name) -> Result<Answer, Fault>
-        requires { stores_of pass.old ≡ self.now }
-        ensures called { IsCallAt pass.old (stat_of name) result pass.new }
-        ensures same { stores_of pass.new ≡ self.now }
+        requires { store_of pass.old ≡ self.now }
+        ensures called { IsCallAt pass.old.shards (stat_of name) result pass.new.shards }
+        ensures listed { IsListedCall pass.old (stat_of name) result pass.new }
+        ensures same { store_of pass.new ≡ self.now }
         ensures faults { IfErr result (λ e. e ≡ Fault.JournalFull) }
     {
-        let shard = self.find_shard(&name);
-        let store = &self.shards[shard];
-        let own = &mut pass.passes[shard];
-        store.stat(rt, own, name)
+        let place = self.find_shard(&name);
+        let shard = &self.shards[place];
+        let seat = &mut pass.seats[place];
+        let request = Request::Stat { name };
+        shard.make(rt, &self.ledger, seat, &mut pass.follower, request)
     }
 }

@@ -1,14 +1,21 @@
-//! All passes together: how many more can be made, and the books once all are joined.
+//! All seats together: how many more passes can be made, and the books once all are joined.
 ghost use Rattle.std.specs.Prelude.{◌≡◌, ◌⊎◌, ℕ, ◌≤◌, ◌<◌, [], length, reverse, slice_get};
 ghost use Rattle.std.specs.Prelude.{Some, IfOk, IfErr, vec_len, vec_capacity};
+ghost use Rattle.one_map.specs.OneMap.{IsLegalOneMap};
+ghost use Rattle.ledger.specs.Acts.{HasAll};
+ghost use Rattle.ledger_map.specs.Legal.{calls_of};
 ghost use Rattle.shared.specs.Passes.{Shows};
-ghost use Rattle.sharded.specs.Passes.{stores_of, AreLone, AreLegal, HaveWidth};
+ghost use Rattle.sharded.specs.Listings.{AreBeginnings, AreAllListed};
+ghost use Rattle.sharded.specs.Passes.{store_of, AreLone, AreLegal, HaveWidth};
 ghost use Rattle.sharded.specs.Interleavings.{HasOneMap, HasInterleaving};
 ghost use Rattle.sharded.specs.Closings.{AreClosed};
+ghost use Rattle.sharded.specs.Seats.{shows_of, seat_stores, pass_shows, IsPassOf};
 
 use crate::{ShardedPass, ShardedStore};
 use book::Book;
-use shared::{Pass, Store};
+use ledger::{Follower, Ledger};
+use ledger_map::StoreAct;
+use shard::{Shard, ShardSeat};
 use std::alloc::Global;
 
 /// A store that could not be closed, as the list of its books was refused memory, and the pass to
@@ -23,19 +30,25 @@ impl ShardedPass {
     /// How many passes, with itself, can be made of it at the shard with the least room: at most
     /// 64. With 64 no other pass is out.
     ///
-    /// In whatever order the calls of different shards came, the replies that were seen are those
-    /// of one object over one map.
+    /// The calls in the list of all shards' acts are a legal history of one map. What the pass
+    /// shows at a shard is a beginning of the list's acts of that shard. In whatever other order
+    /// the calls of different shards came, the replies that were seen are those of one object over
+    /// one map.
     pub fn room(&self) -> u64
         ensures range { (1 ≤ result) × (result ≤ 64) }
-        ensures least { (k : ℕ) (v : Shows) → slice_get self.now k ≡ Some v → result ≤ v.room }
-        ensures some { (result ≡ 64)
-            ⊎ ((k : ℕ) × (v : Shows) × (slice_get self.now k ≡ Some v) × (result ≡ v.room)) }
-        ensures lone { result ≡ 64 → AreLone self.now }
-        ensures legal { AreLegal self.now }
-        ensures one_map { (w : ℕ) → 0 < length self.now → HaveWidth w self.now
-            → HasOneMap w self.now }
+        ensures least { (k : ℕ) (v : Shows) → slice_get self.now.shards k ≡ Some v
+            → result ≤ v.room }
+        ensures some { (result ≡ 64) ⊎ ((k : ℕ) × (v : Shows)
+            × (slice_get self.now.shards k ≡ Some v) × (result ≡ v.room)) }
+        ensures lone { result ≡ 64 → AreLone self.now.shards }
+        ensures legal { AreLegal self.now.shards }
+        ensures one_map { (w : ℕ) → 0 < length self.now.shards → HaveWidth w self.now.shards
+            → HasOneMap w self.now.shards }
+        ensures list { (w : ℕ) → 0 < length self.now.shards → HaveWidth w self.now.shards
+            → IsLegalOneMap (length self.now.shards) w (calls_of self.now.list) }
+        ensures beginnings { AreBeginnings self.now }
     {
-        find_least_room(&self.passes)
+        find_least_room(&self.seats)
     }
 }
 
@@ -44,58 +57,75 @@ impl ShardedStore {
     ///
     /// A book represents the history that the pass has seen at its shard. Each call and each trim
     /// in it was made by this pass or by one that it joined, so each call is on a name of this
-    /// shard.
+    /// shard. The list of all shards has just these acts, each at an index of the pass.
     ///
     /// The store and the pass come back if the list of the books is refused memory.
     pub fn close(self, alloc: Global, pass: ShardedPass) -> Result<Vec<Book>, CloseFault>
-        requires store { stores_of pass ≡ self }
-        requires lone { AreLone pass }
-        ensures closed { IfOk result (λ books. AreClosed pass books.items) }
-        ensures interleaving { IfOk result (λ _. HasInterleaving pass) }
-        ensures one_map { IfOk result (λ _. (w : ℕ) → HaveWidth w pass → HasOneMap w pass) }
+        requires store { store_of pass ≡ self }
+        requires lone { AreLone pass.shards }
+        ensures closed { IfOk result (λ books. AreClosed pass.shards books.items) }
+        ensures list { IfOk result (λ _. HasAll pass.list pass.own × AreAllListed pass) }
+        ensures interleaving { IfOk result (λ _. HasInterleaving pass.shards) }
+        ensures one_map { IfOk result
+            (λ _. (w : ℕ) → HaveWidth w pass.shards → HasOneMap w pass.shards) }
         ensures err { IfErr result (λ n. (n.store ≡ self) × (n.pass ≡ pass)) }
     {
         let Ok(mut books) = Vec::with_capacity(alloc, self.shards.len()) else {
             return Err(CloseFault { store: self, pass });
         };
-        let ShardedStore { shards, .. } = self;
-        let ShardedPass { passes } = pass;
-        close_all(shards, passes, &mut books);
+        let ShardedStore { ledger, shards, .. } = self;
+        let ShardedPass {
+            seats,
+            mut follower,
+        } = pass;
+        close_all(&ledger, shards, seats, &mut follower, &mut books);
         books.reverse();
         Ok(books)
     }
 }
 
 /// The least room of these, at most 64.
-fn find_least_room(passes: &[Pass]) -> u64
+fn find_least_room(seats: &[ShardSeat]) -> u64
     ensures range { (1 ≤ result) × (result ≤ 64) }
-    ensures least { (k : ℕ) (v : Shows) → slice_get passes.now k ≡ Some v → result ≤ v.room }
-    ensures some { (result ≡ 64)
-        ⊎ ((k : ℕ) × (v : Shows) × (slice_get passes.now k ≡ Some v) × (result ≡ v.room)) }
-    ensures lone { result ≡ 64 → AreLone passes.now }
-    ensures legal { AreLegal passes.now }
+    ensures least { (k : ℕ) (v : Shows) → slice_get (shows_of seats.now) k ≡ Some v
+        → result ≤ v.room }
+    ensures some { (result ≡ 64) ⊎ ((k : ℕ) × (v : Shows)
+        × (slice_get (shows_of seats.now) k ≡ Some v) × (result ≡ v.room)) }
+    ensures lone { result ≡ 64 → AreLone (shows_of seats.now) }
+    ensures legal { AreLegal (shows_of seats.now) }
 {
     let mut least = 64;
-    for pass in passes {
-        // What a pass has seen is a legal history.
-        let _who = pass.who();
-        least = least.min(pass.room());
+    for seat in seats {
+        // What a seat has seen is a legal history.
+        let _who = seat.who();
+        least = least.min(seat.room());
     }
     least
 }
 
-/// Closes these stores, the last first.
-fn close_all(mut shards: Vec<Store>, mut passes: Vec<Pass>, books: &mut Vec<Book>)
-    requires stores { stores_of passes.items ≡ shards.items }
-    requires lone { AreLone passes.items }
+/// Closes these shards, the last first.
+fn close_all(
+    ledger: &Ledger<StoreAct>,
+    mut shards: Vec<Shard>,
+    mut seats: Vec<ShardSeat>,
+    follower: &mut Follower<StoreAct>,
+    books: &mut Vec<Book>,
+)
+    requires stores { seat_stores seats.items ≡ shards.items }
+    requires some { 0 < length seats.items }
+    requires lone { AreLone (shows_of seats.items) }
+    requires seats { IsPassOf seats.items follower.old }
+    requires ledger { follower.old.ledger ≡ ledger.now }
     requires none { books.old.items ≡ [] }
     requires room { vec_len shards ≤ vec_capacity books.old }
-    ensures { AreClosed passes.items (reverse books.new.items) }
+    ensures closed { AreClosed (shows_of seats.items) (reverse books.new.items) }
+    ensures all { HasAll follower.old.list follower.old.own }
+    ensures listed { AreAllListed (pass_shows seats.items follower.old) }
 {
-    while let Some(store) = shards.pop() {
-        let Some(pass) = passes.pop() else {
+    while let Some(shard) = shards.pop() {
+        let Some(seat) = seats.pop() else {
             unreachable!()
         };
-        books.push_reserved(store.close(pass));
+        books.push_reserved(shard.close(ledger, seat, follower));
     }
 }

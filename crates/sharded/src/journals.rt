@@ -1,7 +1,8 @@
 //! Steps that are no calls: trims of journals, and plans of what is lost.
 ghost use Rattle.std.specs.Prelude.{◌≡◌, ◌≢◌, ◌⊎◌, ◌<◌, length, None, IfOk, IfErr, OnOk, OnErr};
 ghost use Rattle.shared.specs.Deeds.{Takes, trim_deed};
-ghost use Rattle.sharded.specs.Passes.{stores_of, AreLone};
+ghost use Rattle.sharded.specs.Passes.{store_of, AreLone};
+ghost use Rattle.sharded.specs.Listings.{IsListedAt, IsLonger};
 ghost use Rattle.sharded.specs.Steps.{IsStepAt, IsPlanAt};
 ghost use Rattle.sharded.specs.StepsTo.{AreSteps, AreFirstSteps, HasLooked, lost_in_all};
 ghost use Rattle.sharded.specs.StepsTo.{IsTrimmed, AreTrimmedInPart, AreTrimmedToBusy};
@@ -25,10 +26,11 @@ impl ShardedStore {
         pass: &mut ShardedPass,
         keep: u64,
     ) -> Result<(), Fault>
-        requires { stores_of pass.old ≡ self.now }
-        ensures ok { OnOk result (AreSteps (IsTrimmed keep) pass.old pass.new) }
-        ensures err { OnErr result (AreTrimmedInPart keep pass.old pass.new) }
-        ensures same { stores_of pass.new ≡ self.now }
+        requires { store_of pass.old ≡ self.now }
+        ensures ok { OnOk result (AreSteps (IsTrimmed keep) pass.old.shards pass.new.shards) }
+        ensures err { OnErr result (AreTrimmedInPart keep pass.old.shards pass.new.shards) }
+        ensures longer { IsLonger pass.old pass.new }
+        ensures same { store_of pass.new ≡ self.now }
         ensures faults { IfErr result (λ e. e ≡ Fault.NoMemory) }
     {
         for shard in 0..self.count_shards() {
@@ -43,13 +45,15 @@ impl ShardedStore {
     /// As `trim`, but `Busy` at the first shard whose critical section another caller is in. The
     /// journals of the shards before it were then trimmed, and those behind it are unchanged.
     pub fn try_trim(&self, alloc: Global, pass: &mut ShardedPass, keep: u64) -> Result<(), Fault>
-        requires { stores_of pass.old ≡ self.now }
-        ensures ok { OnOk result (AreSteps (IsTrimmed keep) pass.old pass.new) }
-        ensures err { OnErr result (AreTrimmedInPart keep pass.old pass.new) }
-        ensures same { stores_of pass.new ≡ self.now }
+        requires { store_of pass.old ≡ self.now }
+        ensures ok { OnOk result (AreSteps (IsTrimmed keep) pass.old.shards pass.new.shards) }
+        ensures err { OnErr result (AreTrimmedInPart keep pass.old.shards pass.new.shards) }
+        ensures longer { IsLonger pass.old pass.new }
+        ensures same { store_of pass.new ≡ self.now }
         ensures faults { IfErr result (λ e. (e ≡ Fault.Busy) ⊎ (e ≡ Fault.NoMemory)) }
-        ensures busy { result ≡ Err Fault.Busy → AreTrimmedToBusy keep pass.old pass.new }
-        ensures lone { AreLone pass.old → result ≢ Err Fault.Busy }
+        ensures busy { result ≡ Err Fault.Busy
+            → AreTrimmedToBusy keep pass.old.shards pass.new.shards }
+        ensures lone { AreLone pass.old.shards → result ≢ Err Fault.Busy }
     {
         for shard in 0..self.count_shards() {
             match self.try_trim_shard(alloc, pass, shard, keep) {
@@ -72,16 +76,17 @@ impl ShardedStore {
         shard: usize,
         keep: u64,
     ) -> Result<u64, Fault>
-        requires store { stores_of pass.old ≡ self.now }
-        requires shard { shard < length self.now }
+        requires store { store_of pass.old ≡ self.now }
+        requires shard { shard < length self.now.shards }
         ensures takes { IsStepAt shard
-            (λ v w. Takes v (trim_deed keep result) w) pass.old pass.new }
-        ensures same { stores_of pass.new ≡ self.now }
+            (λ v w. Takes v (trim_deed keep result) w) pass.old.shards pass.new.shards }
+        ensures listed { IsListedAt shard (trim_deed keep result) pass.old pass.new }
+        ensures same { store_of pass.new ≡ self.now }
         ensures faults { IfErr result (λ e. e ≡ Fault.NoMemory) }
     {
-        let store = &self.shards[shard];
-        let own = &mut pass.passes[shard];
-        store.trim(rt, alloc, own, keep)
+        let at = &self.shards[shard];
+        let seat = &mut pass.seats[shard];
+        at.trim(rt, alloc, &self.ledger, seat, &mut pass.follower, keep)
     }
 
     /// As `trim_shard`, but `Busy` if another caller is in the critical section of that shard. Then
@@ -93,18 +98,20 @@ impl ShardedStore {
         shard: usize,
         keep: u64,
     ) -> Result<u64, Fault>
-        requires store { stores_of pass.old ≡ self.now }
-        requires shard { shard < length self.now }
+        requires store { store_of pass.old ≡ self.now }
+        requires shard { shard < length self.now.shards }
         ensures takes { IsStepAt shard
-            (λ v w. Takes v (trim_deed keep result) w) pass.old pass.new }
-        ensures same { stores_of pass.new ≡ self.now }
+            (λ v w. Takes v (trim_deed keep result) w) pass.old.shards pass.new.shards }
+        ensures listed { IsListedAt shard (trim_deed keep result) pass.old pass.new }
+        ensures same { store_of pass.new ≡ self.now }
         ensures faults { IfErr result (λ e. (e ≡ Fault.Busy) ⊎ (e ≡ Fault.NoMemory)) }
-        ensures busy { result ≡ Err Fault.Busy → IsStepAt shard FindsBusy pass.old pass.new }
-        ensures lone { AreLone pass.old → result ≢ Err Fault.Busy }
+        ensures busy { result ≡ Err Fault.Busy
+            → IsStepAt shard FindsBusy pass.old.shards pass.new.shards }
+        ensures lone { AreLone pass.old.shards → result ≢ Err Fault.Busy }
     {
-        let store = &self.shards[shard];
-        let own = &mut pass.passes[shard];
-        store.try_trim(alloc, own, keep)
+        let at = &self.shards[shard];
+        let seat = &mut pass.seats[shard];
+        at.try_trim(alloc, &self.ledger, seat, &mut pass.follower, keep)
     }
 
     /// The lost fragments of all blobs of a shard, as `Store::plan` lists them.
@@ -117,15 +124,16 @@ impl ShardedStore {
         pass: &mut ShardedPass,
         shard: usize,
     ) -> Result<Plan, Fault>
-        requires store { stores_of pass.old ≡ self.now }
-        requires shard { shard < length self.now }
-        ensures plans { IsPlanAt pass.old shard result pass.new }
-        ensures same { stores_of pass.new ≡ self.now }
+        requires store { store_of pass.old ≡ self.now }
+        requires shard { shard < length self.now.shards }
+        ensures plans { IsPlanAt pass.old.shards shard result pass.new.shards }
+        ensures listed { IsListedAt shard None pass.old pass.new }
+        ensures same { store_of pass.new ≡ self.now }
         ensures faults { IfErr result (λ e. e ≡ Fault.NoMemory) }
     {
-        let store = &self.shards[shard];
-        let own = &mut pass.passes[shard];
-        store.plan(rt, alloc, own)
+        let at = &self.shards[shard];
+        let seat = &mut pass.seats[shard];
+        at.plan(rt, alloc, &self.ledger, seat, &mut pass.follower)
     }
 
     /// The lost fragments of all blobs: of one shard after the other, and of each as `Store::plan`
@@ -138,11 +146,12 @@ impl ShardedStore {
         alloc: Global,
         pass: &mut ShardedPass,
     ) -> Result<Plan, Fault>
-        requires { stores_of pass.old ≡ self.now }
-        ensures ok { OnOk result (AreSteps HasLooked pass.old pass.new) }
-        ensures err { OnErr result (AreFirstSteps HasLooked pass.old pass.new) }
-        ensures plan { IfOk result (λ p. p.items.items ≡ lost_in_all pass.new) }
-        ensures same { stores_of pass.new ≡ self.now }
+        requires { store_of pass.old ≡ self.now }
+        ensures ok { OnOk result (AreSteps HasLooked pass.old.shards pass.new.shards) }
+        ensures err { OnErr result (AreFirstSteps HasLooked pass.old.shards pass.new.shards) }
+        ensures longer { IsLonger pass.old pass.new }
+        ensures plan { IfOk result (λ p. p.items.items ≡ lost_in_all pass.new.shards) }
+        ensures same { store_of pass.new ≡ self.now }
         ensures faults { IfErr result (λ e. e ≡ Fault.NoMemory) }
     {
         let mut items = Vec::new(alloc);

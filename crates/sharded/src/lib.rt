@@ -1,21 +1,19 @@
 //! A sharded store: from 1 to 64 stores, one of which holds each name. It is one map from names to
 //! blobs. Each caller has a pass to every shard, and calls on names of different shards never wait
-//! for each other.
+//! for each other. One list has the acts of all shards, each caller's in the order in which it made
+//! them.
 #![tactic(auto)]
 
 mod calls;
 mod close;
 mod journals;
-mod law;
 mod pass;
-mod placement;
 mod receipts;
 mod store;
 mod try_calls;
 
 pub use close::CloseFault;
-pub use law::prove_one_map;
-pub use placement::find_shard;
+pub use one_map::{find_shard, prove_one_map};
 pub use receipts::ShardedReceipt;
 pub use shared::{Answer, Book, Bytes, Code, Fault, Grant, Limit, Name, Pass, Plan, Plans, Store};
 pub use store::{ShardedPass, ShardedStore};

@@ -9,13 +9,15 @@ ghost use Rattle.history.specs.Step.{put as put_of, read as read_of, lose as los
 ghost use Rattle.history.specs.Step.{repair as repair_of, delete as delete_of, stat as stat_of};
 ghost use Rattle.book.specs.Tells.{IsCallFault};
 ghost use Rattle.shared.specs.Calls.{CanGrant, GrantedIn, IfGranted};
-ghost use Rattle.sharded.specs.Passes.{stores_of, AreLone};
+ghost use Rattle.sharded.specs.Passes.{store_of, AreLone};
+ghost use Rattle.sharded.specs.Listings.{IsListedCall};
 ghost use Rattle.sharded.specs.Steps.{seen_for, width_for, IsCallAt, IsBusyAt, IsBusyRepairAt};
 
 use crate::{ShardedPass, ShardedStore};
 use book::{Answer, Fault, Name};
 use bytes::Bytes;
 use lrc_code::Code;
+use requests::Request;
 use std::alloc::Global;
 
 impl ShardedStore {
@@ -29,16 +31,18 @@ impl ShardedStore {
         name: Name,
         bytes: Bytes,
     ) -> Result<Answer, Fault>
-        requires { stores_of pass.old ≡ self.now }
-        ensures called { IsCallAt pass.old (put_of name Code.Wide bytes) result pass.new }
-        ensures same { stores_of pass.new ≡ self.now }
+        requires { store_of pass.old ≡ self.now }
+        ensures called { IsCallAt pass.old.shards (put_of name Code.Wide bytes) result
+            pass.new.shards }
+        ensures listed { IsListedCall pass.old (put_of name Code.Wide bytes) result pass.new }
+        ensures same { store_of pass.new ≡ self.now }
         ensures too_long { (result ≡ Err Fault.TooLong)
-            ↔ (4096 < stripe_count Code.Wide (width_for self.now name) (length bytes)) }
+            ↔ (4096 < stripe_count Code.Wide (width_for self.now.shards name) (length bytes)) }
         ensures faults { IfErr result
             (λ e. (e ≡ Fault.Busy) ⊎ IsCallFault e ⊎ (e ≡ Fault.TooLong)) }
         ensures busy { result ≡ Err Fault.Busy
-            → IsBusyAt pass.old (put_of name Code.Wide bytes) pass.new }
-        ensures lone { AreLone pass.old → result ≢ Err Fault.Busy }
+            → IsBusyAt pass.old.shards (put_of name Code.Wide bytes) pass.new.shards }
+        ensures lone { AreLone pass.old.shards → result ≢ Err Fault.Busy }
     {
         self.try_put_as(alloc, pass, name, bytes, Code::Wide)
     }
@@ -54,21 +58,23 @@ impl ShardedStore {
         bytes: Bytes,
         code: Code,
     ) -> Result<Answer, Fault>
-        requires { stores_of pass.old ≡ self.now }
-        ensures called { IsCallAt pass.old (put_of name code bytes) result pass.new }
-        ensures same { stores_of pass.new ≡ self.now }
+        requires { store_of pass.old ≡ self.now }
+        ensures called { IsCallAt pass.old.shards (put_of name code bytes) result pass.new.shards }
+        ensures listed { IsListedCall pass.old (put_of name code bytes) result pass.new }
+        ensures same { store_of pass.new ≡ self.now }
         ensures too_long { (result ≡ Err Fault.TooLong)
-            ↔ (4096 < stripe_count code (width_for self.now name) (length bytes)) }
+            ↔ (4096 < stripe_count code (width_for self.now.shards name) (length bytes)) }
         ensures faults { IfErr result
             (λ e. (e ≡ Fault.Busy) ⊎ IsCallFault e ⊎ (e ≡ Fault.TooLong)) }
         ensures busy { result ≡ Err Fault.Busy
-            → IsBusyAt pass.old (put_of name code bytes) pass.new }
-        ensures lone { AreLone pass.old → result ≢ Err Fault.Busy }
+            → IsBusyAt pass.old.shards (put_of name code bytes) pass.new.shards }
+        ensures lone { AreLone pass.old.shards → result ≢ Err Fault.Busy }
     {
-        let shard = self.find_shard(&name);
-        let store = &self.shards[shard];
-        let own = &mut pass.passes[shard];
-        store.try_put_as(alloc, own, name, bytes, code)
+        let place = self.find_shard(&name);
+        let shard = &self.shards[place];
+        let seat = &mut pass.seats[place];
+        let (ledger, follower) = (&self.ledger, &mut pass.follower);
+        shard.try_put_as(alloc, ledger, seat, follower, name, bytes, code)
     }
 
     /// Grants `len` bytes of the blob of a name, from the byte `start` on, as `Store::try_read`
@@ -82,22 +88,26 @@ impl ShardedStore {
         start: u64,
         len: u64,
     ) -> Result<Answer, Fault>
-        requires { stores_of pass.old ≡ self.now }
-        ensures called { IsCallAt pass.old (read_of name start len) result pass.new }
-        ensures same { stores_of pass.new ≡ self.now }
+        requires { store_of pass.old ≡ self.now }
+        ensures called { IsCallAt pass.old.shards (read_of name start len) result pass.new.shards }
+        ensures listed { IsListedCall pass.old (read_of name start len) result pass.new }
+        ensures same { store_of pass.new ≡ self.now }
         ensures grant { IfOk result (λ a. IfGranted a
-            (GrantedIn (seen_for pass.new name) (width_for self.now name) name start len)) }
+            (GrantedIn (seen_for pass.new.shards name)
+            (width_for self.now.shards name) name start len)) }
         ensures no_memory { result ≡ Err Fault.NoMemory
-            → CanGrant (seen_for pass.new name) (width_for self.now name) name start len }
+            → CanGrant (seen_for pass.new.shards name)
+            (width_for self.now.shards name) name start len }
         ensures faults { IfErr result (λ e. (e ≡ Fault.Busy) ⊎ IsCallFault e) }
         ensures busy { result ≡ Err Fault.Busy
-            → IsBusyAt pass.old (read_of name start len) pass.new }
-        ensures lone { AreLone pass.old → result ≢ Err Fault.Busy }
+            → IsBusyAt pass.old.shards (read_of name start len) pass.new.shards }
+        ensures lone { AreLone pass.old.shards → result ≢ Err Fault.Busy }
     {
-        let shard = self.find_shard(&name);
-        let store = &self.shards[shard];
-        let own = &mut pass.passes[shard];
-        store.try_read(own, name, start, len)
+        let place = self.find_shard(&name);
+        let shard = &self.shards[place];
+        let seat = &mut pass.seats[place];
+        let request = Request::Read { name, start, len };
+        shard.try_make(&self.ledger, seat, &mut pass.follower, request)
     }
 
     /// Loses a fragment of a stripe of a name's blob, as `Store::try_lose` does.
@@ -109,18 +119,26 @@ impl ShardedStore {
         stripe: u64,
         fragment: u64,
     ) -> Result<Answer, Fault>
-        requires { stores_of pass.old ≡ self.now }
-        ensures called { IsCallAt pass.old (lose_of name stripe fragment) result pass.new }
-        ensures same { stores_of pass.new ≡ self.now }
+        requires { store_of pass.old ≡ self.now }
+        ensures called { IsCallAt pass.old.shards (lose_of name stripe fragment) result
+            pass.new.shards }
+        ensures listed { IsListedCall pass.old (lose_of name stripe fragment) result pass.new }
+        ensures same { store_of pass.new ≡ self.now }
         ensures faults { IfErr result (λ e. (e ≡ Fault.Busy) ⊎ IsCallFault e) }
         ensures busy { result ≡ Err Fault.Busy
-            → IsBusyAt pass.old (lose_of name stripe fragment) pass.new }
-        ensures lone { AreLone pass.old → result ≢ Err Fault.Busy }
+            → IsBusyAt pass.old.shards (lose_of name stripe fragment) pass.new.shards }
+        ensures lone { AreLone pass.old.shards → result ≢ Err Fault.Busy }
     {
-        let shard = self.find_shard(&name);
-        let store = &self.shards[shard];
-        let own = &mut pass.passes[shard];
-        store.try_lose(alloc, own, name, stripe, fragment)
+        let place = self.find_shard(&name);
+        let shard = &self.shards[place];
+        let seat = &mut pass.seats[place];
+        let request = Request::Lose {
+            alloc,
+            name,
+            stripe,
+            fragment,
+        };
+        shard.try_make(&self.ledger, seat, &mut pass.follower, request)
     }
 
     /// Rebuilds a lost fragment of a stripe of a name's blob, as `Store::try_repair` does.
@@ -132,48 +150,57 @@ impl ShardedStore {
         stripe: u64,
         fragment: u64,
     ) -> Result<Answer, Fault>
-        requires { stores_of pass.old ≡ self.now }
-        ensures called { IsCallAt pass.old (repair_of name stripe fragment) result pass.new }
-        ensures same { stores_of pass.new ≡ self.now }
+        requires { store_of pass.old ≡ self.now }
+        ensures called { IsCallAt pass.old.shards (repair_of name stripe fragment) result
+            pass.new.shards }
+        ensures listed { IsListedCall pass.old (repair_of name stripe fragment) result pass.new }
+        ensures same { store_of pass.new ≡ self.now }
         ensures faults { IfErr result (λ e. (e ≡ Fault.Busy) ⊎ IsCallFault e) }
         ensures busy { result ≡ Err Fault.Busy
-            → IsBusyRepairAt pass.old name stripe fragment pass.new }
-        ensures lone { AreLone pass.old → result ≢ Err Fault.Busy }
+            → IsBusyRepairAt pass.old.shards name stripe fragment pass.new.shards }
+        ensures lone { AreLone pass.old.shards → result ≢ Err Fault.Busy }
     {
-        let shard = self.find_shard(&name);
-        let store = &self.shards[shard];
-        let own = &mut pass.passes[shard];
-        store.try_repair(alloc, own, name, stripe, fragment)
+        let place = self.find_shard(&name);
+        let shard = &self.shards[place];
+        let seat = &mut pass.seats[place];
+        let (ledger, follower) = (&self.ledger, &mut pass.follower);
+        shard.try_repair(alloc, ledger, seat, follower, name, stripe, fragment)
     }
 
     /// Deletes a name, as `Store::try_delete` does.
     pub fn try_delete(&self, pass: &mut ShardedPass, name: Name) -> Result<Answer, Fault>
-        requires { stores_of pass.old ≡ self.now }
-        ensures called { IsCallAt pass.old (delete_of name) result pass.new }
-        ensures same { stores_of pass.new ≡ self.now }
+        requires { store_of pass.old ≡ self.now }
+        ensures called { IsCallAt pass.old.shards (delete_of name) result pass.new.shards }
+        ensures listed { IsListedCall pass.old (delete_of name) result pass.new }
+        ensures same { store_of pass.new ≡ self.now }
         ensures faults { IfErr result (λ e. (e ≡ Fault.Busy) ⊎ (e ≡ Fault.JournalFull)) }
-        ensures busy { result ≡ Err Fault.Busy → IsBusyAt pass.old (delete_of name) pass.new }
-        ensures lone { AreLone pass.old → result ≢ Err Fault.Busy }
+        ensures busy { result ≡ Err Fault.Busy
+            → IsBusyAt pass.old.shards (delete_of name) pass.new.shards }
+        ensures lone { AreLone pass.old.shards → result ≢ Err Fault.Busy }
     {
-        let shard = self.find_shard(&name);
-        let store = &self.shards[shard];
-        let own = &mut pass.passes[shard];
-        store.try_delete(own, name)
+        let place = self.find_shard(&name);
+        let shard = &self.shards[place];
+        let seat = &mut pass.seats[place];
+        let request = Request::Delete { name };
+        shard.try_make(&self.ledger, seat, &mut pass.follower, request)
     }
 
     /// The shape of a name's blob: how many bytes, stripes and lost fragments it has, as
     /// `Store::try_stat` does.
     pub fn try_stat(&self, pass: &mut ShardedPass, name: Name) -> Result<Answer, Fault>
-        requires { stores_of pass.old ≡ self.now }
-        ensures called { IsCallAt pass.old (stat_of name) result pass.new }
-        ensures same { stores_of pass.new ≡ self.now }
+        requires { store_of pass.old ≡ self.now }
+        ensures called { IsCallAt pass.old.shards (stat_of name) result pass.new.shards }
+        ensures listed { IsListedCall pass.old (stat_of name) result pass.new }
+        ensures same { store_of pass.new ≡ self.now }
         ensures faults { IfErr result (λ e. (e ≡ Fault.Busy) ⊎ (e ≡ Fault.JournalFull)) }
-        ensures busy { result ≡ Err Fault.Busy → IsBusyAt pass.old (stat_of name) pass.new }
-        ensures lone { AreLone pass.old → result ≢ Err Fault.Busy }
+        ensures busy { result ≡ Err Fault.Busy
+            → IsBusyAt pass.old.shards (stat_of name) pass.new.shards }
+        ensures lone { AreLone pass.old.shards → result ≢ Err Fault.Busy }
     {
-        let shard = self.find_shard(&name);
-        let store = &self.shards[shard];
-        let own = &mut pass.passes[shard];
-        store.try_stat(own, name)
+        let place = self.find_shard(&name);
+        let shard = &self.shards[place];
+        let seat = &mut pass.seats[place];
+        let request = Request::Stat { name };
+        shard.try_make(&self.ledger, seat, &mut pass.follower, request)
     }
 }

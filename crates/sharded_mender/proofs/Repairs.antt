@@ -12,7 +12,7 @@ use Rattle.mender.specs.Gathered.{tickets_of}
 use Rattle.mender.specs.Worked.{repair_of}
 use Rattle.mender.proofs.Working.{InHand}
 use Rattle.shared.specs.Passes.{Shows}
-use Rattle.sharded.specs.Hash.{shard_of}
+use Rattle.one_map.specs.Hash.{shard_of}
 use Rattle.sharded.specs.Steps.{IsCallAt}
 use Rattle.sharded.proofs.Steps.{set_here}
 use Rattle.sharded_mender.specs.Repairs.{AreRepaired, IsStopped, HasRoomInHand}

@@ -10,7 +10,7 @@ use Rattle.mender.specs.Gathered.{tickets_of}
 use Rattle.mender.specs.Worked.{repair_of, Worked}
 use Rattle.shared.specs.Passes.{Shows}
 use Rattle.shared.specs.Calls.{HasJournalRoom}
-use Rattle.sharded.specs.Hash.{shard_of}
+use Rattle.one_map.specs.Hash.{shard_of}
 use Rattle.sharded.specs.Steps.{IsCallAt}
 
 -- The results' repairs were made, in order: each is a call with its answer, at the shard of its

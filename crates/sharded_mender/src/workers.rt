@@ -8,7 +8,7 @@ ghost use Rattle.std.specs.Vec.{vec_capacity};
 ghost use Rattle.book.specs.Tells.{IsCallFault};
 ghost use Rattle.mender.specs.Drawn.{IsIntact};
 ghost use Rattle.mender.specs.Worked.{Finished, AreInOrder};
-ghost use Rattle.sharded.specs.Passes.{stores_of};
+ghost use Rattle.sharded.specs.Passes.{store_of};
 ghost use Rattle.sharded.specs.StepsTo.{AreSteps, AreFirstSteps, HasLooked, lost_in_all};
 ghost use Rattle.sharded_mender.specs.Repairs.{AreRepaired, IsStopped, HasRoomInHand};
 
@@ -28,13 +28,13 @@ pub fn scrub<R: Wait>(
     store: &ShardedStore,
     pass: &mut ShardedPass,
 ) -> Result<(Plan, Tickets, Drawer), Fault>
-    requires { stores_of pass.old ≡ store.now }
-    ensures ok { OnOk result (AreSteps HasLooked pass.old pass.new) }
-    ensures err { OnErr result (AreFirstSteps HasLooked pass.old pass.new) }
-    ensures plan { IfOk result (λ r. r.0.items.items ≡ lost_in_all pass.new) }
+    requires { store_of pass.old ≡ store.now }
+    ensures ok { OnOk result (AreSteps HasLooked pass.old.shards pass.new.shards) }
+    ensures err { OnErr result (AreFirstSteps HasLooked pass.old.shards pass.new.shards) }
+    ensures plan { IfOk result (λ r. r.0.items.items ≡ lost_in_all pass.new.shards) }
     ensures drawer { IfOk result
         (λ r. r.2 ≡ record { tickets = r.1; allowance = 2 ^ 40; drawn = [] }) }
-    ensures same { stores_of pass.new ≡ store.now }
+    ensures same { store_of pass.new ≡ store.now }
     ensures faults { IfErr result (λ e. e ≡ Fault.NoMemory) }
 {
     let plan = store.plan(rt, alloc, pass)?;
@@ -62,22 +62,23 @@ pub fn work<R: Wait>(
     tickets: &Tickets,
     drawer: &mut Drawer,
 ) -> Result<Vec<Done>, WorkFault>
-    requires store { stores_of pass.old ≡ store.now }
+    requires store { store_of pass.old ≡ store.now }
     requires tickets { drawer.old.tickets ≡ tickets.now }
     ensures ok { IfOk result
         (λ done. Finished plan.now.items.items drawer.old drawer.new done.items) }
-    ensures repaired { IfOk result (λ done. AreRepaired pass.old done.items pass.new) }
+    ensures repaired { IfOk result
+        (λ done. AreRepaired pass.old.shards done.items pass.new.shards) }
     ensures err { IfErr result (λ stop. IsStopped plan.now.items.items drawer.old drawer.new
-        pass.old stop.done.items stop.fault pass.new) }
+        pass.old.shards stop.done.items stop.fault pass.new.shards) }
     ensures in_order { IfOk result
         (λ done. IsIntact drawer.old → AreInOrder plan.now.items.items done.items) }
     ensures in_order_by_then { IfErr result
         (λ stop. IsIntact drawer.old → AreInOrder plan.now.items.items stop.done.items) }
     ensures faults { IfErr result (λ stop. IsCallFault stop.fault) }
     ensures no_memory { IfErr result (λ stop. stop.fault ≡ Fault.NoMemory
-        → HasRoomInHand plan.now.items.items drawer.new pass.new
+        → HasRoomInHand plan.now.items.items drawer.new pass.new.shards
         ⊎ (vec_capacity stop.done ≡ length stop.done.items)) }
-    ensures same { stores_of pass.new ≡ store.now }
+    ensures same { store_of pass.new ≡ store.now }
 {
     let mut done = Vec::new(alloc);
     while let Some(ticket) = tickets.draw(drawer) {

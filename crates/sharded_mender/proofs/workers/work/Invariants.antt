@@ -1,15 +1,15 @@
 use Rattle.std.proofs.Common.{◌≡◌, []}
 use Rattle.mender.specs.Drawn.{IsIntact}
 use Rattle.mender.specs.Worked.{Worked, AreInOrder}
-use Rattle.sharded.specs.Passes.{stores_of}
+use Rattle.sharded.specs.Passes.{store_of}
 use Rattle.sharded_mender.specs.Repairs.{AreRepaired}
 use Rattle.sharded_mender.proofs.workers.work.Given as goal
 
 abbrev pub invariant-loop-ticket : goal.invariant-loop-ticket
 invariant-loop-ticket g l = record {
-  stores : stores_of l.pass ≡ l.store;
+  stores : store_of l.pass ≡ l.store;
   tickets : l.drawer.tickets ≡ l.tickets;
-  repaired : AreRepaired l.initial.pass l.done.items l.pass;
+  repaired : AreRepaired l.initial.pass.shards l.done.items l.pass.shards;
   worked : Worked l.plan.items.items l.initial.drawer l.drawer l.done.items [];
   in_order : IsIntact l.initial.drawer → AreInOrder l.plan.items.items l.done.items;
 }

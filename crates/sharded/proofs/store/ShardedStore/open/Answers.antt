@@ -1,10 +1,19 @@
-use Rattle.std.proofs.Common.{ap, ◌∙◌, sym, subst}
-use Rattle.sharded.specs.Passes.{HaveActsOfShards, stores_of}
-use Rattle.sharded.proofs.Passes.{fresh_of_shards, fresh_stores}
+use Rattle.std.proofs.Common.{◌≡◌, ap, ◌∙◌, arith}
+use Rattle.sharded.specs.Passes.{stores_of}
+use Rattle.sharded.proofs.Passes.{fresh_stores}
+use Rattle.sharded.proofs.Openings.{opened_pass, opened_shows}
 use Rattle.sharded.proofs.store.ShardedStore.open.Goals as goal
 
-pub invariant_of-result-2 : goal.invariant_of-result-2
-invariant_of-result-2 c = subst HaveActsOfShards (sym c.loop-alloc.invariant.2) (fresh_of_shards c.loop-alloc.shards.items)
+pub invariant_of-result : goal.invariant_of-result
+invariant_of-result c =
+    let setup = c.in-Ok.ensures.setup in
+    let count : c.in-Ok.ledger.setup.count ≡ c.args.count = ap (λ s. s.count) setup in
+    opened_pass c.in-Some.width c.args.limit c.in_ok-shards.shards.items c.in_ok-shards.seats.items c.in-Ok.ledger c.in-Ok.follower c.in_ok-shards.ensures.seats c.in-Ok.ensures.follower c.in_ok-shards.ensures.count
+    (omega (arith, count, c.requires.0)) (ap (λ s. s.about) setup ∙ c.from-about.ensures ∙ c.get.ensures.value) c.in_ok-shards.ensures.stores
+
+pub returns-clause-passes : goal.returns-clause-passes
+returns-clause-passes c = opened_shows c.in-Ok.ledger.table 0 c.in_ok-shards.shards.items c.in_ok-shards.seats.items c.in_ok-shards.ensures.seats
 
 pub returns-clause-same : goal.returns-clause-same
-returns-clause-same c = ap stores_of c.loop-alloc.invariant.2 ∙ fresh_stores c.loop-alloc.shards.items
+returns-clause-same c =
+    (λ i. record { shards = (ap stores_of (opened_shows c.in-Ok.ledger.table 0 c.in_ok-shards.shards.items c.in_ok-shards.seats.items c.in_ok-shards.ensures.seats) ∙ fresh_stores c.in_ok-shards.shards.items) i; ledger = (c.in-Ok.ensures.follower i).ledger })

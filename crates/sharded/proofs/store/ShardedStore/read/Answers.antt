@@ -1,24 +1,40 @@
-use Rattle.std.proofs.Common.{refl, ap, subst, ◌∙◌, slice_index_or, IfOk}
+use Rattle.std.proofs.Common.{IfOk, refl, subst}
 use Rattle.shared.specs.Calls.{GrantedIn, CanGrant, IfGranted}
 use Rattle.sharded.specs.Steps.{width_for}
-use Rattle.sharded.proofs.Steps.{held, held_stores, call_of_shards, call_step, width_is, seen_is}
+use Rattle.history.specs.Step.{read}
+use Rattle.sharded.proofs.Seats.{held_seat, stepped_seat, held_of, held_store, held_name, kept_call, called_at, listed_call, step_same, held_ledger, width_at_name, seen_at_name}
 use Rattle.sharded.proofs.store.ShardedStore.read.Goals as goal
 
+pub make-requires-clause-shard : goal.make-requires-clause-shard
+make-requires-clause-shard g c = held_store (held_seat c.pass.view_is c.pass.invariant c.self.view_is c.requires c.find_shard-place.ensures.below c.index_mut-seat.ensures.value) c.index-shard.result.now c.index-shard.ensures
+
+pub make-requires-clause-at : goal.make-requires-clause-at
+make-requires-clause-at g c = held_of (held_seat c.pass.view_is c.pass.invariant c.self.view_is c.requires c.find_shard-place.ensures.below c.index_mut-seat.ensures.value)
+
+pub make-requires-clause-ledger : goal.make-requires-clause-ledger
+make-requires-clause-ledger g c = held_ledger (held_seat c.pass.view_is c.pass.invariant c.self.view_is c.requires c.find_shard-place.ensures.below c.index_mut-seat.ensures.value)
+
+pub make-requires-clause-name : goal.make-requires-clause-name
+make-requires-clause-name g c = held_name (held_seat c.pass.view_is c.pass.invariant c.self.view_is c.requires c.find_shard-place.ensures.below c.index_mut-seat.ensures.value) c.args.name (read c.args.name c.args.start c.args.len) c.find_shard-place.ensures.value refl
+
 pub invariant_of-pass : goal.invariant_of-pass
-invariant_of-pass g c = call_of_shards (held c.pass.view_is c.requires c.find_shard-shard.ensures.below c.index_mut-own.ensures.value) c.args.name c.find_shard-shard.ensures.value c.read.ensures.called refl c.pass.invariant
+invariant_of-pass g c = kept_call (held_seat c.pass.view_is c.pass.invariant c.self.view_is c.requires c.find_shard-place.ensures.below c.index_mut-seat.ensures.value) c.args.name c.find_shard-place.ensures.value (stepped_seat c.index_mut-seat.result.now c.make.new.seat c.pass.inside.follower c.make.new.follower c.make.ensures.called.takes c.make.ensures.same c.make.ensures.listed c.make.ensures.follower) c.make.ensures.called refl
 
 pub returns-clause-called : goal.returns-clause-called
-returns-clause-called g c = call_step (held c.pass.view_is c.requires c.find_shard-shard.ensures.below c.index_mut-own.ensures.value) c.args.name c.find_shard-shard.ensures.value c.read.ensures.called refl
+returns-clause-called g c = called_at (held_seat c.pass.view_is c.pass.invariant c.self.view_is c.requires c.find_shard-place.ensures.below c.index_mut-seat.ensures.value) c.args.name c.find_shard-place.ensures.value c.make.new.seat c.make.ensures.called refl
+
+pub returns-clause-listed : goal.returns-clause-listed
+returns-clause-listed g c = listed_call (held_seat c.pass.view_is c.pass.invariant c.self.view_is c.requires c.find_shard-place.ensures.below c.index_mut-seat.ensures.value) c.args.name c.find_shard-place.ensures.value (read c.args.name c.args.start c.args.len) c.make.result (stepped_seat c.index_mut-seat.result.now c.make.new.seat c.pass.inside.follower c.make.new.follower c.make.ensures.called.takes c.make.ensures.same c.make.ensures.listed c.make.ensures.follower) refl
 
 pub returns-clause-same : goal.returns-clause-same
-returns-clause-same g c = held_stores (held c.pass.view_is c.requires c.find_shard-shard.ensures.below c.index_mut-own.ensures.value) c.read.new.pass c.read.ensures.called.takes.stays.0
+returns-clause-same g c = step_same (held_seat c.pass.view_is c.pass.invariant c.self.view_is c.requires c.find_shard-place.ensures.below c.index_mut-seat.ensures.value) (stepped_seat c.index_mut-seat.result.now c.make.new.seat c.pass.inside.follower c.make.new.follower c.make.ensures.called.takes c.make.ensures.same c.make.ensures.listed c.make.ensures.follower)
 
 pub returns-clause-grant : goal.returns-clause-grant
 returns-clause-grant g c =
-    subst (λ h. IfOk c.read.result (λ a. IfGranted a (GrantedIn h (width_for c.args.self.now c.args.name) c.args.name c.args.start c.args.len))) (seen_is (held c.pass.view_is c.requires c.find_shard-shard.ensures.below c.index_mut-own.ensures.value) c.args.name c.find_shard-shard.ensures.value c.read.new.pass)
-    (subst (λ w. IfOk c.read.result (λ a. IfGranted a (GrantedIn c.read.new.pass.seen w c.args.name c.args.start c.args.len))) (width_is (held c.pass.view_is c.requires c.find_shard-shard.ensures.below c.index_mut-own.ensures.value) c.args.name c.find_shard-shard.ensures.value c.index-store.result.now (c.index-store.ensures ∙ ap (λ ss. slice_index_or ss c.find_shard-shard.result c.index-store.result.now) c.self.view_is)) c.read.ensures.grant)
+    subst (λ h. IfOk c.make.result (λ a. IfGranted a (GrantedIn h (width_for c.args.self.now.shards c.args.name) c.args.name c.args.start c.args.len))) (seen_at_name (held_seat c.pass.view_is c.pass.invariant c.self.view_is c.requires c.find_shard-place.ensures.below c.index_mut-seat.ensures.value) c.args.name c.find_shard-place.ensures.value c.make.new.seat)
+    (subst (λ w. IfOk c.make.result (λ a. IfGranted a (GrantedIn c.make.new.seat.shows.seen w c.args.name c.args.start c.args.len))) (width_at_name (held_seat c.pass.view_is c.pass.invariant c.self.view_is c.requires c.find_shard-place.ensures.below c.index_mut-seat.ensures.value) c.args.name c.find_shard-place.ensures.value c.index-shard.result.now c.index-shard.ensures) c.make.ensures.granted)
 
 pub returns-clause-no_memory : goal.returns-clause-no_memory
 returns-clause-no_memory g c refused =
-    subst (λ h. CanGrant h (width_for c.args.self.now c.args.name) c.args.name c.args.start c.args.len) (seen_is (held c.pass.view_is c.requires c.find_shard-shard.ensures.below c.index_mut-own.ensures.value) c.args.name c.find_shard-shard.ensures.value c.read.new.pass)
-    (subst (λ w. CanGrant c.read.new.pass.seen w c.args.name c.args.start c.args.len) (width_is (held c.pass.view_is c.requires c.find_shard-shard.ensures.below c.index_mut-own.ensures.value) c.args.name c.find_shard-shard.ensures.value c.index-store.result.now (c.index-store.ensures ∙ ap (λ ss. slice_index_or ss c.find_shard-shard.result c.index-store.result.now) c.self.view_is)) (c.read.ensures.no_memory refused))
+    subst (λ h. CanGrant h (width_for c.args.self.now.shards c.args.name) c.args.name c.args.start c.args.len) (seen_at_name (held_seat c.pass.view_is c.pass.invariant c.self.view_is c.requires c.find_shard-place.ensures.below c.index_mut-seat.ensures.value) c.args.name c.find_shard-place.ensures.value c.make.new.seat)
+    (subst (λ w. CanGrant c.make.new.seat.shows.seen w c.args.name c.args.start c.args.len) (width_at_name (held_seat c.pass.view_is c.pass.invariant c.self.view_is c.requires c.find_shard-place.ensures.below c.index_mut-seat.ensures.value) c.args.name c.find_shard-place.ensures.value c.index-shard.result.now c.index-shard.ensures) (c.make.ensures.no_memory refused))

@@ -1,7 +1,12 @@
 use Rattle.std.proofs.Common.{◌≡◌}
-use Rattle.sharded.specs.Passes.{stores_of}
+use Rattle.sharded.specs.Passes.{store_of}
+use Rattle.sharded.specs.Listings.{IsLonger}
 use Rattle.sharded.specs.StepsTo.{AreStepsTo, IsTrimmed}
 use Rattle.sharded.proofs.store.ShardedStore.trim.Given as goal
 
 abbrev pub invariant-loop-shard : goal.invariant-loop-shard
-invariant-loop-shard g l = AreStepsTo (IsTrimmed l.keep) l.shard l.fn.pass l.pass × (stores_of l.pass ≡ l.self)
+invariant-loop-shard g l = record {
+  steps : AreStepsTo (IsTrimmed l.keep) l.shard l.fn.pass.shards l.pass.shards;
+  store : store_of l.pass ≡ l.self;
+  longer : IsLonger l.fn.pass l.pass;
+}

@@ -1,6 +1,0 @@
-use Rattle.std.proofs.Common.{◌≡◌, take, fold}
-use Rattle.sharded.specs.Hash.{hash_step}
-use Rattle.sharded.proofs.placement.hash_bytes.Given as goal
-
-abbrev pub invariant-loop-b : goal.invariant-loop-b
-invariant-loop-b l = l.hash ≡ fold hash_step l.initial.hash (take l.b-index l.bytes)
