@@ -1,6 +1,6 @@
 //! Calls by name, in both forms.
 ghost use Rattle.std.specs.Prelude.{◌≡◌};
-ghost use Rattle.sharded.specs.Passes.{stores_of};
+ghost use Rattle.sharded.specs.Passes.{store_of};
 
 use anyhow::{Result, bail, ensure};
 use book::Note;
@@ -41,8 +41,8 @@ fn make<R: Wait>(
     name: Name,
     call: Call,
 ) -> std::result::Result<Answer, Fault>
-    requires { stores_of pass.old ≡ store.now }
-    ensures { stores_of pass.new ≡ store.now }
+    requires { store_of pass.old ≡ store.now }
+    ensures { store_of pass.new ≡ store.now }
 {
     let blob = Bytes::from_static(BLOB);
     match call {
@@ -64,8 +64,8 @@ fn try_make(
     name: Name,
     call: Call,
 ) -> std::result::Result<Answer, Fault>
-    requires { stores_of pass.old ≡ store.now }
-    ensures { stores_of pass.new ≡ store.now }
+    requires { store_of pass.old ≡ store.now }
+    ensures { store_of pass.new ≡ store.now }
 {
     let blob = Bytes::from_static(BLOB);
     match call {
@@ -89,8 +89,8 @@ fn call_as<R: Wait>(
     form: Form,
     call: Call,
 ) -> std::result::Result<Answer, Fault>
-    requires { stores_of pass.old ≡ store.now }
-    ensures { stores_of pass.new ≡ store.now }
+    requires { store_of pass.old ≡ store.now }
+    ensures { store_of pass.new ≡ store.now }
 {
     match form {
         Form::Waits => make(rt, alloc, store, pass, name, call),
@@ -108,8 +108,8 @@ pub(crate) fn answer<R: Wait>(
     form: Form,
     call: Call,
 ) -> Result<Answer>
-    requires { stores_of pass.old ≡ store.now }
-    ensures { stores_of pass.new ≡ store.now }
+    requires { store_of pass.old ≡ store.now }
+    ensures { store_of pass.new ≡ store.now }
 {
     for _ in 0..1_000_000_000 {
         match call_as(rt, alloc, store, pass, name.duplicate(), form, call) {
@@ -131,8 +131,8 @@ pub(crate) fn expect<R: Wait>(
     form: Form,
     step: (Call, Note),
 ) -> Result<()>
-    requires { stores_of pass.old ≡ store.now }
-    ensures { stores_of pass.new ≡ store.now }
+    requires { store_of pass.old ≡ store.now }
+    ensures { store_of pass.new ≡ store.now }
 {
     let (call, note) = step;
     let answer = answer(rt, alloc, store, pass, name, form, call)?;

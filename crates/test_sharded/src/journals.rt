@@ -1,6 +1,6 @@
 //! Trims, passes and books.
 ghost use Rattle.std.specs.Prelude.{◌≡◌, ◌<◌, length, IfOk};
-ghost use Rattle.sharded.specs.Passes.{stores_of, receipt_stores, AreLone};
+ghost use Rattle.sharded.specs.Passes.{store_of, receipt_store, AreLone};
 
 use crate::calls::{Call, Form, expect};
 use crate::names::{CALLS, NAMES, count_at};
@@ -17,8 +17,8 @@ fn trim_ends<R: Wait>(
     store: &ShardedStore,
     pass: &mut ShardedPass,
 ) -> Result<(u64, u64)>
-    requires { stores_of pass.old ≡ store.now }
-    ensures { stores_of pass.new ≡ store.now }
+    requires { store_of pass.old ≡ store.now }
+    ensures { store_of pass.new ≡ store.now }
 {
     let last = store.count_shards() - 1;
     let first = match store.trim_shard(rt, alloc, pass, 0, 2) {
@@ -39,8 +39,8 @@ pub(crate) fn trim<R: Wait>(
     store: &ShardedStore,
     pass: &mut ShardedPass,
 ) -> Result<()>
-    requires { stores_of pass.old ≡ store.now }
-    ensures { stores_of pass.new ≡ store.now }
+    requires { store_of pass.old ≡ store.now }
+    ensures { store_of pass.new ≡ store.now }
 {
     let last = store.count_shards() - 1;
     // Each name was called, and then repaired.
@@ -72,9 +72,9 @@ pub(crate) fn split(
     pass: &mut ShardedPass,
     who: u32,
 ) -> Result<ShardedPass>
-    requires { stores_of pass.old ≡ store.now }
-    ensures pass { stores_of pass.new ≡ store.now }
-    ensures given { IfOk result (λ p. stores_of p ≡ store.now) }
+    requires { store_of pass.old ≡ store.now }
+    ensures pass { store_of pass.new ≡ store.now }
+    ensures given { IfOk result (λ p. store_of p ≡ store.now) }
 {
     match pass.split(alloc, store, who) {
         Ok(other) => Ok(other),
@@ -84,9 +84,9 @@ pub(crate) fn split(
 
 /// A receipt of what a pass has seen at each shard, again if out of memory.
 fn receipt_of(alloc: Global, store: &ShardedStore, pass: &mut ShardedPass) -> Result<ShardedReceipt>
-    requires { stores_of pass.old ≡ store.now }
-    ensures pass { stores_of pass.new ≡ store.now }
-    ensures given { IfOk result (λ r. receipt_stores r ≡ store.now) }
+    requires { store_of pass.old ≡ store.now }
+    ensures pass { store_of pass.new ≡ store.now }
+    ensures given { IfOk result (λ r. receipt_store r ≡ store.now) }
 {
     match pass.receipt(alloc, store) {
         Ok(receipt) => Ok(receipt),
@@ -96,7 +96,7 @@ fn receipt_of(alloc: Global, store: &ShardedStore, pass: &mut ShardedPass) -> Re
 
 /// Closes a store whose passes are all joined, again if out of memory, and returns its books.
 pub(crate) fn close(alloc: Global, store: ShardedStore, pass: ShardedPass) -> Result<Vec<Book>>
-    requires { stores_of pass ≡ store }
+    requires { store_of pass ≡ store }
 {
     ensure!(pass.room() == 64, "a pass is still out");
     match store.close(alloc, pass) {
@@ -131,7 +131,7 @@ pub(crate) fn split_and_close<R: Wait>(
     store: ShardedStore,
     mut pass: ShardedPass,
 ) -> Result<()>
-    requires { stores_of pass ≡ store }
+    requires { store_of pass ≡ store }
 {
     let mut other = split(alloc, &store, &mut pass, 7)?;
     ensure!(pass.room() == 63 && other.room() == 1, "other rooms");

@@ -7,12 +7,13 @@
 #![tactic(auto)]
 
 ghost use Rattle.std.specs.Prelude.{◌≡◌, ◌≤◌, IfOk};
-ghost use Rattle.sharded.specs.Passes.{stores_of};
+ghost use Rattle.sharded.specs.Passes.{store_of};
 
 mod calls;
 mod journals;
 mod mending;
 mod names;
+mod order;
 mod threads;
 
 use anyhow::{Context, Result, ensure};
@@ -24,7 +25,7 @@ use std::sync::Wait;
 /// Opens a store of width 1 with `count` shards, again if out of memory.
 fn open(alloc: Global, count: usize) -> Result<(ShardedStore, ShardedPass)>
     requires { (1 ≤ count) × (count ≤ 64) }
-    ensures { IfOk result (λ r. stores_of r.1 ≡ r.0) }
+    ensures { IfOk result (λ r. store_of r.1 ≡ r.0) }
 {
     let limit = Limit::new(10_000).context("a limit")?;
     match ShardedStore::open(alloc, count, 1, limit) {
@@ -61,6 +62,8 @@ fn main(rt: HostRuntime) -> Result<()> {
     println!(rt; "4 shards: each call gives its answer")?;
     run(&rt, alloc, 64)?;
     println!(rt; "64 shards: each call gives its answer")?;
+    let (store, mut pass) = open(alloc, 4)?;
+    order::run(&rt, &store, &mut pass)?;
     if has_word(&rt) {
         return Ok(());
     }

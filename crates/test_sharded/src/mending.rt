@@ -1,6 +1,6 @@
 //! A mend over all shards.
 ghost use Rattle.std.specs.Prelude.{◌≡◌, IfOk};
-ghost use Rattle.sharded.specs.Passes.{stores_of};
+ghost use Rattle.sharded.specs.Passes.{store_of};
 
 use crate::names::NAMES;
 use anyhow::{Result, bail, ensure};
@@ -16,8 +16,8 @@ fn plan<R: Wait>(
     store: &ShardedStore,
     pass: &mut ShardedPass,
 ) -> Result<(Plan, Tickets, Drawer)>
-    requires { stores_of pass.old ≡ store.now }
-    ensures pass { stores_of pass.new ≡ store.now }
+    requires { store_of pass.old ≡ store.now }
+    ensures pass { store_of pass.new ≡ store.now }
     ensures drawer { IfOk result (λ r. r.2.tickets ≡ r.1) }
 {
     match scrub(rt, alloc, store, pass) {
@@ -54,8 +54,8 @@ fn mend_once<R: Wait>(
     store: &ShardedStore,
     pass: &mut ShardedPass,
 ) -> Result<u64>
-    requires { stores_of pass.old ≡ store.now }
-    ensures { stores_of pass.new ≡ store.now }
+    requires { store_of pass.old ≡ store.now }
+    ensures { store_of pass.new ≡ store.now }
 {
     let (plan, tickets, mut drawer) = plan(rt, alloc, store, pass)?;
     match work(rt, alloc, store, pass, &plan, &tickets, &mut drawer) {
@@ -71,8 +71,8 @@ pub(crate) fn mend<R: Wait>(
     store: &ShardedStore,
     pass: &mut ShardedPass,
 ) -> Result<()>
-    requires { stores_of pass.old ≡ store.now }
-    ensures { stores_of pass.new ≡ store.now }
+    requires { store_of pass.old ≡ store.now }
+    ensures { store_of pass.new ≡ store.now }
 {
     let first = mend_once(rt, alloc, store, pass)?;
     let second = mend_once(rt, alloc, store, pass)?;

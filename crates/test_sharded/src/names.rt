@@ -1,6 +1,6 @@
 //! All calls on some names.
 ghost use Rattle.std.specs.Prelude.{◌≡◌};
-ghost use Rattle.sharded.specs.Passes.{stores_of};
+ghost use Rattle.sharded.specs.Passes.{store_of};
 
 use crate::calls::{Call, Form, expect};
 use anyhow::Result;
@@ -67,8 +67,8 @@ fn use_name<R: Wait>(
     form: Form,
     puts: u64,
 ) -> Result<()>
-    requires { stores_of pass.old ≡ store.now }
-    ensures { stores_of pass.new ≡ store.now }
+    requires { store_of pass.old ≡ store.now }
+    ensures { store_of pass.new ≡ store.now }
 {
     let steps = steps(puts);
     for k in 0..steps.len() {
@@ -85,8 +85,8 @@ pub(crate) fn use_all<R: Wait>(
     store: &ShardedStore,
     pass: &mut ShardedPass,
 ) -> Result<()>
-    requires { stores_of pass.old ≡ store.now }
-    ensures { stores_of pass.new ≡ store.now }
+    requires { store_of pass.old ≡ store.now }
+    ensures { store_of pass.new ≡ store.now }
 {
     for number in 0..NAMES.len() {
         let name = Name::new(NAMES[number])?;

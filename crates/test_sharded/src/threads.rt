@@ -1,6 +1,6 @@
 //! Four threads over four shards.
 ghost use Rattle.std.specs.Prelude.{◌≡◌, IfOk};
-ghost use Rattle.sharded.specs.Passes.{stores_of};
+ghost use Rattle.sharded.specs.Passes.{store_of};
 
 use crate::calls::{Call, Form, answer};
 use crate::journals::{close, count_entries, split};
@@ -23,8 +23,8 @@ fn use_name<R: Wait>(
     pass: &mut ShardedPass,
     name: &Name,
 ) -> Result<()>
-    requires { stores_of pass.old ≡ store.now }
-    ensures { stores_of pass.new ≡ store.now }
+    requires { store_of pass.old ≡ store.now }
+    ensures { store_of pass.new ≡ store.now }
 {
     let form = Form::Tries;
     answer(rt, alloc, store, pass, name, form, Call::Put)?;
@@ -41,8 +41,8 @@ fn use_names<R: Wait>(
     store: &ShardedStore,
     pass: &mut ShardedPass,
 ) -> Result<()>
-    requires { stores_of pass.old ≡ store.now }
-    ensures { stores_of pass.new ≡ store.now }
+    requires { store_of pass.old ≡ store.now }
+    ensures { store_of pass.new ≡ store.now }
 {
     for turn in 0..TURNS {
         let name = Name::new(NAMES[turn as usize % NAMES.len()])?;
@@ -58,8 +58,8 @@ fn work<R: Wait>(
     store: &ShardedStore,
     mut pass: ShardedPass,
 ) -> (ShardedPass, Result<()>)
-    requires { stores_of pass ≡ store.now }
-    ensures { stores_of result.0 ≡ store.now }
+    requires { store_of pass ≡ store.now }
+    ensures { store_of result.0 ≡ store.now }
 {
     let done = use_names(rt, alloc, store, &mut pass);
     (pass, done)
@@ -73,18 +73,18 @@ fn work_twice<R: Threads + Wait + Sync>(
     one: ShardedPass,
     other: ShardedPass,
 ) -> (ShardedPass, Result<()>)
-    requires { (stores_of one ≡ store.now) × (stores_of other ≡ store.now) }
-    ensures { stores_of result.0 ≡ store.now }
+    requires { (store_of one ≡ store.now) × (store_of other ≡ store.now) }
+    ensures { store_of result.0 ≡ store.now }
 {
     let ((mut pass, first), (other, second)) = thread::join(
         rt,
         || -> (ShardedPass, Result<()>)
-            requires { stores_of one ≡ store.now }
-            ensures { stores_of result.0 ≡ store.entry.now }
+            requires { store_of one ≡ store.now }
+            ensures { store_of result.0 ≡ store.entry.now }
         { work(rt, alloc, store, one) },
         || -> (ShardedPass, Result<()>)
-            requires { stores_of other ≡ store.now }
-            ensures { stores_of result.0 ≡ store.entry.now }
+            requires { store_of other ≡ store.now }
+            ensures { store_of result.0 ≡ store.entry.now }
         { work(rt, alloc, store, other) },
     );
     pass.join(store, other);
@@ -98,8 +98,8 @@ fn work_in_four<R: Threads + Wait + Sync>(
     store: &ShardedStore,
     mut pass: ShardedPass,
 ) -> Result<ShardedPass>
-    requires { stores_of pass ≡ store.now }
-    ensures { IfOk result (λ p. stores_of p ≡ store.now) }
+    requires { store_of pass ≡ store.now }
+    ensures { IfOk result (λ p. store_of p ≡ store.now) }
 {
     let two = split(alloc, store, &mut pass, 2)?;
     let three = split(alloc, store, &mut pass, 3)?;
@@ -107,12 +107,12 @@ fn work_in_four<R: Threads + Wait + Sync>(
     let ((mut pass, first), (other, second)) = thread::join(
         rt,
         || -> (ShardedPass, Result<()>)
-            requires { (stores_of pass ≡ store.now) × (stores_of two ≡ store.now) }
-            ensures { stores_of result.0 ≡ store.entry.now }
+            requires { (store_of pass ≡ store.now) × (store_of two ≡ store.now) }
+            ensures { store_of result.0 ≡ store.entry.now }
         { work_twice(rt, alloc, store, pass, two) },
         || -> (ShardedPass, Result<()>)
-            requires { (stores_of three ≡ store.now) × (stores_of four ≡ store.now) }
-            ensures { stores_of result.0 ≡ store.entry.now }
+            requires { (store_of three ≡ store.now) × (store_of four ≡ store.now) }
+            ensures { store_of result.0 ≡ store.entry.now }
         { work_twice(rt, alloc, store, three, four) },
     );
     first?;
@@ -128,7 +128,7 @@ pub(crate) fn run<R: Threads + Wait + Sync>(
     store: ShardedStore,
     pass: ShardedPass,
 ) -> Result<()>
-    requires { stores_of pass ≡ store }
+    requires { store_of pass ≡ store }
 {
     let pass = work_in_four(rt, alloc, &store, pass)?;
     let books = close(alloc, store, pass)?;

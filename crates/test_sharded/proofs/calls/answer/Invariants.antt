@@ -1,6 +1,6 @@
 use Rattle.std.proofs.Common.{◌≡◌}
-use Rattle.sharded.specs.Passes.{stores_of}
+use Rattle.sharded.specs.Passes.{store_of}
 use Rattle.test_sharded.proofs.calls.answer.Given as goal
 
 abbrev pub invariant-loop : goal.invariant-loop
-invariant-loop g l = stores_of l.pass ≡ l.store
+invariant-loop g l = store_of l.pass ≡ l.store
