@@ -135,8 +135,9 @@ uint32_t lrc_add(uint8_t *target, size_t target_len, uint8_t coefficient,
  * none. The text is never freed. */
 const char *lrc_coder_text(uint32_t status);
 
-/* The processor level whose code is used, "x86-64-v3" or "x86-64-v2". The library chooses when it
- * is loaded. LRC_CODER_CPU=v2 in the environment forces the second. */
+/* The processor level whose code is used: "x86-64-v4", "x86-64-v3" or "x86-64-v2". The library
+ * chooses when it is loaded. LRC_CODER_CPU=v3 or LRC_CODER_CPU=v2 in the environment forbids a
+ * higher one. */
 const char *lrc_coder_cpu(void);
 
 /* lrc_is_open by a plainer name. */

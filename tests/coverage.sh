@@ -40,7 +40,7 @@ c_sources() {
     object store_text gcc library/store_text.c
     object coder_text gcc library/coder_text.c
     object choice gcc library/choice.c -fPIC -O1 '-DEACH(of)=of(choice_first) of(choice_second)' \
-        -DCHOICE_CPU=choice_cpu '-DCHOICE_ENV="CHOICE"'
+        -DCHOICE_CPU=choice_cpu '-DCHOICE_ENV="CHOICE"' -DHAS_V4
     for each in first second; do
         object $each gcc library/store_open.c -Dlrc_store_open=${each}_open \
             -Dlrc_store_open_numbered=open_numbered

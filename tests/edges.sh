@@ -28,7 +28,16 @@ held() {
 }
 
 calls() { random calls "${wrapped[@]}" -Wl,--wrap=free "$store" && "$work/calls" "$seconds"; }
-coder_calls() { random coder "$coder" && "$work/coder" "$seconds"; }
+
+# The coder's code for each level that the processor has, in turn.
+coder_calls() {
+    local each levels
+    read -ra levels <<< "$(tests/levels.sh)"
+    random coder "$coder" || return
+    for each in "${levels[@]}"; do
+        LRC_CODER_CPU=$each "$work/coder" $((seconds / ${#levels[@]} + 1)) || return
+    done
+}
 
 # Two programs of one thread each, side by side.
 one_thread() {
@@ -49,11 +58,13 @@ compiled=(gcc -std=gnu11 -O1 "${warnings[@]}")
 source_of() { "${compiled[@]}" -fPIC -c "library/$1.c" "${@:3}" -o "$work/$2.o"; }
 tested() { "${compiled[@]}" "tests/edges/$1.c" "${@:2}" -o "$work/$1"; }
 
-choice() {
+# chosen HIGHEST FLAG..
+chosen() {
     source_of choice chosen '-DEACH(of)=of(choice_first) of(choice_second)' \
-        -DCHOICE_CPU=choice_cpu '-DCHOICE_ENV="CHOICE"' && tested choice "$work/chosen.o" \
-        && tests/edges/choice.sh "$work/choice"
+        -DCHOICE_CPU=choice_cpu '-DCHOICE_ENV="CHOICE"' "${@:2}" \
+        && tested choice "$work/chosen.o" && tests/edges/choice.sh "$work/choice" "$1"
 }
+choice() { chosen v3 && chosen v4 -DHAS_V4; }
 
 numbers() {
     local each

@@ -10,6 +10,7 @@ cd "$(dirname "$0")/.." || exit
 . tests/libraries.sh
 archive=$LRC_LIBRARIES/liblrc_coder.a
 backend=integrations/liberasurecode
+read -ra levels <<< "$(tests/levels.sh)"
 
 warnings=(-Wall -Wextra -Wpedantic -Wconversion -Wshadow -Werror -I include)
 sanitizers=(-g "-fsanitize=address,undefined" -fno-sanitize-recover=all)
@@ -22,7 +23,13 @@ c_program() {
         -o "$work/program" && "$work/program"
 }
 
-sanitized() { c_program "$@" "${sanitizers[@]}"; }
+# By the code for each level of the processor.
+sanitized() {
+    local each
+    for each in "${levels[@]}"; do
+        LRC_CODER_CPU=$each c_program "$@" "${sanitizers[@]}" || return
+    done
+}
 
 # The coder allocates no memory: it calls only what compilers count on, and getenv to choose.
 symbols() { tests/library/symbols.sh lrc_coder 'getenv|strcmp|mem(cmp|cpy|move|set)'; }
@@ -49,22 +56,29 @@ sources() {
     for each in library/*.c; do
         for compiler in gcc clang; do
             "$compiler" -std=gnu11 -O2 -fPIC "${warnings[@]}" '-DEACH(of)=of(lrc_add)' \
-                -DCHOICE_CPU=lrc_coder_cpu '-DCHOICE_ENV="LRC_CODER_CPU"' -c "$each" \
+                -DHAS_V4 -DCHOICE_CPU=lrc_coder_cpu '-DCHOICE_ENV="LRC_CODER_CPU"' -c "$each" \
                 -o "$work/source.o" || return
         done
     done
     echo "sources: no warning of gcc or clang"
 }
 
-# The same tests by the code for either processor. Left alone, the library chooses the best.
+# The same tests by the code for each level of the processor. Left alone, the library chooses the
+# best.
 choice() {
-    local best=x86-64-v2
-    grep -w avx2 /proc/cpuinfo | grep -w bmi2 | grep -qw movbe && best=x86-64-v3
-    c_program gcc c11 tests/library/cpu.c && [ "$("$work/program")" = $best ] \
-        && [ "$(LRC_CODER_CPU=v2 "$work/program")" = x86-64-v2 ] || return
-    c_program gcc c11 tests/library/coder.c > "$work/chosen" \
-        && LRC_CODER_CPU=v2 "$work/program" > "$work/forced" && cmp "$work/chosen" "$work/forced" \
-        && echo "choice: $best here, and x86-64-v2 where it is forced"
+    local each source
+    c_program gcc c11 tests/library/cpu.c > /dev/null \
+        && [ "$("$work/program")" = "x86-64-${levels[-1]}" ] || return
+    for each in "${levels[@]}"; do
+        [ "$(LRC_CODER_CPU=$each "$work/program")" = "x86-64-$each" ] || return
+    done
+    for source in coder plans; do
+        for each in "${levels[@]}"; do
+            LRC_CODER_CPU=$each c_program gcc c11 tests/library/$source.c > "$work/$each" \
+                && cmp "$work/$each" "$work/${levels[0]}" || return
+        done
+    done
+    echo "choice: ${levels[-1]} here, and each of ${levels[*]} where it is forced"
 }
 
 shared_library() {

@@ -48,18 +48,21 @@ PROGRAM = "crates/lrcstore/out/lrcstore"
 
 class Test(NamedTuple):
     """How a test is built, and how it is run. What `prepare` makes is made once. `needs` has a
-    command or a file and its package, in turn."""
+    command or a file and its package, in turn, and `level` that of the processor."""
 
     build: str
     run: str
     prepare: str = "true"
     seconds: int = 60
     needs: tuple = ()
+    level: str = "v2"
 
     def missing(self):
-        """The packages that are not here."""
+        """The packages that are not here, and what the processor lacks."""
         pairs = zip(self.needs[::2], self.needs[1::2])
-        return [package for it, package in pairs if not (shutil.which(it) or os.path.exists(it))]
+        lacks = [package for it, package in pairs if not (shutil.which(it) or os.path.exists(it))]
+        printed = subprocess.run([f"{HERE}/levels.sh"], stdout=subprocess.PIPE, text=True).stdout
+        return lacks + [f"x86-64-{self.level}"] * (self.level not in printed.split())
 
 
 def store_program(file, words="", **others):
@@ -82,6 +85,17 @@ def copy_of_open(name):
     )
 
 
+def choice(level):
+    """A test of library/choice.c by mutants that show on processors of this level."""
+    return Test(
+        f"{C} -fPIC tests/edges/choice.c library/choice.c '-DCHOICE_ENV=\"CHOICE\"'"
+        " -DCHOICE_CPU=choice_cpu '-DEACH(of)=of(choice_first) of(choice_second)' -DHAS_V4"
+        " -o program",
+        "tests/edges/choice.sh ./program",
+        level=level,
+    )
+
+
 def rust_crate(folder):
     """The tests of a Rust crate."""
     command = f"cd bindings/{folder} && cargo test --quiet --offline"
@@ -90,7 +104,7 @@ def rust_crate(folder):
 
 TESTS = {
     "waiting": Test(
-        f"{C} tests/store/waiting.c library/store_wait.c -o program", "./program", seconds=30
+        f"{C} tests/store/waiting.c library/store_wait.c -o program", "./program", seconds=10
     ),
     "waits": store_program("edges/waits.c", seconds=25),
     "calls": store_program("edges/calls.cpp", "4"),
@@ -105,11 +119,8 @@ TESTS = {
         " -Wl,--allow-multiple-definition -o other",
         "./program && ./other",
     ),
-    "choice": Test(
-        f"{C} -fPIC tests/edges/choice.c library/choice.c '-DCHOICE_ENV=\"CHOICE\"'"
-        " -DCHOICE_CPU=choice_cpu '-DEACH(of)=of(choice_first) of(choice_second)' -o program",
-        "tests/edges/choice.sh ./program",
-    ),
+    "choice": choice("v3"),
+    "choice_v4": choice("v4"),
     "coder": Test(f"{CPP} tests/edges/coder.cpp {CODER} -o program", "./program 3"),
     "cpp": Test(f"{CPP} tests/store/bindings.cpp {STORE} -o program", "./program", seconds=120),
     "cpp_sanitized": Test(

@@ -28,7 +28,8 @@ KINDS = [
     (
         "store",
         FIRST_PARITY,
-        "history book gate ledger requests shared mender sharded sharded_mender ledger_map",
+        "history book gate ledger one_map requests ledger_map shared shard mender sharded"
+        " sharded_mender",
     ),
     ("scripts", MADE, "script command_line transcript rounds play program lrcstore"),
     ("for C", GLOBAL, "coder_c session store_c"),

@@ -4,10 +4,10 @@
     tools/libraries.py [--to FOLDER] [--from BUILT] [lrc_coder] [lrc_store]
 
 Leaves liblrc_coder.a and .so, and liblrc_store.a and .so, in FOLDER; both libraries if none is
-named. Each has its proved code twice, for x86-64-v2 (SSE) and for x86-64-v3 (AVX2), and chooses
-when it is loaded. tools/rt_once.py proves and builds the crates, unless BUILT has their archives:
-libcoder_c_v2.a, libcoder_c_v3.a, libstore_c_v2.a, libstore_c_v3.a. It needs gcc and binutils. The
-files depend on the archives, the sources and the compiler alone.
+named. Each has its proved code for x86-64-v2 (SSE) and x86-64-v3 (AVX2), the coder also for
+x86-64-v4 (AVX-512), and chooses when it is loaded. tools/rt_once.py proves and builds the crates,
+unless BUILT has their archives: libcoder_c_v2.a, _v3.a and _v4.a, libstore_c_v2.a and _v3.a. It
+needs gcc and binutils. The files depend on the archives, the sources and the compiler alone.
 """
 
 import argparse
@@ -20,7 +20,6 @@ import tempfile
 from typing import NamedTuple
 
 TOP = os.path.dirname(os.path.dirname(os.path.abspath(__file__)))
-CPUS = ("v2", "v3")
 COMPILE = ("gcc", "-std=gnu11", "-O2", "-fPIC", "-Wall", "-Wextra", "-Werror", "-c")
 LINK = (
     "gcc",
@@ -31,21 +30,26 @@ LINK = (
 
 
 class Library(NamedTuple):
-    """The crate of a library, its C sources beside library/choice.c, and the proved functions that
-    have another name inside it."""
+    """The crate of a library, the processors that it has code for, its C sources beside
+    library/choice.c, the proved functions that have another name inside it, and those that its C
+    sources call and no header declares: its archive has them too."""
 
     crate: str
+    cpus: tuple
     sources: tuple
     renamed: dict
+    internal: tuple
     allocates: bool
 
 
 LIBRARIES = {
-    "lrc_coder": Library("coder_c", ("coder_text",), {}, False),
+    "lrc_coder": Library("coder_c", ("v2", "v3", "v4"), ("coder_text",), {}, (), False),
     "lrc_store": Library(
         "store_c",
+        ("v2", "v3"),
         ("store_open", "store_text", "store_wait"),
         {"lrc_store_open": "lrc_store_open_numbered"},
+        ("lrc_slot_number",),
         True,
     ),
 }
@@ -161,6 +165,7 @@ def choice_object(name, functions, folder):
     return compiled(
         "choice",
         folder,
+        *(["-DHAS_V4"] if "v4" in LIBRARIES[name].cpus else []),
         f"-DEACH(of)={' '.join(f'of({it})' for it in functions)}",
         f"-DCHOICE_CPU={name}_cpu",
         f'-DCHOICE_ENV="{name.upper()}_CPU"',
@@ -168,18 +173,20 @@ def choice_object(name, functions, folder):
 
 
 def static(name, archives, folder):
-    """Makes the archive of a library, which has the functions of its header and no other name."""
+    """Makes the archive of a library. It has the functions of its header, those that are internal,
+    and no other name."""
     library = LIBRARIES[name]
-    proved = [proved_object(library, cpu, archives[cpu], folder) for cpu in CPUS]
-    if proved[0][1] != proved[1][1]:
-        sys.exit(f"{library.crate} exports other functions for v2 than for v3")
+    proved = [proved_object(library, cpu, archives[cpu], folder) for cpu in library.cpus]
+    if any(functions != proved[0][1] for _, functions in proved):
+        sys.exit(f"{library.crate} exports not the same functions for each processor")
     objects = [it for it, _ in proved] + [choice_object(name, proved[0][1], folder)]
     objects += [compiled(source, folder) for source in library.sources]
     whole = os.path.join(folder, f"{name}.o")
     run("ld", "-r", "-o", whole, *objects)
-    run("objcopy", f"--keep-global-symbols={write(declared(name), folder, 'kept')}", whole)
-    if defined(whole) != declared(name):
-        wrong = " ".join(sorted(set(defined(whole)) ^ set(declared(name))))
+    wanted = sorted([*declared(name), *library.internal])
+    run("objcopy", f"--keep-global-symbols={write(wanted, folder, 'kept')}", whole)
+    if defined(whole) != wanted:
+        wrong = " ".join(sorted(set(defined(whole)) ^ set(wanted)))
         sys.exit(f"{name}.h and the library differ in {wrong}")
     archive = os.path.join(folder, f"lib{name}.a")
     run("ar", "rcsD", archive, whole)
@@ -212,7 +219,7 @@ def build(name, to, built=None):
     """Builds a library's archive and its shared form into a folder."""
     with tempfile.TemporaryDirectory() as folder:
         archives = {}
-        for cpu in CPUS:
+        for cpu in LIBRARIES[name].cpus:
             room = os.path.join(folder, f"archive_{cpu}")
             os.mkdir(room)
             archives[cpu] = archives_of(LIBRARIES[name], cpu, built, room)

@@ -2,7 +2,7 @@
 """rt, with no work done twice: each word but `archive` is one of rt's own.
 
     tools/rt_once.py WORD..                         the words of rt
-    tools/rt_once.py archive CRATE v2|v3 FILE       builds a static library for a processor
+    tools/rt_once.py archive CRATE v2|v3|v4 FILE    builds a static library for a processor
 
 Checksums. rt computes the checksum of a crate anew for each path of crates.txt that leads to it:
 5,702 times for `lrcstore`, which has 18 crates below it. Here one walk over the crates computes
@@ -14,12 +14,15 @@ starts mutants so by itself. These two are for kit 13b alone.
 
 Archives. `ci` proves a static library and builds none. `archive` builds it over the libraries that
 `ci` has proved, with one proof more of the crate itself for both processors. If the gate has not
-run, or a file has changed since, `archive` proves all by `rt lib`.
+run, or a file has changed since, `archive` proves all by `rt lib`. For v4 (AVX-512) it works in a
+copy of the crates, in which a block has 64 bytes in place of 32: `ci` proves them there, and the
+kit's own compiler builds, since the kit refuses LLVM for v4.
 """
 
 import importlib.machinery
 import importlib.util
 import os
+import re
 import shutil
 import subprocess
 import sys
@@ -28,6 +31,8 @@ import threading
 
 TOP = os.path.dirname(os.path.dirname(os.path.abspath(__file__)))
 SUM, KEPT = "out/gate.sum", "out/kept"
+# The source that says how many bytes a block has, and its line for most processors and for v4.
+LANES = "crates/kernels/src/blocks.rt", "LANES: usize = 32;", "LANES: usize = 64;"
 # The kits whose `ci` is known here, and the one whose checksums and mutants are helped.
 KITS, OLD_KIT = ("rattle-kit-13b ", "rattle-kit-13f "), "rattle-kit-13b "
 
@@ -117,12 +122,12 @@ def start_from_proof(rt):
     rt.must_fail_all = must_fail_all
 
 
-def crate_named(rt, name):
-    """A crate of this repository, as the gate sees it."""
+def crate_named(rt, name, top=TOP):
+    """A crate of this repository or of a copy, as the gate sees it."""
     rt.rtlib.Crate = rt.Crate
     rt.Crate.cuts_libraries = True
-    rt.Crate.allowed = rt.handles_of(TOP)
-    found = [crate for crate in rt.rtlib.crates_below(TOP) if crate.name == name]
+    rt.Crate.allowed = rt.handles_of(top)
+    found = [crate for crate in rt.rtlib.crates_below(top) if crate.name == name]
     if not found or not found[0].is_static:
         sys.exit(f"crates.txt has no static library {name}")
     return found[0]
@@ -139,14 +144,53 @@ def is_proved(rt, crate):
 def compile_over_gate(rt, crate, cpu, archive):
     """Builds over the libraries that the gate has proved. Returns rattle's status."""
     flags = ["--jobs", str(os.cpu_count()), f"--cpu=x86-64-{cpu}", "--incremental", KEPT]
-    command = [rt.rtlib.RATTLE, "build", *crate.words(flags, keeps=False), "--backend", "llvm"]
+    command = [rt.rtlib.RATTLE, "build", *crate.words(flags, keeps=False)]
+    command += ["--backend", "rattle" if cpu == "v4" else "llvm"]
     command += ["--toolchain", f"{rt.KIT}/toolchain", "-o", archive]
     return subprocess.run(command, cwd=crate.folder, check=False).returncode
+
+
+def copy_with_wide_blocks(crate, folder):
+    """Copies a crate and those below it, without mutants, and has blocks of 64 bytes there."""
+    parts = [it for it in (crate, *crate.below()) if it.folder.startswith(f"{TOP}/")]
+    for part in parts:
+        for kind in ("src", "specs", "proofs"):
+            if os.path.isdir(f"{part.folder}/{kind}"):
+                shutil.copytree(f"{part.folder}/{kind}", f"{folder}/crates/{part.name}/{kind}")
+    names = "|".join(part.name for part in parts)
+    with open(f"{TOP}/crates.txt", encoding="utf-8") as file:
+        lines = [line for line in file if re.match(rf"({names})\b[^:]*:", line)]
+    with open(f"{folder}/crates.txt", "w", encoding="utf-8") as file:
+        file.writelines(lines)
+    shutil.copy(f"{TOP}/HANDLES", folder)
+    source, narrow, wide = LANES
+    with open(f"{folder}/{source}", encoding="utf-8") as file:
+        text = file.read()
+    if text.count(narrow) != 1:
+        sys.exit(f"{source}: {narrow!r} stands there {text.count(narrow)} times")
+    with open(f"{folder}/{source}", "w", encoding="utf-8") as file:
+        file.write(text.replace(narrow, wide))
+
+
+def build_with_wide_blocks(rt, name, cpu, archive):
+    """Proves and builds a static library with blocks of 64 bytes. Returns the status."""
+    with tempfile.TemporaryDirectory(prefix="rt-wide-") as folder:
+        copy_with_wide_blocks(crate_named(rt, name), folder)
+        command = [sys.executable, os.path.abspath(__file__), "ci"]
+        ran = subprocess.run(
+            command, cwd=folder, stdout=subprocess.PIPE, stderr=subprocess.STDOUT, check=False
+        )
+        if ran.returncode:
+            sys.stdout.write(ran.stdout.decode(errors="replace"))
+            return ran.returncode
+        return compile_over_gate(rt, crate_named(rt, name, folder), cpu, archive)
 
 
 def build_archive(rt, name, cpu, archive):
     """Builds a static library, over what the gate has proved if it can."""
     archive = os.path.abspath(archive)
+    if cpu == "v4":
+        return build_with_wide_blocks(rt, name, cpu, archive)
     crate = crate_named(rt, name)
     if is_proved(rt, crate) and compile_over_gate(rt, crate, cpu, archive) == 0:
         return 0
@@ -166,7 +210,7 @@ def main():
     if kit_of(rt).startswith(KITS):
         note_sums(rt)
     if words[:1] == ["archive"]:
-        if len(words) != 4 or words[2] not in ("v2", "v3"):
+        if len(words) != 4 or words[2] not in ("v2", "v3", "v4"):
             sys.exit(__doc__)
         sys.exit(build_archive(rt, *words[1:]))
     sys.exit(rt.main(words))

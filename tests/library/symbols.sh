@@ -1,6 +1,7 @@
 #!/usr/bin/env bash
-# symbols.sh NAME PATTERN: the archive and the shared library NAME define the names of its header
-# and no other. The functions of the C library that they call match the pattern.
+# symbols.sh NAME PATTERN [INTERNAL]: the archive and the shared library NAME define the names of
+# its header and no other, but that the archive has the internal one. The functions of the C library
+# that they call match the pattern.
 set -eu
 cd "$(dirname "$0")/../.."
 name=$1
@@ -18,7 +19,9 @@ same() {
 gcc -aux-info "$work/seen" -fsyntax-only -x c "include/$name.h"
 sed -nE "s|^/\* include/$name\.h:[0-9]+:NC \*/.*[ *](lrc_\w+) \(.*|\1|p" "$work/seen" \
     | sort > "$work/declared"
-nm -g --defined-only "$archive" | awk 'NF == 3 { print $3 }' | same "$archive"
+nm -g --defined-only "$archive" | awk 'NF == 3 { print $3 }' > "$work/archived"
+[ -z "${3:-}" ] || grep -qx "$3" "$work/archived" || { echo "$archive has no $3"; exit 1; }
+grep -vx "${3:-none}" "$work/archived" | same "$archive"
 nm -D --defined-only "$shared" | awk '$2 != "A" { print $3 }' > "$work/exported"
 sed 's/@@.*//' "$work/exported" | same "$shared"
 if grep -vE "@@${name^^}_[0-9.]+$" "$work/exported"; then
