@@ -19,8 +19,8 @@
  *
  * Signals. A signal handler may call lrc_store_text and lrc_store_cpu, and nothing else of this
  * file: what it interrupts may be in the critical section, or in malloc. A thread can be cancelled
- * at a cancellation point, and a waiting form is one while it sleeps. The session stays whole.
- * Asynchronous cancellation must not hit a call.
+ * at a cancellation point. A waiting form is one, at least every 50 milliseconds while it sleeps.
+ * The session stays whole. Asynchronous cancellation must not hit a call.
  *
  * Fork. In the child of a process with one thread, each store is a copy of its own. If the process
  * had more threads, the child may call lrc_store_text and lrc_store_cpu only, until it calls an
@@ -236,9 +236,10 @@ const char *lrc_store_text(uint32_t status);
  * is loaded. LRC_STORE_CPU=v2 in the environment forces the second. */
 const char *lrc_store_cpu(void);
 
-/* ---- Waiting forms. Each repeats its function while the status is LRC_STORE_BUSY. Between two
- * attempts it spins, then yields, then sleeps for 0.1 to 1.6 ms. If `timeout_ms` is 0 or more, it
- * returns LRC_STORE_BUSY once so many milliseconds have passed since the call. With 0 it makes one
+/* ---- Waiting forms. Each repeats its function while the status is LRC_STORE_BUSY. Those of a
+ * store take turns, as at a mutex: a thread that waits sleeps, and is woken for its turn. A
+ * function without `_wait` takes no turn. If `timeout_ms` is 0 or more, a form returns
+ * LRC_STORE_BUSY once so many milliseconds have passed since the call. With 0 it makes one
  * attempt. If `timeout_ms` is negative, it has no deadline. No waiting thread has precedence. */
 uint32_t lrc_store_put_wait(lrc_slot *slot, const uint8_t *name, size_t name_len,
                             const uint8_t *blob, size_t blob_len, uint32_t data_fragments,

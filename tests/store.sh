@@ -62,8 +62,12 @@ memory() {
 }
 
 symbols() {
-    local needed='malloc|realloc|free|getrandom|clock_gettime|nanosleep|sched_yield'
-    tests/library/symbols.sh lrc_store "$needed|getenv|strcmp|mem(cmp|cpy|move|set)"
+    local needed='malloc|realloc|free|getrandom|clock_gettime|nanosleep'
+    needed+='|pthread_mutex_(init|trylock|clocklock|unlock)|pthread_testcancel'
+    # what pthread_cleanup_push becomes
+    needed+='|__pthread_(register_cancel|unregister_cancel|unwind_next)|__sigsetjmp'
+    tests/library/symbols.sh lrc_store "$needed|getenv|strcmp|mem(cmp|cpy|move|set)" \
+        lrc_slot_number
 }
 
 # Two shared objects that each have a copy of the library, and know nothing of each other.

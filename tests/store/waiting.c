@@ -1,21 +1,65 @@
 /* The waiting forms of library/store_wait.c over functions that record their arguments. Link with
  * that file, and without the library. */
 #include "store_test.h"
+#include <pthread.h>
+#include <stdatomic.h>
 #include <time.h>
 #include <unistd.h>
 
-enum { MOST = 9, OTHER_STATUS = 7 };
+enum { MOST = 9, OTHER_STATUS = 7, ROOM = 16, SLACK_US = 1500000 };
 
 #define ARGUMENTS(...) ((const uint64_t[MOST]){__VA_ARGS__})
 #define AT(pointer) ((uint64_t)(uintptr_t)(pointer))
 
 static uint64_t seen[MOST];
-static unsigned calls, busy;
+static atomic_uint calls, busy;
+
+/* What the slot of a put that is made again holds. */
+static uint8_t kept[ROOM];
+static size_t reserved;
+static unsigned releases;
+
+/* The number of the slot's store, and whether it holds a session. */
+static uint64_t number = 77;
+static int has_session = 1;
+
+/* A thread that stays in its call until it is let go, and so has the turn. */
+static atomic_int is_inside, is_let_go;
+static __thread int stays;
 
 /* Records a call. The first `busy` ones find another thread in the critical section. */
 static uint32_t called(const uint64_t *arguments) {
+    if (stays) {
+        is_inside = 1;
+        while (!is_let_go) usleep(100);
+        return OTHER_STATUS;
+    }
     memcpy(seen, arguments, sizeof seen);
     return calls++ < busy ? LRC_STORE_BUSY : OTHER_STATUS;
+}
+
+uint32_t lrc_slot_number(lrc_slot *slot, uint64_t *got);
+uint32_t lrc_slot_number(lrc_slot *slot, uint64_t *got) {
+    (void)slot;
+    if (has_session) *got = number;
+    return has_session ? LRC_STORE_DONE : LRC_STORE_EMPTY;
+}
+
+uint32_t lrc_slot_reserve(size_t len, lrc_slot *slot) {
+    (void)slot;
+    reserved = len;
+    return len <= ROOM ? LRC_STORE_DONE : LRC_STORE_NO_MEMORY;
+}
+
+uint32_t lrc_slot_buffer(lrc_slot *slot, lrc_buffer *buffer) {
+    (void)slot;
+    *buffer = (lrc_buffer){kept, reserved};
+    return LRC_STORE_DONE;
+}
+
+void lrc_slot_release(lrc_slot *slot) {
+    (void)slot;
+    releases++;
 }
 
 uint32_t lrc_store_put(lrc_slot *slot, const uint8_t *name, size_t name_len, const uint8_t *blob,
@@ -86,10 +130,8 @@ uint32_t lrc_store_mend_step(lrc_slot *slot, lrc_slot *other, uint64_t *version)
 
 static void arguments(int64_t timeout_ms) {
     lrc_slot s = LRC_SLOT_EMPTY, o = LRC_SLOT_EMPTY;
-    uint8_t n[3] = "nam", b[1] = "b";
+    uint8_t n[3] = "nam", b[4] = "blob";
     uint64_t v = 0, x = 0, y = 0, z = 0;
-    PASSES(lrc_store_put_wait(&s, n, 2, b, 4, 6, &v, timeout_ms), AT(&s), AT(n), 2, AT(b), 4, 6,
-           AT(&v));
     PASSES(lrc_store_put_from_wait(&s, n, 2, &o, 6, &v, timeout_ms), AT(&s), AT(n), 2, AT(&o), 6,
            AT(&v));
     PASSES(lrc_store_read_wait(&s, n, 2, 5, b, 4, &v, &x, &y, timeout_ms), AT(&s), AT(n), 2, 5,
@@ -105,6 +147,28 @@ static void arguments(int64_t timeout_ms) {
     PASSES(lrc_store_trim_wait(&s, 5, &v, timeout_ms), AT(&s), 5, AT(&v));
     PASSES(lrc_store_plan_wait(&s, &o, &x, timeout_ms), AT(&s), AT(&o), AT(&x));
     PASSES(lrc_store_mend_step_wait(&s, &o, &v, timeout_ms), AT(&s), AT(&o), AT(&v), 1);
+}
+
+/* A put is made of the given bytes, and then again of a copy that a slot keeps. */
+static void puts_again(int64_t timeout_ms) {
+    lrc_slot s = LRC_SLOT_EMPTY;
+    uint8_t n[3] = "nam", b[ROOM + 1] = "blob";
+    uint64_t v = 0;
+    calls = busy = releases = 0;
+    EXPECT(lrc_store_put_wait(&s, n, 2, b, 4, 6, &v, timeout_ms), OTHER_STATUS);
+    EXPECT(calls + 10 * releases, 1);
+    EXPECT(memcmp(seen, ARGUMENTS(AT(&s), AT(n), 2, AT(b), 4, 6, AT(&v)), sizeof seen), 0);
+    calls = 0;
+    busy = 6;
+    EXPECT(lrc_store_put_wait(&s, n, 2, b, 4, 6, &v, timeout_ms), OTHER_STATUS);
+    EXPECT(calls, busy + 1);
+    EXPECT(reserved + 10 * releases, 14);
+    EXPECT(memcmp(kept, b, 4), 0);
+    seen[3] = 0; /* the slot of the copy */
+    EXPECT(memcmp(seen, ARGUMENTS(AT(&s), AT(n), 2, 0, 6, AT(&v)), sizeof seen), 0);
+    calls = 0;
+    EXPECT(lrc_store_put_wait(&s, n, 2, b, ROOM + 1, 6, &v, timeout_ms), LRC_STORE_NO_MEMORY);
+    EXPECT(calls + 10 * releases, 11);
 }
 
 static int64_t now_us(void) {
@@ -124,9 +188,119 @@ static int64_t waited_us(int64_t timeout_ms) {
     return now_us() - start;
 }
 
+static uint32_t trim(int64_t timeout_ms) {
+    lrc_slot slot = LRC_SLOT_EMPTY;
+    uint64_t discarded = 0;
+    return lrc_store_trim_wait(&slot, 0, &discarded, timeout_ms);
+}
+
+static void *stay_in_call(void *timeout_ms) {
+    stays = 1;
+    EXPECT(trim(*(int64_t *)timeout_ms), OTHER_STATUS);
+    return NULL;
+}
+
+static void *wait_for_turn(void *slots) {
+    uint64_t built;
+    lrc_slot *slot = slots;
+    return (void *)(uintptr_t)lrc_store_plan_wait(slot, slot + 1, &built, -1);
+}
+
+/* Starts a thread that stays in its call, with the turn. */
+static pthread_t take_turn(int64_t *timeout_ms) {
+    pthread_t thread;
+    is_inside = is_let_go = 0;
+    EXPECT(pthread_create(&thread, NULL, stay_in_call, timeout_ms), 0);
+    while (!is_inside) usleep(100);
+    calls = busy = 0;
+    return thread;
+}
+
+static void let_go(pthread_t thread) {
+    is_let_go = 1;
+    EXPECT(pthread_join(thread, NULL), 0);
+}
+
+/* A thread has the turn: others make no call, until the deadline or until it gives it back. */
+static void turns(void) {
+    int64_t forever = -1, start = now_us();
+    lrc_slot slots[2] = {LRC_SLOT_EMPTY, LRC_SLOT_EMPTY};
+    pthread_t holder = take_turn(&forever), waiter;
+    void *status = NULL;
+    EXPECT(trim(70), LRC_STORE_BUSY);
+    EXPECT(now_us() - start >= 70000 && now_us() - start < SLACK_US, 1);
+    EXPECT(calls, 0);
+    EXPECT(trim(0), OTHER_STATUS); /* one attempt, without the turn */
+    number++;
+    EXPECT(trim(-1), OTHER_STATUS); /* of another store */
+    number--;
+    has_session = 0;
+    EXPECT(trim(-1), OTHER_STATUS);
+    has_session = 1;
+    EXPECT(calls, 3);
+    EXPECT(pthread_create(&waiter, NULL, wait_for_turn, slots), 0);
+    usleep(60000);
+    EXPECT(calls, 3);
+    let_go(holder);
+    EXPECT(pthread_join(waiter, &status), 0);
+    EXPECT((uintptr_t)status, OTHER_STATUS);
+    EXPECT(calls, 4);
+}
+
+/* A thread is cancelled while it waits for the turn, and another one while it sleeps with it. */
+static void cancels(void) {
+    int64_t forever = -1;
+    lrc_slot slots[2] = {LRC_SLOT_EMPTY, LRC_SLOT_EMPTY};
+    pthread_t holder = take_turn(&forever), waiter;
+    void *status = NULL;
+    EXPECT(pthread_create(&waiter, NULL, wait_for_turn, slots), 0);
+    usleep(20000);
+    EXPECT(pthread_cancel(waiter), 0);
+    EXPECT(pthread_join(waiter, &status), 0);
+    EXPECT(status == PTHREAD_CANCELED, 1);
+    let_go(holder);
+    busy = ~0u;
+    EXPECT(pthread_create(&waiter, NULL, wait_for_turn, slots), 0);
+    usleep(20000);
+    EXPECT(pthread_cancel(waiter), 0);
+    EXPECT(pthread_join(waiter, &status), 0);
+    EXPECT(status == PTHREAD_CANCELED, 1);
+    busy = 0;
+    EXPECT(trim(1000), OTHER_STATUS);
+}
+
+/* A long call is tried before its turn, a short one is not. */
+static void tries(void) {
+    int64_t forever = -1;
+    lrc_slot s = LRC_SLOT_EMPTY, o = LRC_SLOT_EMPTY;
+    uint64_t v, x, y;
+    pthread_t holder = take_turn(&forever);
+    EXPECT(lrc_store_lend_wait(&s, NAME("a"), 0, 65535, &o, &v, &x, 5), LRC_STORE_BUSY);
+    EXPECT(lrc_store_read_wait(&s, NAME("a"), 0, kept, 5, &v, &x, &y, 5), LRC_STORE_BUSY);
+    EXPECT(lrc_store_lose_wait(&s, NAME("a"), 0, 5, &v, 5), LRC_STORE_BUSY);
+    EXPECT(calls, 0);
+    EXPECT(lrc_store_lend_wait(&s, NAME("a"), 0, 65536, &o, &v, &x, 5), OTHER_STATUS);
+    EXPECT(lrc_store_read_wait(&s, NAME("a"), 0, kept, 65536, &v, &x, &y, 5), OTHER_STATUS);
+    EXPECT(lrc_store_repair_wait(&s, NAME("a"), 0, 5, &v, 5), OTHER_STATUS);
+    EXPECT(lrc_store_mend_step_wait(&s, &o, &v, 5), OTHER_STATUS);
+    EXPECT(lrc_store_put_from_wait(&s, NAME("a"), &o, 12, &v, 5), OTHER_STATUS);
+    EXPECT(calls, 5);
+    busy = ~0u;
+    EXPECT(lrc_store_repair_wait(&s, NAME("a"), 0, 5, &v, 5), LRC_STORE_BUSY);
+    EXPECT(calls, 5 + 8);
+    EXPECT(lrc_store_put_wait(&s, NAME("a"), kept, 4, 12, &v, 5), LRC_STORE_BUSY);
+    EXPECT(calls, 5 + 8 + 2);
+    let_go(holder);
+}
+
 int main(void) {
     alarm(60); /* a call that never returns ends the test */
+    turns();
+    cancels();
+    tries();
     arguments(-1);
+    puts_again(-1);
+    puts_again(60000);
     arguments(INT64_MIN);
     arguments(60000);
     arguments(INT64_MAX);
@@ -135,7 +309,7 @@ int main(void) {
     EXPECT(calls, 1);
     for (int64_t timeout_ms = 1; timeout_ms <= 64; timeout_ms *= 4) {
         EXPECT(waited_us(timeout_ms) >= timeout_ms * 1000, 1);
-        EXPECT(calls < 20 + timeout_ms, 1);
+        EXPECT(calls < 40 + timeout_ms, 1);
     }
     return report("waiting");
 }
