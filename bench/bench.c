@@ -49,7 +49,9 @@ typedef struct {
                               uint32_t);                                                           \
     bool v##_timed_rebuild(uint8_t *, size_t, const Slice *, size_t, uint16_t, size_t, bool,       \
                            uint32_t);                                                              \
-    bool v##_timed_seal(const uint8_t *, size_t, uint8_t *, size_t, uint64_t, uint8_t, uint32_t);  \
+    bool v##_timed_seal(const uint8_t *, size_t, uint8_t *, size_t, uint64_t, uint8_t, uint32_t);
+#define DECLARE_CALLS(v)                                                                           \
+    uint32_t v##_lrc_encode(const Slice *, size_t, PARITIES);                                      \
     uint32_t v##_lrc_rebuild(size_t, const Slice *, uint16_t, uint8_t, size_t, uint8_t *, size_t); \
     uint32_t v##_lrc_decode(size_t, const Slice *, uint16_t, const uint8_t *, size_t, size_t,      \
                             PARITIES);                                                             \
@@ -57,6 +59,9 @@ typedef struct {
     uint32_t v##_lrc_plan_decode(const uint8_t *, const Slice *, size_t, size_t, PARITIES);
 DECLARE(v2)
 DECLARE(v3)
+DECLARE_CALLS(v2)
+DECLARE_CALLS(v3)
+DECLARE_CALLS(v4)
 
 // ---- one stripe, and what is made of it
 enum { DATA = 12, FRAGMENTS = 16, WIDEST = 65536, WIDTHS = 4 };
@@ -222,6 +227,10 @@ static void make_plan(uint8_t *plan, uint16_t gone, const uint8_t numbers[4]) {
     }                                                                                              \
     static void v##_global_kept(long n) {                                                          \
         seen = v##_timed_rebuild(made[0], width, stripe, FRAGMENTS, GLOBAL, 0, true, n);           \
+    }
+#define C_CALLS(v)                                                                                 \
+    static void v##_encode_call(long n) {                                                          \
+        for (long j = 0; j < n; j++) seen = v##_lrc_encode(stripe, DATA, MADE);                    \
     }                                                                                              \
     static void v##_rebuild_one(uint16_t gone, long n) {                                           \
         for (long j = 0; j < n; j++)                                                               \
@@ -236,6 +245,9 @@ static void make_plan(uint8_t *plan, uint16_t gone, const uint8_t numbers[4]) {
     static void v##_global_plan(long n) { v##_by_plan(global_plan, n); }
 CALLS(v2)
 CALLS(v3)
+C_CALLS(v2)
+C_CALLS(v3)
+C_CALLS(v4)
 
 // ---- several lost fragments at once
 typedef struct {
@@ -308,6 +320,7 @@ static void isal_decode(long n) {
     static void v##_decode_by_plan(long n) { v##_by_plan(loss_plan, n); }
 DECODES(v2)
 DECODES(v3)
+DECODES(v4)
 
 typedef struct {
     const char *name;
@@ -323,27 +336,49 @@ typedef struct {
     }
 #define ENCODE(v)                                                                                  \
     ROW(#v " encode_to", v##_encode_to, 1), ROW(#v " encode_to, malloc", v##_encode_malloc, 2),    \
-        ROW(#v " encode", v##_encode, 2), ROW(#v " encode_joined", v##_encode_joined, 2)
+        ROW(#v " encode", v##_encode, 2), ROW(#v " encode_joined", v##_encode_joined, 2),          \
+        ROW(#v " lrc_encode", v##_encode_call, 1)
+#define REBUILD_CALLS(v, work)                                                                     \
+    ROW(#v " lrc_rebuild", v##_##work##_call, 1), ROW(#v " lrc_plan_decode", v##_##work##_plan, 1)
 #define REBUILD(v, work)                                                                           \
     ROW(#v " combine_lists", v##_##work##_kernel, 1), ROW(#v " rebuild_to", v##_##work##_to, 1),   \
-        ROW(#v " lrc_rebuild", v##_##work##_call, 1),                                              \
-        ROW(#v " lrc_plan_decode", v##_##work##_plan, 1), ROW(#v " rebuild", v##_##work, 2),       \
+        REBUILD_CALLS(v, work), ROW(#v " rebuild", v##_##work, 2),                                 \
         ROW(#v " Plans::rebuild", v##_##work##_kept, 2)
 
-static Row encode_rows[] = {ROW("memcpy", copy_data, 1), ROW("ISA-L", isal_encode_to, 1),
-                            ROW("ISA-L, malloc", isal_encode, 2), ENCODE(v2), ENCODE(v3)};
-static Row local_rows[] = {ROW("memcpy", copy_one, 1), ROW("ISA-L", isal_local_to, 1),
-                           ROW("ISA-L, malloc", isal_local, 2), REBUILD(v2, local),
-                           REBUILD(v3, local)};
-static Row global_rows[] = {ROW("memcpy", copy_one, 1), ROW("ISA-L", isal_global_to, 1),
-                            ROW("ISA-L, malloc", isal_global, 2), REBUILD(v2, global),
-                            REBUILD(v3, global)};
-#define DECODE_ROWS 7
-static Row decode_rows[LOSSES][DECODE_ROWS];
-enum {
-    ENCODE_ROWS = sizeof encode_rows / sizeof(Row),
-    REBUILD_ROWS = sizeof local_rows / sizeof(Row)
-};
+#define DECODE(v)                                                                                  \
+    ROW(#v " lrc_decode", v##_decode, 0), ROW(#v " lrc_plan_decode", v##_decode_by_plan, 0),       \
+        ROW(#v " lrc_rebuild, each", v##_rebuild_each, 0)
+
+// The rows of v4 come last: they are left out on a processor without AVX-512.
+static Row encode_rows[] = {ROW("memcpy", copy_data, 1),
+                            ROW("ISA-L", isal_encode_to, 1),
+                            ROW("ISA-L, malloc", isal_encode, 2),
+                            ENCODE(v2),
+                            ENCODE(v3),
+                            ROW("v4 lrc_encode", v4_encode_call, 1)};
+static Row local_rows[] = {ROW("memcpy", copy_one, 1),
+                           ROW("ISA-L", isal_local_to, 1),
+                           ROW("ISA-L, malloc", isal_local, 2),
+                           REBUILD(v2, local),
+                           REBUILD(v3, local),
+                           REBUILD_CALLS(v4, local)};
+static Row global_rows[] = {ROW("memcpy", copy_one, 1),
+                            ROW("ISA-L", isal_global_to, 1),
+                            ROW("ISA-L, malloc", isal_global, 2),
+                            REBUILD(v2, global),
+                            REBUILD(v3, global),
+                            REBUILD_CALLS(v4, global)};
+enum { ALL_DECODE_ROWS = 10 };
+static Row decode_rows[LOSSES][ALL_DECODE_ROWS];
+static int encode_count = sizeof encode_rows / sizeof(Row);
+static int rebuild_count = sizeof local_rows / sizeof(Row);
+static int decode_count = ALL_DECODE_ROWS;
+
+static void leave_out_v4(void) {
+    encode_count -= 1;
+    rebuild_count -= 2;
+    decode_count -= 3;
+}
 
 static double now(void) {
     struct timespec t;
@@ -495,23 +530,19 @@ static void print_blob(void) {
 
 // Each set of lost fragments: ISA-L, all at once, and one after the other.
 static void run_losses(int w, int rounds) {
-    static const Row rows[DECODE_ROWS] = {
-        ROW("ISA-L", isal_decode, 0), ROW("v2 lrc_decode", v2_decode, 0),
-        ROW("v2 lrc_plan_decode", v2_decode_by_plan, 0),
-        ROW("v2 lrc_rebuild, each", v2_rebuild_each, 0), ROW("v3 lrc_decode", v3_decode, 0),
-        ROW("v3 lrc_plan_decode", v3_decode_by_plan, 0),
-        ROW("v3 lrc_rebuild, each", v3_rebuild_each, 0)};
+    static const Row rows[ALL_DECODE_ROWS] = {ROW("ISA-L", isal_decode, 0), DECODE(v2), DECODE(v3),
+                                              DECODE(v4)};
     for (int i = 0; i < LOSSES; i++) {
         int wanted[4];
         set_loss(&losses[i]);
         make_plan(loss_plan, lost, loss->numbers);
         for (int r = 0; r < loss->count; r++) wanted[r] = loss->numbers[r];
-        for (int k = 0; w == 0 && k < DECODE_ROWS; k++) decode_rows[i][k] = rows[k];
+        for (int k = 0; w == 0 && k < decode_count; k++) decode_rows[i][k] = rows[k];
         isal_decode(1);
         for (int r = 0; r < loss->count; r++)
             require_same("ISA-L's decode", made[r], data[wanted[r]]);
-        check(decode_rows[i], DECODE_ROWS, loss->count, wanted);
-        run(decode_rows[i], DECODE_ROWS, w, rounds);
+        check(decode_rows[i], decode_count, loss->count, wanted);
+        run(decode_rows[i], decode_count, w, rounds);
     }
 }
 
@@ -520,12 +551,13 @@ static void print_losses(void) {
     for (int i = 0; i < LOSSES; i++) {
         char before[32];
         snprintf(before, sizeof before, "%s: ", losses[i].name);
-        print_rows(before, decode_rows[i], DECODE_ROWS, losses[i].count);
+        print_rows(before, decode_rows[i], decode_count, losses[i].count);
     }
 }
 
 int main(int argc, char **argv) {
     int rounds = argc > 1 ? atoi(argv[1]) : 1000;
+    if (!__builtin_cpu_supports("avx512bw")) leave_out_v4();
     const size_t apart =
         WIDEST + 320; // so that the fragments do not all fall into one set of the cache
     uint8_t *bytes = aligned_alloc(4096, 4096 * ((FRAGMENTS + 4) * apart / 4096 + 1));
@@ -545,17 +577,17 @@ int main(int argc, char **argv) {
     ec_encode_data(WIDEST, DATA, 4, encode_tables, data, data + DATA);
     for (int w = 0; w < WIDTHS; w++) {
         set_width(widths[w]);
-        check(encode_rows, ENCODE_ROWS, 4, (int[]){12, 13, 14, 15});
-        check(local_rows, REBUILD_ROWS, 1, (int[]){0});
-        check(global_rows, REBUILD_ROWS, 1, (int[]){0});
-        run(encode_rows, ENCODE_ROWS, w, rounds);
-        run(local_rows, REBUILD_ROWS, w, rounds);
-        run(global_rows, REBUILD_ROWS, w, rounds);
+        check(encode_rows, encode_count, 4, (int[]){12, 13, 14, 15});
+        check(local_rows, rebuild_count, 1, (int[]){0});
+        check(global_rows, rebuild_count, 1, (int[]){0});
+        run(encode_rows, encode_count, w, rounds);
+        run(local_rows, rebuild_count, w, rounds);
+        run(global_rows, rebuild_count, w, rounds);
         run_losses(w, rounds < 200 ? rounds : 200);
     }
-    print("encode, GB/s (of ISA-L), by width", encode_rows, ENCODE_ROWS, DATA);
-    print("six to one", local_rows, REBUILD_ROWS, 1);
-    print("twelve to one", global_rows, REBUILD_ROWS, 1);
+    print("encode, GB/s (of ISA-L), by width", encode_rows, encode_count, DATA);
+    print("six to one", local_rows, rebuild_count, 1);
+    print("twelve to one", global_rows, rebuild_count, 1);
     print_losses();
     blob = malloc(BLOB);
     if (!blob) return fputs("bench: no memory\n", stderr), 1;

@@ -22,6 +22,11 @@ static const struct losses SETS[] = {
     {"4 lost in each stripe", 4, {0, 1, 6, 7}},
 };
 
+static void fail(const char *call) {
+    fprintf(stderr, "%s failed\n", call);
+    exit(1);
+}
+
 /* Lends the whole blob, and releases it. */
 static double lend(lrc_slot *slot, size_t len) {
     uint64_t version, pieces;
@@ -48,7 +53,7 @@ static double decode(const uint8_t *stripes, size_t count, size_t width, const s
         if (lrc_decode(DATA, fragments, set, lost->numbers, 0, width, own[0], width, own[1],
                        lost->count > 1 ? width : 0, own[2], lost->count > 2 ? width : 0, own[3],
                        lost->count > 3 ? width : 0))
-            exit(1);
+            fail("lrc_decode");
     }
     for (size_t stripe = 0; stripe < count; stripe++)
         for (int f = 0; f < lost->count; f++) free(made[4 * stripe + (size_t)f]);
@@ -82,7 +87,7 @@ static void encode(const uint8_t *blob, uint8_t *stripes, size_t count, size_t w
         for (size_t f = 0; f < DATA; f++) data[f] = (lrc_slice){own + f * width, width};
         if (lrc_encode(data, DATA, parity, width, parity + width, width, parity + 2 * width, width,
                        parity + 3 * width, width))
-            exit(1);
+            fail("lrc_encode");
     }
 }
 

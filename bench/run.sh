@@ -1,7 +1,7 @@
 #!/bin/sh
-# bench/run.sh [ROUNDS]: proves and builds the coder as a static library for x86-64-v2 and for
-# x86-64-v3, and times it beside ISA-L and memcpy. Prints five tables. It needs gcc, binutils and
-# libisal-dev of Debian, and fetches nothing.
+# bench/run.sh [ROUNDS]: proves and builds the coder as a static library for x86-64-v2, x86-64-v3
+# and x86-64-v4, and times it beside ISA-L and memcpy. Prints five tables. It needs gcc, binutils
+# and libisal-dev of Debian, and fetches nothing.
 set -eu
 bench=$(cd "$(dirname "$0")" && pwd)
 for tool in gcc objcopy nm ar; do
@@ -11,18 +11,20 @@ echo '#include <isa-l.h>' | gcc -E - > /dev/null 2>&1 || { echo "bench: ISA-L is
 grep -q avx2 /proc/cpuinfo || { echo "bench: this processor has no AVX2" >&2; exit 1; }
 made=$(mktemp -d)
 trap 'rm -r "$made"' EXIT
-for crate in bench_coder coder_c; do
-    cd "$bench/../crates/$crate"
-    for cpu in v2 v3; do
-        rt lib --cpu=x86-64-$cpu > "$made/log" 2>&1 || { cat "$made/log" >&2; exit 1; }
-        tail -n 1 "$made/log" >&2
-        (cd "$made" && ar x "$bench/../crates/$crate/out/lib$crate.a")
-        # one object for each processor, whose calls have its name before their own
-        nm --defined-only "$made"/*.o | awk -v cpu=$cpu '/ T (timed|lrc)_/ { print $3, cpu "_" $3 }' > "$made/names"
-        ld -r -o "$made/$crate.$cpu.linked" "$made"/*.o
-        objcopy --redefine-syms="$made/names" "$made/$crate.$cpu.linked"
-        rm "$made"/*.o
-    done
+# linked CRATE CPU: one object, whose calls have the processor's name before their own
+linked() {
+    (cd "$made" && ar x "$made/lib$1.a" && rm "$made/lib$1.a")
+    nm --defined-only "$made"/*.o | awk -v cpu="$2" '/ T (timed|lrc)_/ { print $3, cpu "_" $3 }' > "$made/names"
+    ld -r -o "$made/$1.$2.linked" "$made"/*.o
+    objcopy --redefine-syms="$made/names" "$made/$1.$2.linked"
+    rm "$made"/*.o
+}
+for each in bench_coder/v2 bench_coder/v3 coder_c/v2 coder_c/v3 coder_c/v4; do
+    crate=${each%/*} cpu=${each#*/}
+    python3 "$bench/../tools/rt_once.py" archive "$crate" "$cpu" "$made/lib$crate.a" > "$made/log" 2>&1 \
+        || { cat "$made/log" >&2; exit 1; }
+    tail -n 1 "$made/log" >&2
+    linked "$crate" "$cpu"
 done
 gcc -O2 -o "$made/bench" "$bench/bench.c" "$made"/*.linked -lisal
 lscpu | sed -n 's/^Model name: */processor: /p'
