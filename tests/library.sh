@@ -63,6 +63,13 @@ sources() {
     echo "sources: no warning of gcc or clang"
 }
 
+# The code for AVX-512 works on 64 bytes at once, whatever the processor here is.
+wide_blocks() {
+    local count
+    count=$(objdump -d --no-show-raw-insn "$archive" | grep -c 'vpshufb.*zmm')
+    [ "$count" -gt 100 ] && echo "AVX-512: $count look-ups of 64 bytes"
+}
+
 # The same tests by the code for each level of the processor. Left alone, the library chooses the
 # best.
 choice() {
@@ -162,6 +169,7 @@ test_of "C, sanitizers of clang" clang clang sanitized clang c11 tests/library/c
 test_of "C, plans" gcc gcc c_program gcc c11 tests/library/plans.c
 test_of "C, plans, sanitizers of gcc" gcc gcc sanitized gcc c11 tests/library/plans.c
 test_of "choice of the processor's code" gcc gcc choice
+test_of "blocks of 64 bytes" objdump binutils wide_blocks
 test_of "C++" g++ g++ c_program g++ c++17 tests/library/coder.cpp
 test_of "C++, sanitizers of gcc" g++ g++ sanitized g++ c++17 tests/library/coder.cpp
 test_of "C++, sanitizers of clang" clang++ clang sanitized clang++ c++17 tests/library/coder.cpp
