@@ -3,3 +3,4 @@ mod Slots
 mod Asked
 mod Chosen
 mod Planned
+mod Direct

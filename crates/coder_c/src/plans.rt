@@ -1,16 +1,22 @@
 //! Plans: a lost set's shares as plain bytes, made once and used for any number of stripes.
 ghost use Rattle.std.specs.Prelude.{◌≡◌, ℕ, ◌-◌, ◌≤◌, ◌↔◌, IsSomeAnd, MatchOption, None, Some, map};
-ghost use Rattle.std.specs.Prelude.{slice_index_or, true, false};
+ghost use Rattle.std.specs.Prelude.{slice_index, slice_index_or, length, true, false, ◌+◌, ◌<◌};
+ghost use Rattle.std.specs.Prelude.{IfSome};
+ghost use Rattle.lrc_code.specs.declared.Code.TheVariants.{Wide};
+ghost use Rattle.lrc_code.specs.Code.{is_lost};
+ghost use Rattle.lrc_code.specs.Stripe.{list_at};
+ghost use Rattle.syndromes.specs.Syndromes.{byte_of};
 ghost use Rattle.decode.specs.DecodePlan.{IsPlan};
 ghost use Rattle.coder_c.specs.Call.{chosen_of, AreLostIn, HaveRoomFor, LeftReach};
-ghost use Rattle.coder_c.specs.Call.{DecodesLost};
+ghost use Rattle.coder_c.specs.Call.{DecodesLost, HasRoomFor};
 ghost use Rattle.coder_c.specs.PlanBytes.{format_in, code_in, missing_in, chosen_in, shares_in};
 ghost use Rattle.coder_c.specs.PlanBytes.{plan_in, AreSameShares};
 
 use crate::remaining::{are_alone, left_of, left_reach, rebuild_alone};
 use crate::{PLAN_FORMAT, chosen_of, code_of};
 use decode::{DecodePlan, decode_by_plan};
-use lrc_code::LostSet;
+use lrc_code::{Code, LostSet};
+use syndromes::combine_syndromes;
 
 /// The bytes of a plan with these numbers.
 pub(crate) fn plan_bytes(plan: &DecodePlan, numbers: &[u8; 4]) -> [u8; 24]
@@ -108,6 +114,88 @@ fn decode_from_slots(
     decode_by_plan(plan, &left, from, to, first, second, third, fourth);
 }
 
+/// The bytes `from..to` of a fragment of LRC(12,2,2), or None if it is missing.
+#[inline(always)]
+fn wide_part<'a>(
+    fragments: &[&'a [u8]; 16],
+    missing: LostSet,
+    i: usize,
+    from: usize,
+    to: usize,
+) -> Option<&'a [u8]>
+    requires inside { i < 16 }
+    requires reach { LeftReach Wide (map (λ f. f.now) fragments.now) missing to }
+    requires range { from ≤ to }
+    ensures long { IfSome result (λ part. length part.now ≡ to - from) }
+    ensures lost { is_lost missing i ≡ true → result ≡ None }
+    ensures bytes { is_lost missing i ≡ false → (k : ℕ) → k < to - from → byte_of result k
+        ≡ slice_index (list_at (map (λ f. f.now) fragments.now) i) (from + k) }
+{
+    if missing.left(i as u8) {
+        Some(&fragments[i][from..to])
+    } else {
+        None
+    }
+}
+
+/// The shares where a fragment is chosen.
+#[inline(always)]
+fn given(chosen: Option<u8>, shares: [u8; 4]) -> Option<[u8; 4]>
+    ensures { MatchOption chosen (result ≡ None) (λ f. result ≡ Some shares) }
+{
+    match chosen {
+        None => None,
+        Some(_) => Some(shares),
+    }
+}
+
+/// `decode_from_slots` for LRC(12,2,2), straight from what is passed, by the shares of the plan.
+#[inline(never)]
+fn decode_wide(
+    plan: &DecodePlan,
+    fragments: &[&[u8]; 16],
+    from: usize,
+    to: usize,
+    first: &mut [u8],
+    second: &mut [u8],
+    third: &mut [u8],
+    fourth: &mut [u8],
+)
+    requires code { plan.now.code ≡ Wide }
+    requires reach { LeftReach Wide (map (λ f. f.now) fragments.now) plan.now.missing to }
+    requires range { from ≤ to }
+    requires room { HasRoomFor (slice_index_or plan.now.chosen 0 None) (to - from) first.old }
+    requires room_second { HasRoomFor (slice_index_or plan.now.chosen 1 None) (to - from)
+        second.old }
+    requires room_third { HasRoomFor (slice_index_or plan.now.chosen 2 None) (to - from)
+        third.old }
+    requires room_fourth { HasRoomFor (slice_index_or plan.now.chosen 3 None) (to - from)
+        fourth.old }
+    ensures first { IsPlan plan.now → DecodesLost plan.now.code
+        (map (λ f. f.now) fragments.now) plan.now.missing (slice_index_or plan.now.chosen 0 None)
+        from to first.old first.new }
+    ensures second { IsPlan plan.now → DecodesLost plan.now.code
+        (map (λ f. f.now) fragments.now) plan.now.missing (slice_index_or plan.now.chosen 1 None)
+        from to second.old second.new }
+    ensures third { IsPlan plan.now → DecodesLost plan.now.code
+        (map (λ f. f.now) fragments.now) plan.now.missing (slice_index_or plan.now.chosen 2 None)
+        from to third.old third.new }
+    ensures fourth { IsPlan plan.now → DecodesLost plan.now.code
+        (map (λ f. f.now) fragments.now) plan.now.missing (slice_index_or plan.now.chosen 3 None)
+        from to fourth.old fourth.new }
+{
+    let missing = LostSet::of_bits(plan.missing);
+    let mut parts: [Option<&[u8]>; 16] = [None; 16];
+    for i in 0..16 {
+        parts[i] = wide_part(fragments, missing, i, from, to);
+    }
+    let a = given(plan.chosen[0], plan.shares[0]);
+    let b = given(plan.chosen[1], plan.shares[1]);
+    let c = given(plan.chosen[2], plan.shares[2]);
+    let d = given(plan.chosen[3], plan.shares[3]);
+    combine_syndromes(&parts, to - from, a, b, c, d, first, second, third, fourth);
+}
+
 /// `decode_by_plan` of the fragments that a plan reads, if they are long enough. Returns whether
 /// they are; if not, the targets are unchanged.
 pub(crate) fn decode_planned(
@@ -183,7 +271,12 @@ pub(crate) fn decode_planned(
             fourth,
         );
     } else {
-        decode_from_slots(plan, fragments, from, to, first, second, third, fourth);
+        match plan.code {
+            Code::Wide => decode_wide(plan, fragments, from, to, first, second, third, fourth),
+            Code::Small => {
+                decode_from_slots(plan, fragments, from, to, first, second, third, fourth);
+            }
+        }
     }
     true
 }
