@@ -41,6 +41,7 @@ pub fn part_or_zeros<'a>(
 }
 
 /// The bytes `at..end` of each list, or zeros where it is missing.
+#[inline(always)]
 pub fn sources_of<'a>(lists: &[Option<&'a [u8]>; 16], at: usize, end: usize) -> [&'a [u8]; 16]
     requires long { HaveBytes lists.now end }
     requires order { at ≤ end }

@@ -20,6 +20,7 @@ pub struct Weights {
 
 impl Weights {
     /// The weights of four factors.
+    #[inline(always)]
     pub fn new(factors: &[u8; 4]) -> Weights
         ensures { AreWeights result factors.now }
     {
