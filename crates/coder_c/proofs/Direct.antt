@@ -8,7 +8,7 @@ use Rattle.std.proofs.lemmas.List.FromFn.{get_or-map-range_with_len}
 use Rattle.lrc_code.specs.declared.Code.{Code}
 use Rattle.lrc_code.specs.declared.Code.TheVariants.{Wide}
 use Rattle.lrc_code.specs.Code.{is_lost}
-use Rattle.lrc_code.specs.Stripe.{slot, bytes_of, is_absent, byte_at, list_at}
+use Rattle.lrc_code.specs.Stripe.{slot, bytes_of, is_absent, list_at}
 use Rattle.syndromes.specs.Syndromes.{column_at, HasSums}
 use Rattle.decode.specs.DecodePlan.{IsPlanned}
 use Rattle.decode.proofs.Planned.{decoded_by}
