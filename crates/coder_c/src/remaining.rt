@@ -19,11 +19,12 @@ fn first_reach(fragments: &[&[u8]; 16], count: usize, lost: LostSet, to: usize) 
     ensures { IsTrue result ↔ ((i : ℕ) → i < count → is_lost lost i ≡ false
         → to ≤ length (list_at (map (λ f. f.now) fragments.now) i)) }
 {
-    let mut reach = true;
     for i in 0..count {
-        reach &= !lost.left(i as u8) | (to <= fragments[i].len());
+        if lost.left(i as u8) && fragments[i].len() < to {
+            return false;
+        }
     }
-    reach
+    true
 }
 
 /// Whether each remaining fragment has at least `to` bytes.
