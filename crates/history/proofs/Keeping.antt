@@ -57,13 +57,13 @@ some_pair test [] h = absurd (false≢true h)
 some_pair test (p ∷ pairs) h = elim (or_cases (test p) _ h) [ inl here ↦ (p, here) | inr later ↦ some_pair test pairs later ]
 
 -- ---- open data fragments
-le_of : (a b : ℕ) → nat_le a b ≡ true → a ≤ b
+pub le_of : (a b : ℕ) → nat_le a b ≡ true → a ≤ b
 le_of a b h = grind (arith, common_steps)
 
 pub lt_of : (a b : ℕ) → nat_lt a b ≡ true → a < b
 lt_of a b h = grind (arith, common_steps)
 
-is_le : (a b : ℕ) → a ≤ b → nat_le a b ≡ true
+pub is_le : (a b : ℕ) → a ≤ b → nat_le a b ≡ true
 is_le a b h = grind (arith, common_steps)
 
 pub is_lt : (a b : ℕ) → a < b → nat_lt a b ≡ true

@@ -14,3 +14,5 @@ pub mod Framing
 pub mod Changing
 pub mod Following
 pub mod Settling
+pub mod Kept
+pub mod Stretching
