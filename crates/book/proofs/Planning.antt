@@ -11,7 +11,7 @@ use Rattle.std.specs.declared.cmp.Ordering.TheVariants.{Less}
 use Rattle.std.specs.Cmp.Lexicographic.{nat_list_cmp_total}
 use Rattle.std.proofs.lemmas.Bool.{cases_eq, or_cases, or_left, or_right, and_parts, false≢true}
 use Rattle.std.proofs.lemmas.Grind.{common_steps}
-use Rattle.std.proofs.lemmas.List.{map-append, append-nil, append_assoc}
+use Rattle.std.proofs.lemmas.List.{map-append, append_assoc}
 use Rattle.std.proofs.lemmas.List.Folds.{list_any-append, flat_map-map}
 use Rattle.std.proofs.lemmas.Map.Lookups.{exact_bytes}
 use Rattle.std.proofs.lemmas.Map.Made.{lookup-map_values, keys_of-map_values}
@@ -26,7 +26,7 @@ use Rattle.history.proofs.Inside.{lost_inside}
 use Rattle.history.proofs.Keeping.{same_truth, lt_of}
 use Rattle.book.specs.Contents.{Contents, sealed_at}
 use Rattle.lrc_code.specs.Count.{count_below}
-use Rattle.book.specs.Lacking.{lacks, lacked_count, lacked_below}
+use Rattle.book.specs.Lacking.{lacks, lacked_below}
 use Rattle.history.specs.Base.{pairs_of}
 use Rattle.book.specs.Plan.{items_for, plan_of, items_lacked}
 use Rattle.book.specs.Tells.{HoldsHistory, Represents, Correspond}
@@ -159,9 +159,6 @@ none_listed false c xs k e before = before (omega arith)
 pub none_below : (s : Sealed) (n : ℕ) → count_below (λ i. lacks s (i / 16) (i % 16)) n ≡ 0 → lacked_below s n ≡ []
 none_below s zero e = refl
 none_below s (suc n) e = none_listed (lacks s (n / 16) (n % 16)) _ (lacked_below s n) (n / 16, n % 16) e (none_below s n)
-
-pub nothing_listed : (n : List ℕ) (s : Sealed) (items : List Item) → lacked_count s ≡ 0 → items ≡ items ++ items_lacked (n, s)
-nothing_listed n s items none = sym (ap (λ pairs. items ++ items_for n s.version pairs) (none_below s (16 * length s.stripes) none) ∙ append-nil items)
 
 -- ---- all names
 abbrev of_value : Sealed → ℕ × List (ℕ × ℕ)

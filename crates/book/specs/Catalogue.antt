@@ -1,5 +1,7 @@
 -- The names whose blob lacks a fragment, and the items that are listed for a name.
 use Rattle.std.specs.Prelude.{ℕ, Bool, false, List, [], Option, None, Some, nat_lt}
+use Rattle.std.specs.declared.ops.Bound.{Bound}
+use Rattle.std.specs.declared.ops.Bound.TheVariants.{Included, Unbounded}
 use Rattle.sealed.specs.declared.value.Sealed.{Sealed}
 use Rattle.book.specs.Lacking.{lacked_count}
 use Rattle.book.specs.Losing.{Catalogue, value_at}
@@ -22,3 +24,8 @@ lacks_at catalogue n = lacks_any (value_at catalogue n)
 abbrev pub items_from : List ℕ × Option Sealed → List Item
 items_from (n, None) = []
 items_from (n, Some s) = items_lacked (n, s)
+
+-- the names from that of the item on, or all
+abbrev pub first_of : Option Item → Bound (List ℕ)
+first_of None = Unbounded
+first_of (Some a) = Included a.name

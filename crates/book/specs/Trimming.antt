@@ -5,3 +5,7 @@ use Rattle.std.specs.Prelude.{ℕ, ◌+◌, ◌-◌, ◌^◌, ◌||◌, cond, na
 -- be discarded in all
 abbrev pub given_up : ℕ → ℕ → ℕ → ℕ
 given_up trimmed count keep = cond (nat_le count keep || nat_lt (2 ^ 63) (trimmed + (count - keep))) 0 (count - keep)
+
+-- how many of so many entries a book keeps: none if its limit is above that of every journal
+abbrev pub journaled : ℕ → ℕ → ℕ
+journaled limit count = cond (nat_le limit 1048576) count 0

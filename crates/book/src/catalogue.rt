@@ -1,6 +1,6 @@
 //! The sealed blobs by name.
-ghost use Rattle.std.specs.Prelude.{◌≡◌, List, ℕ, [], None, Some, true, false, cond, IfOk, IfErr};
-ghost use Rattle.std.specs.Prelude.{IfSome, OnOk, OnErr};
+ghost use Rattle.std.specs.Prelude.{◌≡◌, List, ℕ, [], None, Some, true, false, cond, take, IfOk};
+ghost use Rattle.std.specs.Prelude.{IfErr, IfSome, OnOk, OnErr};
 ghost use Rattle.std.specs.BTreeMap.{is_at};
 ghost use Rattle.std.specs.BTreeSet.{contains};
 ghost use Rattle.std.specs.List.{flat_map};
@@ -11,11 +11,11 @@ ghost use Rattle.sealed.specs.Blob.{nothing};
 ghost use Rattle.sealed.specs.Sealed.{StandsFor};
 ghost use Rattle.history.specs.Names.{name_cmp};
 ghost use Rattle.history.specs.Views.{lose_reply, repair_reply};
-ghost use Rattle.book.specs.Catalogue.{lacks_at};
+ghost use Rattle.book.specs.Catalogue.{lacks_at, first_of};
 ghost use Rattle.book.specs.Known.{IsRepairFor};
 ghost use Rattle.book.specs.Losing.{Loses, Mends, Replaces, value_at};
 ghost use Rattle.book.specs.Notes.{note_of};
-ghost use Rattle.book.specs.Plan.{items_lacked};
+ghost use Rattle.book.specs.Plan.{items_lacked, items_after};
 
 use crate::install::install_in;
 use crate::lose::lose_in;
@@ -26,6 +26,7 @@ use crate::{Answer, Bytes, Fault, Name, Sealed};
 use std::alloc::{AllocError, Global};
 use std::collections::{BTreeMap, BTreeSet};
 use std::marker::Model;
+use std::ops::Bound;
 use std::sync::Arc;
 
 /// The sealed blobs by name, and the names of those that lack a fragment. So the lost fragments are
@@ -165,36 +166,60 @@ impl Catalogue {
         answer
     }
 
-    /// The lost fragments of all blobs, by name, then stripe, then fragment. It reads only the
-    /// blobs that lack one. `AllocError` if memory runs out.
-    pub fn list_lost(&self, alloc: Global) -> Result<Vec<Item>, AllocError>
-        ensures value { IfOk result (λ items. items.items ≡ flat_map items_lacked self.now) }
+    /// The first `most` of the lost fragments that come behind `after`, by name, then stripe, then
+    /// fragment. It reads only the blobs that it lists, and that of `after`. `AllocError` if memory
+    /// runs out.
+    pub fn list_lost(
+        &self,
+        alloc: Global,
+        after: Option<&Item>,
+        most: usize,
+    ) -> Result<Vec<Item>, AllocError>
+        ensures value { IfOk result (λ items. items.items ≡ take most
+            (items_after (option_map (λ i. i.now) after.entry) (flat_map items_lacked self.now))) }
         ensures rising { IsStrictlySortedBy name_cmp (keys_of self.now) }
     {
-        list_lacking(&self.blobs, &self.lacking, alloc)
+        list_lacking(&self.blobs, &self.lacking, alloc, after, most)
     }
 }
 
-/// The lost fragments of the blobs of these names.
+/// The first `most` of the lost fragments of these names that come behind `after`.
 fn list_lacking(
     blobs: &BTreeMap<Name, StoredBlob>,
     lacking: &BTreeSet<Name>,
     alloc: Global,
+    after: Option<&Item>,
+    most: usize,
 ) -> Result<Vec<Item>, AllocError>
     requires { (q : List ℕ) → contains name_cmp lacking.now q ≡ lacks_at blobs.now.entries q }
-    ensures value { IfOk result (λ items. items.items ≡ flat_map items_lacked blobs.now.entries) }
+    ensures value { IfOk result (λ items. items.items ≡ take most
+        (items_after (option_map (λ i. i.now) after.entry)
+        (flat_map items_lacked blobs.now.entries))) }
     ensures rising { IsStrictlySortedBy name_cmp (keys_of blobs.now.entries) }
 {
     let mut items = Vec::new(alloc);
     if blobs.len() == 0 {
         return Ok(items);
     }
-    for name in lacking {
+    for name in lacking.range((first_name(after), Bound::Unbounded)) {
+        if items.len() >= most {
+            return Ok(items);
+        }
         if let Some(stored) = blobs.get(name) {
-            stored.list_lost(name, &mut items)?;
+            stored.list_lost(name, after, most, &mut items)?;
         }
     }
     Ok(items)
+}
+
+/// The names from that of the item on, or all.
+fn first_name(after: Option<&Item>) -> Bound<Name>
+    ensures { result ≡ first_of (option_map (λ i. i.now) after.entry) }
+{
+    match after {
+        Some(item) => Bound::Included(item.name.duplicate()),
+        None => Bound::Unbounded,
+    }
 }
 
 /// Removes a name from the set of lacking names, unless its blob lacks a fragment.

@@ -47,6 +47,6 @@ impl Book {
         self.puts = version;
         let call = Call::Put { name, code, len };
         let answer = Answer::Stored(version);
-        Ok(note_call(&mut self.journal, who, call, answer))
+        Ok(note_call(&mut self.log, who, call, answer))
     }
 }

@@ -32,7 +32,7 @@ impl Book {
         }
         let answer = answer_read(self.find(&name), start, len)?;
         let call = Call::Read { name, start, len };
-        Ok(note_call(&mut self.journal, who, call, answer))
+        Ok(note_call(&mut self.log, who, call, answer))
     }
 }
 

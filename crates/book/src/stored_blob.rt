@@ -1,7 +1,8 @@
 //! A sealed blob in the catalogue.
-ghost use Rattle.std.specs.Prelude.{◌≡◌, ◌<◌, ◌≤◌, ◌++◌, List, ℕ, Some, true, false, length, IfOk};
-ghost use Rattle.std.specs.Prelude.{IfErr, OnOk, OnErr};
+ghost use Rattle.std.specs.Prelude.{◌≡◌, ◌<◌, ◌≤◌, ◌&&◌, ◌++◌, List, ℕ, Some, true, false};
+ghost use Rattle.std.specs.Prelude.{length, take, IfOk, IfErr, OnOk, OnErr};
 ghost use Rattle.std.specs.FinSet as set;
+ghost use Rattle.std.specs.Option.{option_map};
 ghost use Rattle.lrc_code.specs.Code.{fragment_count};
 ghost use Rattle.sealed.specs.Layout.{stripe_count};
 ghost use Rattle.sealed.specs.Blob.{nothing};
@@ -13,10 +14,10 @@ ghost use Rattle.book.specs.Catalogue.{lacks_some};
 ghost use Rattle.book.specs.Lacking.{reply_for, lacks, lacked_count, seen_of};
 ghost use Rattle.book.specs.Losing.{IsWith, Loses, Mends};
 ghost use Rattle.book.specs.Notes.{note_of};
-ghost use Rattle.book.specs.Plan.{items_lacked};
+ghost use Rattle.book.specs.Plan.{items_lacked, is_behind as is_behind_in, items_after};
 ghost use Rattle.history.specs.Views.{no_such, lose_reply, repair_reply, stat_reply};
 
-use crate::plan::Item;
+use crate::plan::{Item, first_stripe, is_behind};
 use crate::{Answer, Bytes, Fault, Name, Sealed};
 use std::alloc::{AllocError, Global};
 use std::marker::Model;
@@ -95,19 +96,38 @@ impl StoredBlob {
         self.sealed.fragment(stripe, f).is_none()
     }
 
-    /// Appends an item for each lost fragment, by stripe and then by fragment. `AllocError` if
-    /// memory runs out.
-    pub fn list_lost(&self, name: &Name, items: &mut Vec<Item>) -> Result<(), AllocError>
-        ensures { OnOk result (items.new.items ≡ items.old.items
-            ++ items_lacked (name.now, self.now)) }
+    /// Whether this fragment is lost and comes behind the item in the order of plans.
+    fn is_lost_behind(&self, after: Option<&Item>, name: &Name, stripe: u64, f: u8) -> bool
+        requires stripe_below { stripe < stripe_count self.now.code self.now.width self.now.len }
+        requires f_below { f < fragment_count self.now.code }
+        ensures { result ≡ lacks self.now stripe f
+            && is_behind_in (option_map (λ i. i.now) after.entry) name.now stripe f }
     {
-        if self.lost == 0 {
-            return Ok(());
-        }
+        self.is_lost(stripe, f) && is_behind(after, name, stripe, f)
+    }
+
+    /// Appends an item for each lost fragment that comes behind `after`, by stripe and then by
+    /// fragment, until there are `most`. `AllocError` if memory runs out.
+    pub fn list_lost(
+        &self,
+        name: &Name,
+        after: Option<&Item>,
+        most: usize,
+        items: &mut Vec<Item>,
+    ) -> Result<(), AllocError>
+        requires { length items.old.items ≤ most }
+        ensures { OnOk result (items.new.items ≡ take most (items.old.items
+            ++ items_after (option_map (λ i. i.now) after.entry)
+            (items_lacked (name.now, self.now)))) }
+    {
         let version = self.sealed.version;
-        for stripe in 0..self.sealed.stripes.len() as u64 {
+        let stripes = self.sealed.stripes.len() as u64;
+        for stripe in first_stripe(after, name).min(stripes)..stripes {
+            if items.len() >= most {
+                return Ok(());
+            }
             for f in 0..self.sealed.code.fragments() {
-                if self.is_lost(stripe, f) {
+                if items.len() < most && self.is_lost_behind(after, name, stripe, f) {
                     let name = name.duplicate();
                     items.push(Item {
                         name,

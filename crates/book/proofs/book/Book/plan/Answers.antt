@@ -1,16 +1,8 @@
-use Rattle.std.proofs.Common.{◌≡◌, ◌∙◌, ap, subst}
-use Rattle.std.specs.List.{flat_map}
-use Rattle.std.specs.List.Sorted.{IsStrictlySortedBy}
-use Rattle.std.specs.Map.{keys_of}
-use Rattle.history.specs.Names.{name_cmp}
-use Rattle.book.specs.Contents.{Contents}
-use Rattle.book.specs.Losing.{Catalogue}
-use Rattle.book.specs.Plan.{items_lacked}
-use Rattle.book.proofs.Planning.{plan_is}
+use Rattle.history.specs.History.{state_of}
+use Rattle.book.specs.Plan.{plan_of}
+use Rattle.book.specs.Tells.{HoldsHistory}
+use Rattle.book.proofs.Parts.{whole_plan}
 use Rattle.book.proofs.book.Book.plan.Goals as goal
 
 pub returns : goal.returns
-returns c h told =
-    let catalogue : c.self.inside.catalogue ≡ c.args.self.now.catalogue = ap (λ (s : Contents). s.catalogue) c.self.view_is in
-    let P : Catalogue → Type 0 = λ entries. IsStrictlySortedBy name_cmp (keys_of entries) in
-    c.in_ok-items.ensures.value ∙ ap (flat_map items_lacked) catalogue ∙ plan_is c.args.self.now h (subst P catalogue c.in_ok-items.ensures.rising) told
+returns c = whole_plan c.plan_part.result (HoldsHistory c.args.self.now) (λ h. plan_of (state_of h)) c.plan_part.ensures

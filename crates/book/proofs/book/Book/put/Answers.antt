@@ -14,8 +14,9 @@ use Rattle.book.proofs.book.Book.put.Goals as goal
 
 pub overflow_add-version : goal.overflow_add-version
 overflow_add-version c =
-    let few : count_by is_put c.self.inside.journal.entries.items ≤ length c.self.inside.journal.entries.items = count_by-le-length is_put c.self.inside.journal.entries.items in
-    omega (arith, c.self.invariant, few, c.self.inside.journal.fits, c.self.inside.journal.small)
+    let few : count_by is_put c.self.inside.log.entries ≤ length c.self.inside.log.entries = count_by-le-length is_put c.self.inside.log.entries in
+    let entries : c.self.inside.log.entries ≡ c.args.self.now.entries = ap (λ (s : Contents). s.entries) c.self.view_is in
+    omega (arith, c.self.invariant, few, ap length entries, c.is_full.ensures.few, c.is_full.ensures.small)
 
 pub insert-requires : goal.insert-requires
 insert-requires c =
@@ -27,8 +28,8 @@ insert-requires c =
 
 pub returns-clause-ok : goal.returns-clause-ok
 returns-clause-ok c b stands =
-    let entries : c.self.inside.journal.entries.items ≡ c.args.self.now.entries = ap (λ (s : Contents). s.entries) c.self.view_is in
-    let counted : count_by is_put c.self.inside.journal.entries.items ≡ count_by is_put c.args.self.now.entries = ap (count_by is_put) entries in
+    let entries : c.self.inside.log.entries ≡ c.args.self.now.entries = ap (λ (s : Contents). s.entries) c.self.view_is in
+    let counted : count_by is_put c.self.inside.log.entries ≡ count_by is_put c.args.self.now.entries = ap (count_by is_put) entries in
     let base : c.self.inside.base ≡ c.args.self.now.base = ap (λ (s : Contents). s.base) c.self.view_is in
     let puts : c.self.inside.base.puts ≡ c.args.self.now.base.puts = ap (λ (b : Checkpoint). b.puts) base in
     rw c.note_call.ensures.answer (

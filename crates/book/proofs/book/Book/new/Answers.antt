@@ -1,5 +1,0 @@
-use Rattle.book.proofs.Carrying.{tells_none}
-use Rattle.book.proofs.book.Book.new.Goals as goal
-
-pub returns-clause-told : goal.returns-clause-told
-returns-clause-told c = tells_none _ c.empty.ensures c.in_ok-new.ensures.0 c.new-2.ensures
