@@ -1,11 +1,14 @@
 //! A book in the gate.
-ghost use Rattle.std.specs.Prelude.{◌≡◌, ◌+◌, length, IfOk, IfErr, OnErr};
+ghost use Rattle.std.specs.Prelude.{◌≡◌, ◌≤◌, ◌+◌, ◌-◌, length, max, take, IfOk, IfErr};
+ghost use Rattle.std.specs.Prelude.{OnErr};
+ghost use Rattle.std.specs.Option.{option_map};
 ghost use Rattle.history.specs.History.{History, state_of};
 ghost use Rattle.book.specs.Tells.{HoldsHistory};
+ghost use Rattle.book.specs.Contents.{journal_of};
 ghost use Rattle.book.specs.Trimming.{given_up};
-ghost use Rattle.book.specs.Plan.{plan_of};
+ghost use Rattle.book.specs.Plan.{plan_of, items_after};
 
-use book::{Book, Fault, Plan};
+use book::{Book, Fault, Item, Plan};
 use gate::Follows;
 use std::alloc::{AllocError, Global};
 
@@ -40,12 +43,27 @@ impl Kept {
         self.0.plan(alloc)
     }
 
-    /// Discards all entries except the last `keep`, as `Book::trim` does.
+    /// The first `most` of the lost fragments that come behind `after`, as `Book::plan_part` gives
+    /// them.
+    pub fn plan_part(
+        &self,
+        alloc: Global,
+        after: Option<&Item>,
+        most: usize,
+    ) -> Result<Plan, AllocError>
+        ensures { IfOk result (λ p. (h : History) → HoldsHistory self.now.0.value h
+            → p.items.items ≡ take most
+            (items_after (option_map (λ i. i.now) after.entry) (plan_of (state_of h)))) }
+    {
+        self.0.plan_part(alloc, after, most)
+    }
+
+    /// Discards all entries of the journal except the last `keep`, as `Book::trim` does.
     pub fn trim(&mut self, alloc: Global, keep: u64) -> Result<u64, Fault>
         ensures told { (h : History) → HoldsHistory self.old.0.value h
             → HoldsHistory self.new.0.value h }
-        ensures answer { IfOk result (λ n.
-            n ≡ given_up self.old.0.value.base.trimmed (length self.old.0.value.entries) keep) }
+        ensures answer { IfOk result (λ n. n ≡ given_up self.old.0.value.base.trimmed
+            (length (journal_of self.old.0.value)) keep) }
         ensures trimmed { IfOk result
             (λ n. self.new.0.value.base.trimmed ≡ self.old.0.value.base.trimmed + n) }
         ensures kept { (self.new.0.value.width ≡ self.old.0.value.width)
@@ -54,5 +72,24 @@ impl Kept {
         ensures err { OnErr result (self.new.0.value ≡ self.old.0.value) }
     {
         self.0.trim(alloc, keep)
+    }
+
+    /// Discards at most `most` entries of the journal, and none of the last `keep`, as
+    /// `Book::trim_part` does.
+    pub fn trim_part(&mut self, alloc: Global, keep: u64, most: u64) -> Result<u64, Fault>
+        ensures told { (h : History) → HoldsHistory self.old.0.value h
+            → HoldsHistory self.new.0.value h }
+        ensures answer { IfOk result (λ n. n ≡ given_up self.old.0.value.base.trimmed
+            (length (journal_of self.old.0.value))
+            (max keep (length (journal_of self.old.0.value) - most))) }
+        ensures few { IfOk result (λ n. n ≤ 1048576) }
+        ensures trimmed { IfOk result
+            (λ n. self.new.0.value.base.trimmed ≡ self.old.0.value.base.trimmed + n) }
+        ensures kept { (self.new.0.value.width ≡ self.old.0.value.width)
+            × (self.new.0.value.limit ≡ self.old.0.value.limit) }
+        ensures faults { IfErr result (λ e. e ≡ Fault.NoMemory) }
+        ensures err { OnErr result (self.new.0.value ≡ self.old.0.value) }
+    {
+        self.0.trim_part(alloc, keep, most)
     }
 }
