@@ -1,20 +1,21 @@
 -- What a plan and a trim make of a pass.
-use Rattle.std.proofs.Common.{◌≡◌, ℕ, ◌+◌, ◌-◌, [], ◌++◌, length, None, Result, Ok, Err, IfOk, OnErr, refl, ap, sym, subst, ◌∙◌, arith}
+use Rattle.std.proofs.Common.{◌≡◌, ℕ, ◌+◌, ◌-◌, ◌<◌, ◌≤◌, [], ◌++◌, length, max, List, None, Result, Ok, Err, IfOk, OnErr, refl, ap, sym, subst, ◌∙◌, arith}
 use Rattle.std.specs.Prelude.{MatchResult, is_ok}
 use Rattle.std.specs.declared.alloc.AllocError.{AllocError}
 use Rattle.std.proofs.lemmas.List.{append-nil}
 use Rattle.gate.specs.Places.{SeatState}
 use Rattle.sealed.specs.declared.fault.Fault.{Fault}
-use Rattle.history.specs.History.{History, state_of}
+use Rattle.history.specs.History.{History}
 use Rattle.book.specs.declared.plan.Plan.{Plan}
-use Rattle.book.specs.Contents.{Contents}
-use Rattle.book.specs.Plan.{plan_of}
+use Rattle.book.specs.declared.plan.Item.{Item}
+use Rattle.book.specs.Contents.{Contents, journal_of}
 use Rattle.book.specs.Tells.{HoldsHistory}
-use Rattle.book.specs.Trimming.{given_up}
+use Rattle.book.specs.Trimming.{given_up, journaled}
 use Rattle.requests.specs.declared.kept.Kept.{Kept}
 use Rattle.book.specs.Serial.{events_in, given_in}
-use Rattle.shared.specs.Passes.{acts_of, seen_of, shows}
+use Rattle.shared.specs.Passes.{Shows, Which, acts_of, seen_of, shows, limit_of}
 use Rattle.shared.specs.Deeds.{trim_deed, Takes}
+use Rattle.book.proofs.Journals.{kept_count, part_few, part_whole}
 use Rattle.requests.proofs.Between.{GoesOn}
 use Rattle.shared.proofs.Steps.{Stepped, told_history, calls_found, still_goes_on, takes}
 
@@ -34,22 +35,41 @@ trim_goes_on r old new width limit told trimmed same = still_goes_on old new (gi
 
 -- the trim is that of one thread
 pub takes_trim : (r : Result ℕ Fault) (p q : SeatState Kept) (x : Kept) (who keep : ℕ) → Stepped p q x [] (given_by r)
-    → IfOk r (λ n. n ≡ given_up x.0.value.base.trimmed (length x.0.value.entries) keep) → Takes (shows p who) (trim_deed keep r) (shows q who)
+    → IfOk r (λ n. n ≡ given_up x.0.value.base.trimmed (length (journal_of x.0.value)) keep) → Takes (shows p who) (trim_deed keep r) (shows q who)
 takes_trim (Err e) p q x who keep step answer = takes p q x [] 0 who None step refl tt
 takes_trim (Ok n) p q x who keep step answer =
     let acts = acts_of p.list ++ step.others in
     let calls = calls_found p q x [] n step in
     let given : x.0.value.base.trimmed ≡ given_in acts = step.told.told.given in
     let count : length x.0.value.entries ≡ length (events_in acts) - given_in acts = omega arith in
-    takes p q x [] n who (trim_deed keep (Ok n)) step refl (answer ∙ (λ i. given_up (given i) (count i) keep))
+    let limit : x.0.value.limit ≡ limit_of p.list = step.told.limit ∙ ap (λ (s : Which). s.limit) step.store in
+    takes p q x [] n who (trim_deed keep (Ok n)) step refl (answer ∙ ap (λ k. given_up x.0.value.base.trimmed k keep) (kept_count x.0.value) ∙ (λ i. given_up (given i) (journaled (limit i) (count i)) keep))
 
--- the plan of the book is that of the state that was seen
-pub planned : (found : Result Plan AllocError) (r : Result Plan Fault) (p q : SeatState Kept) (x : Kept) (Q : AllocError → Type 0) → Stepped p q x [] 0 → is_ok r ≡ is_ok found
-    → MatchResult found (λ plan. r ≡ Ok plan) Q → IfOk found (λ plan. (h : History) → HoldsHistory x.0.value h → plan.items.items ≡ plan_of (state_of h))
-    → IfOk r (λ plan. plan.items.items ≡ plan_of (state_of (seen_of q.list)))
-planned (Ok plan) r p q x Q step both same is =
+-- a trim in parts
+pub keeps_more : (keep kept : ℕ) → keep ≤ max keep kept
+keeps_more keep kept = grind arith
+
+pub few_given : (r : Result ℕ Fault) (t count keep most : ℕ) → IfOk r (λ n. n ≡ given_up t count (max keep (count - most))) → IfOk r (λ n. n ≤ 1048576) → IfOk r (λ n. (n ≤ most) × (n ≤ 1048576))
+few_given (Err e) t count keep most is few = tt
+few_given (Ok n) t count keep most is few = (let part = part_few t count keep most in omega (arith, is, part), few)
+
+pub whole_given : (r : Result ℕ Fault) (t count keep most : ℕ) {Whole : Type 0} → IfOk r (λ n. n ≡ given_up t count (max keep (count - most))) → (IfOk r (λ n. n ≡ given_up t count keep) → Whole) → IfOk r (λ n. n < most → Whole)
+whole_given (Err e) t count keep most is whole = tt
+whole_given (Ok n) t count keep most is whole = λ less. whole (is ∙ part_whole t count keep most (subst (λ m. m < most) is less))
+
+-- a part of at most 2^64 - 1 entries is all
+pub whole_trim : (r : Result ℕ Fault) (keep : ℕ) (v w : Shows) → (k : ℕ) × (keep ≤ k) × Takes v (trim_deed k r) w → IfOk r (λ n. (n ≤ 18446744073709551615) × (n ≤ 1048576))
+    → IfOk r (λ n. n < 18446744073709551615 → Takes v (trim_deed keep r) w) → Takes v (trim_deed keep r) w
+whole_trim (Err e) keep v w part few whole = part.2
+whole_trim (Ok n) keep v w part few whole = whole (omega (arith, few.1))
+
+-- the items that the book lists are those of the history that was seen
+pub planned : (items_of : History → List Item) (found : Result Plan AllocError) (r : Result Plan Fault) (p q : SeatState Kept) (x : Kept) (Q : AllocError → Type 0) → Stepped p q x [] 0 → is_ok r ≡ is_ok found
+    → MatchResult found (λ plan. r ≡ Ok plan) Q → IfOk found (λ plan. (h : History) → HoldsHistory x.0.value h → plan.items.items ≡ items_of h)
+    → IfOk r (λ plan. plan.items.items ≡ items_of (seen_of q.list))
+planned items_of (Ok plan) r p q x Q step both same is =
     let h : History = seen_of p.list ++ events_in step.others in
-    subst (λ (s : Result Plan Fault). IfOk s (λ plan. plan.items.items ≡ plan_of (state_of (seen_of q.list)))) (sym same)
-    (is h (told_history p q x [] 0 step) ∙ ap (λ (g : History). plan_of (state_of g)) (sym (step.seen ∙ append-nil h)))
-planned (Err e) (Ok plan) p q x Q step both same is = absurd (cc (both))
-planned (Err e) (Err f) p q x Q step both same is = tt
+    subst (λ (s : Result Plan Fault). IfOk s (λ plan. plan.items.items ≡ items_of (seen_of q.list))) (sym same)
+    (is h (told_history p q x [] 0 step) ∙ ap items_of (sym (step.seen ∙ append-nil h)))
+planned items_of (Err e) (Ok plan) p q x Q step both same is = absurd (cc (both))
+planned items_of (Err e) (Err f) p q x Q step both same is = tt

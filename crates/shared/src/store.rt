@@ -1,6 +1,7 @@
 //! The book behind the gate.
 ghost use Rattle.std.specs.Prelude.{◌≡◌, ◌⊎◌, ◌↔◌, ◌+◌, ◌≤◌, ◌<◌, ℕ, [], length, IfOk, IfErr};
 ghost use Rattle.gate.specs.Places.{times};
+ghost use Rattle.history.specs.Log.{call_limit};
 ghost use Rattle.book.specs.Tells.{HoldsHistory};
 ghost use Rattle.shared.specs.Passes.{IsConsistent};
 
@@ -12,13 +13,13 @@ use sealed::Width;
 use std::alloc::Global;
 use std::marker::Model;
 
-/// A store. A clause sees which store it is, the width of its blobs, and the limit of its journal.
-/// Dropping it drops its blobs.
+/// A store. A clause sees which store it is, the width of its blobs, and the limit of its journal,
+/// which is 2^62 if it has none. Dropping it drops its blobs.
 #[derive(Drop)]
 pub struct Store {
     pub(crate) gate: Gate<Kept>,
     pub(crate) width: Width,
-    limit: Limit,
+    limit: u64,
 }
 
 impl Model for Store {
@@ -52,12 +53,40 @@ impl Store {
         ensures bad_width { (result ≡ Err Fault.BadWidth) ↔ ((1 ≤ width) × (width ≤ 65536) → ⊥) }
         ensures faults { IfErr result (λ e. (e ≡ Fault.NoMemory) ⊎ (e ≡ Fault.BadWidth)) }
     {
+        Store::open_with(alloc, width, Some(limit))
+    }
+
+    /// As `open`. Without a limit the store has no journal: it counts its calls, of which it takes
+    /// 2^62, and takes no memory for them. A clause sees them all. A trim then discards nothing.
+    pub fn open_with(
+        alloc: Global,
+        width: u32,
+        limit: Option<Limit>,
+    ) -> Result<(Store, Pass), Fault>
+        ensures store { IfOk result (λ r. (r.0.width ≡ width) × (r.0.limit ≡ call_limit limit)) }
+        ensures pass { IfOk result (λ r. r.1 ≡ record {
+          store = r.0;
+          who = 0;
+          room = 64;
+          seen = [];
+          trimmed = 0;
+          made = [];
+          acts = [];
+          did = [];
+          visits = 0;
+          seen_visits = 1;
+          expected_visits = 0;
+        }) }
+        ensures bad_width { (result ≡ Err Fault.BadWidth) ↔ ((1 ≤ width) × (width ≤ 65536) → ⊥) }
+        ensures faults { IfErr result (λ e. (e ≡ Fault.NoMemory) ⊎ (e ≡ Fault.BadWidth)) }
+    {
         let Some(width) = Width::new(width) else {
             return Err(Fault::BadWidth);
         };
-        let Ok(book) = Book::new(alloc, width, limit) else {
+        let Ok(book) = Book::with_limit(alloc, width, limit) else {
             return Err(Fault::NoMemory);
         };
+        let limit = book.call_limit();
         let Ok(kept) = Kept::boxed(alloc, book) else {
             return Err(Fault::NoMemory);
         };

@@ -1,4 +1,4 @@
-use Rattle.std.proofs.Common.{Err, ap, sym, subst, ◌∙◌}
+use Rattle.std.proofs.Common.{ap, sym, subst}
 use Rattle.history.specs.Step.{put}
 use Rattle.shared.specs.Passes.{Which}
 use Rattle.shared.specs.Calls.{Called}

@@ -1,4 +1,6 @@
 use Rattle.std.proofs.Common.{[], None, refl, subst}
+use Rattle.history.specs.History.{state_of}
+use Rattle.book.specs.Plan.{plan_of}
 use Rattle.shared.specs.Passes.{shows}
 use Rattle.shared.specs.Deeds.{Takes}
 use Rattle.shared.proofs.Requests.{did_nothing, busy_pass, finds_busy, visits_once}
@@ -23,7 +25,7 @@ invariant_of-pass-2 c = (steps c).pass
 
 pub returns-clause-ok : goal.returns-clause-ok
 returns-clause-ok c =
-    planned c.plan-result.result c.map_err.result c.pass.inside.seat c.leave.new.seat c.in-Some.inside.value _ (steps c) c.map_err.ensures.variant c.map_err.ensures.cases c.plan-result.ensures
+    planned (λ h. plan_of (state_of h)) c.plan-result.result c.map_err.result c.pass.inside.seat c.leave.new.seat c.in-Some.inside.value _ (steps c) c.map_err.ensures.variant c.map_err.ensures.cases c.plan-result.ensures
 
 pub returns-clause-takes : goal.returns-clause-takes
 returns-clause-takes c =

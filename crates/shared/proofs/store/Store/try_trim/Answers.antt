@@ -1,47 +1,5 @@
-use Rattle.std.proofs.Common.{[], IfSome, sym, subst}
-use Rattle.requests.specs.Between.{MayFollow}
-use Rattle.shared.specs.Passes.{shows}
-use Rattle.shared.specs.Deeds.{trim_deed, Takes}
-use Rattle.requests.proofs.Between.{goes_follows}
-use Rattle.shared.proofs.Requests.{did_nothing, busy_pass, finds_busy, visits_once}
-use Rattle.shared.proofs.Steps.{Stepped, stepped}
-use Rattle.shared.proofs.Looks.{given_by, trim_goes_on, takes_trim}
+use Rattle.shared.proofs.Looks.{whole_trim}
 use Rattle.shared.proofs.store.Store.try_trim.Goals as goal
 
-pub leave-requires-clause-follows : goal.leave-requires-clause-follows
-leave-requires-clause-follows c =
-    let t = c.trim-result.ensures in
-    subst (λ o. IfSome o (λ found. MayFollow found.0.value c.trim-result.new.self.0.value)) (sym c.in-Some.ensures.found.1)
-    (goes_follows c.in-Some.inside.value.0.value c.trim-result.new.self.0.value [] (given_by c.trim-result.result) (trim_goes_on c.trim-result.result c.in-Some.inside.value.0.value c.trim-result.new.self.0.value t.kept.0 t.kept.1 t.told t.trimmed t.err))
-
-steps : (c : goal.After-leave) → Stepped c.pass.inside.seat c.leave.new.seat c.in-Some.inside.value [] (given_by c.trim-result.result)
-steps c =
-    let e = c.try_enter.ensures in
-    let t = c.trim-result.ensures in
-    let l = c.leave.ensures in
-    stepped c.pass.inside.seat c.try_enter.new.seat c.leave.new.seat c.in-Some.inside.value _ [] (given_by c.trim-result.result) c.pass.invariant
-    (record { same = (e.kept.0, e.kept.1, e.kept.2); seen = e.seen; found = c.in-Some.ensures.found.1; lone = λ all. (e.lone all).1 })
-    (record { same = (l.kept.0, l.kept.1, l.kept.2); list = l.list; own = l.own })
-    (trim_goes_on c.trim-result.result c.in-Some.inside.value.0.value c.trim-result.new.self.0.value t.kept.0 t.kept.1 t.told t.trimmed t.err)
-
-pub invariant_of-pass-2 : goal.invariant_of-pass-2
-invariant_of-pass-2 c = (steps c).pass
-
 pub returns-clause-takes : goal.returns-clause-takes
-returns-clause-takes c =
-    subst (λ v. Takes v (trim_deed c.args.keep c.trim-result.result) (shows c.leave.new.seat c.pass.inside.who)) c.pass.view_is
-    (takes_trim c.trim-result.result c.pass.inside.seat c.leave.new.seat c.in-Some.inside.value c.pass.inside.who c.args.keep (steps c) c.trim-result.ensures.answer)
-
-pub returns-in_default-clause-takes : goal.returns-in_default-clause-takes
-returns-in_default-clause-takes c =
-    did_nothing c.pass.inside.seat c.try_enter.new.seat c.pass.inside.who c.args.pass.now c.pass.invariant c.in_default.ensures.none c.pass.view_is
-
-pub returns-clause-entered : goal.returns-clause-entered
-returns-clause-entered c = λ _.
-    visits_once c.pass.inside.seat c.try_enter.new.seat c.leave.new.seat c.pass.inside.who c.args.pass.now _ c.in-Some.ensures.expected c.leave.ensures.list (steps c).visits c.pass.view_is
-
-pub returns-in_default-clause-busy : goal.returns-in_default-clause-busy
-returns-in_default-clause-busy c = λ _. finds_busy c.pass.inside.seat c.try_enter.new.seat c.pass.inside.who c.args.pass.now c.in_default.ensures.none c.pass.view_is
-
-pub invariant_of-pass : goal.invariant_of-pass
-invariant_of-pass c = busy_pass c.pass.inside.seat c.try_enter.new.seat c.pass.invariant c.in_default.ensures.none
+returns-clause-takes c = whole_trim c.try_trim_part.result c.args.keep c.args.pass.now c.try_trim_part.new.pass c.try_trim_part.ensures.part c.try_trim_part.ensures.few c.try_trim_part.ensures.whole

@@ -2,7 +2,7 @@ use Rattle.std.proofs.Common.{[], ap, sym, subst}
 use Rattle.book.specs.Contents.{Contents}
 use Rattle.book.specs.Tells.{HoldsHistory}
 use Rattle.shared.proofs.Passes.{opened}
-use Rattle.shared.proofs.store.Store.open.Goals as goal
+use Rattle.shared.proofs.store.Store.open_with.Goals as goal
 
 pub invariant_of-result : goal.invariant_of-result
 invariant_of-result c =
