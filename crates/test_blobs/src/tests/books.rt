@@ -77,8 +77,25 @@ fn put_and_read(rt: HostRuntime) {
     assert!(rt; finds(&book, &name, 1, 5));
     assert!(rt; book.is_full());
     assert!(rt; matches!(book.read(2, name, 0, 1), Err(Fault::JournalFull)));
-    assert_eq!(rt; (book.limit().get(), book.base().trimmed), (2, 0));
+    assert_eq!(rt; (book.limit(), book.base().trimmed), (Limit::new(2), 0));
     assert!(rt; callers(&rt, alloc, &book).as_slice() == [1, 2].as_slice());
+}
+
+#[test]
+fn without_a_journal(rt: HostRuntime) {
+    let alloc = rt.alloc();
+    let width = Width::new(1).expect(&rt, "a width");
+    let mut book = Book::with_limit(alloc, width, None).expect(&rt, "memory");
+    let name = Name::new("a").expect(&rt, "a name");
+    assert_eq!(rt;
+        store(&rt, alloc, &mut book, &name, b"HELLO"),
+        Note::Stored(1)
+    );
+    assert_eq!(rt; read_three(&rt, &mut book, &name), (1, 1, 3));
+    assert_eq!(rt; book.trim(alloc, 0), Ok(0));
+    assert!(rt; book.limit().is_none());
+    assert!(rt; book.entries().is_empty());
+    assert_eq!(rt; (book.calls(), book.base().trimmed), (2, 0));
 }
 
 /// A call for the name `a`.
@@ -249,6 +266,24 @@ fn plan_is_in_order(rt: HostRuntime) {
     let plan = book.plan(alloc).expect(&rt, "memory");
     let lines = lines_of(alloc, &plan).expect(&rt, "memory");
     assert_eq!(rt; lines.as_str(), "a 2 0 1\na 2 0 7\nb 1 1 3\n");
+    for most in 1..4 {
+        let parts = lines_in_parts(alloc, &book, most).expect(&rt, "memory");
+        assert_eq!(rt; parts.as_str(), lines.as_str());
+    }
+}
+
+/// The items of a plan that is made in parts of so many, one a line.
+fn lines_in_parts(alloc: Global, book: &Book, most: usize) -> Result<String, AllocError> {
+    let mut lines = String::new(alloc);
+    let mut part = book.plan_part(alloc, None, most)?;
+    for _ in 0..9 {
+        lines.push_str(lines_of(alloc, &part)?.as_str())?;
+        part = match part.items.last() {
+            Some(last) => book.plan_part(alloc, Some(last), most)?,
+            None => return Ok(lines),
+        };
+    }
+    Ok(lines)
 }
 
 #[test]

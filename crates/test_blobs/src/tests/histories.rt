@@ -128,7 +128,7 @@ fn journal_of(rt: &impl Abort, alloc: Global, entries: Vec<Entry>) -> Result<Jou
     let limit = Limit::new(9).expect(rt, "a limit");
     let mut journal = Journal::new(alloc, limit)?;
     for entry in entries {
-        assert!(rt; journal.entries.len() < journal.limit.get() as usize);
+        assert!(rt; journal.entries().len() < journal.limit().get() as usize);
         journal.push(entry);
     }
     Ok(journal)
@@ -142,9 +142,10 @@ fn advance(
     journal: &Journal,
     width: Width,
 ) -> Result<(), AllocError> {
-    assert!(rt; base.puts <= base.trimmed && base.trimmed < 9 && journal.entries.len() < 9);
-    let changes = journal.changes(alloc, journal.entries.len())?;
-    base.advance(alloc, &journal.entries, &changes, width)
+    let entries = journal.entries();
+    assert!(rt; base.puts <= base.trimmed && base.trimmed < 9 && entries.len() < 9);
+    let changes = journal.changes(alloc, entries.len())?;
+    base.advance(alloc, entries, &changes, width)
 }
 
 #[test]
