@@ -2,12 +2,13 @@
 ghost use Rattle.std.specs.Prelude.{◌≡◌};
 
 use super::{beginning, letters};
-use book::{Answer, Name, is_lawful_from};
+use book::{Answer, Book, Name, is_lawful_from};
 use shared::{Pass, Store};
 use std::alloc::Global;
+use std::process::Abort;
 use std::sync::Wait;
 use std::test::Fail;
-use std::thread::join;
+use std::thread::{Threads, join};
 
 /// One put, and then the loss of a fragment and its repair, in turn. Returns how many of these
 /// calls answered as they should.
@@ -34,28 +35,51 @@ fn lose_and_repair<R: Wait>(
     (pass, done)
 }
 
-#[test]
-fn two_threads_lose_and_repair(rt: HostRuntime) -> Result<(), Fail> {
-    let alloc = rt.alloc();
-    let (store, mut p, a) = beginning(&rt, alloc, 512);
-    let b = Name::new("b")?;
+/// The book of a store at which two threads have lost and repaired, with 101 calls each.
+fn book_of_two<R: Threads + Wait + Abort + Sync>(
+    rt: &R,
+    alloc: Global,
+    store: Store,
+    first: Pass,
+) -> Result<Book, Fail>
+    requires { first.store ≡ store }
+{
+    let mut p = first;
+    let (a, b) = (Name::new("a")?, Name::new("b")?);
     let q = p.split(&store, 1)?;
     let ((mut p, one), (q, two)) = join(
-        &rt,
+        rt,
         || -> (Pass, u64)
             requires { p.store ≡ store }
             ensures { result.0.store ≡ store }
-        { lose_and_repair(&rt, alloc, &store, p, &a) },
+        { lose_and_repair(rt, alloc, &store, p, &a) },
         || -> (Pass, u64)
             requires { q.store ≡ store }
             ensures { result.0.store ≡ store }
-        { lose_and_repair(&rt, alloc, &store, q, &b) },
+        { lose_and_repair(rt, alloc, &store, q, &b) },
     );
     p.join(&store, q);
     assert_eq!(rt; p.room(), 64);
-    let book = store.close(p);
     assert_eq!(rt; (one, two), (101, 101));
-    assert_eq!(rt; book.entries().len(), 202);
+    Ok(store.close(p))
+}
+
+#[test]
+fn two_threads_lose_and_repair(rt: HostRuntime) -> Result<(), Fail> {
+    let alloc = rt.alloc();
+    let (store, pass, _) = beginning(&rt, alloc, 512);
+    let book = book_of_two(&rt, alloc, store, pass)?;
+    assert_eq!(rt; (book.entries().len(), book.calls()), (202, 202));
     assert!(rt; is_lawful_from(alloc, book.base(), book.entries(), book.width())?);
+    Ok(())
+}
+
+#[test]
+fn without_a_journal(rt: HostRuntime) -> Result<(), Fail> {
+    let alloc = rt.alloc();
+    let (store, mut pass) = Store::open_with(alloc, 1, None).expect(&rt, "memory");
+    assert_eq!(rt; store.trim(&rt, alloc, &mut pass, 0), Ok(0));
+    let book = book_of_two(&rt, alloc, store, pass)?;
+    assert_eq!(rt; (book.entries().len(), book.calls()), (0, 202));
     Ok(())
 }
