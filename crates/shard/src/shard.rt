@@ -1,6 +1,7 @@
 //! The book of a shard behind its lock, beside the keeper of its acts.
 ghost use Rattle.std.specs.Prelude.{◌≡◌, ◌+◌, ◌<◌, ℕ, [], Some, length, IfOk, IfErr};
 ghost use Rattle.gate.specs.Places.{times};
+ghost use Rattle.history.specs.Log.{call_limit};
 ghost use Rattle.book.specs.Tells.{HoldsHistory};
 ghost use Rattle.shared.specs.Passes.{IsConsistent};
 ghost use mathlib.Core.List.{IsPrefix};
@@ -17,13 +18,13 @@ use sealed::Width;
 use std::alloc::Global;
 use std::marker::Model;
 
-/// A shard. A clause sees which gate it is, the width of its blobs, and the limit of its journal.
-/// Dropping it drops its blobs.
+/// A shard. A clause sees which gate it is, the width of its blobs, and the limit of its journal,
+/// which is 2^62 if it has none. Dropping it drops its blobs.
 #[derive(Drop)]
 pub struct Shard {
     pub(crate) gate: Gate<Held<ShardBook, StoreAct>>,
     pub(crate) width: Width,
-    limit: Limit,
+    limit: u64,
 }
 
 impl Model for Shard {
@@ -35,8 +36,8 @@ impl Model for Shard {
 }
 
 impl Shard {
-    /// An empty shard, with a keeper that has recorded nothing. The one seat at it has the label 0
-    /// and a room of 64, and has seen and made no call.
+    /// An empty shard, with a keeper that has recorded nothing. Without a limit it has no journal.
+    /// The one seat at it has the label 0 and a room of 64, and has seen and made no call.
     ///
     /// `NoMemory` if out of memory, and then the keeper is dropped.
     pub fn open(
@@ -44,19 +45,20 @@ impl Shard {
         ledger: &Ledger<StoreAct>,
         keeper: Keeper<StoreAct>,
         width: Width,
-        limit: Limit,
+        limit: Option<Limit>,
     ) -> Result<(Shard, ShardSeat), Fault>
         requires ledger { keeper.ledger ≡ ledger.now.table }
         requires none { keeper.acts ≡ [] }
-        ensures shard { IfOk result (λ r. (r.0.width ≡ width) × (r.0.limit ≡ limit)) }
+        ensures shard { IfOk result (λ r. (r.0.width ≡ width) × (r.0.limit ≡ call_limit limit)) }
         ensures seat { IfOk result (λ r. r.1.shows ≡ fresh_shows r.0) }
         ensures at { IfOk result
             (λ r. (r.1.ledger ≡ Some ledger.now.table) × (r.1.shard ≡ keeper.shard)) }
         ensures faults { IfErr result (λ e. e ≡ Fault.NoMemory) }
     {
-        let Ok(book) = Book::new(alloc, width, limit) else {
+        let Ok(book) = Book::with_limit(alloc, width, limit) else {
             return Err(Fault::NoMemory);
         };
+        let limit = book.call_limit();
         let Ok(kept) = Kept::boxed(alloc, book) else {
             return Err(Fault::NoMemory);
         };

@@ -1,4 +1,6 @@
 use Rattle.std.proofs.Common.{[], None, refl, ap, subst}
+use Rattle.history.specs.History.{state_of}
+use Rattle.book.specs.Plan.{plan_of}
 use Rattle.shared.specs.Passes.{shows}
 use Rattle.shared.specs.Deeds.{Takes}
 use Rattle.shared.proofs.Steps.{same_goes_on, takes}
@@ -46,4 +48,4 @@ returns-clause-listed g c = (visit g c).listed
 
 pub returns-clause-ok : goal.returns-clause-ok
 returns-clause-ok g c =
-    planned c.plan-plan.result c.map_err.result (plain c.seat.inside.seat) (plain c.leave_book.new.seat) c.enter-inside.result.value.value.0 _ (visit g c).step c.map_err.ensures.variant c.map_err.ensures.cases c.plan-plan.ensures
+    planned (λ h. plan_of (state_of h)) c.plan-plan.result c.map_err.result (plain c.seat.inside.seat) (plain c.leave_book.new.seat) c.enter-inside.result.value.value.0 _ (visit g c).step c.map_err.ensures.variant c.map_err.ensures.cases c.plan-plan.ensures
