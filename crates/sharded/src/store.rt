@@ -1,5 +1,6 @@
 //! The shards, and the passes to them.
 ghost use Rattle.std.specs.Prelude.{◌≡◌, ◌⊎◌, ◌↔◌, ◌≤◌, ◌<◌, [], length, map, All, IfOk, IfErr};
+ghost use Rattle.history.specs.Log.{call_limit};
 ghost use Rattle.one_map.specs.Hash.{shard_of};
 ghost use Rattle.ledger.specs.Acts.{new_keepers};
 ghost use Rattle.sharded.specs.Passes.{store_of, fresh_pass};
@@ -88,6 +89,27 @@ impl ShardedStore {
         ensures bad_width { (result ≡ Err Fault.BadWidth) ↔ ((1 ≤ width) × (width ≤ 65536) → ⊥) }
         ensures faults { IfErr result (λ e. (e ≡ Fault.NoMemory) ⊎ (e ≡ Fault.BadWidth)) }
     {
+        ShardedStore::open_with(alloc, count, width, Some(limit))
+    }
+
+    /// As `open`. Without a limit the shards have no journal: each counts its calls, of which it
+    /// takes 2^62, and takes no memory for them. A clause sees them all.
+    pub fn open_with(
+        alloc: Global,
+        count: usize,
+        width: u32,
+        limit: Option<Limit>,
+    ) -> Result<(ShardedStore, ShardedPass), Fault>
+        requires { (1 ≤ count) × (count ≤ 64) }
+        ensures count { IfOk result (λ r. length r.0.shards ≡ count) }
+        ensures stores { IfOk result
+            (λ r. All (λ s. (s.width ≡ width) × (s.limit ≡ call_limit limit)) r.0.shards) }
+        ensures passes { IfOk result (λ r. r.1.shards ≡ map fresh_pass r.0.shards) }
+        ensures same { IfOk result (λ r. store_of r.1 ≡ r.0) }
+        ensures list { IfOk result (λ r. (r.1.list ≡ []) × (r.1.own ≡ [])) }
+        ensures bad_width { (result ≡ Err Fault.BadWidth) ↔ ((1 ≤ width) × (width ≤ 65536) → ⊥) }
+        ensures faults { IfErr result (λ e. (e ≡ Fault.NoMemory) ⊎ (e ≡ Fault.BadWidth)) }
+    {
         let Some(width) = Width::new(width) else {
             return Err(Fault::BadWidth);
         };
@@ -95,7 +117,7 @@ impl ShardedStore {
         let Ok((ledger, follower, keepers)) = Ledger::open(alloc, Setup { count, about }) else {
             return Err(Fault::NoMemory);
         };
-        let (shards, seats, spacers) = open_shards(alloc, &ledger, keepers, width, limit)?;
+        let (shards, seats, spacers) = open_shards(alloc, &ledger, keepers, width, &limit)?;
         let store = ShardedStore {
             ledger,
             shards,
@@ -127,12 +149,12 @@ fn open_shards(
     ledger: &Ledger<StoreAct>,
     mut keepers: Vec<Keeper<StoreAct>>,
     width: Width,
-    limit: Limit,
+    limit: &Option<Limit>,
 ) -> Result<(Vec<Shard>, Vec<ShardSeat>, Vec<Vec<u8>>), Fault>
     requires keepers { keepers.items ≡ new_keepers ledger.now.table ledger.now.setup.count }
     ensures count { IfOk result (λ r. length r.0.items ≡ ledger.now.setup.count) }
     ensures stores { IfOk result
-        (λ r. All (λ s. (s.width ≡ width) × (s.limit ≡ limit)) r.0.items) }
+        (λ r. All (λ s. (s.width ≡ width) × (s.limit ≡ call_limit limit.now)) r.0.items) }
     ensures seats { IfOk result (λ r. AreOpened ledger.now.table 0 r.0.items r.1.items) }
     ensures faults { IfErr result (λ e. e ≡ Fault.NoMemory) }
 {
@@ -152,11 +174,21 @@ fn open_shards(
         if seats.reserve(1).is_err() {
             return Err(Fault::NoMemory);
         }
-        let (shard, seat) = Shard::open(alloc, ledger, keeper, width, limit)?;
+        let (shard, seat) = Shard::open(alloc, ledger, keeper, width, copy_of(limit))?;
         shards.push_reserved(shard);
         seats.push_reserved(seat);
     }
     shards.reverse();
     seats.reverse();
     Ok((shards, seats, spacers))
+}
+
+/// The same limit, if there is one.
+fn copy_of(limit: &Option<Limit>) -> Option<Limit>
+    ensures { result ≡ limit.now }
+{
+    match limit {
+        Some(limit) => Some(*limit),
+        None => None,
+    }
 }

@@ -1,4 +1,5 @@
 use Rattle.std.proofs.Common.{◌≡◌, ◌++◌, ◌∷◌, [], length, reverse, ap, sym, subst, ◌∙◌, arith, rules, length-append}
+use Rattle.history.specs.Log.{call_limit}
 use Rattle.ledger.specs.Acts.{new_keepers}
 use Rattle.shared.specs.Passes.{Which}
 use Rattle.sharded.specs.Seats.{AreOpened}
@@ -23,7 +24,7 @@ loop-keeper-preserved c =
     record {
       keepers = last.0;
       count = (let long = ap length shards ∙ length-append c.loop-keeper.shards.items (c.in_ok-shard.shard ∷ []) in omega (arith, long, last.2, c.loop-keeper.invariant.count));
-      stores = all_more (λ (s : Which). (s.width ≡ c.args.width) × (s.limit ≡ c.args.limit)) c.loop-keeper.shards.items c.push_reserved.new.self.items c.in_ok-shard.shard shards opened.shard c.loop-keeper.invariant.stores;
+      stores = all_more (λ (s : Which). (s.width ≡ c.args.width) × (s.limit ≡ call_limit c.args.limit.now)) c.loop-keeper.shards.items c.push_reserved.new.self.items c.in_ok-shard.shard shards (opened.shard.0, opened.shard.1 ∙ ap call_limit c.copy_of.ensures) c.loop-keeper.invariant.stores;
       opened = opened_more c.args.ledger.now.table (length c.pop.new.self.items) c.loop-keeper.shards.items c.push_reserved.new.self.items c.loop-keeper.seats.items c.push_reserved-in-Some.new.self.items c.in_ok-shard.shard c.in_ok-shard.seat shards seats
           opened.seat opened.at.0 (opened.at.1 ∙ ap (λ k. k.shard) last.1)
           (subst (λ n. AreOpened c.args.ledger.now.table n (reverse c.loop-keeper.shards.items) (reverse c.loop-keeper.seats.items)) last.2 c.loop-keeper.invariant.opened);
