@@ -2,6 +2,7 @@
 ghost use Rattle.std.specs.Prelude.{◌≡◌, ◌+◌, ◌<◌, ◌^◌, List, ℕ, ◌++◌, [], length, IfOk};
 ghost use Rattle.std.specs.Prelude.{if◌then◌else◌, codes, decimal, string_bytes};
 ghost use Rattle.history.specs.Lawful.{IsLawfulFrom};
+ghost use Rattle.book.specs.Contents.{journal_of};
 ghost use Rattle.transcript.specs.Lines.{AreLines, entry_lines};
 
 use crate::line::line_for;
@@ -43,7 +44,7 @@ fn add_entries(text: &mut String, trimmed: u64, entries: &[Entry]) -> Result<(),
 
 /// The printed word for whether the journal's entries are lawful from its base. They always are.
 fn lawful_text(alloc: Global, book: &Book) -> Result<&'static str, AllocError>
-    requires { IsLawfulFrom book.now.base book.now.width book.now.entries }
+    requires { IsLawfulFrom book.now.base book.now.width (journal_of book.now) }
     ensures { IfOk result (λ text. text.now ≡ codes "yes") }
 {
     if is_lawful_from(alloc, book.base(), book.entries(), book.width())? {
@@ -62,19 +63,18 @@ pub fn print(
     book: &Book,
     history: bool,
 ) -> Result<String, AllocError>
-    requires { IsLawfulFrom book.now.base book.now.width book.now.entries }
+    requires { IsLawfulFrom book.now.base book.now.width (journal_of book.now) }
     ensures { IfOk result (λ text. (lines : List ℕ) × AreLines done.items lines × (string_bytes text
-        ≡ lines ++ ((if history then entry_lines (book.now.base.trimmed + 1) book.now.entries
+        ≡ lines ++ ((if history then entry_lines (book.now.base.trimmed + 1) (journal_of book.now)
         else [])
         ++ (codes "calls " ++ (decimal (book.now.base.trimmed + length book.now.entries)
         ++ codes "\nlawful yes\n"))))) }
 {
-    let entries = book.entries();
-    let shown = if history { entries } else { &[] };
+    let shown = if history { book.entries() } else { &[] };
     let trimmed = book.base().trimmed;
     let mut text = row_lines(alloc, done)?;
     add_entries(&mut text, trimmed, shown)?;
-    let calls = trimmed.saturating_add(entries.len() as u64);
+    let calls = book.calls();
     let lawful = lawful_text(alloc, book)?;
     write!(text, "calls {calls}\nlawful {lawful}\n")?;
     Ok(text)
