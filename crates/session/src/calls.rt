@@ -2,7 +2,7 @@
 //! section. The session has then seen no more of the history. `Busy` never comes to a session with
 //! a room of 64. After any other error the history does not have the call, and the session may have
 //! seen further calls.
-ghost use Rattle.std.specs.Prelude.{◌≡◌, ◌≢◌, ◌⊎◌, ◌↔◌, ◌<◌, None, length, IfOk, IfErr};
+ghost use Rattle.std.specs.Prelude.{◌≡◌, ◌≢◌, ◌⊎◌, ◌↔◌, ◌<◌, ◌≤◌, ℕ, None, length, IfOk, IfErr};
 ghost use Rattle.sealed.specs.Layout.{stripe_count};
 ghost use Rattle.history.specs.Step.{put as put_of, read as read_of, lose as lose_of};
 ghost use Rattle.history.specs.Step.{repair as repair_of, delete as delete_of, stat as stat_of};
@@ -176,6 +176,18 @@ impl Session {
         ensures lone { self.old.room ≡ 64 → result ≢ Err Fault.Busy }
     {
         self.store.try_trim(alloc, &mut self.pass, keep)
+    }
+
+    /// As `trim`, but it discards at most `most` entries.
+    pub fn trim_part(&mut self, alloc: Global, keep: u64, most: u64) -> Result<u64, Fault>
+        ensures part { (k : ℕ) × (keep ≤ k) × Takes self.old (trim_deed k result) self.new }
+        ensures few { IfOk result (λ n. n ≤ most) }
+        ensures whole { IfOk result (λ n. n < most → Takes self.old (trim_deed keep result) self.new) }
+        ensures faults { IfErr result (λ e. (e ≡ Fault.Busy) ⊎ (e ≡ Fault.NoMemory)) }
+        ensures busy { result ≡ Err Fault.Busy → FindsBusy self.old self.new }
+        ensures lone { self.old.room ≡ 64 → result ≢ Err Fault.Busy }
+    {
+        self.store.try_trim_part(alloc, &mut self.pass, keep, most)
     }
 
     /// The lost fragments of all blobs. It is no call of the history.

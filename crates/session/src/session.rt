@@ -3,6 +3,7 @@ ghost use Rattle.std.specs.Prelude.{◌≡◌, ◌≢◌, ◌⊎◌, ◌↔◌, 
 ghost use Rattle.std.specs.Prelude.{IfErr, OnOk, OnErr};
 ghost use mathlib.Core.List.{IsPrefix};
 ghost use Rattle.gate.specs.Places.{AreApart, times};
+ghost use Rattle.history.specs.Log.{call_limit};
 ghost use Rattle.book.specs.Tells.{HoldsHistory};
 ghost use Rattle.shared.specs.Passes.{IsConsistent, IsWhole};
 ghost use Rattle.session.specs.FreshSession.{IsFirstSession, IsSplitOff, IsClosing};
@@ -31,14 +32,14 @@ impl Model for Session {
 }
 
 impl Session {
-    /// Opens a store without blobs, and returns its only session. `BadWidth` if `width` is not in
-    /// 1..=65,536. `NoMemory` if memory runs out.
-    pub fn open(alloc: Global, width: u32, limit: Limit) -> Result<Session, Fault>
-        ensures opened { IfOk result (IsFirstSession width limit) }
+    /// Opens a store without blobs, and returns its only session. Without a limit it has no journal.
+    /// `BadWidth` if `width` is not in 1..=65,536. `NoMemory` if memory runs out.
+    pub fn open(alloc: Global, width: u32, limit: Option<Limit>) -> Result<Session, Fault>
+        ensures opened { IfOk result (IsFirstSession width (call_limit limit)) }
         ensures bad_width { (result ≡ Err Fault.BadWidth) ↔ ((1 ≤ width) × (width ≤ 65536) → ⊥) }
         ensures faults { IfErr result (λ e. (e ≡ Fault.NoMemory) ⊎ (e ≡ Fault.BadWidth)) }
     {
-        match Store::open(alloc, width, limit) {
+        match Store::open_with(alloc, width, limit) {
             Ok((store, pass)) => match Arc::new(alloc, store) {
                 Ok(store) => Ok(Session { store, pass }),
                 Err(_) => Err(Fault::NoMemory),
