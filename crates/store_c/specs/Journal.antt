@@ -1,5 +1,5 @@
 -- The journal of a closed store, for C.
-use Rattle.std.specs.Prelude.{◌≡◌, ◌≢◌, ◌⊎◌, ℕ, List, slice_get, MatchOption, Option, Some, None}
+use Rattle.std.specs.Prelude.{◌≡◌, ◌≢◌, ◌⊎◌, ◌+◌, ℕ, List, length, slice_get, MatchOption, Option, Some, None}
 use Rattle.lrc_code.specs.declared.Code.{Code}
 use Rattle.lrc_code.specs.declared.Code.TheVariants.{Wide, Small}
 use Rattle.history.specs.Parts.{name_of}
@@ -8,6 +8,7 @@ use Rattle.history.specs.declared.note.Call.{Call}
 use Rattle.history.specs.declared.note.Call.TheVariants.{Put, Read, Lose, Repair, Delete, Stat}
 use Rattle.history.specs.declared.note.Note.{Note}
 use Rattle.history.specs.declared.note.Note.TheVariants.{Stored, NoName, OutOfRange, Unrecoverable, Granted, Lost, NoFragment, AlreadyLost, Repaired, NotLost, Deleted, Shape}
+use Rattle.book.specs.Contents.{journal_of}
 use Rattle.session.specs.declared.held.Held.{Held}
 use Rattle.session.specs.declared.held.Held.TheVariants.{Session, Journal}
 use Rattle.shared.specs.Passes.{Shows}
@@ -69,12 +70,12 @@ pub record IsEntry (e : Entry) (r : JournalEntry) : Type 0 where
   pub version_is : r.version ≡ version_of_note e.note
   pub shape_is : (r.len, r.stripes, r.lost) ≡ shape_of_note e.note
 
--- The slot holds the journal of the closed store. C gets the numbers of discarded and of remaining
--- entries, and that these are lawful
+-- The slot holds the journal of the closed store. C gets how many calls are no entries, of how many
+-- there are entries, and that these are lawful
 pub record IsClosedTo (v : Shows) (discarded entries lawful : ℕ) (given : Option Held) : Type 0 where
   pub report : IsReportOf v entries lawful
   pub given_is : given ≡ Some (Journal report.book)
-  pub discarded_is : discarded ≡ report.book.base.trimmed
+  pub calls_are : discarded + entries ≡ report.book.base.trimmed + length report.book.entries
 
 -- The slot held the only session of a store, whose room is 64, and holds nothing; or nothing was
 -- done, since the store has other sessions
@@ -94,5 +95,5 @@ IsEntryAt entries index status old new = MatchOption (slice_get entries index) (
 
 -- the slot holds a journal; or nothing was done
 abbrev pub IsEntryCall : Option Held → ℕ → ℕ → JournalEntry → JournalEntry → Type 0
-IsEntryCall (Some (Journal book)) index status old new = IsEntryAt book.entries index status old new
+IsEntryCall (Some (Journal book)) index status old new = IsEntryAt (journal_of book) index status old new
 IsEntryCall held index status old new = (status ≡ empty) × (new ≡ old)

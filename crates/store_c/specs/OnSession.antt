@@ -1,5 +1,5 @@
 -- The effect of a call from C on the session in its slot, and what C gets.
-use Rattle.std.specs.Prelude.{◌≡◌, ◌≢◌, ◌⊎◌, ◌+◌, ℕ, List, length, slice_range, Result, Ok, Err, IfErr, Option, Some, None}
+use Rattle.std.specs.Prelude.{◌≡◌, ◌≢◌, ◌⊎◌, ◌+◌, ◌<◌, ◌≤◌, ℕ, List, length, slice_range, Result, Ok, Err, IfOk, IfErr, Option, Some, None}
 use Rattle.std.specs.FinMap as finite
 use Rattle.lrc_code.specs.declared.Code.{Code}
 use Rattle.sealed.specs.declared.fault.Fault.{Fault}
@@ -95,6 +95,18 @@ abbrev pub IsOnSession : Option Held → ℕ → Option Held → Type 0 → (Sho
 IsOnSession (Some (Session v number)) status (Some (Session w same)) Kept Did = Did v w × (same ≡ number)
 IsOnSession (Some (Session v number)) status new Kept Did = ⊥
 IsOnSession old status new Kept Did = (status ≡ empty) × (new ≡ old) × Kept
+
+-- The same for a trim of at most so many entries. If there were fewer it is a trim of all
+pub record IsTrimPartCall (v : Shows) (keep most status before after : ℕ) (w : Shows) : Type 0 where
+  pub reply : Result ℕ Fault
+  pub part : (k : ℕ) × (keep ≤ k) × Takes v (trim_deed k reply) w
+  pub few : IfOk reply (λ n. n ≤ most)
+  pub whole : IfOk reply (λ n. n < most → Takes v (trim_deed keep reply) w)
+  pub faults : IfErr reply (λ e. (e ≡ Busy) ⊎ (e ≡ NoMemory))
+  pub status_is : status ≡ status_of_count reply
+  pub count_is : after ≡ count_of before reply
+  pub busy : reply ≡ Err Busy → FindsBusy v w
+  pub lone : v.room ≡ 64 → reply ≢ Err Busy
 
 -- a trim has this reply, of which C gets the status and the count
 pub record IsTrimCall (v : Shows) (keep status before after : ℕ) (w : Shows) : Type 0 where

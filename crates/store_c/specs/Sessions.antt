@@ -3,7 +3,8 @@ use Rattle.std.specs.Prelude.{◌≡◌, ◌≢◌, ◌⊎◌, ◌+◌, ◌-◌,
 use mathlib.Core.List.{IsPrefix}
 use Rattle.gate.specs.Places.{AreApart}
 use Rattle.history.specs.History.{History}
-use Rattle.book.specs.Contents.{Contents}
+use Rattle.history.specs.Log.{call_limit}
+use Rattle.book.specs.Contents.{Contents, journal_of}
 use Rattle.book.specs.Tells.{HoldsHistory}
 use Rattle.shared.specs.Passes.{Shows, IsWhole}
 use Rattle.session.specs.declared.held.Held.{Held}
@@ -12,15 +13,24 @@ use Rattle.session.specs.FreshSession.{IsFirstSession, IsSplitOff, IsClosing}
 use Rattle.store_c.specs.Status.{bad_argument, bad_width, done, empty, no_memory, no_pass, not_alone, occupied}
 
 -- a store was opened, and its first session is held; or nothing was done
+pub data IsOpeningWith (width limit number status : ℕ) (new : Option Held) : Type 0 where
+  opened : (v : Shows) → status ≡ done → IsFirstSession width limit v → new ≡ Some (Session v number) → IsOpeningWith width limit number status new
+  width_refused : status ≡ bad_width → ((1 ≤ width) × (width ≤ 65536) → ⊥) → new ≡ None → IsOpeningWith width limit number status new
+  memory_refused : status ≡ no_memory → new ≡ None → IsOpeningWith width limit number status new
+
+-- the same with a journal, unless its limit is refused
 pub data IsOpening (width limit number status : ℕ) (new : Option Held) : Type 0 where
-  opened : (v : Shows) → status ≡ done → IsFirstSession width limit v → new ≡ Some (Session v number) → IsOpening width limit number status new
+  within : IsOpeningWith width limit number status new → IsOpening width limit number status new
   limit_refused : status ≡ bad_argument → ((1 ≤ limit) × (limit ≤ 1048576) → ⊥) → new ≡ None → IsOpening width limit number status new
-  width_refused : status ≡ bad_width → ((1 ≤ width) × (width ≤ 65536) → ⊥) → new ≡ None → IsOpening width limit number status new
-  memory_refused : status ≡ no_memory → new ≡ None → IsOpening width limit number status new
 
 abbrev pub IsOpenCall : Option Held → ℕ → ℕ → ℕ → ℕ → Option Held → Type 0
 IsOpenCall None width limit number status new = IsOpening width limit number status new
 IsOpenCall (Some held) width limit number status new = (status ≡ occupied) × (new ≡ Some held)
+
+-- the same without a journal
+abbrev pub IsUnjournaledCall : Option Held → ℕ → ℕ → ℕ → Option Held → Type 0
+IsUnjournaledCall None width number status new = IsOpeningWith width (call_limit None) number status new
+IsUnjournaledCall (Some held) width number status new = (status ≡ occupied) × (new ≡ Some held)
 
 -- the session was split, and the other slot holds the new one; or nothing was done
 pub data IsSplit (v : Shows) (number who status : ℕ) (w : Shows) (given : Option Held) : Type 0 where
@@ -72,12 +82,12 @@ abbrev pub IsNumberCall : Option Held → ℕ → ℕ × ℕ → Option Held →
 IsNumberCall (Some (Session v number)) status numbers new = (status ≡ done) × (numbers.1 ≡ number) × (new ≡ Some (Session v number))
 IsNumberCall old status numbers new = (status ≡ empty) × (numbers.1 ≡ numbers.0) × (new ≡ old)
 
--- The book that was closed. C gets the number of its entries, and that these are lawful: 1, or 2 if
--- there was no memory to check it
+-- The book that was closed. C gets the number of entries of its journal, and that these are lawful:
+-- 1, or 2 if there was no memory to check it, or no journal
 pub record IsReportOf (v : Shows) (entries lawful : ℕ) : Type 0 where
   pub book : Contents
   pub closes : IsClosing v book
-  pub entries_is : entries ≡ length book.entries
+  pub entries_is : entries ≡ length (journal_of book)
   pub lawful_is : (lawful ≡ 1) ⊎ (lawful ≡ 2)
 
 -- the book represents some history

@@ -4,7 +4,7 @@ ghost use Rattle.std.specs.Prelude.{◌≡◌};
 ghost use Rattle.history.specs.Step.{put as put_of, lose as lose_of, repair as repair_of};
 ghost use Rattle.history.specs.Step.{delete as delete_of};
 ghost use Rattle.store_c.specs.OnSession.{IsNamedCall, IsPutCall, IsReadCall, IsStatCall};
-ghost use Rattle.store_c.specs.OnSession.{IsTrimCall, HasSomeReply};
+ghost use Rattle.store_c.specs.OnSession.{IsTrimCall, IsTrimPartCall, HasSomeReply};
 
 use crate::answers::{name_of, number_of, put_arguments, tell, tell_shape};
 use crate::status::{BAD_NAME, DONE, NOT_REBUILT};
@@ -146,6 +146,24 @@ pub(crate) fn trim(alloc: Global, session: &mut Session, keep: u64, discarded: &
     ensures { IsTrimCall session.old keep result discarded.old discarded.new session.new }
 {
     match session.trim(alloc, keep) {
+        Ok(count) => {
+            *discarded = count;
+            DONE
+        }
+        Err(fault) => number_of(fault),
+    }
+}
+
+pub(crate) fn trim_part(
+    alloc: Global,
+    session: &mut Session,
+    keep: u64,
+    most: u64,
+    discarded: &mut u64,
+) -> u32
+    ensures { IsTrimPartCall session.old keep most result discarded.old discarded.new session.new }
+{
+    match session.trim_part(alloc, keep, most) {
         Ok(count) => {
             *discarded = count;
             DONE

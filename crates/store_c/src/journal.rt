@@ -1,6 +1,7 @@
 //! The entries of a journal, for C.
 ghost use Rattle.std.specs.Prelude.{◌≡◌};
 ghost use Rattle.history.specs.Parts.{name_of};
+ghost use Rattle.book.specs.Contents.{journal_of};
 ghost use Rattle.store_c.specs.Journal.{IsEntry, IsEntryAt, arguments_of, status_of_note};
 ghost use Rattle.store_c.specs.Journal.{version_of_note, shape_of_note};
 
@@ -142,7 +143,7 @@ fn entry_for(entry: &Entry) -> JournalEntry<'_>
 
 /// Writes the entry of a journal at an index, from 0, and returns the status.
 pub(crate) fn entry_at<'a>(book: &'a Book, index: usize, target: &mut JournalEntry<'a>) -> u32
-    ensures { IsEntryAt book.now.entries index result target.old target.new }
+    ensures { IsEntryAt (journal_of book.now) index result target.old target.new }
 {
     match book.entries().get(index) {
         Some(entry) => {

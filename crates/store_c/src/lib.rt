@@ -17,13 +17,13 @@ mod status;
 ghost use Rattle.std.specs.Prelude.{◌≡◌, None};
 ghost use Rattle.history.specs.Step.{lose as lose_of, repair as repair_of, delete as delete_of};
 ghost use Rattle.store_c.specs.OnSession.{IsOnSession, IsNamedCall, IsPutCall, IsReadCall};
-ghost use Rattle.store_c.specs.OnSession.{IsStatCall, IsTrimCall};
+ghost use Rattle.store_c.specs.OnSession.{IsStatCall, IsTrimCall, IsTrimPartCall};
 ghost use Rattle.store_c.specs.Buffers.{IsReserveCall, IsBufferCall, IsPutFrom};
 ghost use Rattle.store_c.specs.Journal.{IsCloseToCall, IsEntryCall};
 ghost use Rattle.store_c.specs.Lend.{IsLendTo, IsSlicesCall, IsRunsCall};
 ghost use Rattle.store_c.specs.Plan.{IsPlanTo, IsMendCall};
-ghost use Rattle.store_c.specs.Sessions.{IsOpenCall, IsSplitCall, IsJoinCall, AreOfOneStore};
-ghost use Rattle.store_c.specs.Sessions.{IsCloseCall, IsNumberCall};
+ghost use Rattle.store_c.specs.Sessions.{IsOpenCall, IsUnjournaledCall, IsSplitCall, IsJoinCall};
+ghost use Rattle.store_c.specs.Sessions.{AreOfOneStore, IsCloseCall, IsNumberCall};
 
 use crate::journal::JournalEntry;
 use crate::status::{DONE, EMPTY, OCCUPIED};
@@ -63,6 +63,23 @@ pub extern "C" fn lrc_store_open(
         return OCCUPIED;
     }
     sessions::open(alloc, width, limit, number, slot)
+}
+
+/// Opens a store without a journal, and puts the first session into an empty slot, as
+/// `lrc_store_open` does.
+#[unsafe(no_mangle)]
+pub extern "C" fn lrc_store_open_unjournaled(
+    alloc: Global,
+    width: u32,
+    number: u64,
+    slot: &mut Slot,
+) -> u32
+    ensures { IsUnjournaledCall slot.old.held width number result slot.new.held }
+{
+    if !slot.is_vacant(alloc) {
+        return OCCUPIED;
+    }
+    sessions::open_with(alloc, width, None, number, slot)
 }
 
 /// Splits a session off the slot's, with the label `who` for its calls, and puts it into an empty
@@ -362,6 +379,21 @@ pub extern "C" fn lrc_store_trim(
         (λ v w. IsTrimCall v keep result discarded.old discarded.new w) }
 {
     with_session!(alloc, slot, session => calls::trim(alloc, session, keep, discarded))
+}
+
+/// Discards at most `most` of the entries that `lrc_store_trim` would discard, the oldest first.
+#[unsafe(no_mangle)]
+pub extern "C" fn lrc_store_trim_part(
+    alloc: Global,
+    slot: &mut Slot,
+    keep: u64,
+    most: u64,
+    discarded: &mut u64,
+) -> u32
+    ensures { IsOnSession slot.old.held result slot.new.held (discarded.new ≡ discarded.old)
+        (λ v w. IsTrimPartCall v keep most result discarded.old discarded.new w) }
+{
+    with_session!(alloc, slot, session => calls::trim_part(alloc, session, keep, most, discarded))
 }
 
 /// Lends `len` bytes of a name's blob, from the byte `start` on. It puts the range into an empty

@@ -1,8 +1,9 @@
 //! Opening, splitting, joining and closing.
 ghost use Rattle.std.specs.Prelude.{◌≡◌, ◌⊎◌, None, Some};
 ghost use Rattle.store_c.specs.Journal.{IsCloseTo, IsCloseToCall};
-ghost use Rattle.store_c.specs.Sessions.{IsOpening, IsSplitTo, IsSplitCall, IsJoinCall};
-ghost use Rattle.store_c.specs.Sessions.{AreOfOneStore, IsCloseCall, HasHistory};
+ghost use Rattle.history.specs.Log.{call_limit};
+ghost use Rattle.store_c.specs.Sessions.{IsOpening, IsOpeningWith, IsSplitTo, IsSplitCall};
+ghost use Rattle.store_c.specs.Sessions.{IsJoinCall, AreOfOneStore, IsCloseCall, HasHistory};
 
 use crate::answers::number_of;
 use crate::status::{BAD_ARGUMENT, DONE, EMPTY, NO_MEMORY, NOT_ALONE, OCCUPIED};
@@ -17,6 +18,20 @@ pub(crate) fn open(alloc: Global, width: u32, limit: u32, number: u64, slot: &mu
     let Some(limit) = Limit::new(limit) else {
         return BAD_ARGUMENT;
     };
+    open_with(alloc, width, Some(limit), number, slot)
+}
+
+/// Does the same with a limit that is in range, or without a journal.
+pub(crate) fn open_with(
+    alloc: Global,
+    width: u32,
+    limit: Option<Limit>,
+    number: u64,
+    slot: &mut Slot,
+) -> u32
+    requires { slot.old.held ≡ None }
+    ensures { IsOpeningWith width (call_limit limit) number result slot.new.held }
+{
     let Ok(mut held) = Box::new(alloc, None::<Held>) else {
         return NO_MEMORY;
     };
@@ -147,8 +162,8 @@ pub(crate) fn close_to(
     match held.take() {
         Some(Held::Session { session, number }) => match session.close() {
             Ok(book) => {
-                *discarded = book.base().trimmed;
                 *entries = book.entries().len() as u64;
+                *discarded = book.calls() - *entries;
                 *lawful = lawful_number(alloc, &book);
                 *given = Some(Held::Journal(book));
                 DONE
@@ -194,11 +209,15 @@ pub(crate) fn close_slot(
     status
 }
 
-/// Whether the entries of a book are lawful: 1, or 2 if there was no memory to check it.
+/// Whether the entries of a book are lawful: 1, or 2 if there was no memory to check it, or no
+/// journal.
 fn lawful_number(alloc: Global, book: &Book) -> u32
     requires { HasHistory book.now }
     ensures { (result ≡ 1) ⊎ (result ≡ 2) }
 {
+    if book.limit().is_none() {
+        return 2;
+    }
     match is_lawful_from(alloc, book.base(), book.entries(), book.width()) {
         Ok(true) => 1,
         Ok(false) => 0,

@@ -1,6 +1,5 @@
-use Rattle.std.proofs.Common.{Some, length, refl, sym, ap, ◌∙◌}
-use Rattle.history.specs.Base.{Checkpoint}
-use Rattle.store_c.proofs.Closings.{closed_to}
+use Rattle.std.proofs.Common.{Some, length, refl, sym, ap, ◌∙◌, arith}
+use Rattle.store_c.proofs.Closings.{closed_to, kept_few}
 use Rattle.store_c.proofs.sessions.close_to.Goals as goal
 
 pub returns-in-Ok : goal.returns-in-Ok
@@ -10,9 +9,9 @@ returns-in-Ok c =
       report = record {
         book = c.in-Ok.book;
         closes = c.in-Ok.ensures.ok;
-        entries_is = ap length c.entries.ensures;
+        entries_is = ap length c.entries.ensures.value;
         lawful_is = c.lawful_number.ensures;
       };
       given_is = refl;
-      discarded_is = ap (λ (base : Checkpoint). base.trimmed) (c.behind-book.view_is ∙ c.base.ensures);
+      calls_are = (let few = kept_few c.in-Ok.book in let entries = ap length c.entries.ensures.value in omega (arith, few, entries, c.calls.ensures));
     })

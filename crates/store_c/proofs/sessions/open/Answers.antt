@@ -1,9 +1,7 @@
-use Rattle.std.proofs.Common.{ℕ, refl, subst}
-use Rattle.session.specs.FreshSession.{IsFirstSession}
-use Rattle.store_c.specs.Sessions.{opened}
+use Rattle.std.proofs.Common.{ℕ, subst}
+use Rattle.store_c.specs.Sessions.{IsOpeningWith, within}
 use Rattle.store_c.proofs.sessions.open.Goals as goal
 
-pub returns-in-Ok-open : goal.returns-in-Ok-open
-returns-in-Ok-open c =
-    let v = c.in-Ok-open.session in
-    opened v refl (subst (λ (l : ℕ). IsFirstSession c.args.width l v) c.in-Some.ensures.value c.in-Ok-open.ensures.opened) c.put.ensures
+pub returns : goal.returns
+returns c =
+    within (subst (λ (limit : ℕ). IsOpeningWith c.args.width limit c.args.number c.open_with.result c.open_with.new.slot.held) c.in-Some.ensures.value c.open_with.ensures)
