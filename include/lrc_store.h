@@ -118,6 +118,11 @@ enum {
  * entries. Puts its first session into the empty `slot`. The session has the store's 64 places. */
 uint32_t lrc_store_open(uint32_t width, uint32_t limit, lrc_slot *slot);
 
+/* Does the same for a store without a journal, as a service wants it: no call is refused for a full
+ * journal before 2^62 calls, none takes memory for an entry, and there is nothing to trim. The
+ * store counts its calls. */
+uint32_t lrc_store_open_unjournaled(uint32_t width, lrc_slot *slot);
+
 /* Splits a session off the one in `slot` and puts it into the empty `other`. Its journal entries
  * have the label `who`. The new session takes one of the places of the old one, which keeps at
  * least one: LRC_STORE_NO_PASS if it has only one. */
@@ -131,12 +136,13 @@ uint32_t lrc_store_join(lrc_slot *slot, lrc_slot *other);
 
 /* Closes the store of the last session, and empties `slot`. `entries` gets the number of journal
  * entries. `lawful` gets 1 if a check found them to be a legal history, and 2 if there was no
- * memory for the check. The check is proved never to fail. LRC_STORE_NOT_ALONE if the session does
- * not have all 64 places. */
+ * memory for the check, or no journal. The check is proved never to fail. LRC_STORE_NOT_ALONE if
+ * the session does not have all 64 places. */
 uint32_t lrc_store_close(lrc_slot *slot, uint64_t *entries, uint32_t *lawful);
 
-/* Does the same, and puts the journal into the empty `other`. `discarded` gets the number of
- * entries that were trimmed. Releasing `other` frees the memory of the store. */
+/* Does the same, and puts the journal into the empty `other`. `discarded` gets the number of calls
+ * that have no entry: of those whose entry was trimmed, or without a journal of all. Releasing
+ * `other` frees the memory of the store. */
 uint32_t lrc_store_close_to(lrc_slot *slot, lrc_slot *other, uint64_t *discarded,
                             uint64_t *entries, uint32_t *lawful);
 
@@ -215,6 +221,10 @@ uint32_t lrc_store_stat(lrc_slot *slot, const uint8_t *name, size_t name_len, ui
 /* Discards all journal entries except the last `keep`. `discarded` gets how many it discarded. */
 uint32_t lrc_store_trim(lrc_slot *slot, uint64_t keep, uint64_t *discarded);
 
+/* Discards at most `most` of them, the oldest first. So a long journal can be trimmed in steps,
+ * between which other threads call. If it discards fewer than `most`, none are left. */
+uint32_t lrc_store_trim_part(lrc_slot *slot, uint64_t keep, uint64_t most, uint64_t *discarded);
+
 /* Puts a plan to repair all lost fragments of all blobs into the empty `other`. `items` gets
  * their number. */
 uint32_t lrc_store_plan(lrc_slot *slot, lrc_slot *other, uint64_t *items);
@@ -263,6 +273,8 @@ uint32_t lrc_store_delete_wait(lrc_slot *slot, const uint8_t *name, size_t name_
 uint32_t lrc_store_stat_wait(lrc_slot *slot, const uint8_t *name, size_t name_len,
                              uint64_t *version, uint64_t *len, uint64_t *stripes, uint64_t *lost,
                              int64_t timeout_ms);
+/* It trims in parts of 512 entries, between which other threads call. If a part is refused after
+ * others, `discarded` gets how many entries these had. */
 uint32_t lrc_store_trim_wait(lrc_slot *slot, uint64_t keep, uint64_t *discarded,
                              int64_t timeout_ms);
 uint32_t lrc_store_plan_wait(lrc_slot *slot, lrc_slot *other, uint64_t *items, int64_t timeout_ms);

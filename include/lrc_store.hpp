@@ -137,9 +137,10 @@ private:
 // The journal of a closed store. An entry's name is valid until the next call.
 class journal {
 public:
-    uint64_t discarded() const { return trimmed; }
+    // The number of calls that have no entry: without a journal, of all.
+    uint64_t discarded() const { return without_entry; }
     uint64_t size() const { return count; }
-    // Whether a check found it lawful. False if there was no memory for the check.
+    // Whether a check found it lawful. False if there was no memory for the check, or no journal.
     bool is_checked() const { return lawful == 1; }
     lrc_entry entry(size_t index) {
         lrc_entry found{{reinterpret_cast<const uint8_t *>(""), 0}, 0, 0, 0, 0, 0, 0, 0, 0, 0};
@@ -150,7 +151,7 @@ public:
 private:
     friend class session;
     slot held;
-    uint64_t trimmed = 0, count = 0;
+    uint64_t without_entry = 0, count = 0;
     uint32_t lawful = 0;
 };
 
@@ -160,15 +161,23 @@ struct shape {
 
 struct closed {
     uint64_t entries;
-    // Whether a check found the journal lawful. False if there was no memory for the check.
+    // Whether a check found the journal lawful. False if there was no memory for the check, or no
+    // journal.
     bool is_checked;
 };
 
 // A session of a store, for one thread at a time.
 class session {
 public:
-    // Opens a store and returns its first session. Its fragments have `width` bytes, and its
-    // journal at most `limit` entries.
+    // Opens a store without a journal and returns its first session. Its fragments have `width`
+    // bytes.
+    static session open(uint32_t width) {
+        session made;
+        detail::check(lrc_store_open_unjournaled(width, made.held.get()), "open", width);
+        return made;
+    }
+
+    // The same with a journal, of at most `limit` entries.
     static session open(uint32_t width, uint32_t limit) {
         session made;
         detail::check(lrc_store_open(width, limit, made.held.get()), "open", width, limit);
@@ -207,8 +216,8 @@ public:
     // Closes the store and returns its journal.
     journal close_to_journal() {
         journal made;
-        detail::check(lrc_store_close_to(held.get(), made.held.get(), &made.trimmed, &made.count,
-                                         &made.lawful),
+        detail::check(lrc_store_close_to(held.get(), made.held.get(), &made.without_entry,
+                                         &made.count, &made.lawful),
                       "close_to_journal");
         return made;
     }

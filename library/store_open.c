@@ -1,4 +1,4 @@
-/* lrc_store_open: the proved function, with a number for the store that no other open store of the
+/* Opening: the proved functions, with a number for the store that no other open store of the
  * process has. By that number a join tells two stores apart, so it matters also if several copies
  * of this library are loaded or linked. */
 #include "lrc_store.h"
@@ -6,8 +6,9 @@
 #include <stdatomic.h>
 #include <sys/random.h>
 
-/* The proved function, for the processor at hand (choice.c). */
+/* The proved functions, for the processor at hand (choice.c). */
 uint32_t lrc_store_open_numbered(uint32_t width, uint32_t limit, uint64_t number, lrc_slot *slot);
+uint32_t lrc_store_open_unjournaled_numbered(uint32_t width, uint64_t number, lrc_slot *slot);
 
 enum { COUNT_BITS = 23, ALIGNMENT = 64 };
 
@@ -30,4 +31,8 @@ static uint64_t new_number(void) {
 
 uint32_t lrc_store_open(uint32_t width, uint32_t limit, lrc_slot *slot) {
     return lrc_store_open_numbered(width, limit, new_number(), slot);
+}
+
+uint32_t lrc_store_open_unjournaled(uint32_t width, lrc_slot *slot) {
+    return lrc_store_open_unjournaled_numbered(width, new_number(), slot);
 }

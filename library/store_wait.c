@@ -30,6 +30,9 @@ enum { TRIES = 8, LONG_BYTES = 65536 };
  * long as the one before, up to LONGEST_NS. */
 enum { SPINS = 16, PAUSES = 32, SHORTEST_NS = 100000, LONGEST_NS = 1600000 };
 
+/* How many entries are discarded at once. */
+enum { TRIMMED_AT_ONCE = 512 };
+
 /* A thread that waits for its turn can be cancelled once in this time. */
 enum { SLICE_NS = 50 * NS_OF_MS };
 
@@ -205,9 +208,29 @@ uint32_t lrc_store_stat_wait(lrc_slot *slot, const uint8_t *name, size_t name_le
     REPEAT(0, lrc_store_stat(slot, name, name_len, version, len, stripes, lost));
 }
 
+/* How many milliseconds are left, rounded up, of those that a call may wait. */
+static int64_t left_of(int64_t timeout_ms, int64_t deadline) {
+    if (timeout_ms <= 0 || deadline == NEVER) return timeout_ms;
+    const int64_t left_ns = deadline - now_ns();
+    return left_ns > 0 ? (left_ns - 1) / NS_OF_MS + 1 : 0;
+}
+
+static uint32_t trim_part(lrc_slot *slot, uint64_t keep, uint64_t *discarded, int64_t timeout_ms) {
+    REPEAT(0, lrc_store_trim_part(slot, keep, TRIMMED_AT_ONCE, discarded));
+}
+
 uint32_t lrc_store_trim_wait(lrc_slot *slot, uint64_t keep, uint64_t *discarded,
                              int64_t timeout_ms) {
-    REPEAT(0, lrc_store_trim(slot, keep, discarded));
+    const int64_t deadline = deadline_after(timeout_ms);
+    uint64_t part, all = 0;
+    uint32_t status;
+    do {
+        part = 0;
+        status = trim_part(slot, keep, &part, left_of(timeout_ms, deadline));
+        all += part;
+    } while (part == TRIMMED_AT_ONCE);
+    if (status == LRC_STORE_DONE || all) *discarded = all;
+    return status;
 }
 
 uint32_t lrc_store_plan_wait(lrc_slot *slot, lrc_slot *other, uint64_t *items, int64_t timeout_ms) {

@@ -122,6 +122,7 @@ _SLOT, _OUT = ctypes.POINTER(_Slot), ctypes.POINTER(_U64)
 _NAMED = [_SLOT, _BYTES, _SIZE]
 DECLARED = {
     "lrc_store_open": [_U32, _U32, _SLOT],
+    "lrc_store_open_unjournaled": [_U32, _SLOT],
     "lrc_store_split": [_SLOT, _U32, _SLOT],
     "lrc_store_join": [_SLOT, _SLOT],
     "lrc_store_close": [_SLOT, _OUT, ctypes.POINTER(_U32)],
@@ -224,7 +225,7 @@ class Shape(NamedTuple):
 class Closed(NamedTuple):
     """The number of entries in a closed store's journal, and whether a check found them lawful.
 
-    `is_checked` is false if there was no memory for the check.
+    `is_checked` is false if there was no memory for the check, or no journal.
     """
 
     entries: int
@@ -248,9 +249,10 @@ class Entry(NamedTuple):
 
 
 class Journal(NamedTuple):
-    """A closed store's journal: the number of trimmed entries, and the others in order.
+    """A closed store's journal: the number of calls without an entry, and the entries in order.
 
-    `is_checked` is true if a check found them lawful, and false if there was no memory for it.
+    Without a journal no call has one. `is_checked` is true if a check found the entries lawful, and
+    false if there was no memory for it, or no journal.
     """
 
     discarded: int
@@ -393,16 +395,19 @@ class Session:
         return self._alone(attempts)
 
     @classmethod
-    def open(cls, width: int, limit: int) -> Session:
+    def open(cls, width: int, limit: int | None = None) -> Session:
         """Opens a store and returns its first session.
 
-        Its fragments have `width` bytes, and its journal at most `limit` entries.
+        Its fragments have `width` bytes. Without a limit it has no journal, and with one a journal
+        of at most `limit` entries.
         """
         slot = _Slot()
-        status = _library.lrc_store_open(
-            _number("width", width, 32), _number("limit", limit, 32), slot
-        )
-        _check(status, "open", width, limit)
+        _number("width", width, 32)
+        if limit is None:
+            _check(_library.lrc_store_open_unjournaled(width, slot), "open", width)
+        else:
+            _number("limit", limit, 32)
+            _check(_library.lrc_store_open(width, limit, slot), "open", width, limit)
         return cls(slot)
 
     def split(self, who: int) -> Session:

@@ -1,6 +1,6 @@
 import lrc_store
 
-with lrc_store.Session.open(width=4, limit=100) as session:
+with lrc_store.Session.open(width=4) as session:
     session.put("greeting", b"HELLO, WORLD")
     session.lose("greeting", 0, 0)  # fragments 0 and 2 of stripe 0 fail
     session.lose("greeting", 0, 2)

@@ -129,10 +129,11 @@ pub(crate) fn entry(held: &mut Slot, index: usize) -> Option<Entry> {
 /// The report on a closed store, with the entries of its journal.
 #[derive(Clone, Debug, PartialEq, Eq)]
 pub struct Journal {
-    /// How many entries were trimmed.
+    /// How many calls have no entry: without a journal, all.
     pub discarded: u64,
-    /// The other entries, in order.
+    /// The entries of the other calls, in order.
     pub entries: Vec<Entry>,
-    /// Whether a check found them lawful. False if there was no memory for the check.
+    /// Whether a check found them lawful. False if there was no memory for the check, or no
+    /// journal.
     pub is_checked: bool,
 }

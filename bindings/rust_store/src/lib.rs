@@ -48,7 +48,8 @@ pub struct Shape {
 pub struct Closed {
     /// The number of entries in the journal.
     pub entries: u64,
-    /// Whether a check found them lawful. False if there was no memory for the check.
+    /// Whether a check found them lawful. False if there was no memory for the check, or no
+    /// journal.
     pub is_checked: bool,
 }
 
@@ -175,12 +176,20 @@ unsafe impl Send for Session {}
 // SAFETY of all calls here: slots are valid and different ones, an address of bytes comes from a
 // slice or a vector with its length, and outputs are variables of the call.
 impl Session {
-    /// Opens a store and returns its first session. Its fragments have `width` bytes, and its
-    /// journal at most `limit` entries.
-    pub fn open(width: u32, limit: u32) -> Result<Session, Error> {
+    /// Opens a store and returns its first session. Its fragments have `width` bytes. With the
+    /// limit `None` it has no journal, and with a number a journal of at most so many entries.
+    pub fn open(width: u32, limit: impl Into<Option<u32>>) -> Result<Session, Error> {
         let mut slot = Slot::empty();
-        let status = unsafe { lrc_store_open(width, limit, &mut slot) };
-        check(status, format_args!("open({width}, {limit})"))?;
+        match limit.into() {
+            None => {
+                let status = unsafe { lrc_store_open_unjournaled(width, &mut slot) };
+                check(status, format_args!("open({width}, None)"))?;
+            }
+            Some(limit) => {
+                let status = unsafe { lrc_store_open(width, limit, &mut slot) };
+                check(status, format_args!("open({width}, {limit})"))?;
+            }
+        }
         Ok(Session { slot, wait_ms: -1 })
     }
 

@@ -66,6 +66,7 @@ pub struct RawEntry {
 #[rustfmt::skip]
 extern "C" {
     pub fn lrc_store_open(width: u32, limit: u32, slot: *mut Slot) -> u32;
+    pub fn lrc_store_open_unjournaled(width: u32, slot: *mut Slot) -> u32;
     pub fn lrc_store_split(slot: *mut Slot, who: u32, other: *mut Slot) -> u32;
     pub fn lrc_store_join(slot: *mut Slot, other: *mut Slot) -> u32;
     pub fn lrc_store_close(slot: *mut Slot, entries: *mut u64, lawful: *mut u32) -> u32;

@@ -10,7 +10,7 @@ const MOST: Duration = Duration::from_secs(60); // that the test takes
 
 /// A store with as many lost fragments as a blob can have, so that planning a mend takes long.
 fn all_lost() -> Session {
-    let mut session = Session::open(1, 1 << 20).unwrap();
+    let mut session = Session::open(1, None).unwrap();
     session
         .put("a", &vec![1; 12 * STRIPES as usize], Code::Wide)
         .unwrap();
@@ -53,7 +53,6 @@ fn a_call_ends_at_its_deadline() {
             });
             until_busy(&mut other, &ends)
         });
-        first.trim(0).unwrap();
         if let Some(waited) = busy {
             assert!(waited >= timeout && waited < MOST);
             other.set_timeout(None); // waits, and gets in

@@ -1,4 +1,4 @@
-//! A blob that is put without a copy, and the journal of a store that is closed.
+//! A blob that is put without a copy, and the journal of a store that is closed, if it has one.
 
 use lrc_store::{Buffer, Call, Code, Session, Shape, Status};
 
@@ -82,4 +82,19 @@ fn a_small_code_is_in_the_journal() {
         len: 10,
     };
     assert_eq!((journal.discarded, journal.entries[0].call), (0, call));
+}
+
+#[test]
+fn a_store_without_a_journal_counts_its_calls() {
+    let mut session = Session::open(4, None).unwrap();
+    session.put("a", &[7; 49], Code::Wide).unwrap();
+    for _ in 0..99 {
+        assert_eq!(session.stat("a").unwrap().stripes, 2); // of 12 times 4 bytes
+    }
+    assert_eq!(session.trim(0), Ok(0));
+    let journal = session.close_to_journal().unwrap();
+    assert_eq!((journal.discarded, journal.entries.len()), (100, 0));
+    let closed = Session::open(4, None).unwrap().close().unwrap();
+    assert_eq!(closed.entries, 0);
+    assert!(!journal.is_checked && !closed.is_checked);
 }

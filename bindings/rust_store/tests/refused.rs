@@ -43,6 +43,7 @@ fn expect<T>(result: Result<T, Error>, wanted: Status, call: &str) {
 fn errors_say_what_was_wrong() {
     expect(Session::open(4, 0), Status::BadArgument, "open(4, 0)");
     expect(Session::open(0, 9), Status::BadWidth, "open(0, 9)");
+    expect(Session::open(0, None), Status::BadWidth, "open(0, None)");
     let mut session = Session::open(1, 100).unwrap();
     let s = &mut session;
     expect(

@@ -6,8 +6,8 @@ mod real;
 
 pub use real::{
     lrc_slot_buffer, lrc_slot_entry, lrc_slot_reserve, lrc_slot_runs, lrc_slot_slices,
-    lrc_store_join, lrc_store_open, lrc_store_split, lrc_store_text, RawBuffer, RawEntry, Slice,
-    Slot,
+    lrc_store_join, lrc_store_open, lrc_store_open_unjournaled, lrc_store_split, lrc_store_text,
+    RawBuffer, RawEntry, Slice, Slot,
 };
 use std::cell::RefCell;
 use std::collections::VecDeque;
