@@ -43,7 +43,9 @@ c_sources() {
         -DCHOICE_CPU=choice_cpu '-DCHOICE_ENV="CHOICE"' -DHAS_V4
     for each in first second; do
         object $each gcc library/store_open.c -Dlrc_store_open=${each}_open \
-            -Dlrc_store_open_numbered=open_numbered
+            -Dlrc_store_open_unjournaled=${each}_unjournaled \
+            -Dlrc_store_open_numbered=open_numbered \
+            -Dlrc_store_open_unjournaled_numbered=unjournaled_numbered
     done
     for each in edges/{waits,texts,numbers,choice} store/waiting library/{coder,texts}; do
         object "${each/\//_}" gcc "tests/$each.c"

@@ -70,7 +70,9 @@ numbers() {
     local each
     for each in first second; do
         source_of store_open $each -Dlrc_store_open=${each}_open \
-            -Dlrc_store_open_numbered=open_numbered || return
+            -Dlrc_store_open_unjournaled=${each}_unjournaled \
+            -Dlrc_store_open_numbered=open_numbered \
+            -Dlrc_store_open_unjournaled_numbered=unjournaled_numbered || return
     done
     tested numbers "$work/first.o" "$work/second.o" && "$work/numbers"
 }

@@ -80,7 +80,9 @@ def store_program(file, words="", **others):
 def copy_of_open(name):
     """Compiles library/store_open.c with other names."""
     return (
-        f"{C} -Dlrc_store_open={name}_open -Dlrc_store_open_numbered=open_numbered"
+        f"{C} -Dlrc_store_open={name}_open -Dlrc_store_open_unjournaled={name}_unjournaled"
+        " -Dlrc_store_open_numbered=open_numbered"
+        " -Dlrc_store_open_unjournaled_numbered=unjournaled_numbered"
         f" -c library/store_open.c -o {name}.o"
     )
 

@@ -48,7 +48,7 @@ LIBRARIES = {
         "store_c",
         ("v2", "v3"),
         ("store_open", "store_text", "store_wait"),
-        {"lrc_store_open": "lrc_store_open_numbered"},
+        {it: f"{it}_numbered" for it in ("lrc_store_open", "lrc_store_open_unjournaled")},
         ("lrc_slot_number",),
         True,
     ),

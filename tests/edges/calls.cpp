@@ -78,15 +78,21 @@ private:
         Held &from = with(Holds::session);
         const uint64_t count = from.store ? from.store->journal.size() : 5;
         const uint64_t keep = random.one_in(10) ? random.next() : random.below(count + 2);
+        const bool is_part = random.one_in(3), waits = !is_part && random.one_in(2);
+        const uint64_t most = is_part ? random.below(count + 2) : count;
         uint64_t discarded = untouched;
-        begin("trim", keep);
-        const uint32_t got = random.one_in(2)
-                                 ? lrc_store_trim(&from.slot, keep, &discarded)
-                                 : lrc_store_trim_wait(&from.slot, keep, &discarded, timeout());
+        begin(is_part ? "trim_part" : "trim", keep, most);
+        const uint32_t got = is_part ? lrc_store_trim_part(&from.slot, keep, most, &discarded)
+                             : waits ? lrc_store_trim_wait(&from.slot, keep, &discarded, timeout())
+                                     : lrc_store_trim(&from.slot, keep, &discarded);
         judge(got, not_a_session(from));
-        if (got != LRC_STORE_DONE) return same(discarded, untouched, "`discarded`");
-        const uint64_t gone = count > keep ? count - keep : 0;
-        same(discarded, gone, "`discarded`");
+        const bool is_done = got == LRC_STORE_DONE;
+        if (!is_done && !waits) return same(discarded, untouched, "`discarded`");
+        const uint64_t all = std::min(count > keep ? count - keep : 0, most);
+        const uint64_t part = discarded == untouched ? 0 : std::min(discarded, all) / 512 * 512;
+        const uint64_t gone = is_done ? all : part;
+        same(discarded, is_done || gone ? gone : untouched, "`discarded`");
+        if (!gone) return;
         from.store->discarded += gone;
         auto &journal = from.store->journal;
         journal.erase(journal.begin(), journal.begin() + long(gone));

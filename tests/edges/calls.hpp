@@ -117,8 +117,10 @@ public:
         return random.one_in(2) ? random.one_of(edges) : 1 + uint32_t(random.below(100));
     }
 
-    uint32_t limit() {
+    // A limit, or none for a store without a journal.
+    std::optional<uint32_t> limit() {
         static const uint32_t edges[] = {0, 1, 2, 3, 10, 1048576, 1048577, 0xFFFFFFFF};
+        if (random.one_in(3)) return std::nullopt;
         return random.one_in(12) ? random.one_of(edges) : 100 + uint32_t(random.below(3000));
     }
 

@@ -16,7 +16,7 @@ protected:
         if (got != LRC_STORE_DONE) return same(version, untouched, "`version`");
         model::Entry entry{from.who, LRC_CALL_PUT, name, code, blob.size()};
         from.store->answer(entry, std::make_shared<std::string>(blob));
-        from.store->journal.push_back(entry);
+        from.store->note(entry);
         same(version, entry.version, "`version`");
     }
 

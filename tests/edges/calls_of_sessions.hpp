@@ -10,13 +10,15 @@ protected:
 
     void open() {
         Held &to = with(Holds::nothing);
-        const uint32_t width = this->width(), limit = this->limit();
-        begin("open", width, limit);
-        const uint32_t got = lrc_store_open(width, limit, &to.slot);
+        const uint32_t width = this->width();
+        const std::optional<uint32_t> limit = this->limit();
+        begin("open", width, limit ? std::to_string(*limit) : "without a journal");
+        const uint32_t got = limit ? lrc_store_open(width, *limit, &to.slot)
+                                   : lrc_store_open_unjournaled(width, &to.slot);
         judge(got, Statuses()
                        .add(to.holds != Holds::nothing, LRC_STORE_OCCUPIED)
                        .add(width < 1 || width > 65536, LRC_STORE_BAD_WIDTH)
-                       .add(limit < 1 || limit > 1048576, LRC_STORE_BAD_ARGUMENT));
+                       .add(limit && (*limit < 1 || *limit > 1048576), LRC_STORE_BAD_ARGUMENT));
         if (got != LRC_STORE_DONE) return;
         to.become(Holds::session).store = std::make_shared<model::Store>();
         to.store->width = width;
@@ -68,8 +70,9 @@ protected:
         const bool is_done = got == LRC_STORE_DONE;
         same(entries, is_done ? from.store->journal.size() : untouched, "`entries`");
         same(discarded, is_done && has_journal ? from.store->discarded : untouched, "`discarded`");
-        if (!is_done || !refusals.has_refused || lawful != 2)
-            same(lawful, is_done ? 1 : 77, "`lawful`");
+        const bool has_check = is_done && from.store->limit;
+        if (!has_check || !refusals.has_refused || lawful != 2)
+            same(lawful, has_check ? 1 : is_done ? 2 : 77, "`lawful`");
         if (!is_done) return;
         if (has_journal) to.become(Holds::journal).entries = from.store->journal;
         from.become(Holds::nothing);

@@ -82,7 +82,7 @@ protected:
                      uint64_t version, Statuses lack = LRC_STORE_NO_MEMORY) {
         const bool is_called = reasons.is_empty() && got != LRC_STORE_NO_MEMORY;
         judge(got, reasons.is_empty() ? Statuses(entry.status) : reasons, lack);
-        if (is_called) from.store->journal.push_back(entry);
+        if (is_called) from.store->note(entry);
         const bool has_version =
             got == LRC_STORE_DONE || got == LRC_STORE_UNRECOVERABLE || got == LRC_STORE_NOT_REBUILT;
         same(version, has_version ? entry.version : untouched, "`version`");

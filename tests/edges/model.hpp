@@ -10,6 +10,7 @@
 #include <deque>
 #include <map>
 #include <memory>
+#include <optional>
 #include <string>
 #include <vector>
 
@@ -162,12 +163,21 @@ struct Item {
 
 class Store {
 public:
-    uint32_t width = 1, limit = 1;
+    uint32_t width = 1;
+    std::optional<uint32_t> limit; // of the journal, if there is one
     std::map<std::string, Blob> blobs;
     std::deque<Entry> journal;
-    uint64_t puts = 0, discarded = 0;
+    uint64_t puts = 0, discarded = 0; // the latter are calls that have no entry
 
-    bool is_full() const { return journal.size() >= limit; }
+    bool is_full() const { return limit && journal.size() >= *limit; }
+
+    // Takes note of an answered call.
+    void note(const Entry &entry) {
+        if (limit)
+            journal.push_back(entry);
+        else
+            discarded++;
+    }
 
     const Blob *find(const std::string &name) const {
         const auto found = blobs.find(name);

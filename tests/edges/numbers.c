@@ -5,24 +5,32 @@
 #include <stdlib.h>
 #include <sys/types.h>
 
-enum { STORES = 1000, WIDTH = 7, LIMIT = 11, STATUS = 5 };
+enum { STORES = 1000, WIDTH = 7, LIMIT = 11, STATUS = 5, UNJOURNALED = 6 };
 
 uint32_t first_open(uint32_t width, uint32_t limit, lrc_slot *slot);
 uint32_t second_open(uint32_t width, uint32_t limit, lrc_slot *slot);
+uint32_t first_unjournaled(uint32_t width, lrc_slot *slot);
+uint32_t second_unjournaled(uint32_t width, lrc_slot *slot);
 uint32_t open_numbered(uint32_t width, uint32_t limit, uint64_t number, lrc_slot *slot);
+uint32_t unjournaled_numbered(uint32_t width, uint64_t number, lrc_slot *slot);
 ssize_t getrandom(void *target, size_t len, unsigned flags);
 
-static uint64_t numbers[4 * STORES];
+static uint64_t numbers[8 * STORES];
 static size_t count;
 static int is_random;
 static lrc_slot slot;
 
-/* In place of the proved function. */
-uint32_t open_numbered(uint32_t width, uint32_t limit, uint64_t number, lrc_slot *given) {
+/* In place of the proved functions. */
+uint32_t unjournaled_numbered(uint32_t width, uint64_t number, lrc_slot *given) {
     EXPECT(width, WIDTH);
-    EXPECT(limit, LIMIT);
     EXPECT(given == &slot, 1);
     numbers[count++] = number;
+    return UNJOURNALED;
+}
+
+uint32_t open_numbered(uint32_t width, uint32_t limit, uint64_t number, lrc_slot *given) {
+    EXPECT(unjournaled_numbered(width, number, given), UNJOURNALED);
+    EXPECT(limit, LIMIT);
     return STATUS;
 }
 
@@ -46,8 +54,10 @@ int main(void) {
         for (int i = 0; i < STORES; i++) {
             EXPECT(first_open(WIDTH, LIMIT, &slot), STATUS);
             EXPECT(second_open(WIDTH, LIMIT, &slot), STATUS);
+            EXPECT(first_unjournaled(WIDTH, &slot), UNJOURNALED);
+            EXPECT(second_unjournaled(WIDTH, &slot), UNJOURNALED);
         }
-    EXPECT(count, 4 * STORES);
+    EXPECT(count, 8 * STORES);
     qsort(numbers, count, sizeof *numbers, compare);
     for (size_t i = 1; i < count; i++) EXPECT(numbers[i - 1] != numbers[i], 1);
     return report("numbers");

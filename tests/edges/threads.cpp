@@ -40,7 +40,9 @@ public:
         : run(test), plan(random, with_refusals), is_handed(with_handing) {}
 
     void operator()() {
-        expect(run, lrc_store_open(plan.width, Plan::limit, &first), LRC_STORE_DONE, "open");
+        const uint32_t status = plan.has_journal ? lrc_store_open(plan.width, Plan::limit, &first)
+                                                 : lrc_store_open_unjournaled(plan.width, &first);
+        expect(run, status, LRC_STORE_DONE, "open");
         for (unsigned i = 0; i < plan.sessions(is_handed); i++) sessions.push(split_off(&first));
         std::vector<std::thread> threads;
         for (unsigned i = 0; i < plan.threads; i++)
@@ -139,10 +141,12 @@ private:
         uint32_t lawful = 0;
         expect(run, lrc_store_close_to(&first, &journal, &discarded, &count, &lawful),
                LRC_STORE_DONE, "close_to");
-        expect(run, lawful, 1, "`lawful`");
+        expect(run, lawful, plan.has_journal ? 1 : 2, "`lawful`");
         Replay replay(run, plan.width, joined);
         replay.check_bytes();
-        if (!plan.is_trimmed) replay.check_journal(&journal, count);
+        expect(run, count + discarded, replay.calls(), "the number of calls");
+        if (!plan.has_journal) expect(run, count, 0, "`entries` without a journal");
+        if (plan.has_journal && !plan.is_trimmed) replay.check_journal(&journal, count);
         lrc_slot_release(&journal);
         expect(run, uint64_t(allocated), 0, "the count of allocations after the journal's release");
         entries = long(count + discarded);

@@ -22,13 +22,14 @@ struct Plan {
     uint64_t seed;
     uint32_t width;
     unsigned threads, names;
-    bool is_trimmed;
+    bool has_journal, is_trimmed;
     unsigned refusals; // of so many calls in a row, one has memory refused; or 0
 
     Plan(Random &random, bool with_refusals)
         : seed(random.next()), width(random.one_of({1u, 3u, 16u, 33u, 64u, 500u})),
           threads(2 + unsigned(random.below(7))), names(1 + unsigned(random.below(6))),
-          is_trimmed(random.one_in(3)), refusals(with_refusals ? 2 : 0) {}
+          has_journal(!random.one_in(3)), is_trimmed(random.one_in(3)),
+          refusals(with_refusals ? 2 : 0) {}
 
     unsigned sessions(bool is_handed) const { return is_handed ? threads + 3 : threads; }
     uint64_t longest() const { return std::min<uint64_t>(width * 40, 8000); }
@@ -127,6 +128,8 @@ private:
             run.differ("a call", "the status", std::to_string(status), "another");
         if (std::find(std::begin(no_entry), std::end(no_entry), status) != std::end(no_entry)) {
             expect(run, version, 0, "the version after a refusal");
+            if (!plan.has_journal && status == LRC_STORE_JOURNAL_FULL)
+                run.differ("a call", "the status", std::to_string(status), "another");
             is_full = status == LRC_STORE_JOURNAL_FULL && !plan.is_trimmed;
             if (status == LRC_STORE_JOURNAL_FULL && plan.is_trimmed) make_room();
             return;
@@ -234,8 +237,9 @@ private:
     uint32_t trim(Note &note) {
         uint64_t discarded = 0;
         if (!plan.is_trimmed) return without_entry(note, LRC_STORE_DONE);
-        return without_entry(note,
-                             lrc_store_trim_wait(slot, random.below(100), &discarded, timeout()));
+        const uint32_t status = lrc_store_trim_wait(slot, random.below(100), &discarded, timeout());
+        if (!plan.has_journal) expect(run, discarded, 0, "`discarded` without a journal");
+        return without_entry(note, status);
     }
 
     static uint32_t without_entry(Note &note, uint32_t status) {
@@ -265,10 +269,15 @@ public:
                 if (note.has_sum) check_read(note);
     }
 
+    // The number of all calls.
+    uint64_t calls() const {
+        uint64_t count = 0;
+        for (const auto &[who, session] : sessions) count += session->notes.size();
+        return count;
+    }
+
     void check_journal(lrc_slot *journal, uint64_t count) {
-        size_t noted = 0;
-        for (const auto &[who, session] : sessions) noted += session->notes.size();
-        expect(run, count, noted, "the number of entries");
+        expect(run, count, calls(), "the number of entries");
         for (uint64_t i = 0; i < count; i++) {
             lrc_entry entry = {
                 {reinterpret_cast<const uint8_t *>(""), 0}, 0, 0, 0, 0, 0, 0, 0, 0, 0};

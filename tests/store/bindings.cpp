@@ -50,6 +50,7 @@ std::string text_of(lrc_slice bytes) {
 }
 
 void errors() {
+    EXPECT_ERROR(session::open(0), LRC_STORE_BAD_WIDTH, "open(0)");
     EXPECT_ERROR(session::open(0, 10), LRC_STORE_BAD_WIDTH, "open(0, 10)");
     EXPECT_ERROR(session::open(4, 0), LRC_STORE_BAD_ARGUMENT, "open(4, 0)");
     session s = session::open(1, 100);
@@ -247,7 +248,7 @@ void timeouts() {
 
 // A store with as many lost fragments as a blob can have, so that planning a mend takes long.
 session all_lost() {
-    session s = session::open(1, 1 << 18);
+    session s = session::open(1);
     s.put("a", std::string(12 * 4096, 'x'));
     for (uint64_t stripe = 0; stripe < 4096; stripe++)
         for (uint64_t fragment = 0; fragment < 16; fragment++) s.lose("a", stripe, fragment);
@@ -289,7 +290,6 @@ void a_call_ends_at_its_deadline() {
         });
         is_found = ends_at_deadline(other, ended);
         planner.join();
-        first.trim(0);
     }
     EXPECT(is_found, true);
     other.set_timeout(std::nullopt);
@@ -389,6 +389,21 @@ void journals() {
     EXPECT_ERROR(journal.entry(8), LRC_STORE_NOTHING_LEFT, "entry(8)");
 }
 
+void no_journal() {
+    session s = session::open(4);
+    s.put("a", std::string(49, 'x'));
+    for (int i = 0; i < 99; i++) EXPECT(s.stat("a").stripes, 2u); // of 12 times 4 bytes
+    EXPECT(s.trim(0), 0u);
+    lrc::journal journal = s.close_to_journal();
+    EXPECT(journal.discarded(), 100u);
+    EXPECT(journal.size(), 0u);
+    EXPECT(journal.is_checked(), false);
+    EXPECT_ERROR(journal.entry(0), LRC_STORE_NOTHING_LEFT, "entry(0)");
+    const lrc::closed closed = session::open(4).close();
+    EXPECT(closed.entries, 0u);
+    EXPECT(closed.is_checked, false);
+}
+
 void unchecked_journals() {
     for (const uint32_t lawful : {1u, 2u}) {
         recorder::lawful = lawful;
@@ -439,6 +454,7 @@ int main() {
     a_call_ends_at_its_deadline();
     mends();
     journals();
+    no_journal();
     unchecked_journals();
     memory();
     std::cout << "C++: " << wrong << " wrong\n";

@@ -42,6 +42,7 @@ class Errors(unittest.TestCase):
         session.put("a", bytes(20))
         session.lose("a", 1, 4)
         refused = self.refused
+        refused(Status.BAD_WIDTH, "open(0)", Session.open, 0)
         refused(Status.BAD_WIDTH, "open(0, 10)", Session.open, 0, 10)
         refused(Status.BAD_ARGUMENT, "open(4, 0)", Session.open, 4, 0)
         refused(Status.BAD_NAME, "put('A', 3, 12)", session.put, "A", b"xyz")
@@ -95,6 +96,7 @@ class Errors(unittest.TestCase):
         session = self.session
         session.put("a", b"x")
         for what, value, bits, call in (
+            ("width", 2**32 + 4, 32, Session.open),
             ("width", 2**32 + 4, 32, lambda number: Session.open(number, 10)),
             ("limit", 2**32 + 4, 32, lambda number: Session.open(4, number)),
             ("who", -1, 32, session.split),
@@ -381,6 +383,15 @@ class Journals(unittest.TestCase):
             (0, "stat", "none", 0, 0, Status.NO_NAME, 0, None),
         ]
         self.assertEqual(session.close_to_journal(), (0, wanted, True))
+
+    def test_without_a_journal(self):
+        session = Session.open(4)
+        session.put("a", bytes(49))
+        for _ in range(99):
+            self.assertEqual(session.stat("a").stripes, 2)  # of 12 times 4 bytes
+        self.assertEqual(session.trim(0), 0)
+        self.assertEqual(session.close_to_journal(), (100, [], False))
+        self.assertEqual(Session.open(4, limit=None).close(), (0, False))
 
     def test_a_journal_may_be_unchecked(self):
         for lawful in (1, 2):

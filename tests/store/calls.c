@@ -27,6 +27,34 @@ static void open_and_close(void) {
     EXPECT(lrc_store_close(&slot, &entries, &lawful), LRC_STORE_EMPTY);
 }
 
+/* A store without a journal counts its calls, also if they are more than any journal holds. */
+static void open_unjournaled(void) {
+    const uint64_t calls = 1048577;
+    lrc_slot slot = LRC_SLOT_EMPTY, other = LRC_SLOT_EMPTY;
+    lrc_entry entry = {{(const uint8_t *)"", 0}, 9, 9, 9, 9, 9, 9, 9, 9, 9};
+    uint64_t version = 0, discarded = 9, entries = 9;
+    uint32_t lawful = 9;
+    EXPECT(lrc_store_open_unjournaled(0, &slot), LRC_STORE_BAD_WIDTH);
+    EXPECT(lrc_store_open_unjournaled(65537, &slot), LRC_STORE_BAD_WIDTH);
+    EXPECT(lrc_store_open_unjournaled(4, &slot), LRC_STORE_DONE);
+    EXPECT(lrc_store_open_unjournaled(4, &slot), LRC_STORE_OCCUPIED);
+    EXPECT(lrc_store_split(&slot, 1, &other), LRC_STORE_DONE);
+    EXPECT(lrc_store_put(&slot, NAME("fox"), FOX_BYTES, 12, &version), LRC_STORE_DONE);
+    for (uint64_t i = 1; i < calls; i++)
+        EXPECT(lrc_store_repair(&other, NAME("fox"), 0, 0, &version), LRC_STORE_NOT_LOST);
+    EXPECT(lrc_store_trim(&slot, 0, &discarded), LRC_STORE_DONE);
+    EXPECT(discarded, 0);
+    EXPECT(lrc_store_join(&slot, &other), LRC_STORE_DONE);
+    EXPECT(lrc_store_close_to(&slot, &other, &discarded, &entries, &lawful), LRC_STORE_DONE);
+    EXPECT(discarded, calls);
+    EXPECT(entries, 0);
+    EXPECT(lawful, 2);
+    EXPECT(lrc_slot_entry(&other, 0, &entry), LRC_STORE_NOTHING_LEFT);
+    EXPECT(entry.call + entry.who + entry.first, 27);
+    EXPECT(lrc_store_open_unjournaled(4, &other), LRC_STORE_OCCUPIED);
+    lrc_slot_release(&other);
+}
+
 static void two_stores_are_not_joined(void) {
     lrc_slot first = LRC_SLOT_EMPTY, second = LRC_SLOT_EMPTY;
     uint64_t entries = 0;
@@ -197,7 +225,10 @@ static void close_to_journal(void) {
            LRC_STORE_NO_NAME);
     EXPECT(lrc_store_lose(&other, NAME("fox"), 2, 9, &version), LRC_STORE_DONE);
     EXPECT(lrc_store_stat(&other, NAME("fox"), &version, &len, &stripes, &lost), LRC_STORE_DONE);
-    EXPECT(lrc_store_trim(&slot, 3, &discarded), LRC_STORE_DONE);
+    EXPECT(lrc_store_trim_part(&slot, 2, 1, &discarded), LRC_STORE_DONE);
+    EXPECT(discarded, 1);
+    EXPECT(lrc_store_trim_part(&slot, 3, 9, &discarded), LRC_STORE_DONE);
+    EXPECT(discarded, 0);
     EXPECT(lrc_store_join(&slot, &other), LRC_STORE_DONE);
     EXPECT(lrc_store_close_to(&slot, &other, &discarded, &entries, &lawful), LRC_STORE_DONE);
     EXPECT(discarded, 1);
@@ -292,13 +323,18 @@ int main(void) {
     reserve_and_put();
     lend_runs();
     close_to_journal();
+    open_unjournaled();
     two_stores_are_not_joined();
-    EXPECT(lrc_store_open(4, 1000, &slot), LRC_STORE_DONE);
-    put_and_read(&slot);
-    lend_and_change(&slot);
-    plan_and_mend(&slot);
-    EXPECT(lrc_store_close(&slot, &entries, &lawful), LRC_STORE_DONE);
-    EXPECT(lawful, 1);
+    for (unsigned has_journal = 0; has_journal < 2; has_journal++) {
+        EXPECT(has_journal ? lrc_store_open(4, 1000, &slot) : lrc_store_open_unjournaled(4, &slot),
+               LRC_STORE_DONE);
+        put_and_read(&slot);
+        lend_and_change(&slot);
+        plan_and_mend(&slot);
+        EXPECT(lrc_store_close(&slot, &entries, &lawful), LRC_STORE_DONE);
+        EXPECT(entries > 0, has_journal);
+        EXPECT(lawful, has_journal ? 1 : 2);
+    }
     all_sessions_of_a_store();
     limits_of_a_store();
     return report("calls");

@@ -46,12 +46,12 @@ static void reads(lrc_slot *slot) {
     lrc_slot_release(&lent);
 }
 
-static void run(void) {
+static void run(int has_journal) {
     lrc_slot slot = LRC_SLOT_EMPTY, other = LRC_SLOT_EMPTY, plan = LRC_SLOT_EMPTY;
     lrc_buffer buffer = {(uint8_t *)"", 0};
     uint64_t version = 0, a = 0, b = 0, c = 0;
     uint32_t lawful = 0;
-    CALL(lrc_store_open(4, 100, &slot));
+    CALL(has_journal ? lrc_store_open(4, 100, &slot) : lrc_store_open_unjournaled(4, &slot));
     CALL(lrc_store_put(&slot, NAME("a"), (const uint8_t *)FOX, 54, 12, &version));
     CALL(lrc_store_lose(&slot, NAME("a"), 0, 1, &version));
     CALL(lrc_store_lose(&slot, NAME("a"), 1, 0, &version));
@@ -74,8 +74,9 @@ static void run(void) {
     CALL(lrc_store_put_from(&slot, NAME("c"), &other, 12, &version));
     const long before = ahead, met = refused;
     CALL(lrc_store_close_to(&slot, &other, &a, &c, &lawful));
-    /* 2 if and only if the check of the journal itself was refused memory */
-    EXPECT(lawful, before >= 0 && ahead < 0 && refused == met ? 2 : 1);
+    /* 2 if and only if the check of the journal itself was refused memory, or there is none */
+    const int is_refused = before >= 0 && ahead < 0 && refused == met;
+    EXPECT(lawful, is_refused || !has_journal ? 2 : 1);
     lrc_slot_release(&other);
     EXPECT(slot.at || other.at || plan.at, 0);
 }
@@ -96,16 +97,24 @@ static void arguments_first(void) {
     EXPECT(lrc_store_close(&slot, &entries, &lawful), LRC_STORE_DONE);
 }
 
-int main(void) {
+/* Refuses each request in turn, and gives their number. */
+static long refuse_each(int has_journal) {
+    const long least = has_journal ? 30 : 20;
     long at = 0;
-    arguments_first();
+    refused = 0;
     for (; at < 1000; at++) {
         ahead = at;
-        run();
+        run(has_journal);
         if (ahead >= 0) break;
     }
-    EXPECT(at > 30 && at < 1000, 1);
-    EXPECT(refused > 30, 1);
+    EXPECT(at > least && at < 1000, 1);
+    EXPECT(refused > least, 1);
     printf("%ld requests for memory, %ld calls met a refusal\n", at, refused);
+    return at;
+}
+
+int main(void) {
+    arguments_first();
+    EXPECT(refuse_each(0) < refuse_each(1), 1);
     return report("refuse");
 }

@@ -14,6 +14,9 @@ enum { MOST = 9, OTHER_STATUS = 7, ROOM = 16, SLACK_US = 1500000 };
 static uint64_t seen[MOST];
 static atomic_uint calls, busy;
 
+/* How many entries the journal has. */
+static uint64_t entries;
+
 /* What the slot of a put that is made again holds. */
 static uint8_t kept[ROOM];
 static size_t reserved;
@@ -106,8 +109,14 @@ uint32_t lrc_store_stat(lrc_slot *slot, const uint8_t *name, size_t name_len, ui
         ARGUMENTS(AT(slot), AT(name), name_len, AT(version), AT(len), AT(stripes), AT(lost)));
 }
 
-uint32_t lrc_store_trim(lrc_slot *slot, uint64_t keep, uint64_t *discarded) {
-    return called(ARGUMENTS(AT(slot), keep, AT(discarded)));
+/* Discards some of the journal's entries, if there are any. */
+uint32_t lrc_store_trim_part(lrc_slot *slot, uint64_t keep, uint64_t most, uint64_t *discarded) {
+    const uint32_t status = called(ARGUMENTS(AT(slot), keep, most));
+    const uint64_t part = entries < most ? entries : most;
+    if (status != OTHER_STATUS || !entries) return status;
+    entries -= part;
+    *discarded = part;
+    return LRC_STORE_DONE;
 }
 
 uint32_t lrc_store_plan(lrc_slot *slot, lrc_slot *other, uint64_t *items) {
@@ -144,7 +153,7 @@ static void arguments(int64_t timeout_ms) {
     PASSES(lrc_store_delete_wait(&s, n, 2, &v, timeout_ms), AT(&s), AT(n), 2, AT(&v));
     PASSES(lrc_store_stat_wait(&s, n, 2, &v, &x, &y, &z, timeout_ms), AT(&s), AT(n), 2, AT(&v),
            AT(&x), AT(&y), AT(&z));
-    PASSES(lrc_store_trim_wait(&s, 5, &v, timeout_ms), AT(&s), 5, AT(&v));
+    PASSES(lrc_store_trim_wait(&s, 5, &v, timeout_ms), AT(&s), 5, 512);
     PASSES(lrc_store_plan_wait(&s, &o, &x, timeout_ms), AT(&s), AT(&o), AT(&x));
     PASSES(lrc_store_mend_step_wait(&s, &o, &v, timeout_ms), AT(&s), AT(&o), AT(&v), 1);
 }
@@ -192,6 +201,26 @@ static uint32_t trim(int64_t timeout_ms) {
     lrc_slot slot = LRC_SLOT_EMPTY;
     uint64_t discarded = 0;
     return lrc_store_trim_wait(&slot, 0, &discarded, timeout_ms);
+}
+
+/* A trim of so many entries makes so many calls. */
+static void trims(uint64_t count, unsigned parts, uint32_t last) {
+    lrc_slot slot = LRC_SLOT_EMPTY;
+    const uint64_t untouched = 77;
+    uint64_t discarded = untouched;
+    entries = count;
+    calls = busy = 0;
+    EXPECT(lrc_store_trim_wait(&slot, 5, &discarded, -1), last);
+    EXPECT(discarded, count ? count : untouched);
+    EXPECT(calls, parts);
+}
+
+/* A trim goes on in parts until one is short, or has another status. */
+static void trims_in_parts(void) {
+    trims(0, 1, OTHER_STATUS);
+    trims(511, 1, LRC_STORE_DONE);
+    trims(512, 2, OTHER_STATUS);
+    trims(1200, 3, LRC_STORE_DONE);
 }
 
 static void *stay_in_call(void *timeout_ms) {
@@ -298,6 +327,7 @@ int main(void) {
     turns();
     cancels();
     tries();
+    trims_in_parts();
     arguments(-1);
     puts_again(-1);
     puts_again(60000);

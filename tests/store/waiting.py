@@ -100,7 +100,7 @@ class Timeouts(unittest.TestCase):
 
 def all_lost():
     """A store with as many lost fragments as a blob can have: planning a mend takes long."""
-    session = Session.open(1, 1 << 20)
+    session = Session.open(1)
     session.put("a", bytes(12 * STRIPES))
     for stripe in range(STRIPES):
         for fragment in range(16):
@@ -314,4 +314,4 @@ class TwoThreads(unittest.TestCase):
 
 class LoadingStore(loading.Loading, unittest.TestCase):
     module = lrc_store
-    use = "lrc_store.Session.open(4, 9).close()"
+    use = "lrc_store.Session.open(4).close()"
