@@ -1,8 +1,12 @@
 /* What a journal costs: puts of 64 bytes over many names, without a journal and with journals that
  * are trimmed to nothing whenever they are full. `journal [NAMES]`, 100,000 if it is left out: four
  * puts a name. A row tells the processor time of a put, the longest call, and the greatest memory
- * of the process by names. Each row is a process of its own. */
+ * of the process by names. Each row is a process of its own. The last two rows tell the longest
+ * call that another thread makes meanwhile, if a full journal of a million puts is trimmed at once,
+ * and in parts. */
 #include "timing.h"
+#include <pthread.h>
+#include <stdatomic.h>
 #include <string.h>
 #include <sys/resource.h>
 #include <sys/wait.h>
@@ -69,6 +73,56 @@ static void row(uint32_t limit, unsigned long names) {
     lrc_slot_release(&slot);
 }
 
+struct other {
+    lrc_slot slot;
+    atomic_int is_over;
+    double longest;
+    unsigned long calls;
+};
+
+/* Asks for the shape of a blob, again and again. */
+static void *ask(void *argument) {
+    struct other *other = argument;
+    uint64_t version, len, stripes, lost;
+    while (!other->is_over) {
+        const double start = now();
+        done("lrc_store_stat_wait", lrc_store_stat_wait(&other->slot, (const uint8_t *)"n1", 2,
+                                                        &version, &len, &stripes, &lost, -1));
+        const double own = now() - start;
+        if (own > other->longest) other->longest = own;
+        other->calls++;
+        usleep(100);
+    }
+    return NULL;
+}
+
+/* The longest call of another thread beside a trim of most of a journal. */
+static void beside_trim(int in_parts, unsigned long names) {
+    enum { LIMIT = 1048576, KEPT = LIMIT / 16 };
+    static const uint8_t blob[BYTES] = {1, 2, 3};
+    static struct other other = {LRC_SLOT_EMPTY, 0, 0, 0};
+    lrc_slot slot = LRC_SLOT_EMPTY;
+    pthread_t thread;
+    uint64_t discarded;
+    char name[NAME_BYTES];
+    done("lrc_store_open", lrc_store_open(WIDTH, LIMIT, &slot));
+    for (unsigned long i = 0; i < LIMIT - KEPT; i++) {
+        snprintf(name, sizeof name, "n%lu", i % names);
+        put(&slot, name, blob);
+    }
+    done("lrc_store_split", lrc_store_split(&slot, 1, &other.slot));
+    if (pthread_create(&thread, NULL, ask, &other)) exit(1);
+    const double start = now();
+    done("lrc_store_trim", in_parts ? lrc_store_trim_wait(&slot, KEPT, &discarded, -1)
+                                    : lrc_store_trim(&slot, KEPT, &discarded));
+    const double whole = now() - start;
+    other.is_over = 1;
+    pthread_join(thread, NULL);
+    printf("trim of %llu entries %s: %.0f ms, longest call beside it %.2f ms of %lu\n",
+           (unsigned long long)discarded, in_parts ? "in parts" : "at once", whole / 1e6,
+           other.longest / 1e6, other.calls);
+}
+
 int main(int argc, char **argv) {
     char *end = "";
     const unsigned long names = argc > 1 ? strtoul(argv[1], &end, 10) : 100000;
@@ -76,13 +130,17 @@ int main(int argc, char **argv) {
         fprintf(stderr, "usage: journal [NAMES], from 1 to %d names\n", MOST_NAMES);
         return 2;
     }
-    for (size_t i = 0; i < sizeof LIMITS / sizeof *LIMITS; i++) {
+    enum { LIMIT_COUNT = sizeof LIMITS / sizeof *LIMITS };
+    for (int i = 0; i < LIMIT_COUNT + 2; i++) {
         int status = 0;
         fflush(stdout);
         const pid_t child = fork();
         if (child < 0) return 1;
         if (!child) {
-            row(LIMITS[i], names);
+            if (i < LIMIT_COUNT)
+                row(LIMITS[i], names);
+            else
+                beside_trim(i > LIMIT_COUNT, names);
             fflush(stdout);
             _exit(0);
         }

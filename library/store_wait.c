@@ -30,8 +30,12 @@ enum { TRIES = 8, LONG_BYTES = 65536 };
  * long as the one before, up to LONGEST_NS. */
 enum { SPINS = 16, PAUSES = 32, SHORTEST_NS = 100000, LONGEST_NS = 1600000 };
 
-/* How many entries are discarded at once. */
-enum { TRIMMED_AT_ONCE = 512 };
+/* How many entries are discarded at once, and how long a trim sleeps before its next part, so that
+ * threads that sleep get the turn. */
+enum { TRIMMED_AT_ONCE = 512, BETWEEN_NS = 20000 };
+
+/* How many entries a journal may have. A trim discards no more, however many others add. */
+enum { MOST_ENTRIES = 1 << 20 };
 
 /* A thread that waits for its turn can be cancelled once in this time. */
 enum { SLICE_NS = 50 * NS_OF_MS };
@@ -221,14 +225,17 @@ static uint32_t trim_part(lrc_slot *slot, uint64_t keep, uint64_t *discarded, in
 
 uint32_t lrc_store_trim_wait(lrc_slot *slot, uint64_t keep, uint64_t *discarded,
                              int64_t timeout_ms) {
+    const struct timespec pause = {0, BETWEEN_NS};
     const int64_t deadline = deadline_after(timeout_ms);
     uint64_t part, all = 0;
     uint32_t status;
-    do {
+    for (;;) {
         part = 0;
         status = trim_part(slot, keep, &part, left_of(timeout_ms, deadline));
         all += part;
-    } while (part == TRIMMED_AT_ONCE);
+        if (part < TRIMMED_AT_ONCE || all >= MOST_ENTRIES) break;
+        nanosleep(&pause, NULL);
+    }
     if (status == LRC_STORE_DONE || all) *discarded = all;
     return status;
 }

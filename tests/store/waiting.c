@@ -211,8 +211,9 @@ static void trims(uint64_t count, unsigned parts, uint32_t last) {
     entries = count;
     calls = busy = 0;
     EXPECT(lrc_store_trim_wait(&slot, 5, &discarded, -1), last);
-    EXPECT(discarded, count ? count : untouched);
+    EXPECT(discarded, count > 1 << 20 ? 1 << 20 : count ? count : untouched);
     EXPECT(calls, parts);
+    entries = 0;
 }
 
 /* A trim goes on in parts until one is short, or has another status. */
@@ -221,6 +222,7 @@ static void trims_in_parts(void) {
     trims(511, 1, LRC_STORE_DONE);
     trims(512, 2, OTHER_STATUS);
     trims(1200, 3, LRC_STORE_DONE);
+    trims(1 << 21, 1 << 11, LRC_STORE_DONE); /* others add entries meanwhile */
 }
 
 static void *stay_in_call(void *timeout_ms) {
