@@ -94,7 +94,8 @@ impl Log {
         }
     }
 
-    /// How many calls there may be between two trims: the limit of the journal, or 2^62 without one.
+    /// How many calls there may be between two trims: the limit of the journal, or 2^62 without
+    /// one.
     pub fn call_limit(&self) -> u64
         ensures { result ≡ self.now.limit }
     {

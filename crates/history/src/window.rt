@@ -3,8 +3,8 @@
 //! It has `2 * limit` slots, and the entries are those from `start` up to `end`. An entry at an
 //! index of `limit` or more is written a second time, `limit` slots earlier. As soon as no entry
 //! has a smaller index, both numbers fall by `limit`, so that the entries are those copies.
-ghost use Rattle.std.specs.Prelude.{◌≡◌, ◌<◌, ◌≤◌, ◌+◌, ◌-◌, ◌*◌, [], ◌∷◌, ◌++◌, drop, take, length};
-ghost use Rattle.std.specs.Prelude.{IfOk, slice_set};
+ghost use Rattle.std.specs.Prelude.{◌≡◌, ◌<◌, ◌≤◌, ◌+◌, ◌-◌, ◌*◌, [], ◌∷◌, ◌++◌, drop, take};
+ghost use Rattle.std.specs.Prelude.{length, IfOk, slice_set};
 ghost use Rattle.std.specs.Vec.{vec_capacity};
 
 use crate::{Entry, Limit};

@@ -182,7 +182,8 @@ impl Session {
     pub fn trim_part(&mut self, alloc: Global, keep: u64, most: u64) -> Result<u64, Fault>
         ensures part { (k : ℕ) × (keep ≤ k) × Takes self.old (trim_deed k result) self.new }
         ensures few { IfOk result (λ n. n ≤ most) }
-        ensures whole { IfOk result (λ n. n < most → Takes self.old (trim_deed keep result) self.new) }
+        ensures whole { IfOk result
+            (λ n. n < most → Takes self.old (trim_deed keep result) self.new) }
         ensures faults { IfErr result (λ e. (e ≡ Fault.Busy) ⊎ (e ≡ Fault.NoMemory)) }
         ensures busy { result ≡ Err Fault.Busy → FindsBusy self.old self.new }
         ensures lone { self.old.room ≡ 64 → result ≢ Err Fault.Busy }

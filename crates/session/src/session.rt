@@ -32,8 +32,8 @@ impl Model for Session {
 }
 
 impl Session {
-    /// Opens a store without blobs, and returns its only session. Without a limit it has no journal.
-    /// `BadWidth` if `width` is not in 1..=65,536. `NoMemory` if memory runs out.
+    /// Opens a store without blobs, and returns its only session. Without a limit it has no
+    /// journal. `BadWidth` if `width` is not in 1..=65,536. `NoMemory` if memory runs out.
     pub fn open(alloc: Global, width: u32, limit: Option<Limit>) -> Result<Session, Fault>
         ensures opened { IfOk result (IsFirstSession width (call_limit limit)) }
         ensures bad_width { (result ≡ Err Fault.BadWidth) ↔ ((1 ≤ width) × (width ≤ 65536) → ⊥) }
