@@ -444,8 +444,8 @@ pub extern "C" fn lrc_slot_slices<'a>(
 }
 
 /// Writes runs of a lent range to `target`, from the byte `from` of the range on, in order, as many
-/// as there are and `target` takes. A run is as many bytes as lie one behind another in memory. They
-/// stay in place until the slot is passed to another call.
+/// as there are and `target` takes. A run is as many bytes as lie one behind another in memory.
+/// They stay in place until the slot is passed to another call.
 #[unsafe(no_mangle)]
 pub extern "C" fn lrc_slot_runs<'a>(
     alloc: Global,
