@@ -2,9 +2,8 @@
  *
  * Each store has a turn, a mutex. A form takes it, makes its call, which does not wait, and gives
  * it back. So the threads that wait sleep in the kernel, which wakes one of them at a time, and no
- * form meets another one in the critical section. With the turn, a form tries again while a call
- * without
- * `_wait` is there, or one that did not take the turn.
+ * form meets another one in the critical section. With the turn, a form tries again while another
+ * call is there, which is one without `_wait` or did not take the turn.
  *
  * A call that may copy, rebuild or encode much is first tried without the turn, so that other
  * threads need not wait for that.

@@ -1,5 +1,6 @@
 /* Each call of the store from C, with each status but those of refused memory. */
 #include "store_test.h"
+#include <time.h>
 
 static const char FOX[] = "the quick brown fox jumps over the lazy dog 0123456789";
 #define FOX_BYTES (const uint8_t *)FOX, sizeof FOX - 1
@@ -315,6 +316,25 @@ static void limits_of_a_store(void) {
     EXPECT(lawful, 1);
 }
 
+/* A trim takes no time for the entries that it keeps. If it moved them, these trims would take
+ * seconds. */
+static void trims_move_nothing(void) {
+    enum { ENTRIES = 300000, TRIMS = 1000 };
+    lrc_slot slot = LRC_SLOT_EMPTY;
+    uint64_t version, len, stripes, lost, discarded = 0;
+    EXPECT(lrc_store_open(4, ENTRIES, &slot), LRC_STORE_DONE);
+    for (unsigned i = 0; i < ENTRIES; i++)
+        EXPECT(lrc_store_stat(&slot, NAME("none"), &version, &len, &stripes, &lost),
+               LRC_STORE_NO_NAME);
+    const clock_t start = clock();
+    for (unsigned i = 0; i < TRIMS; i++) {
+        EXPECT(lrc_store_trim_part(&slot, 0, 1, &discarded), LRC_STORE_DONE);
+        EXPECT(discarded, 1);
+    }
+    EXPECT(clock() - start < CLOCKS_PER_SEC, 1);
+    lrc_slot_release(&slot);
+}
+
 int main(void) {
     lrc_slot slot = LRC_SLOT_EMPTY;
     uint64_t entries = 0;
@@ -324,6 +344,7 @@ int main(void) {
     lend_runs();
     close_to_journal();
     open_unjournaled();
+    trims_move_nothing();
     two_stores_are_not_joined();
     for (unsigned has_journal = 0; has_journal < 2; has_journal++) {
         EXPECT(has_journal ? lrc_store_open(4, 1000, &slot) : lrc_store_open_unjournaled(4, &slot),
