@@ -5,7 +5,7 @@ use Rattle.std.specs.FinMap as finite
 use Rattle.std.specs.Map.{lookup}
 use Rattle.std.specs.BTreeMap.{is_at}
 use Rattle.sealed.specs.declared.value.Sealed.{Sealed}
-use Rattle.lent.specs.Range.{is_outside, IsReadable}
+use Rattle.sealed.specs.Range.{is_outside, IsReadable}
 use Rattle.book.specs.declared.answer.Answer.{Answer}
 use Rattle.book.specs.declared.answer.Answer.TheVariants.{Stored, NoName, OutOfRange, Unrecoverable, Granted, Lost as LostAnswer, NoFragment, AlreadyLost, Repaired, NotLost, Deleted, Shape}
 use Rattle.history.specs.declared.note.Note.TheVariants as note

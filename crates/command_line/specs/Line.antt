@@ -9,7 +9,7 @@ use Rattle.command_line.specs.declared.line.BadLine.{BadLine}
 use Rattle.command_line.specs.declared.line.BadLine.TheVariants.{Clap, NoMemory}
 use Rattle.command_line.specs.declared.line.CommandLine.{CommandLine}
 use Rattle.command_line.specs.Program.{program}
-use Rattle.play.specs.Ranges.{InRange}
+use Rattle.script.specs.Ranges.{InRange}
 
 -- the number that an option was given, or has by default
 abbrev pub number_of : Text → List Row → Option ℕ

@@ -3,7 +3,7 @@ ghost use Rattle.std.specs.Prelude.{◌≡◌};
 ghost use Rattle.command_line.specs.declared.line.BadLine.TheVariants.{NoMemory};
 
 use clap::Error;
-use play::Options;
+use script::Options;
 use std::alloc::AllocError;
 
 /// What the words of a command line ask for.

@@ -4,14 +4,14 @@ ghost use Rattle.std.specs.Prelude.{◌≡◌, ◌↔◌, IfErr, IfOk, IfSome, I
 ghost use Rattle.clap.specs.Words.{app_of, found_of, rows_of, rule_of, with_rule};
 ghost use Rattle.command_line.specs.Line.{HasNumber, Says, Refuses, number_of, refusal_of};
 ghost use Rattle.command_line.specs.Program.{bare, history_rule, number_rule, program, script_rule};
-ghost use Rattle.play.specs.Ranges.{InRange};
+ghost use Rattle.script.specs.Ranges.{InRange};
 
 use crate::help::{ABOUT, MORE};
 use crate::line::{BadLine, CommandLine};
 use clap::builder::ValueParser;
 use clap::error::ErrorKind;
 use clap::{Arg, ArgAction, ArgMatches, Command, Error};
-use play::Options;
+use script::Options;
 use std::alloc::{AllocError, Global};
 
 /// The largest width of a fragment, in bytes.

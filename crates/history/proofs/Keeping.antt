@@ -18,8 +18,8 @@ use Rattle.sealed.specs.Layout.{HasFragment, stripe_count, stripe_of, fragment_o
 use Rattle.sealed.specs.Blob.{pair_cmp}
 use Rattle.sealed.proofs.Counting.{some_data, data_is_counted, few_fragments, div_mono}
 use Rattle.sealed.proofs.Places.{fragment_inside, stripe_by_count, fragment_by_count}
-use Rattle.lent.specs.Range.{HasUnrecoverableByte}
-use Rattle.lent.proofs.Readable.{Meets, has_open}
+use Rattle.sealed.specs.Range.{HasUnrecoverableByte}
+use Rattle.sealed.proofs.Readable.{Meets, has_open}
 use Rattle.history.specs.Views.{open_test, open_in_range}
 use Rattle.history.specs.Metadata.{lost_of, is_open_between}
 use Rattle.history.specs.declared.metadata.BlobMetadata.{BlobMetadata}

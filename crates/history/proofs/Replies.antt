@@ -17,7 +17,7 @@ use Rattle.lrc_code.proofs.Recoverable.{exact}
 use Rattle.sealed.proofs.Changing.{pairs_total}
 use Rattle.sealed.specs.Layout.{stripe_of, fragment_of}
 use Rattle.sealed.specs.Blob.{Lost, nothing, lost_in, pair_cmp}
-use Rattle.lent.specs.Range.{is_outside, HasUnrecoverableByte}
+use Rattle.sealed.specs.Range.{is_outside, HasUnrecoverableByte}
 use Rattle.history.specs.Names.{name_cmp}
 use Rattle.history.specs.State.{State, Blob, empty_state}
 use Rattle.history.specs.Step.{Operation, put, read, lose, repair, delete, stat, IfHolds, IsReply, IsReadReply, IsLoseReply, IsRepairReply, is_no_fragment, stripes_of, after, with_lost}

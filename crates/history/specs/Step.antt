@@ -6,7 +6,7 @@ use Rattle.lrc_code.specs.declared.Code.{Code}
 use Rattle.lrc_code.specs.Code.{fragment_count, Open}
 use Rattle.sealed.specs.Layout.{stripe_count}
 use Rattle.sealed.specs.Blob.{IsBlob, Lost, nothing, lost_in}
-use Rattle.lent.specs.Range.{is_outside, HasUnrecoverableByte}
+use Rattle.sealed.specs.Range.{is_outside, HasUnrecoverableByte}
 use Rattle.history.specs.State.{Blob, State}
 use Rattle.history.specs.declared.note.Note.{Note}
 use Rattle.history.specs.declared.note.Note.TheVariants.{Stored, NoName, OutOfRange, Unrecoverable, Granted, Lost as LostNow, NoFragment, AlreadyLost, Repaired, NotLost, Deleted, Shape}

@@ -9,7 +9,7 @@ use Rattle.lrc_code.specs.declared.Code.{Code}
 use Rattle.lrc_code.specs.Code.{fragment_count, excess_of, is_alone}
 use Rattle.sealed.specs.Layout.{stripe_count, stripe_of, fragment_of}
 use Rattle.sealed.specs.Blob.{IsBlob, lost_in, pair_cmp}
-use Rattle.lent.specs.Range.{is_outside}
+use Rattle.sealed.specs.Range.{is_outside}
 use Rattle.history.specs.Names.{name_cmp}
 use Rattle.history.specs.State.{State, Blob}
 use Rattle.history.specs.Step.{Operation, put, read, lose, repair, delete, stat}

@@ -11,7 +11,8 @@ use Rattle.lrc_code.specs.declared.Code.{Code}
 use Rattle.lrc_code.specs.declared.Code.TheVariants.{Wide, Small}
 use Rattle.sealed.specs.Layout.{byte_of}
 use Rattle.lent.specs.declared.part.Part.{Part}
-use Rattle.lent.specs.Cut.{IsPart, all_numbers, NeighboursDiffer, IsCut, part_of, cut_end, cut}
+use Rattle.sealed.specs.Range.{cut_end}
+use Rattle.lent.specs.Cut.{IsPart, all_numbers, NeighboursDiffer, IsCut, part_of, cut}
 
 -- ---- the worked cut: bytes 3 to 8 of a blob in fragments of four
 pub worked : cut Wide 4 3 6 ≡ (record { stripe = 0; fragment = 0; from = 3; to = 4 }) ∷ (record { stripe = 0; fragment = 1; from = 0; to = 4 }) ∷ (record { stripe = 0; fragment = 2; from = 0; to = 1 }) ∷ []

@@ -12,7 +12,8 @@ use Rattle.lent.specs.declared.grant.Grant.{Grant}
 use Rattle.lent.specs.declared.part.Part.{Part}
 use Rattle.lent.specs.declared.piece.Piece.{Piece}
 use Rattle.lent.specs.Ahead.{Ahead}
-use Rattle.lent.specs.Cut.{part_of, cut, cut_end}
+use Rattle.sealed.specs.Range.{cut_end}
+use Rattle.lent.specs.Cut.{part_of, cut}
 use Rattle.lent.specs.Pieces.{IsPieceOf}
 use Rattle.lent.specs.Walk.{Gives, Joins}
 use Rattle.lent.proofs.Cutting.{cut_end_is}

@@ -21,13 +21,14 @@ use Rattle.lent.specs.declared.part.Part.{Part}
 use Rattle.lent.specs.declared.piece.Piece.{Piece}
 use Rattle.lent.specs.declared.piece.Piece.TheVariants.{Lent, Built}
 use Rattle.lent.specs.Ahead.{Ahead}
-use Rattle.lent.specs.Cut.{part_of, all_numbers, cut_end}
+use Rattle.sealed.specs.Range.{cut_end}
+use Rattle.lent.specs.Cut.{part_of, all_numbers}
 use Rattle.lent.specs.Pieces.{IsPieceBy}
 use Rattle.lent.specs.Runs.{IsRunBy, GivesRun, IsRunStep, begin_at}
 use Rattle.lent.specs.Walk.{IsStep, Joins, bytes_ahead}
 use Rattle.lent.proofs.Cutting.{range_split, covers}
 use Rattle.lent.proofs.Joining.{fill_from, ahead_at}
-use Rattle.lent.proofs.Readable.{Meets, some_met, begins_below}
+use Rattle.sealed.proofs.Readable.{Meets, some_met, begins_below}
 
 -- ---- where a run begins and ends
 end_is : (w start len : ℕ) → 0 < len → cut_end w start len ≡ (start + len - 1) / w + 1

@@ -1,9 +1,10 @@
 -- The cut of a range of a blob into parts of fragments.
 use Rattle.lrc_code.specs.Code.{data_count}
-use Rattle.std.specs.Prelude.{◌≡◌, ◌≢◌, ℕ, ◌+◌, ◌-◌, ◌*◌, ◌/◌, ◌%◌, ◌<◌, ◌≤◌, ◌==◌, List, [], ◌∷◌, ◌++◌, map, All, min, if◌then◌else◌}
+use Rattle.std.specs.Prelude.{◌≡◌, ◌≢◌, ℕ, ◌+◌, ◌-◌, ◌*◌, ◌/◌, ◌%◌, ◌<◌, ◌≤◌, List, [], ◌∷◌, ◌++◌, map, All, min}
 use Rattle.std.specs.List.{range_with_len}
 use Rattle.lrc_code.specs.declared.Code.{Code}
 use Rattle.sealed.specs.Layout.{byte_of}
+use Rattle.sealed.specs.Range.{cut_end}
 use Rattle.lent.specs.declared.part.Part.{Part}
 
 -- the part is not empty, and lies inside a data fragment
@@ -38,10 +39,6 @@ pub record IsCut (code : Code) (w start len : ℕ) (parts : List Part) : Type 0 
 abbrev pub part_of : Code → ℕ → ℕ → ℕ → ℕ → Part
 part_of code w start end k =
     record { stripe = k / data_count code; fragment = k % data_count code; from = start - k * w; to = min w (end - k * w) }
-
--- the number of the data fragment behind the last one that the range overlaps
-abbrev pub cut_end : ℕ → ℕ → ℕ → ℕ
-cut_end w start len = if len == 0 then start / w else (start + len - 1) / w + 1
 
 abbrev pub cut : Code → ℕ → ℕ → ℕ → List Part
 cut code w start len = map (part_of code w start (start + len)) (range_with_len (start / w) (cut_end w start len - start / w))

@@ -3,8 +3,7 @@ ghost use Rattle.std.specs.Prelude.{◌≡◌, ◌+◌, ◌/◌, ◌<◌, ◌≤
 ghost use Rattle.lrc_code.specs.Code.{data_count, Open};
 ghost use Rattle.sealed.specs.Layout.{stripe_count};
 ghost use Rattle.sealed.specs.Sealed.{absent_in};
-ghost use Rattle.lent.specs.Cut.{cut_end};
-ghost use Rattle.lent.specs.Range.{is_outside, IsReadable, IsUnreadable};
+ghost use Rattle.sealed.specs.Range.{is_outside, IsReadable, IsUnreadable, cut_end};
 ghost use Rattle.lent.specs.Asked.{IsAnswer};
 
 use crate::cut::{met_by, place_of};

@@ -4,7 +4,7 @@ ghost use Rattle.lrc_code.specs.Code.{data_count};
 ghost use Rattle.sealed.specs.Layout.{stripe_count};
 ghost use Rattle.sealed.specs.Sealed.{absent_in};
 ghost use Rattle.sealed.specs.Rebuilding.{IsPartOf, IsRebuildable};
-ghost use Rattle.lent.specs.Cut.{cut_end};
+ghost use Rattle.sealed.specs.Range.{cut_end};
 ghost use Rattle.lent.specs.Stash.{IsStashOf, IsWhole};
 
 use crate::cut::part_at;

@@ -3,7 +3,8 @@ ghost use Rattle.std.specs.Prelude.{◌≡◌, ◌+◌, ◌/◌, ◌%◌, ◌≤
 ghost use Rattle.lrc_code.specs.Code.{data_count, Open};
 ghost use Rattle.sealed.specs.Layout.{stripe_count};
 ghost use Rattle.sealed.specs.Sealed.{absent_in};
-ghost use Rattle.lent.specs.Cut.{cut_end, part_of};
+ghost use Rattle.sealed.specs.Range.{cut_end};
+ghost use Rattle.lent.specs.Cut.{part_of};
 
 use crate::{Grant, Part};
 use lrc_code::Code;

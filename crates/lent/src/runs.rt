@@ -4,7 +4,7 @@ ghost use Rattle.std.specs.Prelude.{IfOk, IfSome, IfNone, OnErr, slice_range};
 ghost use Rattle.lrc_code.specs.Code.{data_count};
 ghost use Rattle.sealed.specs.Blob.{Lost};
 ghost use Rattle.sealed.specs.Sealed.{StandsFor, absent_in};
-ghost use Rattle.lent.specs.Cut.{cut_end};
+ghost use Rattle.sealed.specs.Range.{cut_end};
 ghost use Rattle.lent.specs.Runs.{IsRunStep, begin_at};
 ghost use Rattle.lent.specs.Walk.{IsAbsent, Joins, bytes_ahead};
 

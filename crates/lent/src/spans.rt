@@ -22,7 +22,8 @@ impl<'a> Model for Spans<'a> {
     ghost use Rattle.std.specs.Prelude.{◌≡◌, ◌+◌, ◌-◌, ◌/◌, ◌≤◌, ℕ, List, Option, map};
     ghost use Rattle.std.specs.List.{range_with_len};
     ghost use Rattle.lent.specs.declared.part.Part.{Part as CutPart};
-    ghost use Rattle.lent.specs.Cut.{part_of, cut_end};
+    ghost use Rattle.sealed.specs.Range.{cut_end};
+    ghost use Rattle.lent.specs.Cut.{part_of};
     ghost use Rattle.lent.specs.Spans.{spans_of};
 
     ghost Value = { List (CutPart × Option (List ℕ)) };

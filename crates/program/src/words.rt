@@ -5,7 +5,7 @@ ghost use Rattle.std.specs.Prelude.{map, string_bytes, true};
 ghost use Rattle.std.specs.IoError.{error_kind};
 ghost use Rattle.std.specs.Io.KnownBytes.{Appends, Keeps};
 ghost use Rattle.command_line.specs.Line.{Says};
-ghost use Rattle.play.specs.Ranges.{InRange};
+ghost use Rattle.script.specs.Ranges.{InRange};
 ghost use Rattle.play.specs.Fails.{IsAccepted, NamesRefusedRow};
 ghost use Rattle.program.specs.Endings.{IfFailure, IsEndingOf, IsQuiet, IsRunEnding, IsSuccess};
 ghost use Rattle.program.specs.Endings.{message_of};

@@ -3,3 +3,4 @@ pub mod Names
 pub mod Fields
 pub mod Script
 pub mod Text
+pub mod Ranges

@@ -21,7 +21,8 @@ use Rattle.lent.specs.declared.part.Part.{Part}
 use Rattle.lent.specs.declared.piece.Piece.{Piece}
 use Rattle.lent.specs.declared.piece.Piece.TheVariants.{Lent, Built}
 use Rattle.lent.specs.Ahead.{Ahead}
-use Rattle.lent.specs.Cut.{part_of, numbers_of, cut_end}
+use Rattle.sealed.specs.Range.{cut_end}
+use Rattle.lent.specs.Cut.{part_of, numbers_of}
 use Rattle.lent.specs.Granted.{cut_of, range_of}
 use Rattle.lent.specs.Pieces.{IsPieceBy, IsPieceOf, bytes_of}
 use Rattle.lent.specs.Spans.{spans_of}

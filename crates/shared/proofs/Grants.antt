@@ -7,7 +7,7 @@ use Rattle.sealed.specs.declared.value.Sealed.{Sealed}
 use Rattle.sealed.specs.declared.fault.Fault.{Fault}
 use Rattle.sealed.specs.declared.fault.Fault.TheVariants.{NoMemory}
 use Rattle.lent.specs.declared.grant.Grant.{Grant}
-use Rattle.lent.specs.Range.{is_outside}
+use Rattle.sealed.specs.Range.{is_outside}
 use Rattle.history.specs.State.{Blob, State, empty_state}
 use Rattle.history.specs.declared.note.Note.TheVariants as noted
 use Rattle.history.specs.Step.{read, IsReadReply}

@@ -4,7 +4,7 @@
 #![tactic(auto)]
 
 ghost use Rattle.std.specs.Prelude.{IfOk};
-ghost use Rattle.play.specs.Ranges.{InRange};
+ghost use Rattle.script.specs.Ranges.{InRange};
 
 use anyhow::{Result, bail, ensure};
 use command_line::{BadLine, CommandLine, parse_line};

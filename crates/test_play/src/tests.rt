@@ -1,5 +1,5 @@
 ghost use Rattle.std.specs.Prelude.{◌≡◌};
-ghost use Rattle.play.specs.Ranges.{InRange};
+ghost use Rattle.script.specs.Ranges.{InRange};
 
 use play::{Always, Fail as PlayFail, Options, play};
 use script::{BadScript, Word};

@@ -1,6 +1,6 @@
 //! Workers on threads of their own, and mends by all of them.
 ghost use Rattle.std.specs.Prelude.{◌≡◌, IfOk};
-ghost use Rattle.play.specs.Ranges.{InRange};
+ghost use Rattle.script.specs.Ranges.{InRange};
 
 use super::{options, run};
 use play::{Always, Fail as PlayFail, Options};

@@ -3,7 +3,7 @@ use Rattle.std.proofs.lemmas.Bool.{false≢true}
 use Rattle.std.specs.Str.Parse.{ExplainsUnsignedError, HasUnsignedDigitsIfOk, ParsesUnsigned, digits_value, without_leading_plus}
 use Rattle.std.specs.declared.num.ParseIntError.{ParseIntError}
 use Rattle.clap.specs.Words.{found_of}
-use Rattle.play.specs.Ranges.{InRange}
+use Rattle.script.specs.Ranges.{InRange}
 use Rattle.command_line.proofs.Answered.{number_read, text_given, text_read}
 use Rattle.command_line.proofs.reading.number.Goals as goal
 

@@ -4,7 +4,7 @@ use Rattle.lrc_code.specs.Code.{data_count, Open}
 use Rattle.sealed.specs.Layout.{stripe_count}
 use Rattle.sealed.specs.Sealed.{absent_in}
 use Rattle.sealed.proofs.Places.{rest_of}
-use Rattle.lent.proofs.Readable.{stripe_met, has_open, has_none}
+use Rattle.sealed.proofs.Readable.{stripe_met, has_open, has_none}
 use Rattle.lent.proofs.ask.is_readable.Goals as goal
 
 -- some data fragments further on in the same stripe

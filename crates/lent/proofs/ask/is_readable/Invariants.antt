@@ -1,6 +1,6 @@
 use Rattle.std.proofs.Common.{ℕ, ◌-◌, ◌<◌, ◌/◌, ◌≤◌}
 use Rattle.sealed.specs.Sealed.{absent_in}
-use Rattle.lent.proofs.Readable.{OpenAt}
+use Rattle.sealed.proofs.Readable.{OpenAt}
 use Rattle.lent.proofs.ask.is_readable.Given as goal
 
 abbrev pub invariant-loop-k : goal.invariant-loop-k

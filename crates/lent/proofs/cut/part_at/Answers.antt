@@ -3,7 +3,7 @@ use Rattle.lrc_code.specs.Code.{data_count, Open}
 use Rattle.sealed.specs.declared.value.Sealed.{Sealed}
 use Rattle.sealed.specs.Layout.{stripe_count}
 use Rattle.sealed.specs.Sealed.{absent_in}
-use Rattle.lent.proofs.Readable.{stripe_met, has_open}
+use Rattle.sealed.proofs.Readable.{stripe_met, has_open}
 use Rattle.lent.proofs.cut.part_at.Goals as goal
 
 pub returns-clause-stripe : goal.returns-clause-stripe

@@ -9,7 +9,7 @@ use Rattle.sealed.specs.Runs.{is_absent_at}
 use Rattle.sealed.proofs.Counting.{rounded_up}
 use Rattle.lent.specs.declared.grant.Grant.{Grant}
 use Rattle.lent.specs.Runs.{begin_at}
-use Rattle.lent.proofs.Readable.{Meets}
+use Rattle.sealed.proofs.Readable.{Meets}
 use Rattle.lent.proofs.Running.{from_below, from_begins, behind_above, behind_inside, behind_begins, absent_from}
 use Rattle.lent.proofs.runs.run_at.Goals as goal
 

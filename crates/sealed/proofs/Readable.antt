@@ -6,8 +6,7 @@ use Rattle.lrc_code.specs.Code.{data_count, Open}
 use Rattle.sealed.specs.Layout.{stripe_count, stripe_of, fragment_of}
 use Rattle.sealed.proofs.Counting.{div_mono}
 use Rattle.sealed.proofs.Places.{stripe_by_count, fragment_by_count, stripe_below}
-use Rattle.lent.specs.Range.{HasUnrecoverableByte}
-use Rattle.lent.specs.Cut.{cut_end}
+use Rattle.sealed.specs.Range.{HasUnrecoverableByte, cut_end}
 
 -- the range meets the k-th data fragment of the blob
 pub record Meets (w start len k : ℕ) : Type 0 where
