@@ -5,7 +5,9 @@ use Rattle.std.specs.FinSet as set
 use Rattle.std.specs.Ordering.{eq_by_cmp}
 use Rattle.std.proofs.lemmas.Bool.{and_parts, cases_Bool, cases_eq, false≢true}
 use Rattle.std.proofs.lemmas.Grind.{common_steps}
-use Rattle.lrc_code.specs.Code.{fragment_count}
+use Rattle.lrc_code.specs.declared.Code.{Code}
+use Rattle.lrc_code.specs.declared.Code.TheVariants.{Wide, Small}
+use Rattle.lrc_code.specs.Code.{fragment_count, excess_of}
 use Rattle.lrc_code.specs.Count.{count_below}
 use Rattle.lrc_code.proofs.Count.{count_same}
 use Rattle.sealed.proofs.Counting.{few_fragments}
@@ -14,6 +16,8 @@ use Rattle.sealed.specs.Layout.{stripe_count}
 use Rattle.sealed.specs.Blob.{Lost, nothing, lost_in, pair_cmp}
 use Rattle.sealed.specs.Sealed.{StandsFor, absent_in}
 use Rattle.book.specs.Lacking.{lacks, lacked_count, seen_of}
+use Rattle.book.specs.Numbers.{open_stripes}
+use Rattle.book.specs.Totals.{has_open, open_count}
 use Rattle.history.specs.State.{Blob, IsLostInside}
 use Rattle.book.specs.Tells.{Represents}
 use Rattle.history.specs.Views.{view_of}
@@ -46,6 +50,22 @@ count_more p q k (suc n) l old new same =
           omega (arith, before, was, is)
       | inr past ↦
           let more : count_below q n ≡ count_below p n + 1 = count_more p q k n (omega (arith, past)) old new (λ i h. same i (omega arith)) in
+          let last : ◌≡◌ {A = ℕ} (cond (p n) 1 0) (cond (q n) 1 0) = ap (λ b. cond b 1 0) (same n (omega arith) past) in
+          omega (arith, more, last)
+    ]
+
+-- the test differs at k alone
+pub count_other : (p q : ℕ → Bool) (k n : ℕ) → k < n → ((i : ℕ) → i < n → i ≢ k → p i ≡ q i) → count_below q n + cond (p k) 1 0 ≡ count_below p n + cond (q k) 1 0
+count_other p q k zero l same = absurd (omega arith)
+count_other p q k (suc n) l same =
+    elim (cases_eq n k) [
+      | inl here ↦
+          let before : count_below p n ≡ count_below q n = count_same p q n (λ i h. same i (omega arith) (λ e. omega (arith, e, here, h))) in
+          let was : ◌≡◌ {A = ℕ} (cond (p n) 1 0) (cond (p k) 1 0) = ap (λ x. cond (p x) 1 0) here in
+          let is : ◌≡◌ {A = ℕ} (cond (q n) 1 0) (cond (q k) 1 0) = ap (λ x. cond (q x) 1 0) here in
+          omega (arith, before, was, is)
+      | inr past ↦
+          let more : count_below q n + cond (p k) 1 0 ≡ count_below p n + cond (q k) 1 0 = count_other p q k n (omega (arith, past)) (λ i h. same i (omega arith)) in
           let last : ◌≡◌ {A = ℕ} (cond (p n) 1 0) (cond (q n) 1 0) = ap (λ b. cond b 1 0) (same n (omega arith) past) in
           omega (arith, more, last)
     ]
@@ -105,9 +125,9 @@ is_there : (b : Bool) (x : List ℕ) → b ≡ false → is_none (cond b None (S
 is_there true x e = absurd (false≢true (sym e))
 is_there false x e = refl
 
-pub none_lacked : (s : Sealed) (b : List ℕ) → StandsFor s b nothing → lacked_count s ≡ 0
-none_lacked s b stands =
-    let none : (j f : ℕ) → lacks s j f ≡ false = λ j f. elim (cases_Bool (lacks s j f)) [
+none_at : (s : Sealed) (b : List ℕ) → StandsFor s b nothing → (j f : ℕ) → lacks s j f ≡ false
+none_at s b stands j f =
+    elim (cases_Bool (lacks s j f)) [
       | inl lacking ↦
           let parts = and_parts (nat_lt j (length s.stripes)) _ lacking in
           let more = and_parts (nat_lt f (fragment_count s.code)) _ parts.1 in
@@ -115,8 +135,18 @@ none_lacked s b stands =
           let kept : absent_in s j f ≡ false = ap is_none (stands.fragments j f (let c = s.shaped.count in omega arith) (lt_of f _ more.0)) ∙ is_there (lost_in nothing j f) _ (set.contains-empty pair_cmp (j, f)) in
           absurd (false≢true (sym kept ∙ more.1))
       | inr not_lacking ↦ not_lacking
-    ] in
-    count_none _ (16 * length s.stripes) (λ i l. none (i / 16) (i % 16))
+    ]
+
+pub none_lacked : (s : Sealed) (b : List ℕ) → StandsFor s b nothing → lacked_count s ≡ 0
+none_lacked s b stands = count_none _ (16 * length s.stripes) (λ i l. none_at s b stands (i / 16) (i % 16))
+
+closed_if_whole : (code : Code) → has_open code (λ f. false) ≡ false
+unfolding excess_of
+closed_if_whole Wide = refl
+closed_if_whole Small = refl
+
+pub none_open : (s : Sealed) (b : List ℕ) → StandsFor s b nothing → open_count s ≡ 0
+none_open s b stands = count_none _ (length s.stripes) (λ j l. (λ i. has_open s.code (λ f. none_at s b stands j f i)) ∙ closed_if_whole s.code)
 
 -- ---- a value that represents a blob
 module _ (w : ℕ) (s : Sealed) (blob : Blob) (is : Represents w s blob) (inside : IsLostInside w blob) where
@@ -144,6 +174,11 @@ module _ (w : ℕ) (s : Sealed) (blob : Blob) (is : Represents w s blob) (inside
       let l = inside j f lost in
       let few = few_fragments blob.code in
       (omega (arith, l.1, few), omega (arith, l.0, l.1, few, stripes_alike))
+
+  pub open_alike : open_stripes w blob ≡ open_count s
+  open_alike =
+      ap (count_below (λ j. has_open blob.code (lost_in blob.lost j))) stripes_alike
+      ∙ count_same _ _ (length s.stripes) (λ j l. λ i. has_open (sym is.code i) (λ f. lacks_alike j f i))
 
   count_alike : set.len blob.lost ≡ lacked_count s
   count_alike =

@@ -167,24 +167,32 @@ of_value s = (s.version, lacked_below s (16 * length s.stripes))
 abbrev of_blob : Blob → ℕ × List (ℕ × ℕ)
 of_blob blob = (blob.version, pairs_of blob.lost)
 
-same_of : (w : ℕ) (x : Option Sealed) (y : Option Blob) → Correspond w x y → ((blob : Blob) → y ≡ Some blob → IsLostInside w blob) → option_map of_value x ≡ option_map of_blob y
-same_of w None None same inside = refl
-same_of w (Some s) (Some blob) same inside = λ i. Some (same.version i, same_lacked w s blob same (inside blob refl) i)
-same_of w None (Some blob) same inside = absurd same
-same_of w (Some s) None same inside = absurd same
-
-abbrev with_values : {X Y : Type 0} → (X → Y) → List (List ℕ × X) → List (List ℕ × Y)
+abbrev pub with_values : {X Y : Type 0} → (X → Y) → List (List ℕ × X) → List (List ℕ × Y)
 with_values f es = map (λ e. (e.0, f e.1)) es
+
+-- what is the same of each value and of the blob that it represents, is the same by name
+module _ {Y : Type 0} (f : Sealed → Y) (g : Blob → Y) (w : ℕ) (alike : (s : Sealed) (blob : Blob) → Represents w s blob → IsLostInside w blob → f s ≡ g blob) where
+  same_of : (x : Option Sealed) (y : Option Blob) → Correspond w x y → ((blob : Blob) → y ≡ Some blob → IsLostInside w blob) → option_map f x ≡ option_map g y
+  same_of None None same inside = refl
+  same_of (Some s) (Some blob) same inside = ap (λ y. Some y) (alike s blob same (inside blob refl))
+  same_of None (Some blob) same inside = absurd same
+  same_of (Some s) None same inside = absurd same
+
+  pub same_by_name : (book : Contents) (h : History) → book.width ≡ w → IsStrictlySortedBy name_cmp (keys_of book.catalogue) → HoldsHistory book h
+      → with_values f book.catalogue ≡ with_values g (finite.entries (state_of h).names)
+  same_by_name book h width rises told =
+      let names = (state_of h).names in
+      same_found nat_list_cmp_total exact_bytes _ _ (subst (IsStrictlySortedBy name_cmp) (sym (keys_of-map_values f book.catalogue)) rises)
+      (subst (IsStrictlySortedBy name_cmp) (sym (keys_of-map_values g (finite.entries names))) (keys_rise names))
+      (λ q. lookup-map_values f (is_at (name_cmp q)) book.catalogue
+      ∙ same_of (sealed_at book q) (finite.get names q) (subst (λ v. Correspond v (sealed_at book q) (finite.get names q)) width (told.catalogue q))
+      (λ blob here. subst (λ v. IsLostInside v blob) width (lost_inside book.width h told.legal q blob here))
+      ∙ ap (option_map g) (finite.get-entries names q)
+      ∙ sym (lookup-map_values g (is_at (name_cmp q)) (finite.entries names)))
 
 pub plan_is : (book : Contents) (h : History) → IsStrictlySortedBy name_cmp (keys_of book.catalogue) → HoldsHistory book h → flat_map items_lacked book.catalogue ≡ plan_of (state_of h)
 plan_is book h rises told =
-    let names = (state_of h).names in
-    let same : with_values of_value book.catalogue ≡ with_values of_blob (finite.entries names) =
-    same_found nat_list_cmp_total exact_bytes _ _ (subst (IsStrictlySortedBy name_cmp) (sym (keys_of-map_values of_value book.catalogue)) rises)
-    (subst (IsStrictlySortedBy name_cmp) (sym (keys_of-map_values of_blob (finite.entries names))) (keys_rise names))
-    (λ q. lookup-map_values of_value (is_at (name_cmp q)) book.catalogue
-    ∙ same_of book.width (sealed_at book q) (finite.get names q) (told.catalogue q) (λ blob here. lost_inside book.width h told.legal q blob here)
-    ∙ ap (option_map of_blob) (finite.get-entries names q)
-    ∙ sym (lookup-map_values of_blob (is_at (name_cmp q)) (finite.entries names))) in
+    let same : with_values of_value book.catalogue ≡ with_values of_blob (finite.entries (state_of h).names) =
+    same_by_name of_value of_blob book.width (λ s blob is inside. λ i. (is.version i, same_lacked book.width s blob is inside i)) book h refl rises told in
     let items : List ℕ × (ℕ × List (ℕ × ℕ)) → List Item = λ e. items_for e.0 e.1.0 e.1.1 in
-    sym (flat_map-map items (λ e. (e.0, of_value e.1)) book.catalogue) ∙ ap (flat_map items) same ∙ flat_map-map items (λ e. (e.0, of_blob e.1)) (finite.entries names)
+    sym (flat_map-map items (λ e. (e.0, of_value e.1)) book.catalogue) ∙ ap (flat_map items) same ∙ flat_map-map items (λ e. (e.0, of_blob e.1)) (finite.entries (state_of h).names)

@@ -21,7 +21,7 @@ same_value : (test : List ℕ → Bool) (es : Catalogue) (s : Sealed) → lookup
 same_value test [] s is = refl
 same_value test (e ∷ es) s is = written_over (test e.0) e es (set_value test es s) s (lookup test es) is (same_value test es s)
 
-is_some_at : (found : Option Sealed) (s : Sealed) → Some s ≡ found → IsSome found
+pub is_some_at : (found : Option Sealed) (s : Sealed) → Some s ≡ found → IsSome found
 is_some_at found s e = search rules
 
 -- the name n had the value s, and a call with this result made t of it

@@ -15,6 +15,7 @@ use Rattle.history.specs.Views.{View}
 -- the new value represents the bytes of the old one, with its lost fragments changed
 pub record IsWith (change : Lost → Lost) (old new : Sealed) : Type 0 where
   pub version : new.version ≡ old.version
+  pub len : new.len ≡ old.len
   pub width : new.width ≡ old.width
   pub code : new.code ≡ old.code
   pub stands : (b : List ℕ) (lost : Lost) → StandsFor old b lost → StandsFor new b (change lost)

@@ -1,6 +1,6 @@
 //! The sealed blobs by name.
 ghost use Rattle.std.specs.Prelude.{◌≡◌, List, ℕ, [], None, Some, true, false, cond, take, IfOk};
-ghost use Rattle.std.specs.Prelude.{IfErr, IfSome, OnOk, OnErr};
+ghost use Rattle.std.specs.Prelude.{length, IfErr, IfSome, OnOk, OnErr};
 ghost use Rattle.std.specs.BTreeMap.{is_at};
 ghost use Rattle.std.specs.BTreeSet.{contains};
 ghost use Rattle.std.specs.List.{flat_map};
@@ -16,13 +16,14 @@ ghost use Rattle.book.specs.Known.{IsRepairFor};
 ghost use Rattle.book.specs.Losing.{Loses, Mends, Replaces, value_at};
 ghost use Rattle.book.specs.Notes.{note_of};
 ghost use Rattle.book.specs.Plan.{items_lacked, items_after};
+ghost use Rattle.book.specs.Totals.{totals_of};
 
-use crate::install::install_in;
 use crate::lose::lose_in;
 use crate::plan::Item;
-use crate::repair::repair_in;
+use crate::repair::{Rebuilt, repair_in};
 use crate::stored_blob::StoredBlob;
-use crate::{Answer, Bytes, Fault, Name, Sealed};
+use crate::totals::Totals;
+use crate::{Answer, Fault, Name, Sealed};
 use std::alloc::{AllocError, Global};
 use std::collections::{BTreeMap, BTreeSet};
 use std::marker::Model;
@@ -30,11 +31,12 @@ use std::ops::Bound;
 use std::sync::Arc;
 
 /// The sealed blobs by name, and the names of those that lack a fragment. So the lost fragments are
-/// listed without a look at the other blobs.
+/// listed without a look at the other blobs. The totals of all blobs stand beside them.
 #[derive(Drop)]
 pub(crate) struct Catalogue {
     blobs: BTreeMap<Name, StoredBlob>,
     lacking: BTreeSet<Name>,
+    totals: Totals,
 }
 
 impl Model for Catalogue {
@@ -46,11 +48,12 @@ impl Model for Catalogue {
     ghost use Rattle.std.specs.BTreeSet.{contains};
     ghost use Rattle.history.specs.Names.{name_cmp};
     ghost use Rattle.book.specs.Catalogue.{lacks_at};
+    ghost use Rattle.book.specs.Totals.{AreTotals};
 
     ghost view = { λ c. c.blobs.entries };
 
-    ghost invariant = { λ c. (n : List ℕ) → contains name_cmp c.lacking n
-        ≡ lacks_at c.blobs.entries n };
+    ghost invariant = { λ c. ((n : List ℕ) → contains name_cmp c.lacking n
+        ≡ lacks_at c.blobs.entries n) × AreTotals c.totals c.blobs.entries };
 }
 
 impl Catalogue {
@@ -61,7 +64,23 @@ impl Catalogue {
         Catalogue {
             blobs: BTreeMap::new(alloc),
             lacking: BTreeSet::new(alloc),
+            totals: Totals::of(None),
         }
+    }
+
+    /// How many names there are.
+    pub fn len(&self) -> u64
+        ensures value { result ≡ length self.now }
+        ensures rising { IsStrictlySortedBy name_cmp (keys_of self.now) }
+    {
+        self.blobs.len() as u64
+    }
+
+    /// The totals of all blobs.
+    pub fn totals(&self) -> Totals
+        ensures { result ≡ totals_of self.now }
+    {
+        self.totals
     }
 
     /// The blob of a name.
@@ -79,8 +98,11 @@ impl Catalogue {
             ≡ cond (is_at (name_cmp name.now) q) (Some sealed.value) (value_at self.old q)) }
         ensures err { OnErr result (self.new ≡ self.old) }
     {
-        self.blobs
-            .insert(name.duplicate(), StoredBlob::whole(sealed))?;
+        let stored = StoredBlob::whole(sealed);
+        let after = stored.share();
+        let replaced = self.blobs.insert(name.duplicate(), stored)?;
+        let before = Totals::of(replaced.as_ref());
+        self.totals.replace(&self.blobs, before, after);
         self.lacking.remove(name);
         Ok(())
     }
@@ -92,7 +114,10 @@ impl Catalogue {
             ≡ cond (is_at (name_cmp name.now) q) None (value_at self.old q) }
     {
         self.lacking.remove(name);
-        self.blobs.remove(name)
+        let removed = self.blobs.remove(name);
+        let before = Totals::of(removed.as_ref());
+        self.totals.replace(&self.blobs, before, Totals::of(None));
+        removed
     }
 
     /// Loses a fragment of a name's blob. The only error is `NoMemory`; the catalogue is then
@@ -112,57 +137,36 @@ impl Catalogue {
         if self.lacking.insert(name.duplicate()).is_err() {
             return Err(Fault::NoMemory);
         }
+        let before = Totals::of(self.blobs.get(name));
         let answer = lose_in(&mut self.blobs, alloc, name, stripe, fragment);
         settle(&mut self.lacking, &self.blobs, name);
+        let after = Totals::of(self.blobs.get(name));
+        self.totals.replace(&self.blobs, before, after);
         answer
     }
 
-    /// Rebuilds a lost fragment of a name's blob. The only error is `NoMemory`; the catalogue is
-    /// then unchanged.
+    /// Rebuilds a lost fragment of a name's blob, or installs the bytes that were rebuilt if the
+    /// blob has their version. The only error is `NoMemory`; the catalogue is then unchanged.
     pub fn repair(
         &mut self,
         alloc: Global,
         name: &Name,
         stripe: u64,
         fragment: u64,
+        rebuilt: Option<Rebuilt>,
     ) -> Result<Answer, Fault>
+        requires { IfSome rebuilt (λ r. IfSome (value_at self.old name.now)
+            (IsRepairFor r.version stripe fragment r.bytes)) }
         ensures ok { IfOk result (λ a. Replaces (λ w x. repair_reply w x stripe fragment)
             (Mends stripe fragment (note_of a)) self.old self.new name.now (note_of a)) }
         ensures faults { IfErr result (λ e. e ≡ Fault.NoMemory) }
         ensures err { OnErr result (self.new ≡ self.old) }
     {
-        let answer = repair_in(&mut self.blobs, alloc, name, stripe, fragment);
+        let before = Totals::of(self.blobs.get(name));
+        let answer = repair_in(&mut self.blobs, alloc, name, stripe, fragment, rebuilt);
         settle(&mut self.lacking, &self.blobs, name);
-        answer
-    }
-
-    /// Does the same as `repair`, but installs these bytes if the blob has this version. The only
-    /// error is `NoMemory`; the catalogue is then unchanged.
-    pub fn install(
-        &mut self,
-        alloc: Global,
-        name: &Name,
-        version: u64,
-        stripe: u64,
-        fragment: u64,
-        bytes: Bytes,
-    ) -> Result<Answer, Fault>
-        requires { IfSome (value_at self.old name.now) (IsRepairFor version stripe fragment bytes) }
-        ensures ok { IfOk result (λ a. Replaces (λ w x. repair_reply w x stripe fragment)
-            (Mends stripe fragment (note_of a)) self.old self.new name.now (note_of a)) }
-        ensures faults { IfErr result (λ e. e ≡ Fault.NoMemory) }
-        ensures err { OnErr result (self.new ≡ self.old) }
-    {
-        let answer = install_in(
-            &mut self.blobs,
-            alloc,
-            name,
-            version,
-            stripe,
-            fragment,
-            bytes,
-        );
-        settle(&mut self.lacking, &self.blobs, name);
+        let after = Totals::of(self.blobs.get(name));
+        self.totals.replace(&self.blobs, before, after);
         answer
     }
 

@@ -1,7 +1,6 @@
 //! A sealed blob in the catalogue.
-ghost use Rattle.std.specs.Prelude.{◌≡◌, ◌<◌, ◌≤◌, ◌&&◌, ◌++◌, List, ℕ, Some, true, false};
-ghost use Rattle.std.specs.Prelude.{length, take, IfOk, IfErr, OnOk, OnErr};
-ghost use Rattle.std.specs.FinSet as set;
+ghost use Rattle.std.specs.Prelude.{◌≡◌, ◌<◌, ◌≤◌, ◌&&◌, ◌++◌, List, ℕ, Some};
+ghost use Rattle.std.specs.Prelude.{length, take, IfSome, IfOk, IfErr, OnOk, OnErr};
 ghost use Rattle.std.specs.Option.{option_map};
 ghost use Rattle.lrc_code.specs.Code.{fragment_count};
 ghost use Rattle.sealed.specs.Layout.{stripe_count};
@@ -12,23 +11,27 @@ ghost use Rattle.sealed.specs.Rebuilding.{IsFragmentOf, IsRebuildable};
 ghost use Rattle.book.specs.Known.{IsRepairFor};
 ghost use Rattle.book.specs.Catalogue.{lacks_some};
 ghost use Rattle.book.specs.Lacking.{reply_for, lacks, lacked_count, seen_of};
-ghost use Rattle.book.specs.Losing.{IsWith, Loses, Mends};
+ghost use Rattle.book.specs.Losing.{Loses, Mends};
 ghost use Rattle.book.specs.Notes.{note_of};
 ghost use Rattle.book.specs.Plan.{items_lacked, is_behind as is_behind_in, items_after};
+ghost use Rattle.book.specs.Totals.{open_at, share_of, IsShare};
 ghost use Rattle.history.specs.Views.{no_such, lose_reply, repair_reply, stat_reply};
 
 use crate::plan::{Item, first_stripe, is_behind};
+use crate::repair::Rebuilt;
+use crate::totals::Totals;
 use crate::{Answer, Bytes, Fault, Name, Sealed};
 use std::alloc::{AllocError, Global};
 use std::marker::Model;
 use std::sync::Arc;
 
-/// A sealed blob with the number of its lost fragments, so that a stat takes the same time for each
-/// blob.
+/// A sealed blob with the numbers of its lost fragments and of its stripes that have an
+/// unrecoverable one, so that a stat takes the same time for each blob.
 #[derive(Drop)]
 pub struct StoredBlob {
     sealed: Arc<Sealed>,
     lost: u64,
+    unrecoverable: u64,
 }
 
 impl Model for StoredBlob {
@@ -38,10 +41,12 @@ impl Model for StoredBlob {
 
     ghost use Rattle.std.specs.Prelude.{◌≡◌};
     ghost use Rattle.book.specs.Lacking.{lacked_count};
+    ghost use Rattle.book.specs.Totals.{open_count};
 
     ghost view = { λ s. s.sealed.value };
 
-    ghost invariant = { λ s. s.lost ≡ lacked_count s.sealed.value };
+    ghost invariant = { λ s. (s.lost ≡ lacked_count s.sealed.value)
+        × (s.unrecoverable ≡ open_count s.sealed.value) };
 }
 
 impl StoredBlob {
@@ -50,7 +55,23 @@ impl StoredBlob {
         requires { (b : List ℕ) × StandsFor sealed.value b nothing }
         ensures { result ≡ sealed.value }
     {
-        StoredBlob { sealed, lost: 0 }
+        StoredBlob {
+            sealed,
+            lost: 0,
+            unrecoverable: 0,
+        }
+    }
+
+    /// Its share of the totals.
+    pub fn share(&self) -> Totals
+        ensures value { result ≡ share_of self.now }
+        ensures share { IsShare result }
+    {
+        Totals {
+            bytes: u128::from(self.sealed.len),
+            lost: u128::from(self.lost),
+            unrecoverable: u128::from(self.unrecoverable),
+        }
     }
 
     /// The sealed blob.
@@ -156,26 +177,23 @@ impl StoredBlob {
             return Ok(Answer::AlreadyLost);
         }
         let version = self.sealed.version;
-        self.take_out(alloc, stripe, fragment as u8)?;
+        let before = count_open(&self.sealed, stripe);
+        take_out_of(&mut self.sealed, alloc, stripe, fragment as u8)?;
+        self.lost += 1;
+        self.unrecoverable = self.unrecoverable + count_open(&self.sealed, stripe) - before;
         Ok(Answer::Lost(version))
     }
 
-    /// Takes out a fragment that is present.
-    fn take_out(&mut self, alloc: Global, stripe: u64, f: u8) -> Result<(), Fault>
-        requires stripe_below { stripe < stripe_count self.old.code self.old.width self.old.len }
-        requires f_below { f < fragment_count self.old.code }
-        requires there { absent_in self.old stripe f ≡ false }
-        ensures ok { OnOk result (IsWith (λ lost. set.insert lost (stripe, f)) self.old self.new) }
-        ensures faults { IfErr result (λ e. e ≡ Fault.NoMemory) }
-        ensures err { OnErr result (self.new ≡ self.old) }
-    {
-        take_out_of(&mut self.sealed, alloc, stripe, f)?;
-        self.lost += 1;
-        Ok(())
-    }
-
-    /// Rebuilds a lost fragment. The only error is `NoMemory`; the blob is then unchanged.
-    pub fn repair(&mut self, alloc: Global, stripe: u64, fragment: u64) -> Result<Answer, Fault>
+    /// Rebuilds a lost fragment, or installs the bytes that were rebuilt if the blob has their
+    /// version. The only error is `NoMemory`; the blob is then unchanged.
+    pub fn repair(
+        &mut self,
+        alloc: Global,
+        stripe: u64,
+        fragment: u64,
+        rebuilt: Option<Rebuilt>,
+    ) -> Result<Answer, Fault>
+        requires { IfSome rebuilt (λ r. IsRepairFor r.version stripe fragment r.bytes self.old) }
         ensures answer { IfOk result (λ a. note_of a ≡ reply_for
             (λ w x. repair_reply w x stripe fragment) (Some self.old)) }
         ensures changed { IfOk result (λ a. Mends stripe fragment (note_of a) self.old self.new) }
@@ -192,32 +210,29 @@ impl StoredBlob {
         if !self.sealed.is_rebuildable(stripe, fragment) {
             return Ok(Answer::Unrecoverable(self.sealed.version));
         }
-        let bytes = self.sealed.rebuild_fragment(alloc, stripe, fragment)?;
+        let bytes = self.lost_bytes(alloc, stripe, fragment, rebuilt)?;
         self.mend(alloc, stripe, fragment, bytes)
     }
 
-    /// Does the same as `repair`, but installs these bytes if the blob has this version. The only
-    /// error is `NoMemory`; the blob is then unchanged.
-    pub fn install(
-        &mut self,
+    /// The bytes of a lost fragment: those that were rebuilt, if the blob has their version.
+    fn lost_bytes(
+        &self,
         alloc: Global,
-        version: u64,
         stripe: u64,
         fragment: u64,
-        bytes: Bytes,
-    ) -> Result<Answer, Fault>
-        requires { IsRepairFor version stripe fragment bytes self.old }
-        ensures answer { IfOk result (λ a. note_of a ≡ reply_for
-            (λ w x. repair_reply w x stripe fragment) (Some self.old)) }
-        ensures changed { IfOk result (λ a. Mends stripe fragment (note_of a) self.old self.new) }
-        ensures fewer { lacked_count self.new ≤ lacked_count self.old }
-        ensures faults { IfErr result (λ e. e ≡ Fault.NoMemory) }
-        ensures err { OnErr result (self.new ≡ self.old) }
+        rebuilt: Option<Rebuilt>,
+    ) -> Result<Bytes, Fault>
+        requires rebuildable { IsRebuildable self.now stripe fragment }
+        requires own { IfSome rebuilt
+            (λ r. IsRepairFor r.version stripe fragment r.bytes self.now) }
+        ensures ok { IfOk result (IsFragmentOf self.now stripe fragment) }
+        ensures long { IfOk result (λ bytes. length bytes ≡ self.now.width) }
+        ensures err { IfErr result (λ e. e ≡ Fault.NoMemory) }
     {
-        if self.sealed.version != version || !self.sealed.is_rebuildable(stripe, fragment) {
-            return self.repair(alloc, stripe, fragment);
+        match rebuilt {
+            Some(rebuilt) if rebuilt.version == self.sealed.version => Ok(rebuilt.bytes),
+            _ => self.sealed.rebuild_fragment(alloc, stripe, fragment),
         }
-        self.mend(alloc, stripe, fragment, bytes)
     }
 
     /// Repairs a fragment with these bytes. The only error is `NoMemory`; the blob is then
@@ -240,26 +255,20 @@ impl StoredBlob {
         ensures err { OnErr result (self.new ≡ self.old) }
     {
         let version = self.sealed.version;
-        self.put_back(alloc, stripe, fragment as u8, bytes)?;
+        let before = count_open(&self.sealed, stripe);
+        put_back_in(&mut self.sealed, alloc, stripe, fragment as u8, bytes)?;
+        self.lost -= 1;
+        self.unrecoverable = self.unrecoverable + count_open(&self.sealed, stripe) - before;
         Ok(Answer::Repaired(version))
     }
+}
 
-    /// Puts back a lost fragment.
-    fn put_back(&mut self, alloc: Global, stripe: u64, f: u8, bytes: Bytes) -> Result<(), Fault>
-        requires stripe_below { stripe < stripe_count self.old.code self.old.width self.old.len }
-        requires f_below { f < fragment_count self.old.code }
-        requires gone { absent_in self.old stripe f ≡ true }
-        requires long { length bytes ≡ self.old.width }
-        requires own { IsFragmentOf self.old stripe f bytes }
-        ensures ok { OnOk result (IsWith (λ lost. set.remove lost (stripe, f)) self.old self.new) }
-        ensures fewer { lacked_count self.new ≤ lacked_count self.old }
-        ensures faults { IfErr result (λ e. e ≡ Fault.NoMemory) }
-        ensures err { OnErr result (self.new ≡ self.old) }
-    {
-        put_back_in(&mut self.sealed, alloc, stripe, f, bytes)?;
-        self.lost -= 1;
-        Ok(())
-    }
+/// 1 if some fragment of a stripe is unrecoverable, otherwise 0.
+fn count_open(sealed: &Sealed, stripe: u64) -> u64
+    requires { stripe < stripe_count sealed.now.code sealed.now.width sealed.now.len }
+    ensures { result ≡ open_at sealed.now stripe }
+{
+    u64::from(sealed.lost(stripe).excess_in(sealed.code) > 2)
 }
 
 /// Takes a fragment out of a sealed value. If the value has other owners, it does so in a copy that

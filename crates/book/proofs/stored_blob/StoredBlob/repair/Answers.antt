@@ -1,7 +1,7 @@
 use Rattle.std.proofs.Common.{◌∙◌, ap, sym, subst}
 use Rattle.std.proofs.lemmas.Bool.{false≢true}
 use Rattle.sealed.specs.declared.value.Sealed.{Sealed}
-use Rattle.sealed.specs.Rebuilding.{IsFragmentOf, IsRebuildable}
+use Rattle.sealed.specs.Rebuilding.{IsRebuildable}
 use Rattle.book.proofs.Known.{replies_open}
 use Rattle.book.proofs.stored_blob.StoredBlob.repair.Goals as goal
 
@@ -13,7 +13,3 @@ returns-then-not-is_rebuildable-clause-answer c =
     (sym c.is_no_fragment.ensures ∙ c.if-is_no_fragment.false) (sym c.is_lost.ensures.value ∙ c.if-not-is_lost.false)
     (λ can. false≢true (sym c.if-not-is_rebuildable.true ∙ c.is_rebuildable.ensures.1 (subst (λ (s : Sealed). IsRebuildable s j f) (sym (c.deref.ensures ∙ c.self.view_is)) can)))
     (ap (λ (s : Sealed). s.version) (c.deref-then-not-is_rebuildable.ensures ∙ c.self.view_is))
-
-pub mend-requires-clause-own : goal.mend-requires-clause-own
-mend-requires-clause-own c =
-    subst (λ (s : Sealed). IsFragmentOf s c.args.stripe c.args.fragment c.in_ok-bytes.bytes) (c.deref-2.ensures ∙ c.self.view_is) c.in_ok-bytes.ensures.ok
