@@ -6,9 +6,10 @@ ghost use Rattle.history.specs.History.{History, state_of};
 ghost use Rattle.book.specs.Tells.{HoldsHistory};
 ghost use Rattle.book.specs.Contents.{journal_of};
 ghost use Rattle.book.specs.Trimming.{given_up};
+ghost use Rattle.book.specs.Numbers.{AreNumbersOf};
 ghost use Rattle.book.specs.Plan.{plan_of, items_after};
 
-use book::{Book, Fault, Item, Plan};
+use book::{Book, Fault, Item, Numbers, Plan};
 use gate::Follows;
 use std::alloc::{AllocError, Global};
 
@@ -56,6 +57,15 @@ impl Kept {
             (items_after (option_map (λ i. i.now) after.entry) (plan_of (state_of h)))) }
     {
         self.0.plan_part(alloc, after, most)
+    }
+
+    /// The numbers of the store, as `Book::numbers` gives them.
+    pub fn numbers(&self) -> Numbers
+        ensures told { (h : History) → HoldsHistory self.now.0.value h
+            → AreNumbersOf self.now.0.value.width h result }
+        ensures entries { result.entries ≡ length (journal_of self.now.0.value) }
+    {
+        self.0.numbers()
     }
 
     /// Discards all entries of the journal except the last `keep`, as `Book::trim` does.

@@ -1,5 +1,7 @@
 //! Calls on the book in the gate.
 ghost use Rattle.std.specs.Prelude.{◌≡◌, ◌↔◌, length, IfOk, IfErr, OnErr};
+ghost use Rattle.history.specs.Parts.{name_of};
+ghost use Rattle.history.specs.History.{call_of};
 ghost use Rattle.book.specs.Tells.{CarriesOn, KeepsBase};
 ghost use Rattle.requests.specs.Requests.{operation_of, CanMake, IsAnswerTo, MayWant, IsFaultOf};
 
@@ -52,6 +54,20 @@ pub enum Request {
 }
 
 impl Request {
+    /// The name that the call is on.
+    pub fn name(&self) -> &Name
+        ensures { result.now ≡ name_of (call_of (operation_of self.now)) }
+    {
+        match self {
+            Request::Put { name, .. }
+            | Request::Read { name, .. }
+            | Request::Lose { name, .. }
+            | Request::Install { name, .. }
+            | Request::Delete { name }
+            | Request::Stat { name } => name,
+        }
+    }
+
     /// Makes the call on the book in the gate, under this label.
     ///
     /// `JournalFull` if the journal holds as many entries as its limit; else `NoMemory` if out of
