@@ -5,3 +5,4 @@ pub mod Grants
 pub mod Mends
 pub mod Looks
 pub mod Serving
+pub mod Snapshots

@@ -1,4 +1,4 @@
--- What a plan and a trim make of a pass.
+-- What a plan, a trim and the numbers make of a pass.
 use Rattle.std.proofs.Common.{◌≡◌, ℕ, ◌+◌, ◌-◌, ◌<◌, ◌≤◌, [], ◌++◌, length, max, List, None, Result, Ok, Err, IfOk, OnErr, refl, ap, sym, subst, ◌∙◌, arith}
 use Rattle.std.specs.Prelude.{MatchResult, is_ok}
 use Rattle.std.specs.declared.alloc.AllocError.{AllocError}
@@ -6,17 +6,19 @@ use Rattle.std.proofs.lemmas.List.{append-nil}
 use Rattle.gate.specs.Places.{SeatState}
 use Rattle.sealed.specs.declared.fault.Fault.{Fault}
 use Rattle.history.specs.History.{History}
+use Rattle.book.specs.declared.numbers.Numbers.{Numbers}
 use Rattle.book.specs.declared.plan.Plan.{Plan}
 use Rattle.book.specs.declared.plan.Item.{Item}
 use Rattle.book.specs.Contents.{Contents, journal_of}
+use Rattle.book.specs.Numbers.{AreNumbersOf}
 use Rattle.book.specs.Tells.{HoldsHistory}
 use Rattle.book.specs.Trimming.{given_up, journaled}
 use Rattle.requests.specs.declared.kept.Kept.{Kept}
 use Rattle.book.specs.Serial.{events_in, given_in}
-use Rattle.shared.specs.Passes.{Shows, Which, acts_of, seen_of, shows, limit_of}
+use Rattle.shared.specs.Passes.{Shows, Which, acts_of, seen_of, shows, limit_of, trimmed_of}
 use Rattle.shared.specs.Deeds.{trim_deed, Takes}
 use Rattle.book.proofs.Journals.{kept_count, part_few, part_whole}
-use Rattle.requests.proofs.Between.{GoesOn}
+use Rattle.requests.proofs.Between.{GoesOn, told_length}
 use Rattle.shared.proofs.Steps.{Stepped, told_history, calls_found, still_goes_on, takes}
 
 -- how many calls a trim gave up
@@ -73,3 +75,21 @@ planned items_of (Ok plan) r p q x Q step both same is =
     (is h (told_history p q x [] 0 step) ∙ ap items_of (sym (step.seen ∙ append-nil h)))
 planned items_of (Err e) (Ok plan) p q x Q step both same is = absurd (cc (both))
 planned items_of (Err e) (Err f) p q x Q step both same is = tt
+
+-- ---- the numbers of the book are those of what was seen
+module _ (p q : SeatState Kept) (x : Kept) (who : ℕ) (store : Which) (step : Stepped p q x [] 0) (here : (shows p who).store ≡ store) where
+  pub numbered : (n : Numbers) → ((h : History) → HoldsHistory x.0.value h → AreNumbersOf x.0.value.width h n) → AreNumbersOf store.width (seen_of q.list) n
+  numbered n are =
+      let h : History = seen_of p.list ++ events_in step.others in
+      let width : x.0.value.width ≡ store.width = step.told.width ∙ ap (λ (s : Which). s.width) (step.store ∙ here) in
+      subst (λ w. AreNumbersOf w (seen_of q.list) n) width
+      (subst (λ (g : History). AreNumbersOf x.0.value.width g n) (sym (step.seen ∙ append-nil h)) (are h (told_history p q x [] 0 step)))
+
+  pub entries_kept : (n : ℕ) → trimmed_of q.list ≡ x.0.value.base.trimmed → n ≡ length (journal_of x.0.value) → n ≡ journaled store.limit (length (seen_of q.list) - trimmed_of q.list)
+  entries_kept n left is =
+      let h : History = seen_of p.list ++ events_in step.others in
+      let same : length (seen_of q.list) ≡ length h = ap length (step.seen ∙ append-nil h) in
+      let told : x.0.value.base.trimmed + length x.0.value.entries ≡ length h = told_length x.0.value h (told_history p q x [] 0 step) in
+      let limit : x.0.value.limit ≡ store.limit = step.told.limit ∙ ap (λ (s : Which). s.limit) (step.store ∙ here) in
+      let count : length x.0.value.entries ≡ length (seen_of q.list) - trimmed_of q.list = omega arith in
+      is ∙ kept_count x.0.value ∙ (λ i. journaled (limit i) (count i))

@@ -8,7 +8,7 @@ use Rattle.lrc_code.specs.Code.{fragment_count}
 use Rattle.sealed.specs.declared.value.Sealed.{Sealed}
 use Rattle.sealed.specs.declared.fault.Fault.{Fault}
 use Rattle.sealed.specs.declared.fault.Fault.TheVariants.{NoMemory, JournalFull}
-use Rattle.sealed.specs.Layout.{stripe_count}
+use Rattle.sealed.specs.Layout.{HasFragment, stripe_count}
 use Rattle.sealed.specs.Blob.{fragment}
 use Rattle.sealed.specs.Rebuilding.{IsRebuildable, IsFragmentOf}
 use Rattle.history.specs.State.{Blob}
@@ -86,19 +86,19 @@ inspection_found p q x y who n j f (Rebuildable s) step left is = record {
   visits = step.visits;
 }
 
--- a rebuilt fragment is that of the put
-pub known_fragment : (h : History) (w : ℕ) (n : List ℕ) (s : Sealed) (j f : ℕ) (bytes : List ℕ) → IsKnown h w n s → IsRebuildable s j f → IsFragmentOf s j f bytes → IsFragmentIn h w n s.version j f bytes
-known_fragment h w n s j f bytes k m is = record {
+-- a fragment of the value is that of the put
+pub known_fragment : (h : History) (w : ℕ) (n : List ℕ) (s : Sealed) (j f : ℕ) (bytes : List ℕ) → IsKnown h w n s → HasFragment s.code s.width s.len j f → IsFragmentOf s j f bytes → IsFragmentIn h w n s.version j f bytes
+known_fragment h w n s j f bytes k has is = record {
   code = k.blob.code;
   bytes = k.blob.bytes;
   put = subst (λ (v : ℕ). HasPut h v n k.blob.code k.blob.bytes) (sym k.represents.version) k.put_is;
-  stripe = subst (λ (c : ℕ). j < c) (λ i. stripe_count (k.represents.code i) (k.represents.width i) (k.represents.stands.length_is i)) m.has.0;
-  number = subst (λ c. f < fragment_count c) k.represents.code m.has.1;
+  stripe = subst (λ (c : ℕ). j < c) (λ i. stripe_count (k.represents.code i) (k.represents.width i) (k.represents.stands.length_is i)) has.0;
+  number = subst (λ c. f < fragment_count c) k.represents.code has.1;
   is = is k.blob.bytes k.blob.lost k.represents.stands ∙ (λ i. fragment (k.represents.code i) (k.represents.width i) k.blob.bytes j f);
 }
 
 pub can_install : (v : Shows) (n : List ℕ) (s : Sealed) (j f : ℕ) (request : Request) → IsKnown v.seen v.store.width n s → IsRebuildable s j f → IsInstallFrom s n j f request → CanAsk v request
-can_install v n s j f request known can from = subst (CanAsk v) (sym from.is) (known_fragment v.seen v.store.width n s j f from.bytes known can from.rebuilt)
+can_install v n s j f request known can from = subst (CanAsk v) (sym from.is) (known_fragment v.seen v.store.width n s j f from.bytes known can.has from.rebuilt)
 
 -- an inspection, and then a deed
 pub takes_later : (u v w : Shows) (deed : Option Deed) → Takes u None v → Takes v deed w → Takes u deed w

@@ -1,16 +1,10 @@
 -- What a pass may ask, and what is refused it.
-use Rattle.std.proofs.Common.{◌≡◌, ◌⊎◌, ℕ, ◌+◌, ◌<◌, ◌≤◌, List, [], ◌∷◌, ◌++◌, length, None, Result, Ok, Err, IfOk, IfErr, ◌↔◌, inl, inr, refl, ap, sym, subst, ◌∙◌, ⊎_elim, arith, append_assoc, length-append}
+use Rattle.std.proofs.Common.{◌≡◌, ◌⊎◌, ℕ, ◌+◌, ◌<◌, ◌≤◌, List, [], ◌∷◌, ◌++◌, length, None, Err, refl, ap, sym, subst, ◌∙◌, ⊎_elim, arith, append_assoc, length-append}
 use mathlib.Core.List.{IsPrefix}
 use Rattle.gate.specs.Places.{SeatState}
 use Rattle.sealed.specs.declared.fault.Fault.{Fault}
 use Rattle.sealed.specs.declared.fault.Fault.TheVariants.{NoMemory, TooLong, Busy}
-use Rattle.sealed.specs.Blob.{nothing}
 use Rattle.sealed.specs.Layout.{stripe_count}
-use Rattle.sealed.specs.Sealed.{StandsFor}
-use Rattle.sealed.specs.declared.value.Sealed.{Sealed}
-use Rattle.book.specs.declared.answer.Answer.{Answer}
-use Rattle.requests.specs.Bytes.{bytes_of}
-use Rattle.requests.proofs.Bytes.{bytes_are}
 use Rattle.history.specs.Step.{Operation, put}
 use Rattle.history.specs.History.{History}
 use Rattle.book.specs.Known.{IsFragmentIn}
@@ -22,7 +16,7 @@ use Rattle.shared.specs.Deeds.{Takes}
 use Rattle.shared.specs.Calls.{Called}
 use Rattle.shared.specs.Passes.{Shows, IsPass, IsConsistent, FindsBusy, VisitsOnce, seen_of, width_of, shows}
 use Rattle.requests.specs.Requests.{CanMake}
-use Rattle.shared.specs.Requests.{CanAsk, IsSealing}
+use Rattle.shared.specs.Requests.{CanAsk}
 use Rattle.shared.proofs.Passes.{agreed, pass_again}
 use Rattle.shared.proofs.Steps.{Enters, Found, found, found_before, takes_nothing, refused}
 
@@ -111,20 +105,3 @@ was_busy p q who v o pass found is = record {
   no_memory = λ e. absurd (cc e);
   outside = λ e. absurd (cc e);
 }
-
--- a put of the value that sealing gave is one of the bytes that were sealed
-pub sealed_put : (v : Shows) (n : List ℕ) (s : Sealed) (w : ℕ) (code : Code) (b : List ℕ) (r : Result Answer Fault) (later : Shows) → IsSealing w code b (Ok s) → Called v (put n s.code (bytes_of s)) r later → Called v (put n code b) r later
-sealed_put v n s w code b r later is called =
-    subst (λ (o : Operation). Called v o r later) (λ i. put n (is.1 i) (bytes_are s b is.2 i)) called
-
--- a put whose sealing gave a fault
-pub unsealed_put : (v : Shows) (n : List ℕ) (code : Code) (b : List ℕ) (w : ℕ) (f : Fault) → IsConsistent v → w ≡ v.store.width → IsSealing w code b (Err f) → Called v (put n code b) (Err f) v
-unsealed_put v n code b w f agrees width is =
-    refused_put v n code b w f agrees width (⊎_elim (λ (m : f ≡ NoMemory). inl m) (λ (t : (f ≡ TooLong) × (4096 < stripe_count code w (length b))). inr t.0) is)
-    (λ long. ⊎_elim (λ (m : f ≡ NoMemory). absurd (cc (m, long))) (λ (t : (f ≡ TooLong) × (4096 < stripe_count code w (length b))). t.1) is)
-
--- what the clauses of sealing say
-pub sealing : (w : ℕ) (code : Code) (b : List ℕ) (r : Result Sealed Fault) → IfOk r (λ s. StandsFor s b nothing) → IfOk r (λ s. (s.width ≡ w) × (s.code ≡ code)) → (r ≡ Err TooLong) ↔ (4096 < stripe_count code w (length b))
-    → IfErr r (λ e. (e ≡ NoMemory) ⊎ (e ≡ TooLong)) → IsSealing w code b r
-sealing w code b (Ok s) stands shape too_long faults = (shape.0, shape.1, stands)
-sealing w code b (Err e) stands shape too_long faults = ⊎_elim (λ (m : e ≡ NoMemory). inl m) (λ (t : e ≡ TooLong). inr (t, too_long.0 (ap Err t))) faults

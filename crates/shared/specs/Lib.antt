@@ -6,3 +6,4 @@ pub mod Mends
 pub mod Runs
 pub mod Paced
 pub mod Serving
+pub mod Snapshots

@@ -3,21 +3,18 @@
 
 // Contracts repeat, here and in `mending`, since a caller sees only that of the call that it makes.
 
-ghost use Rattle.std.specs.Prelude.{◌≡◌, ◌⊎◌, ◌↔◌, ◌<◌, ℕ, List, Err, length, IfOk, IfErr};
-ghost use Rattle.lrc_code.specs.declared.Code.{Code};
+ghost use Rattle.std.specs.Prelude.{◌≡◌, ◌⊎◌, ◌↔◌, ◌<◌, Err, length, IfOk, IfErr};
 ghost use Rattle.sealed.specs.Layout.{stripe_count};
 ghost use Rattle.history.specs.Step.{put as put_of, read as read_of, lose as lose_of};
 ghost use Rattle.history.specs.Step.{delete as delete_of, stat as stat_of};
 ghost use Rattle.book.specs.Tells.{IsCallFault};
 ghost use Rattle.shared.specs.Calls.{Called, CanGrant, GrantedIn, IfGranted};
-ghost use Rattle.shared.specs.Requests.{IsSealing};
 
 use crate::{Pass, Store};
 use book::{Answer, Fault, Name};
 use bytes::Bytes;
 use lrc_code::Code;
 use requests::Request;
-use sealed::Sealed;
 use std::alloc::Global;
 use std::sync::Wait;
 
@@ -61,8 +58,10 @@ impl Store {
             ↔ (4096 < stripe_count code self.now.width (length bytes)) }
         ensures faults { IfErr result (λ e. IsCallFault e ⊎ (e ≡ Fault.TooLong)) }
     {
-        let sealed = self.seal(alloc, bytes, code);
-        self.put_if_sealed(rt, alloc, pass, name, sealed)
+        match self.prepare_put(alloc, name, bytes, code) {
+            Ok(request) => self.make(rt, pass, request),
+            Err(fault) => pass.refuse(fault),
+        }
     }
 
     /// As `put_as`, of a copy of the bytes, which is made as the blob is sealed.
@@ -81,36 +80,8 @@ impl Store {
             ↔ (4096 < stripe_count code self.now.width (length bytes.now)) }
         ensures faults { IfErr result (λ e. IsCallFault e ⊎ (e ≡ Fault.TooLong)) }
     {
-        let sealed = self.seal_copy(alloc, bytes, code);
-        self.put_if_sealed(rt, alloc, pass, name, sealed)
-    }
-
-    /// Puts what sealing gave. If it gave a fault, the call is refused before the critical section.
-    fn put_if_sealed<R: Wait>(
-        &self,
-        rt: &R,
-        alloc: Global,
-        pass: &mut Pass,
-        name: Name,
-        sealed: Result<Sealed, Fault>,
-    ) -> Result<Answer, Fault>
-        requires store { pass.old.store ≡ self.now }
-        requires sealed { (code : Code) × (b : List ℕ) × IsSealing self.now.width code b sealed }
-        ensures called { (code : Code) (b : List ℕ) → IsSealing self.now.width code b sealed
-            → Called pass.old (put_of name code b) result pass.new }
-        ensures too_long { (result ≡ Err Fault.TooLong) ↔ (sealed ≡ Err Fault.TooLong) }
-        ensures faults { IfErr result (λ e. IsCallFault e ⊎ (e ≡ Fault.TooLong)) }
-    {
-        match sealed {
-            Ok(sealed) => self.make(
-                rt,
-                pass,
-                Request::Put {
-                    alloc,
-                    name,
-                    sealed,
-                },
-            ),
+        match self.prepare_copy(alloc, name, bytes, code) {
+            Ok(request) => self.make(rt, pass, request),
             Err(fault) => pass.refuse(fault),
         }
     }

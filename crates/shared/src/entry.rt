@@ -11,13 +11,13 @@ use requests::Request;
 use std::sync::Wait;
 
 impl Store {
-    /// Enters the critical section, makes a call and leaves.
-    pub(crate) fn make<R: Wait>(
-        &self,
-        rt: &R,
-        pass: &mut Pass,
-        request: Request,
-    ) -> Result<Answer, Fault>
+    /// Makes a prepared call, once no other thread is in the critical section. The answer is that
+    /// of the call with its name: `put_as` after `prepare_put`, `read` for `Request::Read`, and so
+    /// on. `repair` makes an install.
+    ///
+    /// `JournalFull` if the journal holds as many entries as its limit; else `NoMemory` if out of
+    /// memory. `TooLong` and `Busy` never come. The request is used up, also by a fault.
+    pub fn make<R: Wait>(&self, rt: &R, pass: &mut Pass, request: Request) -> Result<Answer, Fault>
         requires store { pass.old.store ≡ self.now }
         requires can { CanAsk pass.old request }
         ensures called { Called pass.old (operation_of request) result pass.new }
@@ -33,8 +33,10 @@ impl Store {
         result
     }
 
-    /// As `make`, if no other thread is in the critical section. Else `Busy`.
-    pub(crate) fn try_make(&self, pass: &mut Pass, request: Request) -> Result<Answer, Fault>
+    /// As `make`, if no other thread is in the critical section. Else `Busy`, which never comes
+    /// with a room of 64: another thread has been in the critical section since the pass was, or is
+    /// there now. The request is lost; `try_prepared` gives it back.
+    pub fn try_make(&self, pass: &mut Pass, request: Request) -> Result<Answer, Fault>
         requires store { pass.old.store ≡ self.now }
         requires can { CanAsk pass.old request }
         ensures called { Called pass.old (operation_of request) result pass.new }

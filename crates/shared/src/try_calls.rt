@@ -6,23 +6,20 @@
 
 // Contracts repeat, since a caller sees only that of the call that it makes.
 
-ghost use Rattle.std.specs.Prelude.{◌≡◌, ◌≢◌, ◌⊎◌, ◌↔◌, ◌+◌, ◌<◌, ℕ, List, Err, length, IfOk};
+ghost use Rattle.std.specs.Prelude.{◌≡◌, ◌≢◌, ◌⊎◌, ◌↔◌, ◌+◌, ◌<◌, Err, length, IfOk};
 ghost use Rattle.std.specs.Prelude.{IfErr};
-ghost use Rattle.lrc_code.specs.declared.Code.{Code};
 ghost use Rattle.sealed.specs.Layout.{stripe_count};
 ghost use Rattle.history.specs.Step.{put as put_of, read as read_of, lose as lose_of};
 ghost use Rattle.history.specs.Step.{delete as delete_of, stat as stat_of};
 ghost use Rattle.book.specs.Tells.{IsCallFault};
 ghost use Rattle.shared.specs.Calls.{Called, CanGrant, GrantedIn, IfGranted, IsRefusedOutside};
 ghost use Rattle.shared.specs.Passes.{FindsBusy, VisitsOnce};
-ghost use Rattle.shared.specs.Requests.{IsSealing};
 
 use crate::{Pass, Store};
 use book::{Answer, Fault, Name};
 use bytes::Bytes;
 use lrc_code::Code;
 use requests::Request;
-use sealed::Sealed;
 use std::alloc::Global;
 
 impl Store {
@@ -68,8 +65,10 @@ impl Store {
             → VisitsOnce pass.old pass.new ⊎ IsRefusedOutside pass.old result pass.new }
         ensures lone { pass.old.room ≡ 64 → result ≢ Err Fault.Busy }
     {
-        let sealed = self.seal(alloc, bytes, code);
-        self.try_put_if_sealed(alloc, pass, name, sealed)
+        match self.prepare_put(alloc, name, bytes, code) {
+            Ok(request) => self.try_make(pass, request),
+            Err(fault) => pass.refuse(fault),
+        }
     }
 
     /// As `put_copy`, if no thread is in the critical section. The blob is sealed first.
@@ -92,39 +91,8 @@ impl Store {
             → VisitsOnce pass.old pass.new ⊎ IsRefusedOutside pass.old result pass.new }
         ensures lone { pass.old.room ≡ 64 → result ≢ Err Fault.Busy }
     {
-        let sealed = self.seal_copy(alloc, bytes, code);
-        self.try_put_if_sealed(alloc, pass, name, sealed)
-    }
-
-    /// As `put_if_sealed`, if no thread is in the critical section.
-    fn try_put_if_sealed(
-        &self,
-        alloc: Global,
-        pass: &mut Pass,
-        name: Name,
-        sealed: Result<Sealed, Fault>,
-    ) -> Result<Answer, Fault>
-        requires store { pass.old.store ≡ self.now }
-        requires sealed { (code : Code) × (b : List ℕ) × IsSealing self.now.width code b sealed }
-        ensures called { (code : Code) (b : List ℕ) → IsSealing self.now.width code b sealed
-            → Called pass.old (put_of name code b) result pass.new }
-        ensures too_long { (result ≡ Err Fault.TooLong) ↔ (sealed ≡ Err Fault.TooLong) }
-        ensures faults { IfErr result
-            (λ e. (e ≡ Fault.Busy) ⊎ IsCallFault e ⊎ (e ≡ Fault.TooLong)) }
-        ensures busy { result ≡ Err Fault.Busy → FindsBusy pass.old pass.new }
-        ensures entered { result ≢ Err Fault.Busy
-            → VisitsOnce pass.old pass.new ⊎ IsRefusedOutside pass.old result pass.new }
-        ensures lone { pass.old.room ≡ 64 → result ≢ Err Fault.Busy }
-    {
-        match sealed {
-            Ok(sealed) => self.try_make(
-                pass,
-                Request::Put {
-                    alloc,
-                    name,
-                    sealed,
-                },
-            ),
+        match self.prepare_copy(alloc, name, bytes, code) {
+            Ok(request) => self.try_make(pass, request),
             Err(fault) => pass.refuse(fault),
         }
     }

@@ -3,8 +3,10 @@ ghost use Rattle.std.specs.Prelude.{◌≡◌};
 
 mod entered;
 mod grants;
+mod numbers;
 mod passes;
 mod runs;
+mod snapshots;
 mod threads;
 
 use book::{Answer, Fault, Limit, Name, Note};

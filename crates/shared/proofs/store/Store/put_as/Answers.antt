@@ -1,12 +1,18 @@
-use Rattle.shared.proofs.Requests.{sealing}
+use Rattle.std.proofs.Common.{Err, ap, sym, subst, ◌∙◌}
+use Rattle.history.specs.Step.{Operation, put}
+use Rattle.shared.specs.Passes.{Which}
+use Rattle.shared.specs.Calls.{Called}
+use Rattle.shared.proofs.Requests.{refused_put}
 use Rattle.shared.proofs.store.Store.put_as.Goals as goal
 
-pub put_if_sealed-requires-clause-sealed : goal.put_if_sealed-requires-clause-sealed
-put_if_sealed-requires-clause-sealed g c =
-    let s = c.seal-sealed.ensures in
-    (c.args.code, c.args.bytes, sealing c.args.self.now.width c.args.code c.args.bytes c.seal-sealed.result s.bytes s.shape s.too_long s.faults)
+pub make-requires-clause-can : goal.make-requires-clause-can
+make-requires-clause-can g c = c.in-Ok.ensures.can c.args.pass.now c.requires
 
-pub returns-clause-called : goal.returns-clause-called
-returns-clause-called g c =
-    let s = c.seal-sealed.ensures in
-    c.put_if_sealed.ensures.called c.args.code c.args.bytes (sealing c.args.self.now.width c.args.code c.args.bytes c.seal-sealed.result s.bytes s.shape s.too_long s.faults)
+pub returns-in-Ok-clause-called : goal.returns-in-Ok-clause-called
+returns-in-Ok-clause-called g c = subst (λ (o : Operation). Called c.args.pass.now o c.make.result c.make.new.pass) c.in-Ok.ensures.put c.make.ensures.called
+
+pub returns-in-Err-clause-called : goal.returns-in-Err-clause-called
+returns-in-Err-clause-called g c =
+    subst (λ r. Called c.args.pass.now (put c.args.name c.args.code c.args.bytes) r c.args.pass.now) (sym c.refuse.ensures.refused)
+    (refused_put c.args.pass.now c.args.name c.args.code c.args.bytes c.args.self.now.width c.in-Err.fault c.refuse.ensures.agrees (ap (λ (s : Which). s.width) (sym c.requires))
+    c.in-Err.ensures.faults (λ long. c.prepare_put.ensures.too_long.0 (c.in-Err.is ∙ ap Err long)))

@@ -2,7 +2,7 @@ use Rattle.std.proofs.Common.{ap, subst}
 use Rattle.sealed.specs.declared.value.Sealed.{Sealed}
 use Rattle.sealed.specs.Rebuilding.{IsFragmentOf}
 use Rattle.requests.specs.declared.request.Request.TheVariants.{Install}
-use Rattle.shared.proofs.mending.rebuild.Goals as goal
+use Rattle.shared.proofs.mending.prepare_install.Goals as goal
 
 pub returns-clause-ok : goal.returns-clause-ok
 returns-clause-ok c =
