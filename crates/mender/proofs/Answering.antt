@@ -1,7 +1,8 @@
 -- What a repair answers.
-use Rattle.std.proofs.Common.{◌≡◌, ℕ, ◌++◌, List, Bool, true, false, Option, None, Some, Ok, MatchBool, refl, ap, ◌∙◌, ⊎_elim}
+use Rattle.std.proofs.Common.{◌≡◌, ℕ, ◌++◌, List, Bool, true, false, Option, None, Some, Result, Ok, Err, IfOk, MatchBool, refl, ap, ◌∙◌, ⊎_elim}
 use Rattle.std.specs.FinMap as finite
 use Rattle.sealed.specs.Blob.{lost_in}
+use Rattle.sealed.specs.declared.fault.Fault.{Fault}
 use Rattle.history.specs.declared.note.Note.{Note}
 use Rattle.history.specs.declared.note.Note.TheVariants as note
 use Rattle.history.specs.State.{Blob}
@@ -59,3 +60,7 @@ reply_noted w (Some blob) j f n reply =
 -- a repair answers by one of its five answers
 pub answer_of_repair : (v w : Shows) (n : List ℕ) (j f : ℕ) (a : Answer) → Called v (repair n j f) (Ok a) w → IsOfRepair a
 answer_of_repair v w n j f a c = noted a ∙ reply_noted v.store.width (finite.get (standing_of (v.acts ++ c.takes.others)).state.names n) j f (note_of a) c.takes.does.1
+
+pub repair_answers : (v w : Shows) (n : List ℕ) (j f : ℕ) (r : Result Answer Fault) → Called v (repair n j f) r w → IfOk r IsOfRepair
+repair_answers v w n j f (Ok a) c = answer_of_repair v w n j f a c
+repair_answers v w n j f (Err e) c = tt

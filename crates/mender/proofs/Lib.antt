@@ -3,4 +3,5 @@ pub mod Moves
 pub mod Judged
 pub mod Answering
 pub mod Working
+pub mod Made
 pub mod Mended

@@ -95,7 +95,7 @@ asked_many : (done : List Done) → length (replies_of done) ≡ length (asks_of
 asked_many done = length-map done (λ d. Made d.answer) ∙ sym (length-map done (λ d. ask_of d.item))
 
 -- one repair, answered
-mended_one : (u w : Shows) (d : Done) → Called u (repair_of d.item) (Ok d.answer) w → AreMended u (d ∷ []) w
+pub mended_one : (u w : Shows) (d : Done) → Called u (repair_of d.item) (Ok d.answer) w → AreMended u (d ∷ []) w
 mended_one u w d made = serves_one u w (ask_of d.item) (Made d.answer) (called (repair_of d.item) (note_of d.answer)) refl made.takes (λ n start len g asked is. absurd (cc asked))
 
 -- a repair more was made

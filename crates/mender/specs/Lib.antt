@@ -3,5 +3,6 @@ pub mod Drawn
 pub mod Rule
 pub mod Gathered
 pub mod Worked
+pub mod Made
 pub mod Mended
 pub mod Line

@@ -5,6 +5,7 @@
 
 mod done;
 mod item;
+mod mends;
 mod report;
 mod results;
 mod tickets;
@@ -12,7 +13,8 @@ mod view;
 mod workers;
 
 pub use done::{Done, WorkFault};
+pub use mends::Mends;
 pub use report::{Gather, Report};
 pub use results::gather;
 pub use tickets::{Drawer, Tickets};
-pub use workers::{scrub, work};
+pub use workers::{repair_drawn, scrub, work};

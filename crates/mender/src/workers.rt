@@ -9,9 +9,9 @@ ghost use Rattle.shared.specs.Calls.{HasJournalRoom};
 ghost use Rattle.mender.specs.Drawn.{IsIntact};
 ghost use Rattle.mender.specs.Worked.{Finished, Stopped, StoppedFull, IfFull, AreInOrder};
 ghost use Rattle.mender.specs.Worked.{AreMended};
+ghost use Rattle.mender.specs.Made.{AreMade, IsHalted};
 
-use crate::item::duplicate;
-use crate::{Done, Drawer, Tickets, WorkFault};
+use crate::{Done, Drawer, Mends, Tickets, WorkFault};
 use book::{Fault, Plan};
 use shared::{Pass, Store};
 use std::alloc::Global;
@@ -77,6 +77,33 @@ pub fn work<R: Wait>(
     ensures stopped_full { IfErr result (λ stop. IfFull stop.fault (StoppedFull plan.now.items.items
         drawer.old drawer.new pass.old stop.done.items pass.new)) }
 {
+    repair_drawn(rt, alloc, store, pass, plan, tickets, drawer)
+}
+
+/// Draws tickets and repairs the item of each in any store, as `work` does in a `Store`.
+pub fn repair_drawn<R: Wait, S: Mends>(
+    rt: &R,
+    alloc: Global,
+    store: &S,
+    pass: &mut S::Pass,
+    plan: &Plan,
+    tickets: &Tickets,
+    drawer: &mut Drawer,
+) -> Result<Vec<Done>, WorkFault>
+    requires store { S.belongs store.now pass.old }
+    requires tickets { drawer.old.tickets ≡ tickets.now }
+    ensures ok { IfOk result
+        (λ done. Finished plan.now.items.items drawer.old drawer.new done.items) }
+    ensures made { IfOk result (λ done. AreMade S.repaired pass.old done.items pass.new) }
+    ensures err { IfErr result (λ stop. IsHalted S.repaired plan.now.items.items
+        drawer.old drawer.new pass.old stop pass.new) }
+    ensures in_order { IfOk result
+        (λ done. IsIntact drawer.old → AreInOrder plan.now.items.items done.items) }
+    ensures in_order_by_then { IfErr result
+        (λ stop. IsIntact drawer.old → AreInOrder plan.now.items.items stop.done.items) }
+    ensures faults { IfErr result (λ stop. IsCallFault stop.fault) }
+    ensures belongs { S.belongs store.now pass.new }
+{
     let mut done = Vec::new(alloc);
     while let Some(ticket) = tickets.draw(drawer) {
         let Some(item) = plan.items.get(ticket as usize) else {
@@ -88,11 +115,10 @@ pub fn work<R: Wait>(
                 done,
             });
         }
-        let (name, fragment) = (item.name.duplicate(), u64::from(item.f));
-        match store.repair(rt, alloc, pass, name, item.stripe, fragment) {
+        match store.repair_item(rt, alloc, pass, item) {
             Ok(answer) => done.push_reserved(Done {
                 ticket,
-                item: duplicate(item),
+                item: item.duplicate(),
                 answer,
             }),
             Err(fault) => return Err(WorkFault { fault, done }),

@@ -1,51 +1,14 @@
-use Rattle.std.proofs.Common.{rules, ◌≤◌, length, inr, ◌∙◌, refl}
-use Rattle.mender.proofs.Answering.{answer_of_repair}
-use Rattle.mender.proofs.Working.{drew, in_hand, stopped, mended_more, mended_no_more, did_more, order_more, stopped_full}
+use Rattle.mender.proofs.Made.{on_ok, on_err, made_mended, halt_stopped, halt_mended, halt_full}
 use Rattle.mender.proofs.workers.work.Goals as goal
 
-pub returns-then-is_err-clause-err : goal.returns-then-is_err-clause-err
-returns-then-is_err-clause-err g c =
-    let drew = c.in-Some.ensures in
-    let found = c.in-Some-get.ensures.lookup.3 in
-    let h = in_hand _ _ _ _ c.draw.new.drawer _ c.in-Some.ticket c.in-Some-get.item.now c.loop-ticket.invariant.worked drew.some.0 drew.some.1 drew.fresh drew.rises c.deref.ensures.value found.0 (found.1 _) in
-    stopped _ _ _ _ _ _ _ h c.reserve.ensures.items
+pub returns-clause-mended : goal.returns-clause-mended
+returns-clause-mended g c = on_ok c.repair_drawn.result _ _ (λ done made. made_mended c.args.pass.now c.repair_drawn.new.pass done.items made) c.repair_drawn.ensures.made
 
-pub invariant_of-push_reserved : goal.invariant_of-push_reserved
-invariant_of-push_reserved g c = record { of_repair = answer_of_repair _ _ _ _ _ _ c.in-Ok.ensures.called }
+pub returns-clause-err : goal.returns-clause-err
+returns-clause-err g c = on_err c.repair_drawn.result _ _ (λ stop halt. halt_stopped halt) c.repair_drawn.ensures.err
 
-pub loop-ticket-preserved : goal.loop-ticket-preserved
-loop-ticket-preserved g c =
-    let inv = c.loop-ticket.invariant in
-    let drew = c.in-Some.ensures in
-    let found = c.in-Some-get.ensures.lookup.3 in
-    let h = in_hand _ _ _ _ c.draw.new.drawer _ c.in-Some.ticket c.in-Some-get.item.now inv.worked drew.some.0 drew.some.1 drew.fresh drew.rises c.deref.ensures.value found.0 (found.1 _) in record {
-      store = c.in-Ok.ensures.called.takes.stays.0 ∙ inv.store;
-      tickets = cc;
-      mended = mended_more _ _ _ _ _ _ _ _ inv.mended c.in-Ok.ensures.called (cc) c.reserve.ensures.items c.push_reserved.ensures.items;
-      worked = did_more _ _ _ _ _ _ _ _ _ h refl c.duplicate.ensures c.reserve.ensures.items c.push_reserved.ensures.items;
-      in_order = λ intact. order_more _ _ _ _ _ _ _ _ _ inv.worked intact drew.next h.there c.duplicate.ensures c.reserve.ensures.items c.push_reserved.ensures.items (inv.in_order intact);
-    }
+pub returns-clause-mended_by_then : goal.returns-clause-mended_by_then
+returns-clause-mended_by_then g c = on_err c.repair_drawn.result _ _ (λ stop halt. halt_mended halt) c.repair_drawn.ensures.err
 
-pub returns-in-Err-clause-err : goal.returns-in-Err-clause-err
-returns-in-Err-clause-err g c =
-    let drew = c.in-Some.ensures in
-    let found = c.in-Some-get.ensures.lookup.3 in
-    let h = in_hand _ _ _ _ c.draw.new.drawer _ c.in-Some.ticket c.in-Some-get.item.now c.loop-ticket.invariant.worked drew.some.0 drew.some.1 drew.fresh drew.rises c.deref.ensures.value found.0 (found.1 _) in
-    stopped _ _ _ _ _ _ _ h c.reserve.ensures.items
-
-pub returns-in-Err-clause-mended_by_then : goal.returns-in-Err-clause-mended_by_then
-returns-in-Err-clause-mended_by_then g c = mended_no_more _ _ _ _ _ _ _ c.loop-ticket.invariant.mended c.in-Err.ensures.called c.reserve.ensures.items
-
-pub returns-in-Err-clause-stopped_full : goal.returns-in-Err-clause-stopped_full
-returns-in-Err-clause-stopped_full g c =
-    let inv = c.loop-ticket.invariant in
-    let drew = c.in-Some.ensures in
-    let found = c.in-Some-get.ensures.lookup.3 in
-    let h = in_hand _ _ _ _ c.draw.new.drawer _ c.in-Some.ticket c.in-Some-get.item.now inv.worked drew.some.0 drew.some.1 drew.fresh drew.rises c.deref.ensures.value found.0 (found.1 _) in
-    λ full. stopped_full _ _ _ _ _ _ _ _ _ _ _ _ inv.mended c.in-Err.ensures.called (cc) h c.reserve.ensures.items full
-
-pub returns-in_default-get-clause-ok : goal.returns-in_default-get-clause-ok
-returns-in_default-get-clause-ok g c =
-    let draw = c.in-Some.ensures in
-    let past : length c.args.plan.now.items.items ≤ c.in-Some.ticket = search rules in
-    inr (c.in-Some.ticket, past, drew _ _ _ c.draw.new.drawer _ c.in-Some.ticket c.loop-ticket.invariant.worked draw.some.0 draw.some.1 draw.rises)
+pub returns-clause-stopped_full : goal.returns-clause-stopped_full
+returns-clause-stopped_full g c = on_err c.repair_drawn.result _ _ (λ stop halt. halt_full halt) c.repair_drawn.ensures.err
