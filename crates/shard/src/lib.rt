@@ -5,7 +5,6 @@
 mod entry;
 mod mending;
 mod plan;
-mod puts;
 mod seat;
 mod shard;
 mod trim;

@@ -1,6 +1,5 @@
 //! Repairs. Fragments are rebuilt outside the critical section, while other threads may enter it.
-ghost use Rattle.std.specs.Prelude.{◌≡◌, ◌≢◌, ◌⊎◌, ◌+◌, IfOk, IfErr};
-ghost use Rattle.sealed.specs.Rebuilding.{IsRebuildable};
+ghost use Rattle.std.specs.Prelude.{◌≡◌, ◌≢◌, ◌⊎◌, ◌+◌, IfErr};
 ghost use Rattle.history.specs.Step.{repair as repair_of};
 ghost use Rattle.book.specs.Tells.{IsCallFault};
 ghost use Rattle.one_map.specs.OneMap.{operation_shard};
@@ -8,7 +7,7 @@ ghost use Rattle.shared.specs.Calls.{Called};
 ghost use Rattle.shared.specs.Deeds.{deed_of, act_if};
 ghost use Rattle.shared.specs.Passes.{FindsBusy, VisitsOnce};
 ghost use Rattle.requests.specs.Inspections.{IfRefused};
-ghost use Rattle.shared.specs.Mends.{InspectionGives, FoundBusy, IsInstallFrom};
+ghost use Rattle.shared.specs.Mends.{InspectionGives, FoundBusy};
 ghost use Rattle.shard.specs.Seats.{IsSeatOf};
 ghost use Rattle.shard.specs.Listed.{IsListed, IsKeptUp, listing_of};
 ghost use Rattle.shard.specs.Looked.{inspected};
@@ -17,10 +16,10 @@ use crate::{Shard, ShardSeat};
 use book::{Answer, Fault, Name};
 use ledger::{Follower, Ledger};
 use ledger_map::{StoreAct, leave_book};
-use requests::{Inspection, Request, inspect};
-use sealed::Sealed;
+use requests::{Inspection, inspect};
+use shared::prepare_install;
 use std::alloc::Global;
-use std::sync::{Arc, Wait};
+use std::sync::Wait;
 
 impl Shard {
     /// Rebuilds a lost fragment of the blob of a name of this shard, as `Store::repair` does.
@@ -57,7 +56,7 @@ impl Shard {
             Inspection::Refused(fault) => return Err(fault),
             Inspection::Rebuildable(sealed) => sealed,
         };
-        let Ok(install) = rebuild(alloc, sealed, name, stripe, fragment) else {
+        let Ok(install) = prepare_install(alloc, sealed, name, stripe, fragment) else {
             return Err(Fault::NoMemory);
         };
         self.make(rt, ledger, seat, follower, install)
@@ -102,7 +101,7 @@ impl Shard {
             Inspection::Refused(fault) => return Err(fault),
             Inspection::Rebuildable(sealed) => sealed,
         };
-        let Ok(install) = rebuild(alloc, sealed, name, stripe, fragment) else {
+        let Ok(install) = prepare_install(alloc, sealed, name, stripe, fragment) else {
             return Err(Fault::NoMemory);
         };
         self.try_make(ledger, seat, follower, install)
@@ -183,30 +182,4 @@ impl Shard {
         leave_book(ledger, &self.gate, &mut seat.seat, follower, inside);
         inspection
     }
-}
-
-/// Rebuilds a lost fragment from a value, and gives the request to install it. It drops the value,
-/// so that the install changes the book's in place if no grant holds it.
-///
-/// `NoMemory` if out of memory.
-fn rebuild(
-    alloc: Global,
-    sealed: Arc<Sealed>,
-    name: Name,
-    stripe: u64,
-    fragment: u64,
-) -> Result<Request, Fault>
-    requires { IsRebuildable sealed.value stripe fragment }
-    ensures ok { IfOk result (IsInstallFrom sealed.value name stripe fragment) }
-    ensures err { IfErr result (λ e. e ≡ Fault.NoMemory) }
-{
-    let bytes = sealed.rebuild_fragment(alloc, stripe, fragment)?;
-    Ok(Request::Install {
-        alloc,
-        name,
-        version: sealed.version,
-        stripe,
-        fragment,
-        bytes,
-    })
 }

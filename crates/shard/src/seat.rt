@@ -9,7 +9,7 @@ ghost use Rattle.shared.specs.Deeds.{Takes};
 ghost use Rattle.shared.specs.Passes.{Shows, IsConsistent, IsWhole, seen_by, DoneAfter};
 
 use crate::Shard;
-use book::{Answer, Fault};
+use book::Fault;
 use gate::{Receipt, Seat};
 use ledger::Held;
 use ledger_map::{ShardBook, StoreAct};
@@ -134,6 +134,7 @@ impl ShardSeat {
         ensures did { self.new.shows.did ≡ self.old.shows.did ++ other.shows.did }
         ensures whole { self.new.shows.room ≡ 64 → IsWhole self.new.shows }
         ensures apart { AreApart self.old.shows.made other.shows.made }
+        ensures agrees { IsConsistent self.new.shows }
         ensures same { (self.new.ledger ≡ self.old.ledger) × (self.new.shard ≡ self.old.shard) }
     {
         let ShardSeat { seat, who: _ } = other;
@@ -168,19 +169,10 @@ impl ShardSeat {
         ensures later { (deed : Option Deed) (w : Shows) → Takes self.new.shows deed w
             → DoneAfter receipt.acts self.new.shows w }
         ensures lone { self.old.shows.room ≡ 64 → self.new.shows ≡ self.old.shows }
+        ensures agrees { IsConsistent self.new.shows }
         ensures same { (self.new.ledger ≡ self.old.ledger) × (self.new.shard ≡ self.old.shard) }
     {
         let SeatReceipt { receipt } = receipt;
         self.seat.accept(&shard.gate, receipt);
-    }
-
-    /// The answer to a call that was refused before it entered the critical section.
-    pub(crate) fn refuse(&self, fault: Fault) -> Result<Answer, Fault>
-        ensures refused { result ≡ Err fault }
-        ensures agrees { IsConsistent self.now.shows }
-    {
-        // Once a field is read, it is known what every seat keeps.
-        let _seat = &self.seat;
-        Err(fault)
     }
 }

@@ -9,9 +9,9 @@ use Rattle.one_map.specs.OneMap.{IsLegalOneMap}
 use Rattle.ledger.specs.declared.view.ShardAct.{ShardAct}
 use Rattle.ledger.specs.Acts.{LedgerState, FollowerState, ReceiptState, acts_at}
 use Rattle.ledger_map.specs.Legal.{calls_of}
-use Rattle.shared.specs.Passes.{Which, Shows, ReceiptShows, seen_by}
+use Rattle.shared.specs.Passes.{Which, Shows, ReceiptShows, IsConsistent, seen_by}
 use Rattle.shard.specs.Seats.{SeatShows, IsSeatOf}
-use Rattle.sharded.specs.Passes.{stores_of, receipt_stores, HaveWidth, AreTaken, AreJoined, AreAccepted, AreRestored, HaveActsOfShards, HaveRoom, HasRoomOfOne, kept_in_split, given_in_split, AreSplitInPart}
+use Rattle.sharded.specs.Passes.{stores_of, receipt_stores, HaveWidth, AreTaken, AreJoined, AreAccepted, AreRestored, HaveActsOfShards, AreConsistent, HaveRoom, HasRoomOfOne, kept_in_split, given_in_split, AreSplitInPart}
 use Rattle.sharded.specs.Listings.{AreBeginnings}
 use Rattle.sharded.specs.Seats.{shows_of, pass_shows, seat_stores, IsSeatAt, IsPassOf, IsReceiptOf, kept_seat, given_seat, AreSeatsInPart, IsSamePlace, IsSeatJoined, IsSeatAccepted, seen_seat}
 use Rattle.sharded.proofs.Passes.{mapped, mapped_at, mapped_next, taken_next, room_next, split_stores, joined_of_shards, accepted_of_shards, kept_of_shards, given_of_shards, restored, restored_of_shards}
@@ -117,7 +117,17 @@ joined_pass vs os ws f o g mine theirs are long ledger room same one first secon
           room = j.joined.room ∙ (λ i. was.room i + other.room i) ∙ sym room;
           begins = ⊎_elim (λ (e : w.shows.acts ≡ v.shows.acts). subst (λ (l : List Act). IsPrefix l (acts_at k g.list)) (sym e) (prefix_trans v.shows.acts (acts_at k f.list) (acts_at k g.list) was.begins (acts_longer k f.list g.list first)))
               (λ (e : w.shows.acts ≡ x.shows.acts). subst (λ (l : List Act). IsPrefix l (acts_at k g.list)) (sym e) (prefix_trans x.shows.acts (acts_at k o.list) (acts_at k g.list) other.begins (acts_longer k o.list g.list second))) j.one;
+          agrees = j.agrees;
         }
+
+-- ---- what every pass shows
+pub pass_some : (vs : List SeatShows) (f : FollowerState Act) → IsPassOf vs f → 0 < length (shows_of vs)
+pass_some vs f pass = subst (λ (n : ℕ). 0 < n) (sym (shows_length vs ∙ pass.count)) pass.some
+
+pub pass_consistent : (vs : List SeatShows) (f : FollowerState Act) → IsPassOf vs f → AreConsistent (shows_of vs)
+pass_consistent vs f pass k v e =
+    let found = map_there (λ (s : SeatShows). s.shows) vs k v e in
+    subst IsConsistent found.2 (pass.each k found.0 found.1).agrees
 
 -- ---- receipts
 pub seen_receipt : (vs : List SeatShows) (f : FollowerState Act) (r : ReceiptState Act) → IsPassOf vs f → r.ledger ≡ f.ledger → r.list ≡ f.list → IsReceiptOf (map seen_seat vs) r
@@ -150,6 +160,7 @@ accepted_pass vs rs ws f g r mine theirs are long kept same one first second = r
           room = ap (λ (s : Shows). s.room) j.accepted.kept ∙ was.room ∙ ap (λ (y : FollowerState Act). y.room) (sym kept);
           begins = ⊎_elim (λ (e : w.shows ≡ v.shows). subst (λ (s : Shows). IsPrefix s.acts (acts_at k g.list)) (sym e) (prefix_trans v.shows.acts (acts_at k f.list) (acts_at k g.list) was.begins (acts_longer k f.list g.list first)))
               (λ (e : seen_by w.shows ≡ x). subst (λ (s : ReceiptShows). IsPrefix s.acts (acts_at k g.list)) (sym e) (prefix_trans x.acts (acts_at k r.list) (acts_at k g.list) (theirs.begins k x there) (acts_longer k r.list g.list second))) j.accepted.one;
+          agrees = j.agrees;
         }
 
 -- ---- split
@@ -163,6 +174,7 @@ kept_pass vs f g pass is = record {
         shard = was.shard;
         room = ap (λ (n : ℕ). n - 1) was.room;
         begins = was.begins;
+        agrees = record { seen_is = was.agrees.seen_is; trimmed_is = was.agrees.trimmed_is; made_is = was.agrees.made_is; room = was.agrees.room };
       });
   one_map = subst (λ (x : FollowerState Act). IsLegalOneMap x.ledger.setup.count x.ledger.setup.about (calls_of x.list)) (sym is) pass.one_map;
   homed = subst HaveActsOfShards (sym (kept_shows vs)) (kept_of_shards (shows_of vs) pass.homed);
@@ -178,25 +190,27 @@ given_pass who vs f g pass is = record {
         shard = was.shard;
         room = refl;
         begins = was.begins;
+        agrees = record { seen_is = was.agrees.seen_is; trimmed_is = was.agrees.trimmed_is; made_is = refl; room = was.agrees.room };
       });
   one_map = subst (λ (x : FollowerState Act). IsLegalOneMap x.ledger.setup.count x.ledger.setup.about (calls_of x.list)) (sym is) pass.one_map;
   homed = subst HaveActsOfShards (sym (given_shows who vs)) (given_of_shards who (shows_of vs));
 }
 
 -- ---- a split that is taken back
--- a seat has its room again, and shows the acts that it showed
+-- a seat has its room again, and shows the acts that it showed. It is consistent if it was
 record IsSame (v w : SeatShows) : Type 0 where
   pub place : IsSamePlace v w
   pub store : w.shows.store ≡ v.shows.store
   pub room : w.shows.room ≡ v.shows.room
   pub acts : w.shows.acts ≡ v.shows.acts
+  pub agrees : IsConsistent v.shows → IsConsistent w.shows
 
 back_at : (who n : ℕ) (vs ws : List SeatShows) → HaveRoom (shows_of (take n vs)) → AreTaken IsSeatJoined (mapped kept_seat n vs) (map (given_seat who) (take n vs)) ws → (k : ℕ) (w : SeatShows) → slice_get ws k ≡ Some w → (v : SeatShows) × (slice_get vs k ≡ Some v) × IsSame v w
 back_at who zero [] ws some are k w e = let none = ap (λ l. slice_get l k) (sym are) ∙ e in absurd (cc)
 back_at who (suc n) [] ws some are k w e = let none = ap (λ l. slice_get l k) (sym are) ∙ e in absurd (cc)
 back_at who zero (v ∷ vs) [] some are k w e = absurd are
 back_at who (suc n) (v ∷ vs) [] some are k w e = absurd are
-back_at who zero (v ∷ vs) (x ∷ ws) some are zero w e = let same : x ≡ w = cc in (v, refl, subst (IsSame v) (sym are.0 ∙ same) (record { place = (refl, refl); store = refl; room = refl; acts = refl }))
+back_at who zero (v ∷ vs) (x ∷ ws) some are zero w e = let same : x ≡ w = cc in (v, refl, subst (IsSame v) (sym are.0 ∙ same) (record { place = (refl, refl); store = refl; room = refl; acts = refl; agrees = λ a. a }))
 back_at who zero (v ∷ vs) (x ∷ ws) some are (suc k) w e = back_at who zero vs ws tt are.1 k w e
 back_at who (suc n) (v ∷ vs) (x ∷ ws) some are zero w e =
     let same : x ≡ w = cc in
@@ -208,6 +222,7 @@ back_at who (suc n) (v ∷ vs) (x ∷ ws) some are zero w e =
         store = are.0.joined.store;
         room = are.0.joined.room ∙ omega arith;
         acts = ⊎_elim (λ (a : x.shows.acts ≡ v.shows.acts). a) (λ (a : x.shows.acts ≡ v.shows.acts). a) are.0.one;
+        agrees = λ _. are.0.agrees;
       }),
     )
 back_at who (suc n) (v ∷ vs) (x ∷ ws) some are (suc k) w e = back_at who n vs ws some.1 are.1 k w e
@@ -225,6 +240,7 @@ back_pass who vs us given ws f pass part are =
         shard = same.place.1 ∙ was.shard;
         room = same.room ∙ was.room;
         begins = subst (λ (l : List Act). IsPrefix l (acts_at k f.list)) (sym same.acts) was.begins;
+        agrees = same.agrees was.agrees;
       };
       one_map = pass.one_map;
       homed = restored_of_shards (shows_of vs) (shows_of ws) pass.homed (back_restored who vs us given ws part are);

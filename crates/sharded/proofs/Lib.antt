@@ -6,6 +6,8 @@ pub mod Interleavings
 pub mod Closings
 pub mod Rooms
 pub mod Seats
+pub mod Requests
 pub mod Listings
 pub mod Joins
 pub mod Openings
+pub mod Repairs

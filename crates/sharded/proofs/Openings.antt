@@ -5,7 +5,7 @@ use Rattle.std.proofs.lemmas.List.Elements.{All-cons}
 use Rattle.std.proofs.lemmas.Option.{slice_get_within}
 use Rattle.book.specs.Serial.{Act}
 use Rattle.ledger.specs.Acts.{TableId, LedgerState, KeeperState, FollowerState, new_keepers}
-use Rattle.shared.specs.Passes.{Which, Shows}
+use Rattle.shared.specs.Passes.{Which, Shows, IsConsistent}
 use Rattle.shard.specs.Seats.{SeatShows}
 use Rattle.sharded.specs.Passes.{fresh_pass, HaveActsOfShards}
 use Rattle.sharded.specs.Seats.{shows_of, IsPassOf, AreOpened}
@@ -63,7 +63,7 @@ index_there [] j s e = absurd (cc)
 index_there (x ∷ ss) zero s e = cc
 index_there (x ∷ ss) (suc j) s e = index_there ss j s e
 
-all_at : (P : Which → Type 0) (ss : List Which) (j : ℕ) (s : Which) → All P ss → slice_get ss j ≡ Some s → P s
+pub all_at : (P : Which → Type 0) (ss : List Which) (j : ℕ) (s : Which) → All P ss → slice_get ss j ≡ Some s → P s
 all_at P ss j s all e = subst P (index_there ss j s e) (all j s (slice_get_within ss j s e))
 
 pub opened_pass : (w limit : ℕ) (ss : List Which) (vs : List SeatShows) (l : LedgerState) (f : FollowerState Act) → AreOpened l.table 0 ss vs → f ≡ record { ledger = l; list = []; own = []; room = 64 } → length ss ≡ l.setup.count → 0 < l.setup.count → l.setup.about ≡ w
@@ -80,6 +80,7 @@ opened_pass w limit ss vs l f opened is count some about all = subst (IsPassOf v
     shard = found.4 ∙ omega arith;
     room = ap (λ (x : Shows). x.room) found.2;
     begins = ([], ap (λ (x : Shows). x.acts ++ []) found.2);
+    agrees = subst IsConsistent (sym found.2) (record { seen_is = refl; trimmed_is = refl; made_is = refl; room = omega arith });
   };
   one_map = tt;
   homed = subst HaveActsOfShards (sym (opened_shows l.table 0 ss vs opened)) (fresh_of_shards ss);

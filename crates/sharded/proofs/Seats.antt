@@ -25,7 +25,7 @@ use Rattle.sharded.specs.Passes.{StoreShows, PassShows, stores_of, store_of, Are
 use Rattle.sharded.specs.Steps.{IsStepAt, IsCallAt, IsBusyAt, IsBusyRepairAt, width_for, seen_for}
 use Rattle.sharded.specs.Listings.{who_at, shown_at, listing, IsListedAt, IsListedCall}
 use Rattle.sharded.specs.Seats.{shows_of, pass_shows, IsSeatAt, IsPassOf, IsSamePlace}
-use Rattle.sharded.proofs.Steps.{set_here, set_there, same_some, Held, held_there, held_stores, held_of_shards, held_step, call_step, finds_step, busy_step, width_is, seen_is, IsDeedOfShard, deed_of_shard}
+use Rattle.sharded.proofs.Steps.{set_here, set_there, same_some, Held, held_there, held_stores, held_of_shards, held_step, step_at_name, call_step, finds_step, busy_step, width_is, seen_is, IsDeedOfShard, deed_of_shard}
 
 -- ---- lists
 pub shows_set : (seats : List SeatShows) (k : ℕ) (s : SeatShows) → shows_of (slice_set seats k s) ≡ slice_set (shows_of seats) k s.shows
@@ -147,6 +147,7 @@ module _ {seats : List SeatShows} {f : FollowerState Act} {args : PassShows} {ss
       shard = at.shard;
       room = at.room ∙ sym step.follower.room;
       begins = prefix_trans s.shows.acts (acts_at j f.list) (acts_at j g.list) at.begins (acts_longer j f.list g.list grown);
+      agrees = at.agrees;
     }
 
     -- the seat itself
@@ -161,6 +162,7 @@ module _ {seats : List SeatShows} {f : FollowerState Act} {args : PassShows} {ss
           shard = step.place.1 ∙ shard;
           room = step.takes.stays.2 ∙ seat_at.room ∙ sym step.follower.room;
           begins = subst (λ (j : ℕ). IsPrefix new.shows.acts (acts_at j g.list)) shard (step.follower.begins (subst (λ (j : ℕ). IsPrefix own.shows.acts (acts_at j f.list)) (sym shard) seat_at.begins));
+          agrees = step.takes.agrees;
         }
 
     each_at : (j : ℕ) (s : SeatShows) → slice_get (slice_set seats k new) j ≡ Some s → IsSeatAt g j s
@@ -203,6 +205,14 @@ module _ {seats : List SeatShows} {f : FollowerState Act} {args : PassShows} {ss
   module _ (n : List ℕ) (place : k ≡ shard_of (length store.shards) n) where
     args_many : length args.shards ≡ length store.shards
     args_many = sym (length-map args.shards (λ (v : Shows). v.store)) ∙ ap (λ (s : StoreShows). length s.shards) h.same
+
+    -- the pass to the shard of the name
+    pub named_there : slice_get args.shards (shard_of (length args.shards) n) ≡ Some own.shows
+    named_there = ap (slice_get args.shards) (ap (λ (m : ℕ). shard_of m n) args_many ∙ sym place) ∙ held_there plain_held
+
+    -- a step there
+    pub named_step : (P : Shows → Shows → Type 0) (o : Operation) (new : SeatShows) → P own.shows new.shows → name_of o ≡ n → IsStepAt (operation_shard (length args.shards) o) P args.shards (shows_of (slice_set seats k new))
+    named_step P o new does e = subst (IsStepAt (operation_shard (length args.shards) o) P args.shards) (sym (shows_set seats k new)) (step_at_name plain_held n place P o new.shows does e)
 
     pub listed_call : (o : Operation) (r : Result Answer Fault) {new : SeatShows} {g : FollowerState Act} → SteppedSeat ledger (deed_of o r) own new f g → name_of o ≡ n → IsListedCall args o r (pass_shows (slice_set seats k new) g)
     listed_call o r {new} {g} step e =

@@ -120,7 +120,7 @@ step_of_shards vs k old new deed homed there of takes j v e = subst (λ n. HasAc
     by (inr (t, other)) = homed j v (sym (set_there vs k j new other) ∙ e)
 
 -- ---- the width of the shard, and what its pass has seen
-width_there : (ss : List Which) (k : ℕ) (store : Which) → slice_get ss k ≡ Some store → store.width ≡ width_at ss k
+pub width_there : (ss : List Which) (k : ℕ) (store : Which) → slice_get ss k ≡ Some store → store.width ≡ width_at ss k
 width_there [] k store e = absurd (cc)
 width_there (s ∷ ss) zero store e = let same : s ≡ store = cc in ap (λ (x : Which). x.width) (sym same)
 width_there (s ∷ ss) (suc k) store e = width_there ss k store e
@@ -168,7 +168,7 @@ module _ {vs args : List Shows} {ss : List Which} {k : ℕ} {own : Shows} (h : H
         let shard : operation_shard (length vs) o ≡ k = (λ i. shard_of (count_is i) (e i)) ∙ sym place in
         held_of_shards made.takes (deed_of_shard (length vs) k o r shard) are
 
-    step_at_name : (P : Shows → Shows → Type 0) (o : Operation) (new : Shows) → P own new → name_of o ≡ n → IsStepAt (operation_shard (length args) o) P args (slice_set vs k new)
+    pub step_at_name : (P : Shows → Shows → Type 0) (o : Operation) (new : Shows) → P own new → name_of o ≡ n → IsStepAt (operation_shard (length args) o) P args (slice_set vs k new)
     step_at_name P o new does e =
         let shard : k ≡ operation_shard (length args) o = place ∙ (λ i. shard_of ((sym count_is ∙ ap length h.view) i) (sym e i)) in record {
           old = own;

@@ -1,7 +1,9 @@
 pub mod Passes
 pub mod Steps
+pub mod Requests
 pub mod StepsTo
 pub mod Interleavings
 pub mod Closings
 pub mod Listings
 pub mod Seats
+pub mod Repairs

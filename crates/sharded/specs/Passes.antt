@@ -6,7 +6,7 @@ use mathlib.Core.List.{IsPrefix}
 use Rattle.gate.specs.Places.{times, AreApart}
 use Rattle.book.specs.Serial.{Act, Deed, call, trim}
 use Rattle.history.specs.History.{IsLegal}
-use Rattle.shared.specs.Passes.{Which, Shows, ReceiptShows, seen_by, IsWhole, Stays, DoneAfter}
+use Rattle.shared.specs.Passes.{Which, Shows, ReceiptShows, IsConsistent, seen_by, IsWhole, Stays, DoneAfter}
 use Rattle.shared.specs.Deeds.{Takes}
 use Rattle.one_map.specs.OneMap.{operation_shard}
 use Rattle.ledger.specs.declared.view.ShardAct.{ShardAct}
@@ -48,6 +48,10 @@ AreLone vs = (k : ℕ) (v : Shows) → slice_get vs k ≡ Some v → v.room ≡ 
 -- each has seen a legal history
 abbrev pub AreLegal : List Shows → Type 0
 AreLegal vs = (k : ℕ) (v : Shows) → slice_get vs k ≡ Some v → IsLegal v.store.width v.seen
+
+-- what each shows is consistent
+abbrev pub AreConsistent : List Shows → Type 0
+AreConsistent vs = (k : ℕ) (v : Shows) → slice_get vs k ≡ Some v → IsConsistent v
 
 -- all are to stores of this width
 abbrev pub HaveWidth : ℕ → List Shows → Type 0

@@ -6,7 +6,7 @@ use Rattle.book.specs.Serial.{Act}
 use Rattle.one_map.specs.OneMap.{IsLegalOneMap}
 use Rattle.ledger.specs.Acts.{TableId, FollowerState, ReceiptState, acts_at}
 use Rattle.ledger_map.specs.Legal.{calls_of}
-use Rattle.shared.specs.Passes.{Which, Shows, ReceiptShows, seen_by}
+use Rattle.shared.specs.Passes.{Which, Shows, ReceiptShows, IsConsistent, seen_by}
 use Rattle.shard.specs.Seats.{SeatShows, IsSeatOf}
 use Rattle.sharded.specs.Passes.{PassShows, HaveActsOfShards, HaveRoom, IsJoined, IsAccepted}
 use Rattle.sharded.specs.Passes.{fresh_pass, kept_in_split, given_in_split}
@@ -28,6 +28,7 @@ pub record IsSeatAt (f : FollowerState Act) (k : ℕ) (s : SeatShows) : Type 0 w
   pub shard : s.shard ≡ k
   pub room : s.shows.room ≡ f.room
   pub begins : IsPrefix s.shows.acts (acts_at k f.list)
+  pub agrees : IsConsistent s.shows
 
 -- one seat at each shard, in the order of the shards. The calls in the list are of one map
 pub record IsPassOf (seats : List SeatShows) (f : FollowerState Act) : Type 0 where
@@ -64,10 +65,12 @@ IsSamePlace v w = (w.ledger ≡ v.ledger) × (w.shard ≡ v.shard)
 pub record IsSeatJoined (v other w : SeatShows) : Type 0 where
   pub joined : IsJoined v.shows other.shows w.shows
   pub one : (w.shows.acts ≡ v.shows.acts) ⊎ (w.shows.acts ≡ other.shows.acts)
+  pub agrees : IsConsistent w.shows
   pub same : IsSamePlace v w
 
 pub record IsSeatAccepted (v : SeatShows) (r : ReceiptShows) (w : SeatShows) : Type 0 where
   pub accepted : IsAccepted v.shows r w.shows
+  pub agrees : IsConsistent w.shows
   pub same : IsSamePlace v w
 
 abbrev pub seen_seat : SeatShows → ReceiptShows

@@ -1,8 +1,7 @@
 //! The calls that wait, each at the shard of its name. Each answers as the call of `Store` with its
 //! name does there, and leaves the passes to all other shards as they were.
 
-// Contracts repeat, since a caller sees only that of the call that it makes. Bodies repeat, since a
-// function that lent the shard's pass could not show the invariant of all passes at its return.
+// Contracts repeat, since a caller sees only that of the call that it makes.
 
 ghost use Rattle.std.specs.Prelude.{◌≡◌, ◌⊎◌, ◌↔◌, ◌<◌, length, IfOk, IfErr};
 ghost use Rattle.sealed.specs.Layout.{stripe_count};
@@ -66,11 +65,10 @@ impl ShardedStore {
             ↔ (4096 < stripe_count code (width_for self.now.shards name) (length bytes)) }
         ensures faults { IfErr result (λ e. IsCallFault e ⊎ (e ≡ Fault.TooLong)) }
     {
-        let place = self.find_shard(&name);
-        let shard = &self.shards[place];
-        let seat = &mut pass.seats[place];
-        let (ledger, follower) = (&self.ledger, &mut pass.follower);
-        shard.put_as(rt, alloc, ledger, seat, follower, name, bytes, code)
+        match self.prepare_put(alloc, name, bytes, code) {
+            Ok(request) => self.make(rt, pass, request),
+            Err(fault) => pass.refuse(fault),
+        }
     }
 
     /// Grants `len` bytes of the blob of a name, from the byte `start` on, as `Store::read` does.
@@ -96,11 +94,7 @@ impl ShardedStore {
             (width_for self.now.shards name) name start len }
         ensures faults { IfErr result IsCallFault }
     {
-        let place = self.find_shard(&name);
-        let shard = &self.shards[place];
-        let seat = &mut pass.seats[place];
-        let request = Request::Read { name, start, len };
-        shard.make(rt, &self.ledger, seat, &mut pass.follower, request)
+        self.make(rt, pass, Request::Read { name, start, len })
     }
 
     /// Loses a fragment of a stripe of a name's blob, as `Store::lose` does.
@@ -120,16 +114,16 @@ impl ShardedStore {
         ensures same { store_of pass.new ≡ self.now }
         ensures faults { IfErr result IsCallFault }
     {
-        let place = self.find_shard(&name);
-        let shard = &self.shards[place];
-        let seat = &mut pass.seats[place];
-        let request = Request::Lose {
-            alloc,
-            name,
-            stripe,
-            fragment,
-        };
-        shard.make(rt, &self.ledger, seat, &mut pass.follower, request)
+        self.make(
+            rt,
+            pass,
+            Request::Lose {
+                alloc,
+                name,
+                stripe,
+                fragment,
+            },
+        )
     }
 
     /// Rebuilds a lost fragment of a stripe of a name's blob, as `Store::repair` does.
@@ -169,11 +163,7 @@ impl ShardedStore {
         ensures same { store_of pass.new ≡ self.now }
         ensures faults { IfErr result (λ e. e ≡ Fault.JournalFull) }
     {
-        let place = self.find_shard(&name);
-        let shard = &self.shards[place];
-        let seat = &mut pass.seats[place];
-        let request = Request::Delete { name };
-        shard.make(rt, &self.ledger, seat, &mut pass.follower, request)
+        self.make(rt, pass, Request::Delete { name })
     }
 
     /// The shape of a name's blob: how many bytes, stripes and lost fragments it has, as
@@ -185,10 +175,6 @@ impl ShardedStore {
         ensures same { store_of pass.new ≡ self.now }
         ensures faults { IfErr result (λ e. e ≡ Fault.JournalFull) }
     {
-        let place = self.find_shard(&name);
-        let shard = &self.shards[place];
-        let seat = &mut pass.seats[place];
-        let request = Request::Stat { name };
-        shard.make(rt, &self.ledger, seat, &mut pass.follower, request)
+        self.make(rt, pass, Request::Stat { name })
     }
 }

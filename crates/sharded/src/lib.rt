@@ -6,14 +6,20 @@
 
 mod calls;
 mod close;
+mod entry;
 mod journals;
 mod pass;
+mod prepared;
 mod receipts;
 mod store;
 mod try_calls;
+mod workers;
 
 pub use close::CloseFault;
+pub use mender::{Done, Drawer, Gather, Report, Tickets, WorkFault, gather};
 pub use one_map::{find_shard, prove_one_map};
 pub use receipts::ShardedReceipt;
+pub use requests::Request;
 pub use shared::{Answer, Book, Bytes, Code, Fault, Grant, Limit, Name, Pass, Plan, Plans, Store};
 pub use store::{ShardedPass, ShardedStore};
+pub use workers::{scrub, work};

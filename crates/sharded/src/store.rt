@@ -28,12 +28,13 @@ const SPACER_BYTES: usize = 256;
 pub struct ShardedStore {
     pub(crate) ledger: Ledger<StoreAct>,
     pub(crate) shards: Vec<Shard>,
+    pub(crate) width: Width,
     /// Memory that no thread touches, allocated between the shards'.
     spacers: Vec<Vec<u8>>,
 }
 
 impl Model for ShardedStore {
-    ghost use Rattle.std.specs.Prelude.{◌≡◌, length, ◌≤◌};
+    ghost use Rattle.std.specs.Prelude.{◌≡◌, All, length, ◌≤◌};
     ghost use Rattle.sharded.specs.Passes.{StoreShows};
 
     ghost Value = { StoreShows };
@@ -41,7 +42,8 @@ impl Model for ShardedStore {
     ghost view = { λ s. record { shards = s.shards.items; ledger = s.ledger } };
 
     ghost invariant = { λ s. (1 ≤ length s.shards.items) × (length s.shards.items ≤ 64)
-        × (length s.shards.items ≡ s.ledger.setup.count) };
+        × (length s.shards.items ≡ s.ledger.setup.count)
+        × All (λ shard. shard.width ≡ s.width) s.shards.items };
 }
 
 /// A caller's seats, one at each shard. Its own calls at a shard are on names of this shard.
@@ -121,6 +123,7 @@ impl ShardedStore {
         let store = ShardedStore {
             ledger,
             shards,
+            width,
             spacers,
         };
         Ok((store, ShardedPass { seats, follower }))

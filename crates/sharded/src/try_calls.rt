@@ -1,7 +1,7 @@
 //! The calls that do not wait, each at the shard of its name: `Busy` if another caller is inside
 //! that shard. Each answers as the call of `Store` with its name does there.
 
-// Contracts and bodies repeat for the reasons that `calls` gives.
+// Contracts repeat for the reason that `calls` gives.
 
 ghost use Rattle.std.specs.Prelude.{◌≡◌, ◌≢◌, ◌⊎◌, ◌↔◌, ◌<◌, length, IfOk, IfErr};
 ghost use Rattle.sealed.specs.Layout.{stripe_count};
@@ -70,11 +70,10 @@ impl ShardedStore {
             → IsBusyAt pass.old.shards (put_of name code bytes) pass.new.shards }
         ensures lone { AreLone pass.old.shards → result ≢ Err Fault.Busy }
     {
-        let place = self.find_shard(&name);
-        let shard = &self.shards[place];
-        let seat = &mut pass.seats[place];
-        let (ledger, follower) = (&self.ledger, &mut pass.follower);
-        shard.try_put_as(alloc, ledger, seat, follower, name, bytes, code)
+        match self.prepare_put(alloc, name, bytes, code) {
+            Ok(request) => self.try_make(pass, request),
+            Err(fault) => pass.refuse(fault),
+        }
     }
 
     /// Grants `len` bytes of the blob of a name, from the byte `start` on, as `Store::try_read`
@@ -103,11 +102,7 @@ impl ShardedStore {
             → IsBusyAt pass.old.shards (read_of name start len) pass.new.shards }
         ensures lone { AreLone pass.old.shards → result ≢ Err Fault.Busy }
     {
-        let place = self.find_shard(&name);
-        let shard = &self.shards[place];
-        let seat = &mut pass.seats[place];
-        let request = Request::Read { name, start, len };
-        shard.try_make(&self.ledger, seat, &mut pass.follower, request)
+        self.try_make(pass, Request::Read { name, start, len })
     }
 
     /// Loses a fragment of a stripe of a name's blob, as `Store::try_lose` does.
@@ -129,16 +124,15 @@ impl ShardedStore {
             → IsBusyAt pass.old.shards (lose_of name stripe fragment) pass.new.shards }
         ensures lone { AreLone pass.old.shards → result ≢ Err Fault.Busy }
     {
-        let place = self.find_shard(&name);
-        let shard = &self.shards[place];
-        let seat = &mut pass.seats[place];
-        let request = Request::Lose {
-            alloc,
-            name,
-            stripe,
-            fragment,
-        };
-        shard.try_make(&self.ledger, seat, &mut pass.follower, request)
+        self.try_make(
+            pass,
+            Request::Lose {
+                alloc,
+                name,
+                stripe,
+                fragment,
+            },
+        )
     }
 
     /// Rebuilds a lost fragment of a stripe of a name's blob, as `Store::try_repair` does.
@@ -178,11 +172,7 @@ impl ShardedStore {
             → IsBusyAt pass.old.shards (delete_of name) pass.new.shards }
         ensures lone { AreLone pass.old.shards → result ≢ Err Fault.Busy }
     {
-        let place = self.find_shard(&name);
-        let shard = &self.shards[place];
-        let seat = &mut pass.seats[place];
-        let request = Request::Delete { name };
-        shard.try_make(&self.ledger, seat, &mut pass.follower, request)
+        self.try_make(pass, Request::Delete { name })
     }
 
     /// The shape of a name's blob: how many bytes, stripes and lost fragments it has, as
@@ -197,10 +187,6 @@ impl ShardedStore {
             → IsBusyAt pass.old.shards (stat_of name) pass.new.shards }
         ensures lone { AreLone pass.old.shards → result ≢ Err Fault.Busy }
     {
-        let place = self.find_shard(&name);
-        let shard = &self.shards[place];
-        let seat = &mut pass.seats[place];
-        let request = Request::Stat { name };
-        shard.try_make(&self.ledger, seat, &mut pass.follower, request)
+        self.try_make(pass, Request::Stat { name })
     }
 }

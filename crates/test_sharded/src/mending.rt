@@ -4,8 +4,9 @@ ghost use Rattle.sharded.specs.Passes.{store_of};
 
 use crate::names::NAMES;
 use anyhow::{Result, bail, ensure};
-use sharded::{Plan, ShardedPass, ShardedStore};
-use sharded_mender::{Done, Drawer, Gather, Report, Tickets, gather, scrub, work};
+use sharded::{
+    Done, Drawer, Gather, Plan, Report, ShardedPass, ShardedStore, Tickets, gather, scrub, work,
+};
 use std::alloc::Global;
 use std::sync::Wait;
 

@@ -34,6 +34,7 @@ loop-other-preserved c =
         apart = joined.apart;
       };
       one = joined.one_acts;
+      agrees = joined.agrees;
       same = joined.same;
     })
     joined.kept.0

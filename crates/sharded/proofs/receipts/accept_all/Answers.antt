@@ -21,7 +21,7 @@ loop-receipt-preserved c =
       store_is = c.index-shards-shard.is;
     })
     c.accept.new.self
-    (record { accepted = record { kept = accepted.kept; one = accepted.one; seen = accepted.seen; acts = accepted.acts; later = accepted.later; lone = accepted.lone }; same = accepted.same })
+    (record { accepted = record { kept = accepted.kept; one = accepted.one; seen = accepted.seen; acts = accepted.acts; later = accepted.later; lone = accepted.lone }; agrees = accepted.agrees; same = accepted.same })
     (ap (λ (x : Shows). x.store) accepted.kept)
 
 pub accept-requires : goal.accept-requires

@@ -3,7 +3,7 @@ use mathlib.Core.List.{IsPrefix}
 use Rattle.gate.specs.Places.{SeatState, HasAll}
 use Rattle.requests.specs.declared.kept.Kept.{Kept}
 use Rattle.shared.specs.Passes.{ReceiptShows, shows, acts_of, seen_of}
-use Rattle.shared.proofs.Passes.{told_acts, told_seen, accepted_kept, accepted_same}
+use Rattle.shared.proofs.Passes.{agreed, told_acts, told_seen, accepted_kept, accepted_same}
 use Rattle.shared.proofs.Steps.{no_longer, takes_after}
 use Rattle.shard.specs.Seats.{books_in, plain, plain_receipt}
 use Rattle.shard.proofs.Visits.{plain_prefix, plain_all}
@@ -64,3 +64,8 @@ returns-clause-lone c = λ all.
     accepted_same own now (plain_receipt c.receipt.inside.receipt) c.self.invariant.pass c.receipt.invariant.told (ap plain e.kept) first c.self.inside.who
     (no_longer own.list first.0 now.list last.0 own.own last.1 first.1 c.self.invariant.pass.within has)
     ∙ ap (λ t. t.shows) c.self.view_is
+
+pub returns-clause-agrees : goal.returns-clause-agrees
+returns-clause-agrees c =
+    let e = c.accept.ensures in
+    agreed (plain c.accept.new.self) c.self.inside.who (accepted_seat c.self.inside.seat c.accept.new.self c.receipt.inside.receipt c.self.invariant c.receipt.invariant e.kept e.seen.0 e.one).pass

@@ -5,7 +5,7 @@ use Rattle.book.specs.Serial.{Act}
 use Rattle.ledger.specs.declared.held.Held.{Held}
 use Rattle.ledger_map.specs.declared.acts.ShardBook.{ShardBook}
 use Rattle.shared.specs.Passes.{Shows, shows, acts_of, did_of, seen_of, made_of}
-use Rattle.shared.proofs.Passes.{whole, joined_acts, joined_seen, joined_made, joined_did, joined_apart}
+use Rattle.shared.proofs.Passes.{agreed, whole, joined_acts, joined_seen, joined_made, joined_did, joined_apart}
 use Rattle.shard.specs.Seats.{books_in, plain}
 use Rattle.shard.proofs.Visits.{plain_prefix, plain_all}
 use Rattle.shard.proofs.Joining.{joined_seat, one_of, one_acts, kept_same}
@@ -71,3 +71,8 @@ returns-clause-did c = (both (goal.at.returns-clause-did c).After-join).did
 
 pub returns-clause-whole : goal.returns-clause-whole
 returns-clause-whole c = λ all. whole (plain c.join.new.self) c.self.inside.who (plain_all c.join.new.self.list c.join.new.self.own (c.join.ensures.lone all))
+
+pub returns-clause-agrees : goal.returns-clause-agrees
+returns-clause-agrees c =
+    let e = c.join.ensures in
+    agreed (plain c.join.new.self) c.self.inside.who (joined_seat c.self.inside.seat c.other.inside.seat c.join.new.self c.self.invariant c.other.invariant e.seen.0 e.seen.1 e.own e.one e.kept.1).pass
