@@ -229,6 +229,12 @@ uint32_t lrc_store_trim_part(lrc_slot *slot, uint64_t keep, uint64_t most, uint6
  * their number. */
 uint32_t lrc_store_plan(lrc_slot *slot, lrc_slot *other, uint64_t *items);
 
+/* Puts a part of such a plan into `other`: the first `most` of its items if `other` is empty, or
+ * those behind the part that it holds, of which no item may be left. `items` gets their number: if
+ * it is below `most`, no other part is behind. So a long plan can be made in steps, between which
+ * other threads call. */
+uint32_t lrc_store_plan_part(lrc_slot *slot, lrc_slot *other, uint64_t most, uint64_t *items);
+
 /* Repairs the next fragment of the plan in `other`, and returns the status of lrc_store_repair.
  * After LRC_STORE_BUSY, LRC_STORE_NO_MEMORY and LRC_STORE_JOURNAL_FULL the fragment stays the
  * next one. After any other status the next call takes the next fragment. */
@@ -278,8 +284,14 @@ uint32_t lrc_store_stat_wait(lrc_slot *slot, const uint8_t *name, size_t name_le
 uint32_t lrc_store_trim_wait(lrc_slot *slot, uint64_t keep, uint64_t *discarded,
                              int64_t timeout_ms);
 uint32_t lrc_store_plan_wait(lrc_slot *slot, lrc_slot *other, uint64_t *items, int64_t timeout_ms);
+uint32_t lrc_store_plan_part_wait(lrc_slot *slot, lrc_slot *other, uint64_t most, uint64_t *items,
+                                  int64_t timeout_ms);
 uint32_t lrc_store_mend_step_wait(lrc_slot *slot, lrc_slot *other, uint64_t *version,
                                   int64_t timeout_ms);
+/* Repairs all lost fragments that can be rebuilt, by plans of at most 512 items, and returns
+ * LRC_STORE_DONE. The deadline is for each of its steps. If one is refused, it stops and returns
+ * that status. `repaired` gets how many it repaired, unless that is none and it was refused. */
+uint32_t lrc_store_mend_wait(lrc_slot *slot, uint64_t *repaired, int64_t timeout_ms);
 
 #ifdef __cplusplus
 }

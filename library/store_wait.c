@@ -33,6 +33,9 @@ enum { SPINS = 16, PAUSES = 32, SHORTEST_NS = 100000, LONGEST_NS = 1600000 };
  * threads that sleep get the turn. */
 enum { TRIMMED_AT_ONCE = 512, BETWEEN_NS = 20000 };
 
+/* How many items are planned at once. */
+enum { PLANNED_AT_ONCE = 512 };
+
 /* How many entries a journal may have. A trim discards no more, however many others add. */
 enum { MOST_ENTRIES = 1 << 20 };
 
@@ -162,7 +165,7 @@ static uint32_t put_again(lrc_slot *slot, const uint8_t *name, size_t name_len, 
         status = lrc_store_put_from_wait(slot, name, name_len, &copy, data_fragments, version,
                                          timeout_ms);
     }
-    pthread_cleanup_pop(1);
+    pthread_cleanup_pop(1); /* releases the copy */
     return status;
 }
 
@@ -243,7 +246,55 @@ uint32_t lrc_store_plan_wait(lrc_slot *slot, lrc_slot *other, uint64_t *items, i
     REPEAT(0, lrc_store_plan(slot, other, items));
 }
 
+uint32_t lrc_store_plan_part_wait(lrc_slot *slot, lrc_slot *other, uint64_t most, uint64_t *items,
+                                  int64_t timeout_ms) {
+    REPEAT(0, lrc_store_plan_part(slot, other, most, items));
+}
+
 uint32_t lrc_store_mend_step_wait(lrc_slot *slot, lrc_slot *other, uint64_t *version,
                                   int64_t timeout_ms) {
     REPEAT(TRIES, lrc_store_mend_step(slot, other, version));
+}
+
+/* Whether a mend goes on to its next fragment: this one is repaired, or cannot be. */
+static int is_past(uint32_t status) {
+    return status == LRC_STORE_DONE || status == LRC_STORE_NO_NAME ||
+           status == LRC_STORE_NO_FRAGMENT || status == LRC_STORE_NOT_LOST ||
+           status == LRC_STORE_UNRECOVERABLE;
+}
+
+/* Makes the next part of a plan, and repairs its items. The status is LRC_STORE_NOTHING_LEFT once
+ * no item is left. `is_last` gets whether no other part is behind. */
+static uint32_t mend_part(lrc_slot *slot, lrc_slot *plan, int *is_last, uint64_t *repaired,
+                          int64_t timeout_ms) {
+    uint64_t items = 0, version = 0;
+    uint32_t status = lrc_store_plan_part_wait(slot, plan, PLANNED_AT_ONCE, &items, timeout_ms);
+    *is_last = items < PLANNED_AT_ONCE;
+    while (is_past(status)) {
+        status = lrc_store_mend_step_wait(slot, plan, &version, timeout_ms);
+        *repaired += status == LRC_STORE_DONE;
+    }
+    return status;
+}
+
+/* Repairs all parts of a plan, which it makes in this slot. */
+static uint32_t mend(lrc_slot *slot, lrc_slot *plan, uint64_t *repaired, int64_t timeout_ms) {
+    uint64_t all = 0;
+    uint32_t status;
+    int is_last = 0;
+    do {
+        status = mend_part(slot, plan, &is_last, &all, timeout_ms);
+    } while (status == LRC_STORE_NOTHING_LEFT && !is_last);
+    if (status == LRC_STORE_NOTHING_LEFT) status = LRC_STORE_DONE;
+    if (status == LRC_STORE_DONE || all) *repaired = all;
+    return status;
+}
+
+uint32_t lrc_store_mend_wait(lrc_slot *slot, uint64_t *repaired, int64_t timeout_ms) {
+    lrc_slot plan = LRC_SLOT_EMPTY;
+    uint32_t status;
+    pthread_cleanup_push(release, &plan);
+    status = mend(slot, &plan, repaired, timeout_ms);
+    pthread_cleanup_pop(1); /* releases the plan */
+    return status;
 }

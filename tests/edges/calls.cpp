@@ -108,6 +108,27 @@ private:
         judge(got, not_a_session(from).add(to.holds != Holds::nothing, LRC_STORE_OCCUPIED));
         if (got != LRC_STORE_DONE) return same(items, untouched, "`items`");
         to.become(Holds::plan).items = from.store->plan();
+        if (!to.items.empty()) to.last = to.items.back();
+        same(items, to.items.size(), "`items`");
+    }
+
+    void plan_part() {
+        Held &from = with(Holds::session),
+             &to = other_with(random.one_in(3) ? Holds::nothing : Holds::plan, from);
+        const uint64_t most = random.one_in(10) ? random.next() : random.below(4);
+        uint64_t items = untouched;
+        begin("plan_part", most);
+        const uint32_t got =
+            random.one_in(2)
+                ? lrc_store_plan_part(&from.slot, &to.slot, most, &items)
+                : lrc_store_plan_part_wait(&from.slot, &to.slot, most, &items, timeout());
+        const bool goes_on = to.holds == Holds::plan && to.next == to.items.size();
+        const bool is_free = to.holds == Holds::nothing || goes_on;
+        judge(got, not_a_session(from).add(!is_free, LRC_STORE_OCCUPIED));
+        if (got != LRC_STORE_DONE) return same(items, untouched, "`items`");
+        const std::optional<model::Item> after = to.last;
+        to.become(Holds::plan).items = from.store->plan_part(after, most);
+        to.last = to.items.empty() ? after : to.items.back();
         same(items, to.items.size(), "`items`");
     }
 
@@ -153,7 +174,8 @@ private:
         if (kind < 800) return remove();
         if (kind < 850) return stat();
         if (kind < 885) return trim();
-        if (kind < 900) return plan();
+        if (kind < 892) return plan();
+        if (kind < 915) return plan_part();
         if (kind < 970) return mend_step();
         Held &each = any();
         if (each.holds != Holds::session || random.one_in(6)) release(each);

@@ -7,6 +7,7 @@
 #include "random_run.hpp"
 
 #include <algorithm>
+#include <optional>
 
 // Whether lrc_slot_buffer gives a buffer. A refused put changes that.
 enum class Writable { yes, maybe, no };
@@ -23,6 +24,7 @@ struct Held {
     uint64_t pieces = 0;                  // of a lending
     std::vector<model::Item> items;       // of a plan
     size_t next = 0;                      // of a plan
+    std::optional<model::Item> last;      // of a plan: the item behind which its next part begins
     std::string content;                  // of a buffer
     Writable is_writable = Writable::yes; // of a buffer
     std::deque<model::Entry> entries;     // of a journal

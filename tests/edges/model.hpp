@@ -5,6 +5,7 @@
 
 #include "lrc_store.h"
 
+#include <algorithm>
 #include <array>
 #include <cstdint>
 #include <deque>
@@ -12,6 +13,7 @@
 #include <memory>
 #include <optional>
 #include <string>
+#include <tuple>
 #include <vector>
 
 namespace model {
@@ -159,6 +161,11 @@ struct Item {
     std::string name;
     uint64_t stripe;
     unsigned fragment;
+
+    bool operator<(const Item &other) const {
+        return std::tie(name, stripe, fragment) <
+               std::tie(other.name, other.stripe, other.fragment);
+    }
 };
 
 class Store {
@@ -216,6 +223,15 @@ public:
             for (const auto &[stripe, lost] : blob.lost)
                 for (unsigned f = 0; f < 16; f++)
                     if (lost >> f & 1) items.push_back({name, stripe, f});
+        return items;
+    }
+
+    // The first `most` of them behind an item, or the first of all.
+    std::vector<Item> plan_part(const std::optional<Item> &after, uint64_t most) const {
+        std::vector<Item> items = plan();
+        if (after)
+            items.erase(items.begin(), std::upper_bound(items.begin(), items.end(), *after));
+        if (items.size() > most) items.resize(most);
         return items;
     }
 

@@ -281,6 +281,33 @@ static void plan_and_mend(lrc_slot *slot) {
     EXPECT(lost, 0);
 }
 
+/* Five lost fragments, planned two at a time. */
+static void plans_in_parts(lrc_slot *slot) {
+    lrc_slot plan = LRC_SLOT_EMPTY, none = LRC_SLOT_EMPTY;
+    const uint64_t parts[] = {2, 2, 1, 0, 0};
+    uint64_t version = 0, items = 77, repaired = 0;
+    for (uint64_t f = 0; f < 5; f++)
+        EXPECT(lrc_store_lose(slot, NAME("fox"), f % 2, 15 - f, &version), LRC_STORE_DONE);
+    for (int i = 0; i < 5; i++) {
+        EXPECT(lrc_store_plan_part(slot, &plan, 2, &items), LRC_STORE_DONE);
+        EXPECT(items, parts[i]);
+        while (items--) {
+            EXPECT(lrc_store_plan_part(slot, &plan, 9, &repaired), LRC_STORE_OCCUPIED);
+            EXPECT(lrc_store_plan(slot, &plan, &repaired), LRC_STORE_OCCUPIED);
+            EXPECT(lrc_store_mend_step(slot, &plan, &version), LRC_STORE_DONE);
+        }
+    }
+    EXPECT(lrc_store_mend_step(slot, &plan, &version), LRC_STORE_NOTHING_LEFT);
+    EXPECT(lrc_store_plan_part(&none, &plan, 2, &items), LRC_STORE_EMPTY);
+    lrc_slot_release(&plan);
+    EXPECT(lrc_store_plan_part(slot, &plan, 0, &items), LRC_STORE_DONE);
+    EXPECT(items, 0);
+    lrc_slot_release(&plan);
+    EXPECT(lrc_store_lose(slot, NAME("fox"), 1, 2, &version), LRC_STORE_DONE);
+    EXPECT(lrc_store_mend_wait(slot, &repaired, -1), LRC_STORE_DONE);
+    EXPECT(repaired, 1);
+}
+
 static void all_sessions_of_a_store(void) {
     static lrc_slot slots[65];
     uint64_t entries = 0;
@@ -352,6 +379,7 @@ int main(void) {
         put_and_read(&slot);
         lend_and_change(&slot);
         plan_and_mend(&slot);
+        plans_in_parts(&slot);
         EXPECT(lrc_store_close(&slot, &entries, &lawful), LRC_STORE_DONE);
         EXPECT(entries > 0, has_journal);
         EXPECT(lawful, has_journal ? 1 : 2);

@@ -63,6 +63,10 @@ static void run(int has_journal) {
     EXPECT(a, 1);
     CALL(lrc_store_mend_step(&other, &plan, &version));
     lrc_slot_release(&plan);
+    CALL(lrc_store_plan_part(&other, &plan, 1, &a));
+    CALL(lrc_store_plan_part(&other, &plan, 1, &a));
+    EXPECT(a, 0);
+    lrc_slot_release(&plan);
     CALL(lrc_store_trim(&slot, 2, &c));
     CALL(lrc_store_stat(&other, NAME("a"), &version, &a, &b, &c));
     EXPECT(c, 0);

@@ -6,7 +6,7 @@
 #include <time.h>
 #include <unistd.h>
 
-enum { MOST = 9, OTHER_STATUS = 7, ROOM = 16, SLACK_US = 1500000 };
+enum { MOST = 9, OTHER_STATUS = 7, ROOM = 16, SLACK_US = 1500000, LAST = 99 };
 
 #define ARGUMENTS(...) ((const uint64_t[MOST]){__VA_ARGS__})
 #define AT(pointer) ((uint64_t)(uintptr_t)(pointer))
@@ -21,6 +21,11 @@ static uint64_t entries;
 static uint8_t kept[ROOM];
 static size_t reserved;
 static unsigned releases;
+
+/* What the calls of a mend return in turn. Before the status of a part of a plan stands the number
+ * of its items. */
+static const uint32_t *script;
+static lrc_slot *mended, *planned;
 
 /* The number of the slot's store, and whether it holds a session. */
 static uint64_t number = 77;
@@ -123,8 +128,18 @@ uint32_t lrc_store_plan(lrc_slot *slot, lrc_slot *other, uint64_t *items) {
     return called(ARGUMENTS(AT(slot), AT(other), AT(items)));
 }
 
+uint32_t lrc_store_plan_part(lrc_slot *slot, lrc_slot *other, uint64_t most, uint64_t *items) {
+    if (!script) return called(ARGUMENTS(AT(slot), AT(other), most));
+    EXPECT(slot == mended && most == 512, 1);
+    planned = other;
+    *items = *script++;
+    return *script++;
+}
+
 uint32_t lrc_store_mend_step(lrc_slot *slot, lrc_slot *other, uint64_t *version) {
-    return called(ARGUMENTS(AT(slot), AT(other), AT(version), 1));
+    if (!script) return called(ARGUMENTS(AT(slot), AT(other), AT(version), 1));
+    EXPECT(slot == mended && other == planned, 1);
+    return *script++;
 }
 
 /* Whether a form repeats its function with the same arguments, and returns its last status. */
@@ -155,6 +170,7 @@ static void arguments(int64_t timeout_ms) {
            AT(&x), AT(&y), AT(&z));
     PASSES(lrc_store_trim_wait(&s, 5, &v, timeout_ms), AT(&s), 5, 512);
     PASSES(lrc_store_plan_wait(&s, &o, &x, timeout_ms), AT(&s), AT(&o), AT(&x));
+    PASSES(lrc_store_plan_part_wait(&s, &o, 5, &x, timeout_ms), AT(&s), AT(&o), 5);
     PASSES(lrc_store_mend_step_wait(&s, &o, &v, timeout_ms), AT(&s), AT(&o), AT(&v), 1);
 }
 
@@ -223,6 +239,42 @@ static void trims_in_parts(void) {
     trims(512, 2, OTHER_STATUS);
     trims(1200, 3, LRC_STORE_DONE);
     trims(1 << 21, 1 << 11, LRC_STORE_DONE); /* others add entries meanwhile */
+}
+
+/* A mend whose calls return this, up to LAST, without waiting. */
+static void mends(const uint32_t *told, uint32_t status, uint64_t repaired) {
+    lrc_slot slot = LRC_SLOT_EMPTY;
+    uint64_t got = 77;
+    releases = 0;
+    script = told;
+    mended = &slot;
+    EXPECT(lrc_store_mend_wait(&slot, &got, 0), status);
+    EXPECT(got, repaired);
+    EXPECT(*script, LAST);
+    EXPECT(releases, 1);
+    script = NULL;
+}
+
+#define TOLD(...) ((const uint32_t[]){__VA_ARGS__, LAST})
+
+/* A mend plans and repairs in parts until one is short or a call is refused. */
+static void mends_in_parts(void) {
+    const uint32_t left = LRC_STORE_NOTHING_LEFT;
+    mends(TOLD(0, 0, left), LRC_STORE_DONE, 0);
+    mends(TOLD(6, 0, 0, LRC_STORE_NO_NAME, 0, LRC_STORE_UNRECOVERABLE, LRC_STORE_NO_FRAGMENT,
+               LRC_STORE_NOT_LOST, left),
+          LRC_STORE_DONE, 2);
+    mends(TOLD(511, 0, 0, left), LRC_STORE_DONE, 1);
+    mends(TOLD(512, 0, 0, left, 512, 0, left, 1, 0, 0, left), LRC_STORE_DONE, 2);
+    const uint32_t stops[] = {LRC_STORE_BUSY, LRC_STORE_NO_MEMORY, LRC_STORE_JOURNAL_FULL,
+                              LRC_STORE_EMPTY};
+    for (size_t i = 0; i < sizeof stops / sizeof *stops; i++) {
+        mends(TOLD(0, stops[i]), stops[i], 77);
+        mends(TOLD(1, 0, stops[i]), stops[i], 77);
+        mends(TOLD(2, 0, 0, stops[i]), stops[i], 1);
+        mends(TOLD(512, 0, 0, left, 0, stops[i]), stops[i], 1);
+        mends(TOLD(512, 0, stops[i]), stops[i], 77);
+    }
 }
 
 static void *stay_in_call(void *timeout_ms) {
@@ -330,6 +382,7 @@ int main(void) {
     cancels();
     tries();
     trims_in_parts();
+    mends_in_parts();
     arguments(-1);
     puts_again(-1);
     puts_again(60000);

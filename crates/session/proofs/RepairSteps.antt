@@ -1,7 +1,8 @@
 -- A step through the repairs of a plan.
-use Rattle.std.proofs.Common.{◌≡◌, ◌≢◌, ◌<◌, ℕ, List, [], ◌∷◌, ◌++◌, length, drop, get_or, true, false, Option, None, Some, Result, Ok, Err, refl, sym, ap, subst, arith}
+use Rattle.std.proofs.Common.{◌≡◌, ◌≢◌, ◌<◌, ℕ, zero, suc, List, [], ◌∷◌, ◌++◌, ◌-◌, length, drop, get_or, true, false, Option, None, Some, Result, Ok, Err, refl, sym, ap, subst, arith}
 use Rattle.std.specs.Prelude.{is_ok, IfErr, IsSome}
 use Rattle.std.proofs.lemmas.Bool.{false≢true}
+use Rattle.std.specs.List.{last_or}
 use Rattle.std.specs.Option.{option_to_list}
 use Rattle.history.specs.Step.{repair}
 use Rattle.book.specs.declared.answer.Answer.{Answer}
@@ -32,3 +33,15 @@ pub stepped : (items : List Item) (item : Item) (v : Shows) (reply : Result Answ
 stepped [] item v reply left w inside is has done kept = absurd (omega (arith, inside))
 stepped (first ∷ items) item v (Ok a) left w inside is has done kept = (subst (λ i. HasRepaired i v (Ok a) w) is has, done refl)
 stepped (first ∷ items) item v (Err e) left w inside is has done kept = (subst (λ i. HasRepaired i v (Err e) w) is has, kept refl)
+
+-- ---- the last item of a part
+pub last_of_none : (after : Option Item) (items : List Item) → length items ≡ 0 → after ≡ last_or after items
+last_of_none after [] e = refl
+last_of_none after (item ∷ items) e = absurd (omega (arith, e))
+
+pub last_of_some : (after : Option Item) (items : List Item) (n : ℕ) (item : Item) → length items ≡ suc n → item ≡ get_or items n item → Some item ≡ last_or after items
+last_of_some after [] n item long is = absurd (omega (arith, long))
+last_of_some after (one ∷ []) zero item long is = ap Some is
+last_of_some after (one ∷ []) (suc n) item long is = absurd (omega (arith, long))
+last_of_some after (one ∷ next ∷ items) zero item long is = absurd (omega (arith, long))
+last_of_some after (one ∷ next ∷ items) (suc n) item long is = last_of_some (Some one) (next ∷ items) n item (omega (arith, long)) is

@@ -6,3 +6,4 @@ pub mod KnownFault
 pub mod LentFrom
 pub mod RepairStep
 pub mod Runs
+pub mod Rest

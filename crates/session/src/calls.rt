@@ -2,12 +2,14 @@
 //! section. The session has then seen no more of the history. `Busy` never comes to a session with
 //! a room of 64. After any other error the history does not have the call, and the session may have
 //! seen further calls.
-ghost use Rattle.std.specs.Prelude.{◌≡◌, ◌≢◌, ◌⊎◌, ◌↔◌, ◌<◌, ◌≤◌, ℕ, None, length, IfOk, IfErr};
+ghost use Rattle.std.specs.Prelude.{◌≡◌, ◌≢◌, ◌⊎◌, ◌↔◌, ◌<◌, ◌≤◌, ℕ, None, length, take};
+ghost use Rattle.std.specs.Prelude.{IfOk, IfErr};
+ghost use Rattle.std.specs.Option.{option_map};
 ghost use Rattle.sealed.specs.Layout.{stripe_count};
 ghost use Rattle.history.specs.Step.{put as put_of, read as read_of, lose as lose_of};
 ghost use Rattle.history.specs.Step.{repair as repair_of, delete as delete_of, stat as stat_of};
 ghost use Rattle.history.specs.History.{state_of};
-ghost use Rattle.book.specs.Plan.{plan_of};
+ghost use Rattle.book.specs.Plan.{plan_of, items_after};
 ghost use Rattle.book.specs.Tells.{IsCallFault};
 ghost use Rattle.shared.specs.Calls.{Called, CanGrant, GrantedIn, IfGranted};
 ghost use Rattle.shared.specs.Deeds.{Takes, trim_deed};
@@ -16,7 +18,7 @@ ghost use Rattle.shared.specs.Passes.{FindsBusy};
 ghost use Rattle.session.specs.KnownFault.{IsBusyOrCallFault, IsBusyOrFull};
 
 use crate::{Refused, Session};
-use shared::{Answer, Bytes, Code, Fault, Name, Plan};
+use shared::{Answer, Bytes, Code, Fault, Item, Name, Plan};
 use std::alloc::Global;
 
 impl Session {
@@ -200,5 +202,23 @@ impl Session {
         ensures lone { self.old.room ≡ 64 → result ≢ Err Fault.Busy }
     {
         self.store.try_plan(alloc, &mut self.pass)
+    }
+
+    /// A part of the plan: the first `most` of its items that come behind `after`.
+    pub fn plan_part(
+        &mut self,
+        alloc: Global,
+        after: Option<&Item>,
+        most: usize,
+    ) -> Result<Plan, Fault>
+        ensures takes { Takes self.old None self.new }
+        ensures ok { IfOk result (λ p. p.items.items ≡ take most
+            (items_after (option_map (λ i. i.now) after.entry)
+            (plan_of (state_of self.new.seen)))) }
+        ensures faults { IfErr result (λ e. (e ≡ Fault.Busy) ⊎ (e ≡ Fault.NoMemory)) }
+        ensures busy { result ≡ Err Fault.Busy → FindsBusy self.old self.new }
+        ensures lone { self.old.room ≡ 64 → result ≢ Err Fault.Busy }
+    {
+        self.store.try_plan_part(alloc, &mut self.pass, after, most)
     }
 }

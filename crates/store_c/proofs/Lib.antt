@@ -4,3 +4,4 @@ mod Grants
 mod Joins
 mod Puts
 mod Closings
+mod Plans

@@ -21,7 +21,7 @@ ghost use Rattle.store_c.specs.OnSession.{IsStatCall, IsTrimCall, IsTrimPartCall
 ghost use Rattle.store_c.specs.Buffers.{IsReserveCall, IsBufferCall, IsPutFrom};
 ghost use Rattle.store_c.specs.Journal.{IsCloseToCall, IsEntryCall};
 ghost use Rattle.store_c.specs.Lend.{IsLendTo, IsSlicesCall, IsRunsCall};
-ghost use Rattle.store_c.specs.Plan.{IsPlanTo, IsMendCall};
+ghost use Rattle.store_c.specs.Plan.{IsPlanTo, IsPlanPartTo, IsMendCall};
 ghost use Rattle.store_c.specs.Sessions.{IsOpenCall, IsUnjournaledCall, IsSplitCall, IsJoinCall};
 ghost use Rattle.store_c.specs.Sessions.{AreOfOneStore, IsCloseCall, IsNumberCall};
 
@@ -482,6 +482,25 @@ pub extern "C" fn lrc_store_plan(
         (λ v w. IsPlanTo v other.old.held result (items.old, items.new) w other.new.held) }
 {
     with_session!(alloc, slot, session => repairs::plan_to(alloc, session, other, items))
+}
+
+/// Puts the first `most` items of such a plan into an empty slot, or those behind the part that it
+/// holds, of which no item may be left, and writes their number.
+#[unsafe(no_mangle)]
+pub extern "C" fn lrc_store_plan_part(
+    alloc: Global,
+    slot: &mut Slot,
+    other: &mut Slot,
+    most: u64,
+    items: &mut u64,
+) -> u32
+    ensures { IsOnSession slot.old.held result slot.new.held
+        ((items.new ≡ items.old) × (other.new.held ≡ other.old.held))
+        (λ v w. IsPlanPartTo v other.old.held most result (items.old, items.new) w
+        other.new.held) }
+{
+    with_session!(alloc, slot, session =>
+        repairs::plan_part_to(alloc, session, other, most, items))
 }
 
 /// Repairs the next fragment of a plan. A fragment with an answer leaves the plan, and one with an

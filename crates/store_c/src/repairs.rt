@@ -1,26 +1,39 @@
 //! The repairs of a plan.
-ghost use Rattle.std.specs.Prelude.{◌≡◌, None};
-ghost use Rattle.store_c.specs.Plan.{HasPlan, IsPlanTo, IsMendStep};
+ghost use Rattle.std.specs.Prelude.{◌≡◌, [], None, Some};
+ghost use Rattle.std.specs.List.{last_or};
+ghost use Rattle.session.specs.declared.held.Held.TheVariants.{Repairs as RepairsHeld};
+ghost use Rattle.store_c.specs.Plan.{HasPlan, IsPlanTo, IsPlanPartTo, IsMendStep};
+ghost use Rattle.store_c.specs.Plan.{all_lost, some_lost};
 
 use crate::answers::{number_of, tell};
 use crate::status::{DONE, NO_MEMORY, NOTHING_LEFT, OCCUPIED};
-use session::{Held, Repairs, Session, Slot};
+use session::{Held, Plan, Repairs, Session, Slot};
 use std::alloc::Global;
 use std::boxed::Box;
 
+/// Puts the first part of a plan into a slot, by this box.
+fn hold(mut given: Box<Option<Held>>, plan: Plan, other: &mut Slot)
+    ensures { other.new.held ≡ Some (RepairsHeld (record {
+      items = plan.items.items;
+      last = last_or None plan.items.items;
+    })) }
+{
+    *given = Some(Held::Repairs(Repairs::of(plan, None)));
+    other.put(given);
+}
+
 fn plan(alloc: Global, session: &mut Session, other: &mut Slot, items: &mut u64) -> u32
     requires { other.old.held ≡ None }
-    ensures { HasPlan session.old result (items.old, items.new) session.new other.new.held }
+    ensures { HasPlan all_lost None session.old None result (items.old, items.new) session.new
+        other.new.held }
 {
-    let Ok(mut given) = Box::new(alloc, None::<Held>) else {
+    let Ok(given) = Box::new(alloc, None::<Held>) else {
         return NO_MEMORY;
     };
     match session.plan(alloc) {
         Ok(plan) => {
-            let repairs = Repairs::of(plan);
-            *items = repairs.len();
-            *given = Some(Held::Repairs(repairs));
-            other.put(given);
+            *items = plan.items.len() as u64;
+            hold(given, plan, other);
             DONE
         }
         Err(fault) => number_of(fault),
@@ -43,14 +56,84 @@ pub(crate) fn plan_to(
     plan(alloc, session, other, items)
 }
 
+fn first_part(
+    alloc: Global,
+    session: &mut Session,
+    other: &mut Slot,
+    most: u64,
+    items: &mut u64,
+) -> u32
+    requires { other.old.held ≡ None }
+    ensures { HasPlan (some_lost None most) None session.old None result (items.old, items.new)
+        session.new other.new.held }
+{
+    let Ok(given) = Box::new(alloc, None::<Held>) else {
+        return NO_MEMORY;
+    };
+    match session.plan_part(alloc, None, most as usize) {
+        Ok(plan) => {
+            *items = plan.items.len() as u64;
+            hold(given, plan, other);
+            DONE
+        }
+        Err(fault) => number_of(fault),
+    }
+}
+
+/// The part behind a part of which no item remains, in its place.
+fn next_part(
+    alloc: Global,
+    session: &mut Session,
+    repairs: &mut Repairs,
+    most: u64,
+    items: &mut u64,
+) -> u32
+    requires { repairs.old.items ≡ [] }
+    ensures { HasPlan (some_lost repairs.old.last most) repairs.old.last session.old
+        (Some (RepairsHeld repairs.old)) result (items.old, items.new) session.new
+        (Some (RepairsHeld repairs.new)) }
+{
+    match session.plan_part(alloc, repairs.last(), most as usize) {
+        Ok(plan) => {
+            repairs.follow(plan);
+            *items = repairs.len();
+            DONE
+        }
+        Err(fault) => number_of(fault),
+    }
+}
+
+/// The first part, if the other slot is empty, or the next one.
+pub(crate) fn plan_part_to(
+    alloc: Global,
+    session: &mut Session,
+    other: &mut Slot,
+    most: u64,
+    items: &mut u64,
+) -> u32
+    ensures { IsPlanPartTo session.old other.old.held most result (items.old, items.new)
+        session.new other.new.held }
+{
+    if other.is_vacant(alloc) {
+        return first_part(alloc, session, other, most, items);
+    }
+    match other.get_mut() {
+        Some(Held::Repairs(repairs)) if repairs.len() == 0 => {
+            next_part(alloc, session, repairs, most, items)
+        }
+        _ => OCCUPIED,
+    }
+}
+
 pub(crate) fn mend_step(
     alloc: Global,
     session: &mut Session,
     repairs: &mut Repairs,
     version: &mut u64,
 ) -> u32
-    ensures { IsMendStep session.old repairs.old result version.old version.new session.new
-        repairs.new }
+    ensures step { IsMendStep session.old repairs.old.items result version.old version.new
+        session.new repairs.new.items }
+    ensures last { repairs.new.last ≡ repairs.old.last }
 {
     match repairs.step(session, alloc) {
         Some(reply) => tell(&reply, version),

@@ -1,9 +1,9 @@
-use Rattle.std.proofs.Common.{Err, refl, ap, ◌∙◌, rules}
+use Rattle.std.proofs.Common.{Err, refl, ap, arith, ◌∙◌, rules}
 use Rattle.store_c.specs.Plan.{planned, plan_refused}
 use Rattle.store_c.proofs.repairs.plan.Goals as goal
 
 pub returns-in-Ok-plan : goal.returns-in-Ok-plan
-returns-in-Ok-plan c = planned c.of-repairs.result refl c.in-Ok-plan.ensures.takes (c.of-repairs.ensures ∙ c.in-Ok-plan.ensures.ok) c.len.ensures c.put.ensures
+returns-in-Ok-plan c = planned c.in-Ok-plan.plan.items.items refl c.in-Ok-plan.ensures.takes c.in-Ok-plan.ensures.ok (omega (arith, c.len.ensures, c.in-Ok-plan.plan.items.ok)) c.hold.ensures
 
 pub returns-in-Err : goal.returns-in-Err
 returns-in-Err c =
