@@ -307,28 +307,21 @@ public:
 
     // Repairs all lost fragments that can be rebuilt, and returns their number. Throws mend_error.
     uint64_t mend() {
-        slot plan;
-        uint64_t items = 0, version = 0, repaired = 0;
-        uint32_t status = lrc_store_plan_wait(held.get(), plan.get(), &items, wait_ms);
-        while (is_next(status)) {
-            status = lrc_store_mend_step_wait(held.get(), plan.get(), &version, wait_ms);
-            repaired += status == LRC_STORE_DONE;
-        }
-        if (status != LRC_STORE_NOTHING_LEFT) throw mend_error(status, repaired);
+        uint64_t repaired = 0;
+        const uint32_t status = lrc_store_mend_wait(held.get(), &repaired, wait_ms);
+        if (status != LRC_STORE_DONE) throw mend_error(status, repaired);
         return repaired;
     }
+
+    // The slot, for calls of lrc_store.h that have no other form here. It has to keep a session of
+    // this store.
+    lrc_slot *native_handle() { return held.get(); }
 
 private:
     static const uint8_t *bytes(std::string_view text) {
         return reinterpret_cast<const uint8_t *>(text.data() ? text.data() : "");
     }
 
-    // Whether a mend goes on to its next fragment: this one is repaired, or cannot be.
-    static bool is_next(uint32_t status) {
-        return status == LRC_STORE_DONE || status == LRC_STORE_NO_NAME ||
-               status == LRC_STORE_UNRECOVERABLE || status == LRC_STORE_NO_FRAGMENT ||
-               status == LRC_STORE_NOT_LOST;
-    }
 
     uint32_t copy(std::string_view name, uint64_t start, void *target, size_t len,
                   uint64_t *version) {

@@ -138,7 +138,7 @@ DECLARED = {
     "lrc_store_delete_wait": [*_NAMED, _OUT, _MS],
     "lrc_store_stat_wait": [*_NAMED, _OUT, _OUT, _OUT, _OUT, _MS],
     "lrc_store_trim_wait": [_SLOT, _U64, _OUT, _MS],
-    "lrc_store_plan_wait": [_SLOT, _SLOT, _OUT, _MS],
+    "lrc_store_plan_part_wait": [_SLOT, _SLOT, _U64, _OUT, _MS],
     "lrc_store_mend_step_wait": [_SLOT, _SLOT, _OUT, _MS],
     "lrc_slot_release": [_SLOT],
     "lrc_store_text": [_U32],
@@ -166,6 +166,8 @@ _new_bytes = ctypes.pythonapi.PyBytes_FromStringAndSize
 _new_bytes.argtypes, _new_bytes.restype = [ctypes.c_void_p, ctypes.c_ssize_t], ctypes.py_object
 # How long a call of the library waits at a time. Between two, Python handles signals.
 _SLICE_SECONDS = 0.05
+# How many items of a mend are planned at once.
+_PLANNED_AT_ONCE = 512
 # After these statuses a mend goes on: the fragment is repaired, or cannot be.
 _MEND_GOES_ON = (
     Status.DONE,
@@ -544,13 +546,14 @@ class Session:
 
         If it stops before, the error has the number of those that it repaired.
         """
-        plan, items, version, repaired = _Slot(), _U64(), _U64(), 0
-        status = self._wait("lrc_store_plan_wait", plan, items)
-        while status in _MEND_GOES_ON:
-            status = self._wait("lrc_store_mend_step_wait", plan, version)
-            repaired += status == Status.DONE
-        if status != Status.NOTHING_LEFT:
-            raise _ERRORS.get(Status(status), StoreError)("mend", (), Status(status), repaired)
+        plan, items, version, repaired = _Slot(), _U64(_PLANNED_AT_ONCE), _U64(), 0
+        while items.value == _PLANNED_AT_ONCE:
+            status = self._wait("lrc_store_plan_part_wait", plan, _PLANNED_AT_ONCE, items)
+            while status in _MEND_GOES_ON:
+                status = self._wait("lrc_store_mend_step_wait", plan, version)
+                repaired += status == Status.DONE
+            if status != Status.NOTHING_LEFT:
+                raise _ERRORS.get(Status(status), StoreError)("mend", (), Status(status), repaired)
         return repaired
 
     def __enter__(self) -> Session:

@@ -43,11 +43,12 @@ class Declarations(unittest.TestCase):
         plain = {name: words for name, words in header.items() if not name.endswith("_wait")}
         self.assertEqual(plain, exported)
         forms = {name: words for name, words in header.items() if name.endswith("_wait")}
-        self.assertEqual(len(forms), 11)
+        self.assertEqual(len(forms), 13)
+        self.assertEqual(forms.pop("lrc_store_mend_wait"), ["*mut slot", "*mut u64", "i64"])
         for name, words in forms.items():
             self.assertEqual(words, [*header[name.removesuffix("_wait")], "i64"])
         rust = declared.in_rust(self.rust)
-        self.assertEqual(len(rust), 23)
+        self.assertEqual(len(rust), 22)
         self.assertEqual(rust, {name: header[name] for name in rust})
         header["lrc_store_text"] = ["u32"]
         python = {

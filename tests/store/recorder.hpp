@@ -62,6 +62,5 @@ template <class Close, class... Arguments> uint32_t closing(Close close, Argumen
 #define lrc_store_delete_wait(...) RECORDED(delete, __VA_ARGS__)
 #define lrc_store_stat_wait(...) RECORDED(stat, __VA_ARGS__)
 #define lrc_store_trim_wait(...) RECORDED(trim, __VA_ARGS__)
-#define lrc_store_plan_wait(...) RECORDED(plan, __VA_ARGS__)
-#define lrc_store_mend_step_wait(...) RECORDED(mend_step, __VA_ARGS__)
+#define lrc_store_mend_wait(...) RECORDED(mend, __VA_ARGS__)
 #endif

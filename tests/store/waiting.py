@@ -29,7 +29,7 @@ CALLS = {
     "lose": (lambda session: session.lose("a", 0, 9), "lrc_store_lose_wait"),
     "repair": (lambda session: session.repair("a", 0, 9), "lrc_store_repair_wait"),
     "stat": (lambda session: session.stat("a"), "lrc_store_stat_wait"),
-    "mend": (lambda session: session.mend(), "lrc_store_plan_wait"),
+    "mend": (lambda session: session.mend(), "lrc_store_plan_part_wait"),
     "trim": (lambda session: session.trim(2), "lrc_store_trim_wait"),
     "delete": (lambda session: session.delete("a"), "lrc_store_delete_wait"),
 }
@@ -75,7 +75,7 @@ class Timeouts(unittest.TestCase):
         with Recorder() as record:
             self.session.get("a")
             self.session.mend()
-        forms = ["stat", "read", "plan", "mend_step", "mend_step"]
+        forms = ["stat", "read", "plan_part", "mend_step", "mend_step"]
         self.assertEqual(record.calls, [(f"lrc_store_{form}_wait", 0) for form in forms])
         with Recorder([0, BUSY]), self.assertRaises(Busy) as caught:
             self.session.get("a")
@@ -99,7 +99,7 @@ class Timeouts(unittest.TestCase):
 
 
 def all_lost():
-    """A store with as many lost fragments as a blob can have: planning a mend takes long."""
+    """A store with as many lost fragments as a blob can have: a plan of all takes long."""
     session = Session.open(1)
     session.put("a", bytes(12 * STRIPES))
     for stripe in range(STRIPES):
@@ -117,8 +117,8 @@ class Planner:
 
     def plan(self):
         while not self.ends.is_set():
-            plan, items = lrc_store._Slot(), lrc_store._U64()
-            lrc_store._library.lrc_store_plan_wait(self.session._slot, plan, items, -1)
+            plan, items, most = lrc_store._Slot(), lrc_store._U64(), 1 << 40
+            lrc_store._library.lrc_store_plan_part_wait(self.session._slot, plan, most, items, -1)
 
     def __enter__(self):
         self.thread.start()

@@ -19,6 +19,7 @@ pub use journal::{Call, Entry, Journal};
 
 use errors::{check, DONE};
 use library::*;
+use std::ffi::c_void;
 use std::time::Duration;
 
 /// A code, by its number of data fragments.
@@ -154,15 +155,6 @@ fn runs_of(lent: &mut Slot) -> Vec<Slice> {
         }
     }
 }
-
-/// After these statuses a mend goes on: the fragment is repaired, or cannot be.
-const MEND_GOES_ON: [u32; 5] = [
-    DONE,
-    Status::NoName as u32,
-    Status::Unrecoverable as u32,
-    Status::NoFragment as u32,
-    Status::NotLost as u32,
-];
 
 /// A session of a store, for one thread at a time. It may move to another thread.
 pub struct Session {
@@ -478,19 +470,18 @@ impl Session {
 
     /// Repairs all lost fragments that can be rebuilt, and returns their number.
     pub fn mend(&mut self) -> Result<u64, MendError> {
-        let (mut plan, mut items, mut version, mut repaired) = (Slot::empty(), 0, 0, 0);
-        let mut status =
-            unsafe { lrc_store_plan_wait(&mut self.slot, &mut plan, &mut items, self.wait_ms) };
-        while MEND_GOES_ON.contains(&status) {
-            status = unsafe {
-                lrc_store_mend_step_wait(&mut self.slot, &mut plan, &mut version, self.wait_ms)
-            };
-            repaired += u64::from(status == DONE);
-        }
-        if status == Status::NothingLeft as u32 {
+        let mut repaired = 0;
+        let status = unsafe { lrc_store_mend_wait(&mut self.slot, &mut repaired, self.wait_ms) };
+        if status == DONE {
             return Ok(repaired);
         }
         let error = Error::new(status, format_args!("mend()"));
         Err(MendError { repaired, error })
+    }
+
+    /// The address of its `lrc_slot`, for calls of `lrc_store.h` that have no other form here. The
+    /// slot has to keep a session of this store.
+    pub fn as_raw(&mut self) -> *mut c_void {
+        (&mut self.slot as *mut Slot).cast()
     }
 }

@@ -93,6 +93,5 @@ recorded! {
     lrc_store_delete_wait(slot: *mut Slot, name: *const u8, name_len: usize, version: *mut u64);
     lrc_store_stat_wait(slot: *mut Slot, name: *const u8, name_len: usize, version: *mut u64, len: *mut u64, stripes: *mut u64, lost: *mut u64);
     lrc_store_trim_wait(slot: *mut Slot, keep: u64, discarded: *mut u64);
-    lrc_store_plan_wait(slot: *mut Slot, other: *mut Slot, items: *mut u64);
-    lrc_store_mend_step_wait(slot: *mut Slot, other: *mut Slot, version: *mut u64);
+    lrc_store_mend_wait(slot: *mut Slot, repaired: *mut u64);
 }

@@ -127,8 +127,7 @@ fn get_and_mend_have_the_timeout() {
     );
     let (mended, calls) = recorded(|| session.mend());
     assert_eq!(mended, Ok(1));
-    let step = ("lrc_store_mend_step_wait", 77);
-    assert_eq!(calls, [("lrc_store_plan_wait", 77), step, step]);
+    assert_eq!(calls, [("lrc_store_mend_wait", 77)]);
     for statuses in [&[BUSY][..], &[0, BUSY]] {
         script(statuses);
         let error = session.get("a").unwrap_err();
@@ -183,29 +182,19 @@ fn get_asks_again_after_a_put() {
 #[test]
 fn a_mend_says_how_much_it_did() {
     let mut session = Session::open(4, 1000).unwrap();
-    // The first status is that of the plan. Of the others, only 0 is a repair.
-    let before: [(&[u32], u64); 4] = [
-        (&[], 0),
-        (&[0], 0),
-        (&[0, 0], 1),
-        (&[0, 2, 0, 4, 5, 0, 7], 2),
-    ];
     for stop in [
         Status::Busy,
         Status::NoMemory,
         Status::JournalFull,
         Status::Empty,
     ] {
-        for (statuses, repaired) in before {
-            script(statuses);
-            script(&[stop as u32]);
-            let error = session.mend().unwrap_err();
-            assert_eq!((error.repaired, error.error.status), (repaired, stop));
-            let text = stop.text();
-            let shown = format!("mend() after {repaired} repaired fragments: {text}");
-            assert_eq!(error.to_string(), shown);
-            assert_eq!(Error::from(error).to_string(), format!("mend(): {text}"));
-        }
+        script(&[stop as u32]);
+        let error = session.mend().unwrap_err();
+        assert_eq!((error.repaired, error.error.status), (0, stop));
+        let text = stop.text();
+        let shown = format!("mend() after 0 repaired fragments: {text}");
+        assert_eq!(error.to_string(), shown);
+        assert_eq!(Error::from(error).to_string(), format!("mend(): {text}"));
     }
     assert_eq!(unread(), 0);
 }
