@@ -3,19 +3,37 @@ ghost use Rattle.std.specs.Prelude.{◌≡◌};
 ghost use Rattle.shared.specs.Passes.{Stays};
 
 use anyhow::{Result, ensure};
-use book::{Answer, Fault, Name};
+use book::{Answer, Fault, Limit, Name};
 use bytes::Bytes;
 use lrc_code::Code;
 use shared::{Pass, Store};
 use std::alloc::Global;
 use std::sync::Wait;
 
-/// A blob of one stripe of width 1: its code, its bytes, and the numbers of its lost fragments.
+/// The kind of store, and a blob of one stripe of width 1: its code, its bytes, and the numbers of
+/// its lost fragments.
 #[derive(Drop)]
 pub(crate) struct Case {
+    pub has_journal: bool,
     pub code: Code,
     pub bytes: &'static [u8],
     pub lost: [u8; 4],
+}
+
+impl Case {
+    /// The limit of the store's journal.
+    pub fn limit(&self) -> Option<Limit> {
+        if self.has_journal {
+            Limit::new(16)
+        } else {
+            None
+        }
+    }
+
+    /// How many entries a trim to two discards behind eight calls.
+    pub fn trimmed(&self) -> u64 {
+        if self.has_journal { 6 } else { 0 }
+    }
 }
 
 /// A call, with its expected answer if the call alone does not determine it.

@@ -1,6 +1,6 @@
-//! Calls of the store, with each of their allocations refused in turn. A call that runs out of
-//! memory leaves the lost fragments unchanged, and gives the expected answer when repeated. The
-//! program ends with status 1 at the first other answer.
+//! Calls of a store with a journal and of one without, with each of their allocations refused in
+//! turn. A call that runs out of memory leaves the lost fragments unchanged, and gives the expected
+//! answer when repeated. The program ends with status 1 at the first other answer.
 #![tactic(auto)]
 
 ghost use Rattle.std.specs.Prelude.{◌≡◌, IfOk};
@@ -10,8 +10,8 @@ mod calls;
 mod mending;
 mod reading;
 
-use anyhow::{Context, Result, ensure};
-use book::{Limit, is_lawful_from};
+use anyhow::{Result, ensure};
+use book::is_lawful_from;
 use calls::{Case, Step, make};
 use lrc_code::Code;
 use mending::mend;
@@ -21,13 +21,12 @@ use std::alloc::Global;
 use std::sync::Wait;
 
 /// Opens a store of width 1, again if it runs out of memory.
-fn opened(alloc: Global) -> Result<(Store, Pass)>
+fn opened(alloc: Global, case: &Case) -> Result<(Store, Pass)>
     ensures { IfOk result (λ r. (r.1.store ≡ r.0) × (r.1.room ≡ 64)) }
 {
-    let limit = Limit::new(16).context("a limit")?;
-    match Store::open(alloc, 1, limit) {
+    match Store::open_with(alloc, 1, case.limit()) {
         Ok(opened) => Ok(opened),
-        Err(_) => Ok(Store::open(alloc, 1, limit)?),
+        Err(_) => Ok(Store::open_with(alloc, 1, case.limit())?),
     }
 }
 
@@ -70,19 +69,36 @@ fn repair_and_mend<R: Wait>(
     let three = [second, third, fourth];
     make(rt, alloc, store, pass, case, Step::Repair(third), &three)?;
     let two = [second, fourth];
-    make(rt, alloc, store, pass, case, Step::Trim(6), &two)?;
+    make(
+        rt,
+        alloc,
+        store,
+        pass,
+        case,
+        Step::Trim(case.trimmed()),
+        &two,
+    )?;
     mend(rt, alloc, store, pass, &two)?;
     make(rt, alloc, store, pass, case, Step::Stat, &[])
 }
 
-/// All calls on one blob. The closed book has their entries and no others.
+/// All calls on one blob. The closed book has counted them, and its journal has their entries and
+/// no others.
 fn run<R: Wait>(rt: &R, alloc: Global, case: &Case) -> Result<()> {
-    let (store, mut pass) = opened(alloc)?;
+    let (store, mut pass) = opened(alloc, case)?;
     put_and_lose(rt, alloc, &store, &mut pass, case)?;
     repair_and_mend(rt, alloc, &store, &mut pass, case)?;
     let book = store.close(pass);
     let (base, entries) = (book.base(), book.entries());
-    ensure!(base.trimmed == 6 && entries.len() == 5, "another journal");
+    ensure!(book.calls() == 11, "another number of calls");
+    let kept = if case.has_journal { 5 } else { 0 };
+    ensure!(
+        base.trimmed == case.trimmed() && entries.len() == kept,
+        "another journal"
+    );
+    if !case.has_journal {
+        return Ok(());
+    }
     let lawful = match is_lawful_from(alloc, base, entries, book.width()) {
         Err(_) => is_lawful_from(alloc, base, entries, book.width())?,
         Ok(lawful) => lawful,
@@ -92,18 +108,22 @@ fn run<R: Wait>(rt: &R, alloc: Global, case: &Case) -> Result<()> {
 }
 
 fn main(rt: HostRuntime) -> Result<()> {
-    let wide = Case {
-        code: Code::Wide,
-        bytes: b"ABCDEFGHIJKL",
-        lost: [0, 1, 6, 7],
-    };
-    let small = Case {
-        code: Code::Small,
-        bytes: b"ABCDEF",
-        lost: [0, 1, 3, 4],
-    };
-    run(&rt, rt.alloc(), &wide)?;
-    run(&rt, rt.alloc(), &small)?;
+    for has_journal in [true, false] {
+        let wide = Case {
+            has_journal,
+            code: Code::Wide,
+            bytes: b"ABCDEFGHIJKL",
+            lost: [0, 1, 6, 7],
+        };
+        let small = Case {
+            has_journal,
+            code: Code::Small,
+            bytes: b"ABCDEF",
+            lost: [0, 1, 3, 4],
+        };
+        run(&rt, rt.alloc(), &wide)?;
+        run(&rt, rt.alloc(), &small)?;
+    }
     println!(rt; "each call gives its answer")?;
     Ok(())
 }
