@@ -1,9 +1,10 @@
 /* What a journal costs: puts of 64 bytes over many names, without a journal and with journals that
  * are trimmed to nothing whenever they are full. `journal [NAMES]`, 100,000 if it is left out: four
  * puts a name. A row tells the processor time of a put, the longest call, and the greatest memory
- * of the process by names. Each row is a process of its own. The last two rows tell the longest
- * call that another thread makes meanwhile, if a full journal of a million puts is trimmed at once,
- * and in parts. */
+ * of the process by names. Each row is a process of its own. The last four rows tell the longest
+ * call that another thread makes meanwhile, if most of a journal of a million puts is trimmed at
+ * once and in parts, and if a million lost fragments are planned at once, and in parts, and
+ * repaired. */
 #include "timing.h"
 #include <pthread.h>
 #include <stdatomic.h>
@@ -96,31 +97,74 @@ static void *ask(void *argument) {
     return NULL;
 }
 
-/* The longest call of another thread beside a trim of most of a journal. */
-static void beside_trim(int in_parts, unsigned long names) {
-    enum { LIMIT = 1048576, KEPT = LIMIT / 16 };
+enum { LIMIT = 1048576, KEPT = LIMIT / 16, LOST = 4 };
+
+/* A store whose journal is to be trimmed. */
+static void fill_journal(lrc_slot *slot, unsigned long names) {
     static const uint8_t blob[BYTES] = {1, 2, 3};
+    char name[NAME_BYTES];
+    done("lrc_store_open", lrc_store_open(WIDTH, LIMIT, slot));
+    for (unsigned long i = 0; i < LIMIT - KEPT; i++) {
+        snprintf(name, sizeof name, "n%lu", i % names);
+        put(slot, name, blob);
+    }
+}
+
+/* A store that lacks a million fragments. */
+static void lose_many(lrc_slot *slot) {
+    static const uint8_t blob[BYTES] = {1, 2, 3};
+    char name[NAME_BYTES];
+    uint64_t version;
+    done("lrc_store_open_unjournaled", lrc_store_open_unjournaled(WIDTH, slot));
+    for (unsigned long i = 0; i < LIMIT / LOST; i++) {
+        snprintf(name, sizeof name, "n%lu", i);
+        put(slot, name, blob);
+        for (uint64_t k = 0; k < LOST; k++)
+            done("lrc_store_lose", lrc_store_lose(slot, (const uint8_t *)name, strlen(name), 0,
+                                                  3 * k, &version));
+    }
+}
+
+static uint64_t trim_most(lrc_slot *slot, int in_parts) {
+    uint64_t discarded = 0;
+    done("lrc_store_trim", in_parts ? lrc_store_trim_wait(slot, KEPT, &discarded, -1)
+                                    : lrc_store_trim(slot, KEPT, &discarded));
+    return discarded;
+}
+
+static uint64_t mend(lrc_slot *slot, int in_parts) {
+    lrc_slot plan = LRC_SLOT_EMPTY;
+    uint64_t repaired = 0, items = 0, version = 0;
+    if (in_parts) {
+        done("lrc_store_mend_wait", lrc_store_mend_wait(slot, &repaired, -1));
+        return repaired;
+    }
+    done("lrc_store_plan_wait", lrc_store_plan_wait(slot, &plan, &items, -1));
+    while (lrc_store_mend_step_wait(slot, &plan, &version, -1) == LRC_STORE_DONE) repaired++;
+    lrc_slot_release(&plan);
+    return repaired;
+}
+
+/* The longest call of another thread beside a trim or a mend. */
+static void beside(int is_mend, int in_parts, unsigned long names) {
     static struct other other = {LRC_SLOT_EMPTY, 0, 0, 0};
     lrc_slot slot = LRC_SLOT_EMPTY;
     pthread_t thread;
-    uint64_t discarded;
-    char name[NAME_BYTES];
-    done("lrc_store_open", lrc_store_open(WIDTH, LIMIT, &slot));
-    for (unsigned long i = 0; i < LIMIT - KEPT; i++) {
-        snprintf(name, sizeof name, "n%lu", i % names);
-        put(&slot, name, blob);
-    }
+    if (is_mend)
+        lose_many(&slot);
+    else
+        fill_journal(&slot, names);
     done("lrc_store_split", lrc_store_split(&slot, 1, &other.slot));
     if (pthread_create(&thread, NULL, ask, &other)) exit(1);
     const double start = now();
-    done("lrc_store_trim", in_parts ? lrc_store_trim_wait(&slot, KEPT, &discarded, -1)
-                                    : lrc_store_trim(&slot, KEPT, &discarded));
+    const uint64_t count = is_mend ? mend(&slot, in_parts) : trim_most(&slot, in_parts);
     const double whole = now() - start;
     other.is_over = 1;
     pthread_join(thread, NULL);
-    printf("trim of %llu entries %s: %.0f ms, longest call beside it %.2f ms of %lu\n",
-           (unsigned long long)discarded, in_parts ? "in parts" : "at once", whole / 1e6,
-           other.longest / 1e6, other.calls);
+    printf("%s %llu %s %s: %.0f ms, longest call beside it %.2f ms of %lu\n",
+           is_mend ? "mend of" : "trim of", (unsigned long long)count,
+           is_mend ? "lost fragments, planned" : "entries", in_parts ? "in parts" : "at once",
+           whole / 1e6, other.longest / 1e6, other.calls);
 }
 
 int main(int argc, char **argv) {
@@ -131,7 +175,7 @@ int main(int argc, char **argv) {
         return 2;
     }
     enum { LIMIT_COUNT = sizeof LIMITS / sizeof *LIMITS };
-    for (int i = 0; i < LIMIT_COUNT + 2; i++) {
+    for (int i = 0; i < LIMIT_COUNT + 4; i++) {
         int status = 0;
         fflush(stdout);
         const pid_t child = fork();
@@ -140,7 +184,7 @@ int main(int argc, char **argv) {
             if (i < LIMIT_COUNT)
                 row(LIMITS[i], names);
             else
-                beside_trim(i > LIMIT_COUNT, names);
+                beside(i >= LIMIT_COUNT + 2, (i - LIMIT_COUNT) % 2, names);
             fflush(stdout);
             _exit(0);
         }
