@@ -28,8 +28,7 @@ KINDS = [
     (
         "store",
         FIRST_PARITY,
-        "history book gate ledger one_map requests ledger_map shared shard mender sharded"
-        " sharded_mender",
+        "history book gate ledger one_map requests ledger_map shared shard mender sharded",
     ),
     ("scripts", MADE, "script command_line transcript rounds play program lrcstore"),
     ("for C", GLOBAL, "coder_c session store_c"),

@@ -21,7 +21,6 @@ API = [
     "shared",
     "mender",
     "sharded",
-    "sharded_mender",
     "lent",
     "book",
     "history",

@@ -6,7 +6,7 @@ ghost use Rattle.std.specs.Prelude.{◌≡◌};
 ghost use Rattle.shared.specs.Passes.{Stays};
 
 use anyhow::{Context, Result, bail};
-use shared::{Answer, Asked, Bytes, Grant, Limit, Name, Pass, Piece, Plans, Store};
+use shared::{Answer, Asked, Bytes, Grant, Limit, Name, Pass, Piece, Plans, Snapshot, Store};
 use std::alloc::Global;
 use std::sync::Wait;
 
@@ -54,10 +54,10 @@ fn beginning<R: Wait>(rt: &R, store: &Store, pass: &mut Pass, name: Name) -> Res
     }
 }
 
-/// Reads eight bytes more of the grant's version. It is no call of the store: it does not wait, and
-/// the journal gets no entry.
-fn more(grant: &Grant) -> Result<Grant> {
-    match Grant::ask(&grant.sealed, 4, 8)? {
+/// Reads eight bytes more of a version. It is no call of the store: it does not wait, and the
+/// journal gets no entry.
+fn more(snapshot: &Snapshot) -> Result<Grant> {
+    match snapshot.read(4, 8)? {
         Asked::Granted(grant) => Ok(grant),
         Asked::OutOfRange => bail!("the blob is shorter"),
         Asked::Unrecoverable => bail!("this version has lost too much"),
@@ -77,7 +77,8 @@ fn count_built(alloc: Global, grant: &Grant, plans: &mut Plans) -> Result<u64> {
 /// Prints the bytes of a grant, more of the same version, and how many pieces its walks built.
 fn show_version<R: Print>(rt: &R, alloc: Global, grant: &Grant) -> Result<()> {
     show(rt, alloc, grant)?;
-    show(rt, alloc, &more(grant)?)?;
+    let snapshot = grant.snapshot()?;
+    show(rt, alloc, &more(&snapshot)?)?;
     let mut plans = Plans::new(alloc);
     let first = count_built(alloc, grant, &mut plans)?;
     let second = count_built(alloc, grant, &mut plans)?;
