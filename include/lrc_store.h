@@ -293,6 +293,28 @@ uint32_t lrc_store_mend_step_wait(lrc_slot *slot, lrc_slot *other, uint64_t *ver
  * that status. `repaired` gets how many it repaired, unless that is none and it was refused. */
 uint32_t lrc_store_mend_wait(lrc_slot *slot, uint64_t *repaired, int64_t timeout_ms);
 
+/* ---- A pool of the sessions of a store, for threads that come and go. Any threads may share it.
+ * Each takes a session, makes its calls on it, and gives it back. */
+typedef struct lrc_pool lrc_pool;
+
+/* Makes a pool of the session in `slot`, which is empty afterwards. LRC_STORE_NO_MEMORY leaves it
+ * as it was. */
+uint32_t lrc_pool_open(lrc_slot *slot, lrc_pool **pool);
+
+/* Lends a session to the calling thread until lrc_pool_give. There is one for each place of the
+ * session that the pool was made of: 64, if it was the first of its store. If all are lent, it waits
+ * in a line for one: up to `timeout_ms`, and not if that is 0, after which it returns
+ * LRC_STORE_BUSY; without a deadline if it is negative. LRC_STORE_NO_MEMORY if a session cannot be
+ * made. */
+uint32_t lrc_pool_take(lrc_pool *pool, lrc_slot **session, int64_t timeout_ms);
+
+/* Gives a session back. The first thread in the line gets it. */
+void lrc_pool_give(lrc_pool *pool, lrc_slot *session);
+
+/* Joins all sessions into one in the empty `slot`, and frees the pool. LRC_STORE_NOT_ALONE if a
+ * session is lent. No thread may use the pool meanwhile or afterwards. */
+uint32_t lrc_pool_close(lrc_pool *pool, lrc_slot *slot);
+
 #ifdef __cplusplus
 }
 #endif

@@ -11,6 +11,7 @@
  * The turns lie in a table, by the store's number. Two stores may share one, which costs time
  * alone. */
 #define _GNU_SOURCE
+#include "deadline.h"
 #include "lrc_store.h"
 
 #include <pthread.h>
@@ -19,8 +20,6 @@
 
 /* The proved function that gives the number of a session's store. lrc_store.h has it not. */
 uint32_t lrc_slot_number(lrc_slot *slot, uint64_t *number);
-
-enum { NS_OF_MS = 1000000, NS_OF_S = 1000000000 };
 
 /* Attempts without the turn, if a call is long, and from how many bytes on it is. */
 enum { TRIES = 8, LONG_BYTES = 65536 };
@@ -49,21 +48,6 @@ static struct { _Alignas(CACHE_LINE) pthread_mutex_t mutex; } turns[1 << TURN_BI
 /* Runs before all constructors of C++. */
 __attribute__((constructor(101))) static void make_turns(void) {
     for (unsigned i = 0; i < 1 << TURN_BITS; i++) pthread_mutex_init(&turns[i].mutex, NULL);
-}
-
-static const int64_t NEVER = INT64_MAX;
-
-static int64_t now_ns(void) {
-    struct timespec now;
-    clock_gettime(CLOCK_MONOTONIC, &now);
-    return (int64_t)now.tv_sec * NS_OF_S + now.tv_nsec;
-}
-
-/* When a call that begins now has waited for long enough, by the monotonic clock. */
-static int64_t deadline_after(int64_t timeout_ms) {
-    if (timeout_ms < 0) return NEVER;
-    const int64_t now = now_ns();
-    return timeout_ms < (NEVER - now) / NS_OF_MS ? now + timeout_ms * NS_OF_MS : NEVER;
 }
 
 static int64_t least(int64_t a, int64_t b) { return a < b ? a : b; }

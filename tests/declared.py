@@ -35,9 +35,9 @@ RATTLE = {
 }
 C = {"size_t": "size", "int64_t": "i64"}
 C.update({f"uint{bits}_t": f"u{bits}" for bits in (8, 16, 32, 64)})
-C.update({f"lrc_{kind}": kind for kind in ("slot", "slice", "buffer", "entry")})
+C.update({f"lrc_{kind}": kind for kind in ("slot", "slice", "buffer", "entry", "pool")})
 RUST = {"Slot": "slot", "Slice": "slice", "RawBuffer": "buffer", "RawEntry": "entry"}
-RUST["usize"] = "size"
+RUST.update({"RawPool": "pool", "usize": "size"})
 
 
 def read(*path):
@@ -68,11 +68,10 @@ def exported(text):
 
 def c_type(parameter):
     """The type of a parameter such as `const uint8_t *name` or `const uint8_t numbers[4]`."""
-    const, name, star, array = re.fullmatch(
-        r"(const )?(\w+) (\*?)\w+(\[\w+\])?", " ".join(parameter.split())
+    const, name, stars, array = re.fullmatch(
+        r"(const )?(\w+) (\**)\w+(\[\w+\])?", " ".join(parameter.split())
     ).groups()
-    pointer = f"*{'const' if const else 'mut'} " if star or array else ""
-    return pointer + C[name]
+    return f"*{'const' if const else 'mut'} " * (len(stars) or bool(array)) + C[name]
 
 
 def in_header(text):

@@ -108,6 +108,11 @@ TESTS = {
     "waiting": Test(
         f"{C} tests/store/waiting.c library/store_wait.c -o program", "./program", seconds=10
     ),
+    "pool": Test(
+        f"{C} tests/store/pool.c library/store_pool.c -Wl,--wrap=malloc,--wrap=calloc {STORE}"
+        " -o program",
+        "./program",
+    ),
     "waits": store_program("edges/waits.c", seconds=25),
     "calls": store_program("edges/calls.cpp", "4"),
     "threads": store_program("edges/threads.cpp", "4"),
@@ -140,6 +145,14 @@ TESTS = {
     "python_store": Test("true", "python3 tests/store/bindings.py", seconds=120),
     "rust_coder": rust_crate("rust"),
     "rust_store": rust_crate("rust_store"),
+    "go_store": Test(
+        f"{C} -shared -fPIC tests/store/busy.c -o busy.so"
+        " && tests/store/go.sh test -c -o ../../program .",
+        "./program -test.timeout 50s"
+        " && LRC_BUSY=1 LD_PRELOAD=./busy.so ./program -test.timeout 50s -test.run TestBusy",
+        seconds=120,
+        needs=("go", "golang-go"),
+    ),
     "liberasurecode": Test(
         f"{C} -I integrations {BACKEND}/lrc_backend.c {BACKEND}/test_backend.c {CODER}"
         " -lerasurecode -o program",

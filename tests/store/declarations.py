@@ -40,7 +40,8 @@ class Declarations(unittest.TestCase):
         for name in ("lrc_store_open", "lrc_store_open_unjournaled"):
             exported[name].remove("u64")  # the number of the store
         del exported["lrc_slot_number"]  # for the library's own use
-        plain = {name: words for name, words in header.items() if not name.endswith("_wait")}
+        proved = {name: words for name, words in header.items() if "_pool_" not in name}
+        plain = {name: words for name, words in proved.items() if not name.endswith("_wait")}
         self.assertEqual(plain, exported)
         forms = {name: words for name, words in header.items() if name.endswith("_wait")}
         self.assertEqual(len(forms), 13)
@@ -48,7 +49,7 @@ class Declarations(unittest.TestCase):
         for name, words in forms.items():
             self.assertEqual(words, [*header[name.removesuffix("_wait")], "i64"])
         rust = declared.in_rust(self.rust)
-        self.assertEqual(len(rust), 22)
+        self.assertEqual(len(rust), 26)
         self.assertEqual(rust, {name: header[name] for name in rust})
         header["lrc_store_text"] = ["u32"]
         python = {
