@@ -340,8 +340,68 @@ private:
         return found;
     }
 
+    friend class pool;
     slot held;
     int64_t wait_ms = -1;
+};
+
+// The sessions of a store, for threads that come and go. Any threads may share it.
+class pool {
+public:
+    // A session that is lent to a thread until this ends. Do not close it, nor join it.
+    class lease {
+    public:
+        lease(lease &&) = delete;
+        ~lease() {
+            std::swap(*lent.held.get(), *place);
+            lrc_pool_give(from, place);
+        }
+        session *operator->() { return &lent; }
+        session &operator*() { return lent; }
+
+    private:
+        friend class pool;
+        lease(lrc_pool *lender, lrc_slot *session_place, int64_t wait_ms)
+            : from(lender), place(session_place) {
+            std::swap(*lent.held.get(), *place);
+            lent.wait_ms = wait_ms;
+        }
+
+        lrc_pool *const from;
+        lrc_slot *const place;
+        session lent;
+    };
+
+    // The sessions that can be split off this one, and this one. They have its timeout.
+    explicit pool(session &&first) : wait_ms(first.wait_ms) {
+        detail::check(lrc_pool_open(first.held.get(), &held), "pool");
+    }
+    pool(pool &&) = delete;
+    ~pool() {
+        slot all;
+        if (held) lrc_pool_close(held, all.get());
+    }
+
+    // Lends a session. If all are lent it waits in a line for one, as long as the timeout allows.
+    lease take() {
+        lrc_slot *place = nullptr;
+        detail::check(lrc_pool_take(held, &place, wait_ms), "take");
+        return lease(held, place, wait_ms);
+    }
+
+    // Joins all sessions into one. Throws store_error with LRC_STORE_NOT_ALONE if one is lent. The
+    // pool cannot be used afterwards.
+    session close() {
+        session made;
+        detail::check(lrc_pool_close(held, made.held.get()), "close");
+        made.wait_ms = wait_ms;
+        held = nullptr;
+        return made;
+    }
+
+private:
+    lrc_pool *held = nullptr;
+    int64_t wait_ms;
 };
 
 } // namespace lrc

@@ -7,9 +7,11 @@
 #include <chrono>
 #include <fstream>
 #include <iostream>
+#include <memory>
 #include <optional>
 #include <string>
 #include <thread>
+#include <vector>
 
 namespace {
 
@@ -334,6 +336,47 @@ void mends() {
     }
 }
 
+// 100 threads by the 64 sessions of a pool.
+void threads_by_a_pool() {
+    session first = session::open(4, 10000);
+    first.set_timeout(std::chrono::seconds(10));
+    lrc::pool pool(std::move(first));
+    std::vector<std::thread> threads;
+    for (unsigned number = 0; number < 100; number++)
+        threads.emplace_back([&pool, number] {
+            const std::string name = "n" + std::to_string(number);
+            for (unsigned turn = 0; turn < 20; turn++) {
+                const std::string blob(100, static_cast<char>(number ^ turn));
+                pool.take()->put(name, blob);
+                EXPECT((*pool.take()).get(name), blob);
+            }
+        });
+    for (std::thread &thread : threads) thread.join();
+    session all = pool.close();
+    EXPECT(all.stat("n0").len, 100u);
+    EXPECT(all.close().entries, 3u * 100 * 20 + 1);
+}
+
+void pools() {
+    threads_by_a_pool();
+    session first = session::open(4);
+    first.set_timeout(milliseconds(20));
+    lrc::pool pool(std::move(first));
+    std::vector<std::unique_ptr<lrc::pool::lease>> leases;
+    for (unsigned i = 0; i < 64; i++) leases.emplace_back(new lrc::pool::lease(pool.take()));
+    const auto start = std::chrono::steady_clock::now();
+    EXPECT_ERROR(pool.take(), LRC_STORE_BUSY, "take()");
+    EXPECT(std::chrono::steady_clock::now() - start >= milliseconds(20), true);
+    leases.pop_back();
+    pool.take()->put("a", "HELLO");
+    EXPECT(recorder::calls.back().second, 20);
+    EXPECT_ERROR(pool.close(), LRC_STORE_NOT_ALONE, "close()");
+    leases.clear();
+    EXPECT(pool.close().get("a"), std::string("HELLO"));
+    EXPECT(recorder::calls.back().second, 20);
+    lrc::pool dropped(session::open(4));
+}
+
 struct noted {
     uint32_t who, call;
     const char *name;
@@ -451,6 +494,7 @@ int main() {
     timeouts();
     a_call_ends_at_its_deadline();
     mends();
+    pools();
     journals();
     no_journal();
     unchecked_journals();

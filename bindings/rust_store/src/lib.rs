@@ -10,12 +10,14 @@ mod errors;
 mod journal;
 #[cfg_attr(test, path = "../tests/recorder/library.rs")]
 mod library;
+mod pool;
 #[cfg(test)]
 #[path = "../tests/recorder/tests.rs"]
 mod tests;
 
 pub use errors::{Error, MendError, Refused, Status};
 pub use journal::{Call, Entry, Journal};
+pub use pool::{Lease, Pool};
 
 use errors::{check, DONE};
 use library::*;

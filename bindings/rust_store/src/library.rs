@@ -23,6 +23,12 @@ impl Drop for Slot {
     }
 }
 
+/// The pool of the library, of which only the address is known.
+#[repr(C)]
+pub struct RawPool {
+    _opaque: [u8; 0],
+}
+
 /// Lent bytes, with the layout of `lrc_slice`.
 #[repr(C)]
 #[derive(Clone, Copy)]
@@ -86,6 +92,10 @@ extern "C" {
     pub fn lrc_store_stat_wait(slot: *mut Slot, name: *const u8, name_len: usize, version: *mut u64, len: *mut u64, stripes: *mut u64, lost: *mut u64, timeout_ms: i64) -> u32;
     pub fn lrc_store_trim_wait(slot: *mut Slot, keep: u64, discarded: *mut u64, timeout_ms: i64) -> u32;
     pub fn lrc_store_mend_wait(slot: *mut Slot, repaired: *mut u64, timeout_ms: i64) -> u32;
+    pub fn lrc_pool_open(slot: *mut Slot, pool: *mut *mut RawPool) -> u32;
+    pub fn lrc_pool_take(pool: *mut RawPool, session: *mut *mut Slot, timeout_ms: i64) -> u32;
+    pub fn lrc_pool_give(pool: *mut RawPool, session: *mut Slot);
+    pub fn lrc_pool_close(pool: *mut RawPool, slot: *mut Slot) -> u32;
     pub fn lrc_slot_release(slot: *mut Slot);
     pub fn lrc_store_text(status: u32) -> *const c_char;
 }

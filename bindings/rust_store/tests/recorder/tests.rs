@@ -139,6 +139,20 @@ fn get_and_mend_have_the_timeout() {
     assert_eq!(unread(), 0);
 }
 
+#[test]
+fn the_sessions_of_a_pool_have_its_timeout() {
+    let mut session = Session::open(4, 1000).unwrap();
+    session.put("a", b"HELLO", Code::Wide).unwrap();
+    session.set_timeout(Some(Duration::from_millis(77)));
+    let pool = Pool::new(session).unwrap();
+    let (_, calls) = recorded(|| pool.take().unwrap().stat("a"));
+    assert_eq!(calls, [("lrc_store_stat_wait", 77)]);
+    let mut session = pool.close().unwrap();
+    let (_, calls) = recorded(|| session.stat("a"));
+    assert_eq!(calls, [("lrc_store_stat_wait", 77)]);
+    drop(Pool::new(session).unwrap());
+}
+
 /// Has other sessions' calls come between the next stats and reads of this thread.
 fn between(
     other: &Rc<RefCell<Session>>,
