@@ -1,0 +1,255 @@
+package lrcstore
+
+import (
+	"context"
+	"errors"
+	"testing"
+	"time"
+)
+
+// prompt is how soon a call has to return once its context ends.
+const prompt = 5 * time.Second
+
+// calls are all methods of a store that take a context.
+var calls = map[string]func(s *Store, ctx context.Context) error{
+	"Put":   func(s *Store, ctx context.Context) error { return second(s.Put(ctx, "a", nil)) },
+	"PutIn": func(s *Store, ctx context.Context) error { return second(s.PutIn(ctx, LRC6, "a", nil)) },
+	"Get": func(s *Store, ctx context.Context) error {
+		_, _, err := s.Get(ctx, "a")
+		return err
+	},
+	"ReadAt": func(s *Store, ctx context.Context) error { return second(s.ReadAt(ctx, "a", nil, 0)) },
+	"Lend": func(s *Store, ctx context.Context) error {
+		_, err := s.Lend(ctx, "a", 0, 0)
+		return err
+	},
+	"Lose":   func(s *Store, ctx context.Context) error { return second(s.Lose(ctx, "a", 0, 0)) },
+	"Repair": func(s *Store, ctx context.Context) error { return second(s.Repair(ctx, "a", 0, 0)) },
+	"Delete": func(s *Store, ctx context.Context) error { return second(s.Delete(ctx, "a")) },
+	"Stat": func(s *Store, ctx context.Context) error {
+		_, err := s.Stat(ctx, "a")
+		return err
+	},
+	"Trim": func(s *Store, ctx context.Context) error { return second(s.Trim(ctx, 0)) },
+	"Mend": func(s *Store, ctx context.Context) error { return second(s.Mend(ctx)) },
+}
+
+func second(_ uint64, err error) error { return err }
+
+func openedStore(t *testing.T) *Store {
+	t.Helper()
+	s, err := Open(4)
+	if err != nil {
+		t.Fatal(err)
+	}
+	return s
+}
+
+// occupy takes all sessions, so that a call waits, and returns a function that gives them back.
+func occupy(s *Store) (free func()) {
+	for i := 0; i < sessions; i++ {
+		s.calls <- struct{}{}
+	}
+	return func() {
+		for i := 0; i < sessions; i++ {
+			<-s.calls
+		}
+	}
+}
+
+// expectSoon runs a call, which has to return this error before long.
+func expectSoon(t *testing.T, want error, call func() error) {
+	t.Helper()
+	done := make(chan error, 1)
+	go func() { done <- call() }()
+	select {
+	case err := <-done:
+		if !errors.Is(err, want) {
+			t.Errorf("%v, want %v", err, want)
+		}
+	case <-time.After(prompt):
+		t.Fatalf("waits, want %v", want)
+	}
+}
+
+func TestContextEnded(t *testing.T) {
+	s := openedStore(t)
+	defer s.Close()
+	cancelled, cancel := context.WithCancel(context.Background())
+	cancel()
+	late, cancel := context.WithDeadline(context.Background(), time.Now())
+	defer cancel()
+	for name, call := range calls {
+		if err := call(s, cancelled); err != context.Canceled {
+			t.Errorf("%s, cancelled: %v", name, err)
+		}
+		if err := call(s, late); err != context.DeadlineExceeded {
+			t.Errorf("%s, late: %v", name, err)
+		}
+	}
+	if _, err := s.Stat(context.Background(), "a"); !errors.Is(err, ErrNoName) {
+		t.Errorf("a call whose context had ended was made: %v", err)
+	}
+}
+
+func TestContextEndsInLine(t *testing.T) {
+	s := openedStore(t)
+	defer s.Close()
+	defer occupy(s)()
+	for _, call := range calls {
+		ctx, cancel := context.WithTimeout(context.Background(), time.Millisecond)
+		expectSoon(t, context.DeadlineExceeded, func() error { return call(s, ctx) })
+		cancel()
+		ctx, cancel = context.WithCancel(context.Background())
+		time.AfterFunc(time.Millisecond, cancel)
+		expectSoon(t, context.Canceled, func() error { return call(s, ctx) })
+	}
+}
+
+// The store is busy for as long as it is asked: C waits only for slices of the context's time.
+func TestContextEndsInC(t *testing.T) {
+	s := openedStore(t)
+	defer s.Close()
+	var asked []int64
+	busy := func(ms int64) reply {
+		asked = append(asked, ms)
+		time.Sleep(time.Duration(ms) * time.Millisecond)
+		return reply{status: 1}
+	}
+	do := func(ctx context.Context) error {
+		_, err := s.do(ctx, "Put", "a", busy)
+		return err
+	}
+	ctx, cancel := context.WithTimeout(context.Background(), 30*time.Millisecond)
+	defer cancel()
+	expectSoon(t, context.DeadlineExceeded, func() error { return do(ctx) })
+	ctx, cancel = context.WithCancel(context.Background())
+	time.AfterFunc(30*time.Millisecond, cancel)
+	expectSoon(t, context.Canceled, func() error { return do(ctx) })
+	for _, ms := range asked {
+		if ms < 1 || ms > longestWait.Milliseconds() {
+			t.Errorf("C waits for %d ms", ms)
+		}
+	}
+	if len(s.calls) != 0 {
+		t.Errorf("%d sessions are still taken", len(s.calls))
+	}
+}
+
+func TestPatience(t *testing.T) {
+	if ms, err := patience(context.Background()); ms != -1 || err != nil {
+		t.Errorf("without an end: %d, %v", ms, err)
+	}
+	ctx, cancel := context.WithTimeout(context.Background(), time.Hour)
+	defer cancel()
+	if ms, err := patience(ctx); ms != longestWait.Milliseconds() || err != nil {
+		t.Errorf("an hour: %d, %v", ms, err)
+	}
+}
+
+func TestClosed(t *testing.T) {
+	s := openedStore(t)
+	if err := s.Close(); err != nil {
+		t.Fatal(err)
+	}
+	ctx, cancel := context.WithTimeout(context.Background(), prompt)
+	defer cancel()
+	for name, call := range calls {
+		err := call(s, ctx)
+		var refused *Error
+		if !errors.As(err, &refused) || refused.Err != ErrClosed || refused.Op != name {
+			t.Fatalf("%s: %v", name, err)
+		}
+	}
+	expectSoon(t, ErrClosed, s.Close)
+}
+
+// Close waits for the calls under way, and ends those that wait for their turn.
+func TestCloseWaits(t *testing.T) {
+	s := openedStore(t)
+	free := occupy(s)
+	waiting, closed := make(chan error, 1), make(chan error, 1)
+	go func() { waiting <- second(s.Put(context.Background(), "a", nil)) }()
+	go func() { closed <- s.Close() }()
+	expectSoon(t, ErrClosed, func() error { return <-waiting })
+	select {
+	case err := <-closed:
+		t.Fatalf("closed while calls are under way: %v", err)
+	case <-time.After(20 * time.Millisecond):
+	}
+	free()
+	expectSoon(t, nil, func() error { return <-closed })
+}
+
+// Mend stops between its repairs, and returns how many it made.
+func TestMendStops(t *testing.T) {
+	s, background := openedStore(t), context.Background()
+	defer s.Close()
+	const stripes = 2000
+	if _, err := s.Put(background, "a", make([]byte, stripes*48)); err != nil {
+		t.Fatal(err)
+	}
+	for stripe := 0; stripe < stripes; stripe++ {
+		if _, err := s.Lose(background, "a", stripe, 0); err != nil {
+			t.Fatal(err)
+		}
+	}
+	ctx := &countdown{Context: background, left: 100, done: make(chan struct{})}
+	repaired, err := s.Mend(ctx)
+	if shape, _ := s.Stat(background, "a"); err != context.Canceled || repaired == 0 ||
+		uint64(shape.Lost)+repaired != stripes {
+		t.Errorf("Mend: %d, %v; %d are lost", repaired, err, shape.Lost)
+	}
+}
+
+// A put comes between the two calls in C of a Get, which asks again then.
+func TestGetAsksAgain(t *testing.T) {
+	s, background := openedStore(t), context.Background()
+	defer s.Close()
+	for _, blob := range []string{"short", "the same size", "a blob that is longer"} {
+		if _, err := s.Put(background, "a", []byte("13 characters")); err != nil {
+			t.Fatal(err)
+		}
+		var version uint64
+		ctx := &meddler{Context: background, done: make(chan struct{}), act: func() {
+			version, _ = s.Put(background, "a", []byte(blob))
+		}}
+		got, seen, err := s.Get(ctx, "a")
+		if string(got) != blob || seen != version || err != nil {
+			t.Errorf("%q of version %d, %v, want %q of %d", got, seen, err, blob, version)
+		}
+	}
+}
+
+// meddler is a context that acts when it is asked for the second time, before the second call in C.
+type meddler struct {
+	context.Context
+	asked int
+	done  chan struct{}
+	act   func()
+}
+
+func (m *meddler) Done() <-chan struct{} { return m.done }
+
+func (m *meddler) Err() error {
+	if m.asked++; m.asked == 2 {
+		m.act()
+	}
+	return nil
+}
+
+// countdown is a context that ends once it was asked so often.
+type countdown struct {
+	context.Context
+	left int
+	done chan struct{}
+}
+
+func (c *countdown) Done() <-chan struct{} { return c.done }
+
+func (c *countdown) Err() error {
+	if c.left--; c.left < 0 {
+		return context.Canceled
+	}
+	return nil
+}

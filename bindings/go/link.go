@@ -1,0 +1,6 @@
+//go:build !nopkgconfig
+
+package lrcstore
+
+// #cgo pkg-config: lrc_store
+import "C"
