@@ -55,6 +55,12 @@ command_of_page() { # NUMBER
         CARGO_TERM_QUIET=true PYTHONDONTWRITEBYTECODE=1 bash -e "$work/script"
 }
 
+# The Go package finds the library by pkg-config, whose words the go command keeps in its cache.
+in_go() {
+    prints "HELLO, WORLD" env PKG_CONFIG_PATH="$prefix/lib/pkgconfig" GOCACHE="$work/go" bash -c \
+        "cd bindings/go && go run ./examples/store"
+}
+
 program() {
     local version
     version=$(PKG_CONFIG_PATH="$prefix/lib/pkgconfig" pkg-config --modversion lrc_coder) \
@@ -116,6 +122,7 @@ test_of "C++" pkg-config pkg-config command_of_page 2
 test_of "Python" python3 python3 command_of_page 3
 test_of "CMake" cmake cmake command_of_page 4
 test_of "Rust" cargo cargo command_of_page 5
+test_of "Go" go golang-go in_go
 test_of "both kinds of each library" cmake cmake with_cmake
 test_of "versions that CMake accepts" cmake cmake cmake_versions
 test_of "package" pkg-config pkg-config package

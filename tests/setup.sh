@@ -13,6 +13,7 @@ needs=(
     "cargo cargo"
     "cmake cmake"
     "git git"
+    "go golang-go"
     "pkg-config pkg-config"
     "python3 python3"
     "python3-coverage python3-coverage"

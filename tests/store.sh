@@ -1,5 +1,5 @@
 #!/usr/bin/env bash
-# Tests of the store for C, C++, Rust and Python, which `rt ci` proves and does not run.
+# Tests of the store for C, C++, Rust, Python and Go, which `rt ci` proves and does not run.
 # LRC_LIBRARIES names the folder of the libraries.
 set -u
 cd "$(dirname "$0")/.." || exit
@@ -44,6 +44,13 @@ threads_sanitized() {
         && "$work/program" 4 && "$work/program" 16
 }
 
+pool_sanitized() {
+    local TSAN_OPTIONS=ignore_noninstrumented_modules=1
+    export TSAN_OPTIONS
+    local store=$LRC_LIBRARIES/liblrc_store.so
+    pool shared library/store_pool.c -g -fsanitize=thread -Wl,-rpath,"$LRC_LIBRARIES"
+}
+
 refuse() {
     program gcc gnu11 tests/store/refuse.c -Wl,--wrap=malloc -Wl,--wrap=realloc "$@" \
         && "$work/program"
@@ -63,7 +70,8 @@ memory() {
 
 symbols() {
     local needed='malloc|realloc|free|getrandom|clock_gettime|nanosleep'
-    needed+='|pthread_mutex_(init|trylock|clocklock|unlock)|pthread_testcancel'
+    needed+='|pthread_mutex_(init|destroy|lock|trylock|clocklock|unlock)|pthread_testcancel'
+    needed+='|pthread_cond_(clockwait|signal|destroy)|calloc'
     # what pthread_cleanup_push becomes
     needed+='|__pthread_(register_cancel|unregister_cancel|unwind_next)|__sigsetjmp'
     tests/library/symbols.sh lrc_store "$needed|getenv|strcmp|mem(cmp|cpy|move|set)" \
@@ -85,6 +93,12 @@ two_copies() {
 waiting() {
     gcc -std=gnu11 -O1 "${warnings[@]}" "$@" tests/store/waiting.c library/store_wait.c \
         -o "$work/program" && "$work/program"
+}
+
+# pool WORDS FLAG..: its test, with these words
+pool() {
+    program gcc gnu11 tests/store/pool.c -Wl,--wrap=malloc,--wrap=calloc "${@:2}" \
+        && "$work/program" $1
 }
 
 # The code for either processor, chosen by the environment.
@@ -110,6 +124,19 @@ python() {
     LRC_STORE_SO="$LRC_LIBRARIES/liblrc_store.so" PYTHONDONTWRITEBYTECODE=1 \
         PYTHONPATH=bindings/python python3 "$@"
 }
+go_tool() { tests/store/go.sh "$@" > "$work/go" 2>&1 || { cat "$work/go"; return 1; }; }
+in_go() { tests/store/go.sh run ./examples/store; }
+go_vet() {
+    local unformatted
+    unformatted=$(gofmt -l bindings/go)
+    [ -z "$unformatted" ] || { echo "gofmt would change $unformatted"; return 1; }
+    go_tool vet ./...
+}
+# The calls of a store that is busy for ever return once their context ends.
+go_busy() {
+    gcc -std=gnu11 -O1 "${warnings[@]}" -shared -fPIC tests/store/busy.c -o "$work/busy.so" \
+        && LRC_BUSY=1 go_tool test -count=1 -run TestBusy -exec "env LD_PRELOAD=$work/busy.so" .
+}
 
 test_of "symbols" nm binutils symbols
 test_of "texts of both libraries" gcc gcc texts
@@ -122,7 +149,11 @@ test_of "choice of the processor's code" gcc gcc choice
 test_of "two copies of the library" gcc gcc two_copies
 test_of "waiting" gcc gcc waiting
 test_of "waiting, sanitizers of gcc" gcc gcc waiting "${sanitizers[@]}"
+test_of "pool" gcc gcc pool ""
+test_of "pool, sanitizers of gcc" gcc gcc pool "" "${sanitizers[@]}" library/store_pool.c \
+    -Wl,--allow-multiple-definition
 test_of "threads, ThreadSanitizer" gcc gcc threads_sanitized
+test_of "pool, ThreadSanitizer" gcc gcc pool_sanitized
 test_of "refused memory" gcc gcc refuse
 test_of "refused memory, sanitizers of gcc" gcc gcc refuse "${sanitizers[@]}"
 test_of "refused memory, valgrind" valgrind valgrind memory
@@ -135,5 +166,10 @@ test_of "Rust example" cargo cargo example in_rust
 test_of "Rust" cargo cargo rust_tests
 test_of "Python example" python3 python3 example python bindings/python/store.py
 test_of "Python" python3 python3 python tests/store/bindings.py
+test_of "Go example" go golang-go example in_go
+test_of "Go, vet and gofmt" go golang-go go_vet
+test_of "Go" go golang-go go_tool test -count=1 ./...
+test_of "Go, race detector" go golang-go go_tool test -count=1 -race .
+test_of "Go, busy store" go golang-go go_busy
 test_of "limits" python3 python3 python tests/store/limits.py
 summary store

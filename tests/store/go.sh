@@ -1,0 +1,13 @@
+#!/usr/bin/env bash
+# Runs the command go in bindings/go, over the libraries in the folder that LRC_LIBRARIES names:
+#
+#     tests/store/go.sh WORD..
+set -eu
+cd "$(dirname "$0")/../../bindings/go"
+include=$PWD/../../include
+# The go command does not see that the header changes, but that a flag does.
+sum=$(cksum < "$include/lrc_store.h")
+export CGO_CFLAGS="-I$include -Wall -Wextra -Werror -DHEADER_SUM=${sum% *}"
+export CGO_LDFLAGS="-L$LRC_LIBRARIES -llrc_store -Wl,-rpath,$LRC_LIBRARIES"
+export GOFLAGS="-tags=nopkgconfig -mod=mod" GOPROXY=off
+exec go "$@"
