@@ -229,7 +229,7 @@ static void serves_more_threads_than_sessions(void) {
 /* With a word it does not refuse memory to the library, which may be a shared object. */
 int main(int words, char **word) {
     (void)word;
-    alarm(20); /* a call that never returns ends the test */
+    alarm(10); /* a call that never returns ends the test */
     refuses();
     if (words < 2) refuses_without_memory();
     lends_all();
