@@ -394,7 +394,7 @@ public:
     session close() {
         session made;
         detail::check(lrc_pool_close(held, made.held.get()), "close");
-        made.wait_ms = wait_ms;
+        made.wait_ms = this->wait_ms;
         held = nullptr;
         return made;
     }
