@@ -142,7 +142,7 @@ uint32_t lrc_pool_close(lrc_pool *pool, lrc_slot *slot) {
     if (is_busy) return LRC_STORE_NOT_ALONE;
     for (unsigned i = 0; i < pool->made; i++) {
         lrc_store_join(&pool->root, &pool->sessions[i]);
-        lrc_slot_release(&pool->sessions[i]); /* of another store: it is not the one that was lent */
+        lrc_slot_release(&pool->sessions[i]); /* if it is not the one that was lent */
     }
     *slot = pool->root;
     pthread_mutex_destroy(&pool->mutex);
