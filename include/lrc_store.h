@@ -302,8 +302,8 @@ typedef struct lrc_pool lrc_pool;
 uint32_t lrc_pool_open(lrc_slot *slot, lrc_pool **pool);
 
 /* Lends a session to the calling thread until lrc_pool_give. There is one for each place of the
- * session that the pool was made of: 64, if it was the first of its store. If all are lent, it waits
- * in a line for one: up to `timeout_ms`, and not if that is 0, after which it returns
+ * session that the pool was made of: 64, if it was the first of its store. If all are lent, it
+ * waits in a line for one: up to `timeout_ms`, and not if that is 0, after which it returns
  * LRC_STORE_BUSY; without a deadline if it is negative. LRC_STORE_NO_MEMORY if a session cannot be
  * made. */
 uint32_t lrc_pool_take(lrc_pool *pool, lrc_slot **session, int64_t timeout_ms);
