@@ -273,7 +273,7 @@ bool ends_at_deadline(session &s, const std::atomic<bool> &ended) {
         if (status == LRC_STORE_DONE) continue;
         const auto waited = std::chrono::steady_clock::now() - start;
         EXPECT(status, uint32_t{LRC_STORE_BUSY});
-        EXPECT(waited >= milliseconds(4) && waited < longest, true);
+        EXPECT(waited >= milliseconds(1) && waited < longest, true);
         return true;
     }
     return false;
@@ -281,7 +281,7 @@ bool ends_at_deadline(session &s, const std::atomic<bool> &ended) {
 
 void a_call_ends_at_its_deadline() {
     session first = all_lost(), other = first.split(1);
-    other.set_timeout(milliseconds(4));
+    other.set_timeout(milliseconds(1));
     bool is_found = false;
     const auto end = std::chrono::steady_clock::now() + longest;
     while (!is_found && std::chrono::steady_clock::now() < end) {

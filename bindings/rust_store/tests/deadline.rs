@@ -55,7 +55,7 @@ fn until_busy(session: &mut Session, ends: &AtomicBool) -> Option<Duration> {
 
 #[test]
 fn a_call_ends_at_its_deadline() {
-    let timeout = Duration::from_millis(4);
+    let timeout = Duration::from_millis(1);
     let mut first = all_lost();
     let mut other = first.split(1).unwrap();
     other.set_timeout(Some(timeout));
