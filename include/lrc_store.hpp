@@ -322,7 +322,6 @@ private:
         return reinterpret_cast<const uint8_t *>(text.data() ? text.data() : "");
     }
 
-
     uint32_t copy(std::string_view name, uint64_t start, void *target, size_t len,
                   uint64_t *version) {
         uint64_t lent = 0, built = 0;

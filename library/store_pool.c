@@ -25,37 +25,44 @@ struct lrc_pool {
     lrc_slot root, sessions[MOST_SESSIONS];
     lrc_slot *idle[MOST_SESSIONS + 1];
     unsigned made, idle_count;
-    int is_root_whole; /* whether the root may have a place for a further session */
+    int can_split; /* whether the root may have a place for a further session */
     struct waiter *first, **end;
 };
 
-uint32_t lrc_pool_open(lrc_slot *slot, lrc_pool **pool) {
-    lrc_pool *made;
-    if (!slot->at) return LRC_STORE_EMPTY;
-    made = calloc(1, sizeof *made);
-    if (!made) return LRC_STORE_NO_MEMORY;
-    pthread_mutex_init(&made->mutex, NULL);
-    made->root = *slot;
-    made->is_root_whole = 1;
-    made->end = &made->first;
-    slot->at = NULL;
-    *pool = made;
-    return LRC_STORE_DONE;
-}
-
 /* Splits a session off the root, or gives the root itself once it has no place left. */
 static uint32_t make_session(lrc_pool *pool, lrc_slot **session) {
-    if (!pool->is_root_whole) return LRC_STORE_NO_PASS;
+    if (!pool->can_split) return LRC_STORE_NO_PASS;
     lrc_slot *made = &pool->sessions[pool->made];
     const uint32_t status = lrc_store_split(&pool->root, pool->made + 1, made);
     if (status == LRC_STORE_NO_PASS) {
-        pool->is_root_whole = 0;
+        pool->can_split = 0;
         *session = &pool->root;
         return LRC_STORE_DONE;
     }
     if (status != LRC_STORE_DONE) return status;
     pool->made++;
     *session = made;
+    return LRC_STORE_DONE;
+}
+
+/* Makes a pool whose root is the session in the slot, which splits off another one, if it can. */
+uint32_t lrc_pool_open(lrc_slot *slot, lrc_pool **pool) {
+    lrc_pool *made = calloc(1, sizeof *made);
+    lrc_slot *first = NULL;
+    if (!made) return LRC_STORE_NO_MEMORY;
+    made->root = *slot;
+    made->can_split = 1;
+    made->end = &made->first;
+    const uint32_t status = make_session(made, &first);
+    if (status != LRC_STORE_DONE) {
+        *slot = made->root;
+        free(made);
+        return status;
+    }
+    made->idle[made->idle_count++] = first;
+    pthread_mutex_init(&made->mutex, NULL);
+    slot->at = NULL;
+    *pool = made;
     return LRC_STORE_DONE;
 }
 
@@ -131,7 +138,7 @@ void lrc_pool_give(lrc_pool *pool, lrc_slot *session) {
 
 /* Whether a session is lent. The root is, once it has no place left, unless it is laid down. */
 static int is_lent(const lrc_pool *pool) {
-    return pool->idle_count < pool->made + !pool->is_root_whole;
+    return pool->idle_count < pool->made + !pool->can_split;
 }
 
 uint32_t lrc_pool_close(lrc_pool *pool, lrc_slot *slot) {

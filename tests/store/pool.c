@@ -50,6 +50,9 @@ static void refuses(void) {
     lrc_slot slot = LRC_SLOT_EMPTY, other = LRC_SLOT_EMPTY, *session = NULL;
     lrc_pool *pool = NULL;
     EXPECT(lrc_pool_open(&slot, &pool), LRC_STORE_EMPTY);
+    EXPECT(lrc_slot_reserve(1, &other), LRC_STORE_DONE);
+    EXPECT(lrc_pool_open(&other, &pool), LRC_STORE_EMPTY);
+    lrc_slot_release(&other);
     EXPECT(pool == NULL, 1);
     pool = opened();
     EXPECT(lrc_pool_take(pool, &session, 0), LRC_STORE_DONE);
@@ -58,7 +61,28 @@ static void refuses(void) {
     EXPECT(lrc_slot_reserve(1, &other), LRC_STORE_DONE);
     EXPECT(lrc_pool_close(pool, &other), LRC_STORE_OCCUPIED);
     lrc_slot_release(&other);
-    closed(pool, 0);
+    uint64_t entries;
+    uint32_t lawful;
+    EXPECT(lrc_store_open(4, 100, &other), LRC_STORE_DONE);
+    EXPECT(lrc_store_close(&other, &entries, &lawful), LRC_STORE_DONE); /* it holds nothing now */
+    EXPECT(lrc_pool_close(pool, &other), LRC_STORE_DONE);
+    EXPECT(lrc_store_close(&other, &entries, &lawful), LRC_STORE_DONE);
+    lrc_slot_release(&other);
+}
+
+/* A pool of a session that cannot be split lends that one. */
+static void lends_one(void) {
+    lrc_slot slot = LRC_SLOT_EMPTY, other = LRC_SLOT_EMPTY, *one = NULL, *none = NULL;
+    lrc_pool *pool = NULL;
+    EXPECT(lrc_store_open(4, 100, &slot), LRC_STORE_DONE);
+    EXPECT(lrc_store_split(&slot, 1, &other), LRC_STORE_DONE);
+    EXPECT(lrc_pool_open(&other, &pool), LRC_STORE_DONE);
+    EXPECT(lrc_pool_take(pool, &one, 0), LRC_STORE_DONE);
+    EXPECT(lrc_pool_take(pool, &none, 0), LRC_STORE_BUSY);
+    lrc_pool_give(pool, one);
+    EXPECT(lrc_pool_close(pool, &other), LRC_STORE_DONE);
+    EXPECT(lrc_store_join(&slot, &other), LRC_STORE_DONE);
+    lrc_slot_release(&slot);
 }
 
 /* Without memory there is no pool and no further session, and nothing else is changed. */
@@ -231,6 +255,7 @@ int main(int words, char **word) {
     (void)word;
     alarm(10); /* a call that never returns ends the test */
     refuses();
+    lends_one();
     if (words < 2) refuses_without_memory();
     lends_all();
     lines_up();
