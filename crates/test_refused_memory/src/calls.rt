@@ -22,7 +22,7 @@ pub(crate) struct Case {
 
 impl Case {
     /// The limit of the store's journal.
-    pub fn limit(&self) -> Option<Limit> {
+    pub(crate) fn limit(&self) -> Option<Limit> {
         if self.has_journal {
             Limit::new(16)
         } else {
@@ -31,7 +31,7 @@ impl Case {
     }
 
     /// How many entries a trim to two discards behind eight calls.
-    pub fn trimmed(&self) -> u64 {
+    pub(crate) fn trimmed(&self) -> u64 {
         if self.has_journal { 6 } else { 0 }
     }
 }
