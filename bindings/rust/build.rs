@@ -1,6 +1,7 @@
 // Links the library that has the crate's name, as NAME is lrc_store:
 //
 // - from the folder that LRC_STORE_DIR names, or LRC_LIBRARIES for the libraries of all crates;
+// - or else from the crate's own folder, where a packed crate has it;
 // - or else from where pkg-config says that it is installed;
 // - or else from where tools/libraries.py leaves it in a clone.
 //
@@ -28,13 +29,21 @@ fn installed(name: &str) -> Option<String> {
     (ran.status.success() && !folder.is_empty()).then_some(folder)
 }
 
+/// The crate's own folder, if the library is there.
+fn packed(folder: &str, name: &str) -> Option<String> {
+    let has = Path::new(folder).join(format!("lib{name}.a")).exists();
+    has.then(|| folder.to_string())
+}
+
 fn main() {
     let name = env::var("CARGO_PKG_NAME").expect("cargo sets it");
     let own = format!("{}_DIR", name.to_uppercase());
+    let here = env!("CARGO_MANIFEST_DIR");
     let folder = variable(&own)
         .or_else(|| variable("LRC_LIBRARIES"))
+        .or_else(|| packed(here, &name))
         .or_else(|| installed(&name))
-        .unwrap_or_else(|| concat!(env!("CARGO_MANIFEST_DIR"), "/../../built").to_string());
+        .unwrap_or_else(|| format!("{here}/../../built"));
     let has = |file: String| {
         let path = Path::new(&folder).join(file);
         println!("cargo:rerun-if-changed={}", path.display());

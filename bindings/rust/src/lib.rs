@@ -5,8 +5,9 @@
 //! i is set if and only if fragment i is lost.
 #![warn(missing_docs)]
 
-use std::ffi::{c_char, CStr};
+use std::ffi::CStr;
 use std::fmt;
+use std::os::raw::c_char;
 
 /// The layout of `lrc_slice`.
 #[repr(C)]
@@ -429,7 +430,7 @@ impl Plan {
 
     /// The first fragment that the plan reads and that is not given.
     fn missing(&self, fragments: &[Option<&[u8]>]) -> Option<String> {
-        let given = |i: &usize| fragments.get(*i).is_some_and(|bytes| bytes.is_some());
+        let given = |i: &usize| fragments.get(*i).map_or(false, Option::is_some);
         let reads = (0..16).filter(|i| self.reads >> i & 1 == 1);
         let number = reads.clone().find(|i| !given(i))?;
         Some(format!(

@@ -71,16 +71,16 @@ impl Buffer {
     /// A buffer of `len` zero bytes.
     pub fn new(len: usize) -> Result<Buffer, Error> {
         let mut slot = Slot::empty();
-        let call = format_args!("Buffer::new({len})");
+        let check = |status| check(status, format_args!("Buffer::new({len})"));
         // SAFETY: the slot is valid.
-        check(unsafe { lrc_slot_reserve(len, &mut slot) }, call)?;
+        check(unsafe { lrc_slot_reserve(len, &mut slot) })?;
         let none: &mut [u8] = &mut [];
         let mut raw = RawBuffer {
             at: none.as_mut_ptr(),
             len: 0,
         };
         // SAFETY: the slot is valid, and so is the buffer.
-        check(unsafe { lrc_slot_buffer(&mut slot, &mut raw) }, call)?;
+        check(unsafe { lrc_slot_buffer(&mut slot, &mut raw) })?;
         Ok(Buffer {
             slot,
             at: raw.at,
@@ -191,7 +191,7 @@ impl Session {
     /// then fails with [`Status::Busy`]. `None`, as at first: until it gets in.
     pub fn set_timeout(&mut self, timeout: Option<Duration>) {
         self.wait_ms = timeout.map_or(-1, |time| {
-            i64::try_from(time.as_nanos().div_ceil(1_000_000)).unwrap_or(i64::MAX)
+            i64::try_from((time.as_nanos() + 999_999) / 1_000_000).unwrap_or(i64::MAX)
         });
     }
 
@@ -326,12 +326,12 @@ impl Session {
                 self.wait_ms,
             )
         };
-        let call = format_args!("read({name:?}, {start}, {len})");
-        check(status, call)?;
+        let check = |status| check(status, format_args!("read({name:?}, {start}, {len})"));
+        check(status)?;
         let mut slices = vec![Slice::empty(); pieces as usize];
         let (at, capacity) = (slices.as_mut_ptr(), slices.len());
         let status = unsafe { lrc_slot_slices(&mut lent, at, capacity, &mut pieces) };
-        check(status, call)?;
+        check(status)?;
         let runs = runs_of(&mut lent);
         Ok(Grant {
             _lent: lent,
@@ -372,15 +372,14 @@ impl Session {
     /// again if a put came between.
     pub fn get(&mut self, name: &str) -> Result<Vec<u8>, Error> {
         loop {
-            let call = format_args!("get({name:?})");
-            let asked = self.shape(name, call)?;
+            let asked = self.shape(name, format_args!("get({name:?})"))?;
             let len = asked.len as usize;
             let mut bytes = Vec::with_capacity(len);
             let (status, version) = unsafe { self.copy(name, 0, bytes.as_mut_ptr(), len) };
             if status == Status::OutOfRange as u32 {
                 continue;
             }
-            check(status, call)?;
+            check(status, format_args!("get({name:?})"))?;
             if version == asked.version {
                 // SAFETY: the read has written so many bytes.
                 unsafe { bytes.set_len(len) };

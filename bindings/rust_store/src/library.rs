@@ -1,6 +1,6 @@
 //! The declarations of `include/lrc_store.h`, which describes the functions.
 
-use std::ffi::c_char;
+use std::os::raw::c_char;
 
 /// The layout of `lrc_slot`. Its content may be moved: one copy counts at a time.
 #[repr(C)]
