@@ -24,9 +24,9 @@ from typing import NamedTuple
 
 HERE = os.path.dirname(os.path.abspath(__file__))
 TOP = os.path.dirname(HERE)
-COPIED = ("include", "library", "bindings", "integrations", "tests", "tools", "docs")
+COPIED = ("include", "library", "bindings", "integrations", "packaging", "tests", "tools", "docs")
 COPIED += ("README.md", "CHANGELOG.md", "crates/test_vectors/data", "crates/command_line/src")
-COPIED += ("crates/coder_c/src", "crates/store_c/src")
+COPIED += ("crates/coder_c/src", "crates/store_c/src", "crates.txt")
 NOT_COPIED = shutil.ignore_patterns("__pycache__", "target", "*.so", "out")
 
 C = "gcc -std=gnu11 -O1 -w -I include -I tests/store"

@@ -4,17 +4,17 @@
     tools/install.py --prefix P [--destdir D] [--libdir L] [--pythondir M] [--cpu v2|v3] [--reuse]
     tools/install.py --prefix P [--destdir D] --uninstall
 
-Under P it leaves bin/lrcstore, the headers, the sources of the Rust crates, and for `lrc_coder` and
-`lrc_store` each a static library, a shared one, a pkg-config file, a CMake package and a Python
-module. At its end it prints the variables to set, so that programs find them. The libraries have
-the code for x86-64-v2 and x86-64-v3 and choose when they are loaded; the program is for the
-processor that --cpu names. Libraries in the folder that LRC_LIBRARIES names are taken as they are,
-and with --reuse the program that was built before. It needs `rt`, gcc and binutils.
+Under P it leaves bin/lrcstore, the headers, man pages, completions for shells, the sources of the
+Rust crates and of the Go module, and for `lrc_coder` and `lrc_store` each a static library, a
+shared one, a pkg-config file, a CMake package and a Python module. At its end it prints the
+variables to set, so that programs find them. The libraries have the code for x86-64-v2 and
+x86-64-v3 and choose when they are loaded; the program is for the processor that --cpu names.
+Libraries in the folder that LRC_LIBRARIES names are taken as they are, and with --reuse the program
+that was built before. It needs `rt`, gcc and binutils.
 """
 
 import argparse
 import os
-import shutil
 import sys
 import sysconfig
 import tempfile
@@ -22,11 +22,9 @@ import tempfile
 import build
 import libraries
 import package_files
+from installation import MANIFEST, Installation
 
 TOP = libraries.TOP
-HEADERS = ("lrc_coder.h", "lrc_store.h", "lrc_store.hpp")
-RUST = {"lrc_coder": "rust", "lrc_store": "rust_store"}
-MANIFEST = os.path.join("share", "lrcstore", "installed.txt")
 MODULES = f"python{sysconfig.get_python_version()}/site-packages"
 
 
@@ -47,81 +45,18 @@ def built_libraries(folder):
     return ready or folder
 
 
-class Installation:
-    """The files under a prefix, and their list."""
-
-    def __init__(self, root, prefix, libdir, pythondir):
-        self.root = root
-        self.prefix = prefix
-        self.libdir = libdir
-        self.pythondir = pythondir
-        self.paths = []
-
-    def place(self, path):
-        """A path under the prefix, with its folder, and nothing there yet."""
-        there = os.path.join(self.root, path)
-        os.makedirs(os.path.dirname(there), exist_ok=True)
-        if os.path.lexists(there):
-            os.remove(there)
-        self.paths.append(path)
-        return there
-
-    def copy(self, source, path, mode=0o644):
-        os.chmod(shutil.copyfile(source, self.place(path)), mode)
-
-    def write(self, text, path):
-        with open(self.place(path), "w", encoding="utf-8") as file:
-            file.write(text)
-
-    def link(self, target, path):
-        os.symlink(target, self.place(path))
-
-    def library(self, name, folder):
-        """A library's two forms, and what pkg-config and CMake know of it."""
-        number, soname = libraries.version(), libraries.soname(name)
-        self.copy(os.path.join(folder, f"lib{name}.a"), f"{self.libdir}/lib{name}.a")
-        whole = f"lib{name}.so.{number}"
-        self.copy(os.path.join(folder, f"lib{name}.so"), f"{self.libdir}/{whole}", 0o755)
-        self.link(whole, f"{self.libdir}/{soname}")
-        self.link(soname, f"{self.libdir}/lib{name}.so")
-        text = package_files.pkg_config(name, self.prefix, self.libdir)
-        self.write(text, f"{self.libdir}/pkgconfig/{name}.pc")
-        for file, text in package_files.cmake(name, self.libdir).items():
-            self.write(text, f"{self.libdir}/cmake/{name}/{file}")
-
-    def python(self, name):
-        """A Python module, and beside it the library that it loads."""
-        source = os.path.join(TOP, "bindings", "python", f"{name}.py")
-        self.copy(source, f"{self.pythondir}/{name}.py")
-        library = f"{self.libdir}/{libraries.soname(name)}"
-        self.link(os.path.relpath(library, self.pythondir), f"{self.pythondir}/lib{name}.so")
-
-    def rust(self, name):
-        """The sources of a Rust crate, which links the library by pkg-config."""
-        crate = os.path.join(TOP, "bindings", RUST[name])
-        sources = [os.path.join("src", it) for it in sorted(os.listdir(os.path.join(crate, "src")))]
-        to = f"share/lrcstore/rust/{name}"
-        for path in ["Cargo.toml", *sources]:
-            self.copy(os.path.join(crate, path), f"{to}/{path}")
-        self.copy(os.path.join(TOP, "bindings", "rust", "build.rs"), f"{to}/build.rs")
-
-    def finish(self):
-        listed = "".join(f"{path}\n" for path in [*self.paths, MANIFEST])
-        self.write(listed, MANIFEST)
-
-
 def install(installation, cpu, reuse):
     """Proves, builds and installs all of it."""
     program = built_program(cpu, reuse)
     with tempfile.TemporaryDirectory() as folder:
         ready = built_libraries(folder)
-        installation.copy(program, "bin/lrcstore", 0o755)
-        for header in HEADERS:
-            installation.copy(os.path.join(TOP, "include", header), f"include/{header}")
+        installation.program(program)
+        installation.headers()
         for name in libraries.LIBRARIES:
             installation.library(name, ready)
             installation.python(name)
             installation.rust(name)
+        installation.go()
         installation.finish()
 
 

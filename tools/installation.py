@@ -1,0 +1,108 @@
+"""The files of the program, of both libraries and of what describes them, under a prefix. An
+installation and every package is made of these."""
+
+import os
+import shutil
+
+import libraries
+import package_files
+from packages import manual
+
+TOP = libraries.TOP
+HEADERS = ("lrc_coder.h", "lrc_store.h", "lrc_store.hpp")
+RUST = {"lrc_coder": "rust", "lrc_store": "rust_store"}
+MANIFEST = os.path.join("share", "lrcstore", "installed.txt")
+# Where each shell looks for completions, under a prefix.
+COMPLETIONS = {
+    "bash": "share/bash-completion/completions/lrcstore",
+    "zsh": "share/zsh/site-functions/_lrcstore",
+    "fish": "share/fish/vendor_completions.d/lrcstore.fish",
+}
+
+
+class Installation:
+    """The files under a prefix, and their list."""
+
+    def __init__(self, root, prefix, libdir, pythondir):
+        self.root = root
+        self.prefix = prefix
+        self.libdir = libdir
+        self.pythondir = pythondir
+        self.paths = []
+
+    def place(self, path):
+        """A path under the prefix, with its folder, and nothing there yet."""
+        there = os.path.join(self.root, path)
+        os.makedirs(os.path.dirname(there), exist_ok=True)
+        if os.path.lexists(there):
+            os.remove(there)
+        self.paths.append(path)
+        return there
+
+    def copy(self, source, path, mode=0o644):
+        os.chmod(shutil.copyfile(source, self.place(path)), mode)
+
+    def write(self, text, path):
+        with open(self.place(path), "w", encoding="utf-8") as file:
+            file.write(text)
+
+    def link(self, target, path):
+        os.symlink(target, self.place(path))
+
+    def program(self, source):
+        """The program, its man page, and its completions for shells."""
+        self.copy(source, "bin/lrcstore", 0o755)
+        self.write(manual.of_program(), "share/man/man1/lrcstore.1")
+        for shell, path in COMPLETIONS.items():
+            self.copy(os.path.join(TOP, "packaging", "completion", f"lrcstore.{shell}"), path)
+
+    def headers(self):
+        """The headers, and a man page for each library."""
+        for header in HEADERS:
+            self.copy(os.path.join(TOP, "include", header), f"include/{header}")
+        for name in libraries.LIBRARIES:
+            self.write(manual.of_header(name), f"share/man/man3/{name}.3")
+
+    def library(self, name, folder):
+        """A library's two forms, and what pkg-config and CMake know of it."""
+        number, soname = libraries.version(), libraries.soname(name)
+        self.copy(os.path.join(folder, f"lib{name}.a"), f"{self.libdir}/lib{name}.a")
+        whole = f"lib{name}.so.{number}"
+        self.copy(os.path.join(folder, f"lib{name}.so"), f"{self.libdir}/{whole}", 0o755)
+        self.link(whole, f"{self.libdir}/{soname}")
+        self.link(soname, f"{self.libdir}/lib{name}.so")
+        text = package_files.pkg_config(name, self.prefix, self.libdir)
+        self.write(text, f"{self.libdir}/pkgconfig/{name}.pc")
+        for file, text in package_files.cmake(name, self.libdir).items():
+            self.write(text, f"{self.libdir}/cmake/{name}/{file}")
+
+    def module(self, name):
+        """A Python module, which loads the library that the system's loader finds."""
+        source = os.path.join(TOP, "bindings", "python", f"{name}.py")
+        self.copy(source, f"{self.pythondir}/{name}.py")
+
+    def python(self, name):
+        """A Python module, and beside it the library that it loads."""
+        self.module(name)
+        library = f"{self.libdir}/{libraries.soname(name)}"
+        self.link(os.path.relpath(library, self.pythondir), f"{self.pythondir}/lib{name}.so")
+
+    def rust(self, name):
+        """The sources of a Rust crate, which links the library by pkg-config."""
+        crate = os.path.join(TOP, "bindings", RUST[name])
+        sources = [os.path.join("src", it) for it in sorted(os.listdir(os.path.join(crate, "src")))]
+        to = f"share/lrcstore/rust/{name}"
+        for path in ["Cargo.toml", *sources]:
+            self.copy(os.path.join(crate, path), f"{to}/{path}")
+        self.copy(os.path.join(TOP, "bindings", "rust", "build.rs"), f"{to}/build.rs")
+
+    def go(self):
+        """The sources of the Go module, which links the store by pkg-config."""
+        module = os.path.join(TOP, "bindings", "go")
+        for file in sorted(os.listdir(module)):
+            if file == "go.mod" or file.endswith((".go", ".h")) and not file.endswith("_test.go"):
+                self.copy(os.path.join(module, file), f"share/lrcstore/go/{file}")
+
+    def finish(self):
+        listed = "".join(f"{path}\n" for path in [*self.paths, MANIFEST])
+        self.write(listed, MANIFEST)
