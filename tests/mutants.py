@@ -141,6 +141,7 @@ TESTS = {
         prepare=f"mkdir -p $(dirname {PROGRAM}) && printf '#!/bin/sh\\necho lrcstore 0.1.0\\n'"
         f" > {PROGRAM} && chmod +x {PROGRAM}",
     ),
+    "release": Test("true", "python3 tests/release/modules.py", seconds=120),
     "python_coder": Test("true", "python3 tests/library/bindings.py", seconds=120),
     "python_store": Test("true", "python3 tests/store/bindings.py", seconds=120),
     "rust_coder": rust_crate("rust"),

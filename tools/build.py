@@ -39,14 +39,20 @@ def below(program):
     return [name for name in uses if name in wanted]
 
 
+def sources_of(names):
+    """The files of the crates."""
+    return [
+        os.path.join(folder, file)
+        for name in names
+        for part in PARTS
+        for folder, _, files in os.walk(os.path.join(TOP, "crates", name, part))
+        for file in files
+    ]
+
+
 def files_of(names):
     """The files that the crates are made from, in a fixed order."""
-    found = [os.path.join(TOP, "crates.txt")]
-    for name in names:
-        for part in PARTS:
-            for folder, _, files in os.walk(os.path.join(TOP, "crates", name, part)):
-                found += [os.path.join(folder, file) for file in files]
-    return sorted(found)
+    return sorted([os.path.join(TOP, "crates.txt"), *sources_of(names)])
 
 
 def sum_of(names, cpu):

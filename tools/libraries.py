@@ -197,11 +197,16 @@ def soname(name):
     return f"lib{name}.so.{abi(version())}"
 
 
+def label(name):
+    """The version of a library's symbols, which changes with its soname."""
+    return f"{name.upper()}_{abi(version())}"
+
+
 def shared(name, archive, folder):
     """Links the shared library of an archive. Its names have the version that callers depend on."""
     functions = (f"  {it};" for it in declared(name))
-    label = f"{name.upper()}_{abi(version())}"
-    script = write([f"{label} {{ global:", *functions, "  local: *;", "};"], folder, "exports")
+    first = f"{label(name)} {{ global:"
+    script = write([first, *functions, "  local: *;", "};"], folder, "exports")
     made = os.path.join(folder, f"lib{name}.so")
     whole = ("-Wl,--whole-archive", archive, "-Wl,--no-whole-archive")
     run(*LINK, *whole, f"-Wl,--version-script={script},-soname,{soname(name)}", "-o", made)

@@ -1,0 +1,159 @@
+"""The Debian packages: debhelper makes them of packaging/debian and of a prefix, filled here.
+
+What follows from the version and from the headers is written here: the changelog, and for each
+library the names of its package, its files and its symbols."""
+
+import os
+import shutil
+import sys
+import tempfile
+import time
+
+import libraries
+from installation import Installation
+from packages import licence
+from packages.reproducible import environment, normalise
+
+HERE = os.path.join("packaging", "debian")
+# What the packages have of the clone, or compile.
+LEFT_OUT = shutil.ignore_patterns("__pycache__", "target", "*.so", "*.pyc")
+PARTS = ("include", "integrations", "bindings", "docs", "examples", "CHANGELOG.md", "SECURITY.md")
+# The plugin is loaded by the Ceph that it was built for and by no other: this one is tested.
+CEPH, AFTER_CEPH = "16.2.15", "16.2.16~"
+NO_PLUGINS = "pkg.lrcstore.noplugins"
+# What has to be here for the plugins: a file, and the package that has it.
+HEADERS_OF_CEPH = "libradospp-dev"
+HEADERS = {
+    "/usr/include/liberasurecode/erasurecode_backend.h": "liberasurecode-dev",
+    "/usr/include/rados/buffer.h": HEADERS_OF_CEPH,
+}
+PROGRAMS = {"dpkg-buildpackage": "dpkg-dev", "dh": "debhelper", "dh_python3": "dh-python"}
+
+
+def package_of(name):
+    """The name of a library's package, which changes with its soname: liblrc-store0.1."""
+    return f"lib{name.replace('_', '-')}{libraries.abi(libraries.version())}"
+
+
+def missing_for_plugins():
+    """The packages without which the plugins are not made."""
+    missing = [package for it, package in HEADERS.items() if not os.path.exists(it)]
+    if not missing:
+        query = ("dpkg-query", "-W", "-f", "${source:Upstream-Version}")
+        found = libraries.run(*query, HEADERS_OF_CEPH)
+        if found.split("+")[0] != CEPH:
+            missing.append(f"{HEADERS_OF_CEPH} {CEPH}, which is {found} here")
+    return missing
+
+
+def demand(has_plugins):
+    """Ends if the packages can't be made here."""
+    missing = [package for it, package in PROGRAMS.items() if not shutil.which(it)]
+    if missing:
+        sys.exit(f"Debian packages need {' '.join(missing)}")
+    missing = missing_for_plugins() if has_plugins else []
+    if missing:
+        sys.exit(f"the plugins need {' '.join(missing)}: install it, or give --no-plugins")
+
+
+def fill(work, source, linked):
+    """Puts into a folder the files under /usr, and what the rules and lists of packages name."""
+    multiarch = libraries.run("dpkg-architecture", "-qDEB_HOST_MULTIARCH").strip()
+    staged = Installation(
+        os.path.join(work, "stage", "usr"),
+        "/usr",
+        f"lib/{multiarch}",
+        "lib/python3/dist-packages",
+    )
+    staged.program(os.path.join(source, "lrcstore"))
+    staged.headers()
+    for name in libraries.LIBRARIES:
+        staged.library(name, linked)
+        staged.module(name)
+        staged.rust(name)
+    staged.go()
+    for part in PARTS:
+        there, copied = os.path.join(libraries.TOP, part), os.path.join(work, part)
+        if os.path.isdir(there):
+            shutil.copytree(there, copied, ignore=LEFT_OUT)
+        else:
+            shutil.copyfile(there, copied)
+    shutil.copytree(os.path.join(libraries.TOP, HERE), os.path.join(work, "debian"))
+    shutil.copytree(linked, os.path.join(work, "linked"))
+
+
+def symbols(name):
+    """The symbols of a library, by which other packages know the version that they need."""
+    number, package = libraries.version(), package_of(name)
+    label = libraries.label(name)
+    yield f"{libraries.soname(name)} {package} #MINVER#"
+    yield "* Build-Depends-Package: liblrc-dev"
+    for each in sorted([label, *libraries.declared(name)]):
+        yield f" {each}@{label} {number}"
+
+
+def write_lists(debian):
+    """The files and symbols of each library's package."""
+    for name in libraries.LIBRARIES:
+        package, soname = package_of(name), libraries.soname(name)
+        files = [
+            f"usr/lib/*/{soname}",
+            f"usr/lib/*/lib{name}.so.{libraries.version()}",
+        ]
+        libraries.write(files, debian, f"{package}.install")
+        libraries.write(symbols(name), debian, f"{package}.symbols")
+
+
+def replace(path, **words):
+    """Puts words in place of their names in capitals, as @ABI@."""
+    with open(path, encoding="utf-8") as file:
+        text = file.read()
+    for name, word in words.items():
+        text = text.replace(f"@{name}@", word)
+    libraries.write(text.rstrip("\n").split("\n"), path)
+
+
+def write_texts(debian, number, when):
+    """What the version, the time and the licence determine."""
+    abi = libraries.abi(number)
+    with open(os.path.join(debian, "maintainer"), encoding="utf-8") as file:
+        maintainer = file.read().strip()
+    os.remove(os.path.join(debian, "maintainer"))
+    replace(
+        os.path.join(debian, "control"),
+        ABI=abi,
+        MAINTAINER=maintainer,
+        CEPH=CEPH,
+        AFTER_CEPH=AFTER_CEPH,
+    )
+    year = time.gmtime(when).tm_year
+    replace(os.path.join(debian, "copyright"), LICENCE=licence.in_debian(year).rstrip())
+    stamp = libraries.run("date", "-u", "-R", "-d", f"@{when}").strip()
+    entry = [
+        f"lrcstore ({number}-1) unstable; urgency=medium",
+        "",
+        f"  * Version {number}: changelog.gz has its changes.",
+        "",
+        f" -- {maintainer}  {stamp}",
+    ]
+    libraries.write(entry, debian, "changelog")
+
+
+def pack(source, linked, provenance, dist, number, when, has_plugins):
+    """Writes the packages."""
+    with tempfile.TemporaryDirectory() as room:
+        work = os.path.join(room, f"lrcstore-{number}")
+        fill(work, source, linked)
+        shutil.copyfile(provenance, os.path.join(work, "provenance.json"))
+        write_lists(os.path.join(work, "debian"))
+        write_texts(os.path.join(work, "debian"), number, when)
+        normalise(work, when)
+        variables = {
+            **environment(when),
+            "CEPH_VERSION": CEPH,
+            "LRC_LIBRARIES": os.path.join(work, "linked"),
+            "DEB_BUILD_PROFILES": "" if has_plugins else NO_PLUGINS,
+        }
+        libraries.run("dpkg-buildpackage", "-b", "-us", "-uc", "-d", cwd=work, env=variables)
+        made = sorted(it for it in os.listdir(room) if it.endswith(".deb"))
+        return [shutil.copyfile(os.path.join(room, it), os.path.join(dist, it)) for it in made]
