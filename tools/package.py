@@ -3,7 +3,7 @@
 
     tools/package.py build --to BUILT [--reuse FOLDER] [--verdicts LOG]
     tools/package.py pack --from BUILT --to DIST [--no-plugins] [--unlicensed]
-                          [deb] [wheel] [crate] [tar]
+                          [deb] [wheel] [crate] [tar] [assembly]
 
 `build` needs the Rattle kit. It leaves the program, the archives of both libraries for each
 processor, and what they come from in BUILT. With --reuse it takes from FOLDER what is built there,

@@ -19,6 +19,7 @@ sys.path.insert(0, os.path.join(TOP, "tools"))
 
 import libraries  # noqa: E402
 from packages import (  # noqa: E402
+    assembly,
     building,
     comparing,
     crates,
@@ -273,6 +274,16 @@ class Crates(Folder):
             self.assertEqual(len({it for it in names if it.startswith("examples/")}), 1)
 
 
+class Assembly(Folder):
+    def test_each_function_of_a_header_has_its_code(self):
+        (path,) = assembly.pack(LINKED, self.folder, "0.1.0", WHEN)
+        with tarfile.open(path) as tar:
+            for name in libraries.LIBRARIES:
+                text = tar.extractfile(f"liblrc-0.1.0-assembly/{name}.s").read().decode()
+                for each in libraries.declared(name):
+                    self.assertIn(f"<{each}>:", text.replace(f"@@{libraries.label(name)}", ""))
+
+
 class Debian(Folder):
     def test_the_symbols_are_those_of_the_header(self):
         lines = list(debian.symbols("lrc_coder"))
@@ -402,7 +413,7 @@ class Comparisons(Folder):
         self.assertEqual(said, ["b", "c", "d"])
 
     def test_the_kinds_and_options_are_those_that_it_was_made_with(self):
-        names = ["a.deb", "b.whl", "c.tar.gz", "SHA256SUMS"]
+        names = ["a.deb", "b.whl", "c-x86_64.tar.gz", "SHA256SUMS"]
         self.assertEqual(comparing.kinds_of(names), ["deb", "wheel", "tar"])
         self.assertIn("--no-plugins", comparing.options_of(names))
         self.assertNotIn("--no-plugins", comparing.options_of([f"{comparing.PLUGIN}1.deb"]))

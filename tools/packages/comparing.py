@@ -13,7 +13,8 @@ from packages.packing import SUMS
 from packages.reproducible import read_bytes, sha256
 
 PROVENANCE = "lrcstore-*.provenance.json"
-ENDS = {"deb": ".deb", "wheel": ".whl", "crate": ".crate", "tar": ".tar.gz"}
+ENDS = {"deb": ".deb", "wheel": ".whl", "crate": ".crate", "tar": "-x86_64.tar.gz"}
+ENDS["assembly"] = "-assembly.tar.gz"
 # A package that is made unless --no-plugins is given.
 PLUGIN = "ceph-plugin-azure-lrc_"
 

@@ -5,10 +5,10 @@ import sys
 import tempfile
 
 import libraries
-from packages import crates, debian, licence, record, tarball, wheel
+from packages import assembly, crates, debian, licence, record, tarball, wheel
 from packages.reproducible import moment, settle, sha256
 
-KINDS = ("deb", "wheel", "crate", "tar")
+KINDS = ("deb", "wheel", "crate", "tar", "assembly")
 SUMS = "SHA256SUMS"
 
 
@@ -54,6 +54,8 @@ def pack(source, dist, kinds, has_plugins, is_unlicensed):
             made += crates.pack(linked, dist, number, when)
         if "tar" in kinds:
             made += tarball.pack(source, linked, made[0], dist, number, when)
+        if "assembly" in kinds:
+            made += assembly.pack(linked, dist, number, when)
     sums = [f"{sha256(it)}  {os.path.basename(it)}" for it in made]
     for path in [*made, libraries.write(sums, dist, SUMS)]:
         print(f"{os.path.getsize(path):>10}  {os.path.basename(path)}")
