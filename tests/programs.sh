@@ -1,7 +1,8 @@
 #!/usr/bin/env bash
 # All tests but those of `rt ci`, whose programs they run: documents and commits, the program, the
-# libraries in each language, the edges, their coverage and their mutants. The libraries are built
-# once, unless LRC_LIBRARIES names a folder with them. The last line counts all tests.
+# libraries in each language, packages, the edges, their coverage and their mutants. The archives
+# are built once, unless LRC_BUILT names a folder with them, which tools/package.py build has filled,
+# or LRC_LIBRARIES one with the libraries. The last line counts all tests.
 #
 #     tests/programs.sh [PASSED]    so many tests passed before
 set -u
@@ -47,11 +48,21 @@ built test_refused_memory
 built test_sharded
 built lrcstore -- data/degraded_read.csv
 for each in statuses pictures limits refused_memory; do part python3 tests/$each.py; done
+if [ -z "${LRC_BUILT:-}" ] && [ -z "${LRC_LIBRARIES:-}" ]; then
+    export LRC_BUILT=$work/built
+    tools/package.py build --to "$LRC_BUILT" --reuse crates/lrcstore/out || failed=$((failed + 1))
+fi
 if [ -z "${LRC_LIBRARIES:-}" ]; then
     export LRC_LIBRARIES=$work/libraries
-    tools/libraries.py --to "$LRC_LIBRARIES" || failed=$((failed + 1))
+    tools/libraries.py --from "$LRC_BUILT" --to "$LRC_LIBRARIES" || failed=$((failed + 1))
 fi
 for each in library store install edges; do part tests/$each.sh; done
+if [ -n "${LRC_BUILT:-}" ]; then
+    part tests/release.sh
+else
+    skipped=$((skipped + 1))
+    echo "release: skipped, as LRC_BUILT names no folder of tools/package.py"
+fi
 part tests/coverage.sh
 part tests/mutants.py --jobs "$(nproc)"
 printf '%d passed, %d failed%s\n' "$passed" "$failed" \

@@ -25,17 +25,35 @@ needs=(
     "/usr/lib/python3/dist-packages/pyeclib python3-pyeclib"
 )
 
-missing=()
-for each in "${needs[@]}"; do
-    need=${each% *}
-    command -v "$need" > /dev/null || compgen -G "$need" > /dev/null || missing+=("${each#* }")
-done
-if [ ${#missing[@]} = 0 ]; then
-    echo "setup: all ${#needs[@]} packages that the tests need are here"
+# What tests/release.sh needs. If it can't be had, its tests are skipped by name.
+wishes=(
+    "mmdebstrap mmdebstrap"
+    "dh debhelper"
+    "dh_python3 dh-python"
+    "lintian lintian"
+    "man man-db"
+    "zsh zsh"
+    "fish fish"
+)
+
+# lacking NEED..: the packages of those that are not here
+lacking() {
+    local each need
+    for each in "$@"; do
+        need=${each% *}
+        command -v "$need" > /dev/null || compgen -G "$need" > /dev/null || echo "${each#* }"
+    done
+}
+
+mapfile -t missing < <(lacking "${needs[@]}")
+mapfile -t wished < <(lacking "${wishes[@]}")
+if [ $((${#missing[@]} + ${#wished[@]})) = 0 ]; then
+    echo "setup: all $((${#needs[@]} + ${#wishes[@]})) packages that the tests need are here"
     exit
 fi
-echo "setup: installs ${missing[*]}"
+echo "setup: installs" "${missing[@]}" "${wished[@]}"
 if [ "$(id -u)" != 0 ] || ! command -v apt-get > /dev/null; then
+    [ ${#missing[@]} = 0 ] && exit
     echo "setup: install these packages, as root by apt-get or as your system does" >&2
     exit 1
 fi
@@ -43,8 +61,12 @@ log=$(mktemp)
 trap 'rm -f "$log"' EXIT
 export DEBIAN_FRONTEND=noninteractive RUNLEVEL=1 # no service is started
 get=(apt-get -o DPkg::Lock::Timeout=300)
-if ! { "${get[@]}" update && "${get[@]}" install -y --no-install-recommends "${missing[@]}"; } \
-    > "$log" 2>&1; then
+install() { "${get[@]}" install -y --no-install-recommends "$@"; }
+"${get[@]}" update > "$log" 2>&1 || [ ${#missing[@]} = 0 ] || { tail -20 "$log" >&2; exit 1; }
+if [ ${#missing[@]} != 0 ] && ! install "${missing[@]}" > "$log" 2>&1; then
     tail -20 "$log" >&2
     exit 1
+fi
+if [ ${#wished[@]} != 0 ] && ! install "${wished[@]}" > "$log" 2>&1; then
+    echo "setup: can't install ${wished[*]}, so tests of packages are skipped"
 fi
