@@ -29,7 +29,7 @@ FENCE = re.compile(r"^```(\w*)\n(.*?)^```$", re.M | re.S)
 QUOTED = re.compile(r"^(?:\d +)?([\w:]+) +(ensures .*)$")
 NAMED = re.compile(r"`([A-Za-z]\w*(?:::\w+)*)`: (`\w+`(?:, `\w+`)*)")
 LINK = re.compile(r"\]\(([^)#:\s]*)(?:#([\w-]+))?\)")
-FOLDERS = "bench|bindings|crates|docs|examples|include|integrations|tests|tools"
+FOLDERS = "bench|bindings|crates|docs|examples|include|integrations|packaging|tests|tools"
 PATH = re.compile(rf"`((?:{FOLDERS})/[\w./-]*\w)`")
 COMMAND = re.compile(rf"(?<![\w./$-])((?:{FOLDERS})/[\w./-]*\w)")
 FIGURE = re.compile(r"\b\d[\d.]* \(\d+\.\d+\)")
@@ -49,6 +49,7 @@ def documents():
         "*.md",
         "docs/*.md",
         "integrations/*/*.md",
+        "packaging/*.md",
         "tests/corpus/*.md",
         "crates/*.md",
         "crates/*/README.md",
