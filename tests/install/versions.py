@@ -31,6 +31,14 @@ PLACES = [
     ("docs/install.md", r"\.so\.(\d[\d.]*)", ABI),
     ("docs/install.md", r"find_package\(\w+ ([\d.]+)", ABI),
     ("docs/limits.md", r"\.so\.(\d[\d.]*)", ABI),
+    ("packaging/README.md", r"\.so\.(\d[\d.]*\d)", ABI),
+    ("packaging/README.md", r"LRC_\w+?_(\d[\d.]*\d)", ABI),
+    ("packaging/README.md", r"liblrc-[a-z]+(\d[\d.]*\d)_", ABI),
+    ("packaging/README.md", r"lrc_store-(\d[\d.]*\d)", NUMBER),
+    ("packaging/README.md", r"lrcstore v([\d.]+)", NUMBER),
+    ("tests/release/fresh.sh", r"lrcstore v([\d.]+)", NUMBER),
+    ("tests/release/fresh.sh", r"\.so\.(\d[\d.]*\d)", ABI),
+    ("tests/release/modules.py", r"\.so\.(\d[\d.]*\d) liblrc", ABI),
 ]
 
 
