@@ -73,13 +73,30 @@ cpp_headers() {
     done
 }
 
+python_module() {
+    python3-coverage run --parallel-mode --branch --include='*/lrc*.py,*/lrcstore/*' "$@" \
+        > "$work/printed" 2>&1 || { cat "$work/printed"; exit 1; }
+}
+
+# The package's extension module. Its lines are counted in a copy of the package.
+python_extension() {
+    local headers
+    headers=$(dirname "$(PYTHONPATH=tools /usr/bin/python3 tools/python_extension.py --header)")
+    cp -r bindings/python "$work/python"
+    gcc "${flags[@]}" -I "$headers" -fPIC -shared bindings/python/lrcstore/_native.c \
+        "$LRC_LIBRARIES/liblrc_store.so" -o "$work/python/lrcstore/_native.abi3.so"
+    gcc -w -I include -fPIC -shared tests/store/busy.c -o "$work/busy.so"
+    PYTHONPATH=$work/python python_module tests/store/package.py native
+    LD_PRELOAD=$work/busy.so PYTHONPATH=$work/python python_module tests/store/package_busy.py
+}
+
 python_modules() {
     export PYTHONDONTWRITEBYTECODE=1 PYTHONPATH=$PWD/bindings/python COVERAGE_FILE=$work/python
     export LRC_STORE_SO=$LRC_LIBRARIES/liblrc_store.so LRC_CODER_SO=$LRC_LIBRARIES/liblrc_coder.so
-    for each in tests/library/bindings.py tests/store/bindings.py; do
-        python3-coverage run --parallel-mode --branch --include='bindings/python/*' $each \
-            > "$work/printed" 2>&1 || { cat "$work/printed"; exit 1; }
-    done
+    python_module tests/library/bindings.py
+    python_module tests/store/bindings.py
+    python_module tests/store/package.py ctypes
+    python_extension
     python3-coverage combine --quiet
     python3-coverage json --quiet -o "$work/python.json"
 }

@@ -24,6 +24,10 @@ from typing import NamedTuple
 
 HERE = os.path.dirname(os.path.abspath(__file__))
 TOP = os.path.dirname(HERE)
+sys.path.append(os.path.join(TOP, "tools"))
+
+import python_extension  # noqa: E402
+
 COPIED = ("include", "library", "bindings", "integrations", "packaging", "tests", "tools", "docs")
 COPIED += ("README.md", "CHANGELOG.md", "crates/test_vectors/data", "crates/command_line/src")
 COPIED += ("crates/coder_c/src", "crates/store_c/src", "crates.txt")
@@ -144,6 +148,15 @@ TESTS = {
     "release": Test("true", "python3 tests/release/modules.py", seconds=120),
     "python_coder": Test("true", "python3 tests/library/bindings.py", seconds=120),
     "python_store": Test("true", "python3 tests/store/bindings.py", seconds=120),
+    "python_package": Test(
+        "tools/python_extension.py --libraries $LRC_LIBRARIES --rpath $LRC_LIBRARIES"
+        f" --to bindings/python/lrcstore && {C} -shared -fPIC tests/store/busy.c -o busy.so",
+        "python3 tests/store/package.py native"
+        " && LD_PRELOAD=./busy.so python3 tests/store/package_busy.py",
+        seconds=60,
+        needs=(python_extension.header(), "python3-dev"),
+    ),
+    "python_sessions": Test("true", "python3 tests/store/package.py ctypes", seconds=60),
     "rust_coder": rust_crate("rust"),
     "rust_store": rust_crate("rust_store"),
     "go_store": Test(

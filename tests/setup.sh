@@ -17,6 +17,7 @@ needs=(
     "pkg-config pkg-config"
     "python3 python3"
     "python3-coverage python3-coverage"
+    "/usr/include/python3*/Python.h python3-dev"
     "valgrind valgrind"
     "ceph-osd ceph-osd"
     "/usr/include/rados/librados.h librados-dev"

@@ -10,6 +10,7 @@ cd "$(dirname "$0")/.." || exit
 store=$LRC_LIBRARIES/liblrc_store.a
 coder=$LRC_LIBRARIES/liblrc_coder.a
 warnings=(-Wall -Wextra -Wpedantic -Wconversion -Wshadow -Werror -I include)
+python_header=$(tools/python_extension.py --header)
 sanitizers=(-g "-fsanitize=address,undefined" -fno-sanitize-recover=all)
 
 # program COMPILER STANDARD FILE FLAG..: compiles and links it
@@ -120,9 +121,19 @@ rust() {
 }
 in_rust() { rust run --example store; }
 rust_tests() { rust test > "$work/rust" 2>&1 || { cat "$work/rust"; return 1; }; }
-python() {
-    LRC_STORE_SO="$LRC_LIBRARIES/liblrc_store.so" PYTHONDONTWRITEBYTECODE=1 \
-        PYTHONPATH=bindings/python python3 "$@"
+python_with() {
+    LRC_STORE_SO="$LRC_LIBRARIES/liblrc_store.so" LRC_CODER_SO="$LRC_LIBRARIES/liblrc_coder.so" \
+        PYTHONDONTWRITEBYTECODE=1 python3 "$@"
+}
+python() { PYTHONPATH=bindings/python python_with "$@"; }
+# The package with its extension module, and a store that is busy for ever.
+package() {
+    cp -r bindings/python "$work/python" \
+        && tools/python_extension.py --libraries "$LRC_LIBRARIES" --to "$work/python/lrcstore" \
+            --rpath "$LRC_LIBRARIES" > /dev/null \
+        && PYTHONPATH=$work/python python_with tests/store/package.py native \
+        && busy_library && LD_PRELOAD=$work/busy.so PYTHONPATH=$work/python \
+            python_with tests/store/package_busy.py
 }
 go_tool() { tests/store/go.sh "$@" > "$work/go" 2>&1 || { cat "$work/go"; return 1; }; }
 in_go() { tests/store/go.sh run ./examples/store; }
@@ -132,9 +143,13 @@ go_vet() {
     [ -z "$unformatted" ] || { echo "gofmt would change $unformatted"; return 1; }
     go_tool vet ./...
 }
-# The calls of a store that is busy for ever return once their context ends.
+# A store that is busy for ever, to be loaded before the library.
+busy_library() {
+    gcc -std=gnu11 -O1 "${warnings[@]}" -shared -fPIC tests/store/busy.c -o "$work/busy.so"
+}
+# The calls of such a store return once their context ends.
 go_busy() {
-    gcc -std=gnu11 -O1 "${warnings[@]}" -shared -fPIC tests/store/busy.c -o "$work/busy.so" \
+    busy_library \
         && LRC_BUSY=1 go_tool test -count=1 -run TestBusy -exec "env LD_PRELOAD=$work/busy.so" .
 }
 
@@ -166,6 +181,8 @@ test_of "Rust example" cargo cargo example in_rust
 test_of "Rust" cargo cargo rust_tests
 test_of "Python example" python3 python3 example python bindings/python/store.py
 test_of "Python" python3 python3 python tests/store/bindings.py
+test_of "Python package by ctypes" python3 python3 python tests/store/package.py ctypes
+test_of "Python package" "$python_header" python3-dev package
 test_of "Go example" go golang-go example in_go
 test_of "Go, vet and gofmt" go golang-go go_vet
 test_of "Go" go golang-go go_tool test -count=1 ./...

@@ -6,11 +6,11 @@
 
 Under P it leaves bin/lrcstore, the headers, man pages, completions for shells, the sources of the
 Rust crates and of the Go module, and for `lrc_coder` and `lrc_store` each a static library, a
-shared one, a pkg-config file, a CMake package and a Python module. At its end it prints the
-variables to set, so that programs find them. The libraries have the code for x86-64-v2 and
-x86-64-v3 and choose when they are loaded; the program is for the processor that --cpu names.
-Libraries in the folder that LRC_LIBRARIES names are taken as they are, and with --reuse the program
-that was built before. It needs `rt`, gcc and binutils.
+shared one, a pkg-config file, a CMake package and a Python module; and the Python package
+`lrcstore`. At its end it prints the variables to set, so that programs find them. The libraries
+have the code for x86-64-v2 and x86-64-v3 and choose when they are loaded; the program is for the
+processor that --cpu names. Libraries in the folder that LRC_LIBRARIES names are taken as they are,
+and with --reuse the program that was built before. It needs `rt`, gcc and binutils.
 """
 
 import argparse
@@ -56,6 +56,7 @@ def install(installation, cpu, reuse):
             installation.library(name, ready)
             installation.python(name)
             installation.rust(name)
+        installation.python_package(ready)
         installation.go()
         installation.finish()
 

@@ -6,11 +6,13 @@ import shutil
 
 import libraries
 import package_files
+import python_extension
 from packages import manual
 
 TOP = libraries.TOP
 HEADERS = ("lrc_coder.h", "lrc_store.h", "lrc_store.hpp")
 RUST = {"lrc_coder": "rust", "lrc_store": "rust_store"}
+PACKAGE = "lrcstore"
 MANIFEST = os.path.join("share", "lrcstore", "installed.txt")
 # Where each shell looks for completions, under a prefix.
 COMPLETIONS = {
@@ -86,6 +88,19 @@ class Installation:
         self.module(name)
         library = f"{self.libdir}/{libraries.soname(name)}"
         self.link(os.path.relpath(library, self.pythondir), f"{self.pythondir}/lib{name}.so")
+
+    def python_package(self, folder, has_path=True):
+        """The Python package, and its extension module if this machine can compile it over the
+        libraries in a folder. It finds the installed one by a path, or as the system's loader does.
+        """
+        source, to = os.path.join(TOP, "bindings", "python", PACKAGE), f"{self.pythondir}/{PACKAGE}"
+        for file in sorted(os.listdir(source)):
+            if file.endswith((".py", ".pyi", ".typed")):
+                self.copy(os.path.join(source, file), f"{to}/{file}")
+        if os.path.exists(python_extension.header()):
+            there = os.path.dirname(self.place(f"{to}/{python_extension.MODULE}"))
+            library = f"$ORIGIN/{os.path.relpath(self.libdir, to)}"
+            python_extension.build(folder, there, library if has_path else None)
 
     def rust(self, name):
         """The sources of a Rust crate, which links the library by pkg-config."""

@@ -32,3 +32,4 @@ FORM(stat, lrc_slot *slot, const uint8_t *name, size_t name_len, uint64_t *versi
 FORM(trim, lrc_slot *slot, uint64_t keep, uint64_t *discarded)
 FORM(plan_part, lrc_slot *slot, lrc_slot *other, uint64_t most, uint64_t *items)
 FORM(mend_step, lrc_slot *slot, lrc_slot *other, uint64_t *version)
+FORM(mend, lrc_slot *slot, uint64_t *repaired)

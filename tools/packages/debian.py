@@ -71,6 +71,7 @@ def fill(work, source, linked):
         staged.library(name, linked)
         staged.module(name)
         staged.rust(name)
+    staged.python_package(linked, has_path=False)
     staged.go()
     for part in PARTS:
         there, copied = os.path.join(libraries.TOP, part), os.path.join(work, part)

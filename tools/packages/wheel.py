@@ -1,5 +1,5 @@
-"""The wheel of both Python modules. Each is a folder with its library beside it, so that it loads
-this one. By ctypes it serves every Python."""
+"""The wheel of both Python modules and of the package over them. Each module is a folder with its
+library beside it, so that it loads this one. By ctypes it serves every Python."""
 
 import base64
 import hashlib
@@ -7,6 +7,7 @@ import os
 import re
 
 import libraries
+from installation import PACKAGE
 from packages import licence
 from packages.reproducible import read_bytes, write_zip
 
@@ -32,7 +33,7 @@ def described(number, tag):
         "Classifier: Operating System :: POSIX :: Linux\n",
         "WHEEL": "Wheel-Version: 1.0\nGenerator: tools/package.py\nRoot-Is-Purelib: false\n"
         f"Tag: {tag}\n",
-        "top_level.txt": "".join(f"{it}\n" for it in libraries.LIBRARIES),
+        "top_level.txt": "".join(f"{it}\n" for it in (*libraries.LIBRARIES, PACKAGE)),
         **({"LICENSE": text} if text else {}),
     }
 
@@ -53,6 +54,10 @@ def pack(linked, dist, number, when):
         module = os.path.join(libraries.TOP, "bindings", "python", f"{name}.py")
         files[f"{name}/__init__.py"] = read_bytes(module)
         files[f"{name}/lib{name}.so"] = read_bytes(library)
+    package = os.path.join(libraries.TOP, "bindings", "python", PACKAGE)
+    for file in sorted(os.listdir(package)):
+        if file.endswith((".py", ".typed")):
+            files[f"{PACKAGE}/{file}"] = read_bytes(os.path.join(package, file))
     info = f"lrcstore-{number}.dist-info"
     for name, text in described(number, tag).items():
         files[f"{info}/{name}"] = text.encode()

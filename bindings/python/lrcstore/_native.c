@@ -1,0 +1,430 @@
+/* The calls of a store that all threads of Python share, as an extension module of the stable ABI.
+ *
+ * Each call takes a session from a pool and gives it back. Its result is a tuple: the status, and
+ * what the function of include/lrc_store.h writes. A short call is tried once without letting go of
+ * the GIL. A longer one, and one that waits, lets other threads of Python run, and handles signals
+ * every 50 milliseconds. */
+#define Py_LIMITED_API 0x030b0000
+#define PY_SSIZE_T_CLEAN
+#include <Python.h>
+
+#include "lrc_store.h"
+
+#include <time.h>
+
+enum { SHORT_BYTES = 4096, SLICE_MS = 50, MOST_NUMBERS = 4 };
+
+typedef struct {
+    PyObject_HEAD lrc_pool *pool; /* NULL once it is closed */
+    unsigned long calls_inside;   /* guarded by the GIL */
+} store_calls;
+
+/* A call: its arguments, and the numbers that it writes. */
+struct call {
+    uint32_t (*run)(lrc_slot *session, struct call *call, int64_t timeout_ms);
+    const uint8_t *name;
+    Py_ssize_t name_len;
+    uint64_t first, second;
+    uint8_t *bytes;
+    Py_ssize_t len;
+    uint64_t numbers[MOST_NUMBERS];
+};
+
+static uint32_t put(lrc_slot *session, struct call *call, int64_t timeout_ms) {
+    return lrc_store_put_wait(session, call->name, (size_t)call->name_len, call->bytes,
+                              (size_t)call->len, (uint32_t)call->first, &call->numbers[0],
+                              timeout_ms);
+}
+
+static uint32_t read_range(lrc_slot *session, struct call *call, int64_t timeout_ms) {
+    return lrc_store_read_wait(session, call->name, (size_t)call->name_len, call->first,
+                               call->bytes, (size_t)call->len, &call->numbers[0], &call->numbers[1],
+                               &call->numbers[2], timeout_ms);
+}
+
+static uint32_t stat_blob(lrc_slot *session, struct call *call, int64_t timeout_ms) {
+    uint64_t *numbers = call->numbers;
+    return lrc_store_stat_wait(session, call->name, (size_t)call->name_len, &numbers[0],
+                               &numbers[1], &numbers[2], &numbers[3], timeout_ms);
+}
+
+static uint32_t delete_blob(lrc_slot *session, struct call *call, int64_t timeout_ms) {
+    return lrc_store_delete_wait(session, call->name, (size_t)call->name_len, &call->numbers[0],
+                                 timeout_ms);
+}
+
+static uint32_t lose(lrc_slot *session, struct call *call, int64_t timeout_ms) {
+    return lrc_store_lose_wait(session, call->name, (size_t)call->name_len, call->first,
+                               call->second, &call->numbers[0], timeout_ms);
+}
+
+static uint32_t repair(lrc_slot *session, struct call *call, int64_t timeout_ms) {
+    return lrc_store_repair_wait(session, call->name, (size_t)call->name_len, call->first,
+                                 call->second, &call->numbers[0], timeout_ms);
+}
+
+static uint32_t trim(lrc_slot *session, struct call *call, int64_t timeout_ms) {
+    return lrc_store_trim_wait(session, call->first, &call->numbers[0], timeout_ms);
+}
+
+static uint32_t mend(lrc_slot *session, struct call *call, int64_t timeout_ms) {
+    return lrc_store_mend_wait(session, &call->numbers[0], timeout_ms);
+}
+
+static int64_t now_ms(void) {
+    struct timespec now;
+    clock_gettime(CLOCK_MONOTONIC, &now);
+    return (int64_t)now.tv_sec * 1000 + now.tv_nsec / 1000000;
+}
+
+static uint32_t on_a_session(lrc_pool *pool, struct call *call, int64_t timeout_ms) {
+    lrc_slot *session = NULL;
+    uint32_t status = lrc_pool_take(pool, &session, timeout_ms);
+    if (status != LRC_STORE_DONE) return status;
+    status = call->run(session, call, timeout_ms);
+    lrc_pool_give(pool, session);
+    return status;
+}
+
+/* Makes the call without the GIL, in slices between which Python handles signals. The status is
+ * LRC_STORE_BUSY at the deadline. Returns -1 if a handler raised an exception. */
+static int wait_for(lrc_pool *pool, struct call *call, int64_t timeout_ms, uint32_t *status) {
+    const int64_t end = timeout_ms < 0 ? INT64_MAX : now_ms() + timeout_ms;
+    for (;;) {
+        const int64_t left = end - now_ms();
+        const int64_t slice = left < 0 ? 0 : left < SLICE_MS ? left : SLICE_MS;
+        PyThreadState *thread = PyEval_SaveThread();
+        *status = on_a_session(pool, call, slice);
+        PyEval_RestoreThread(thread);
+        if (PyErr_CheckSignals() < 0) return -1;
+        if (*status != LRC_STORE_BUSY || left <= 0) return 0;
+    }
+}
+
+/* Makes the call. Returns -1 if there is an exception. */
+static int make(store_calls *self, struct call *call, int64_t timeout_ms, uint32_t *status) {
+    int result = 0;
+    if (!self->pool) {
+        *status = LRC_STORE_EMPTY;
+        return 0;
+    }
+    self->calls_inside++;
+    *status = LRC_STORE_BUSY;
+    if (call->len <= SHORT_BYTES) *status = on_a_session(self->pool, call, 0);
+    if (*status == LRC_STORE_BUSY) result = wait_for(self->pool, call, timeout_ms, status);
+    self->calls_inside--;
+    return result;
+}
+
+/* The status and the first `count` numbers as a tuple. */
+static PyObject *reply(uint32_t status, const struct call *call, Py_ssize_t count) {
+    PyObject *tuple = PyTuple_New(1 + count);
+    if (!tuple) return NULL;
+    for (Py_ssize_t i = 0; i <= count; i++) {
+        PyObject *number = PyLong_FromUnsignedLongLong(i ? call->numbers[i - 1] : status);
+        if (!number || PyTuple_SetItem(tuple, i, number) < 0) {
+            Py_DECREF(tuple);
+            return NULL;
+        }
+    }
+    return tuple;
+}
+
+static PyObject *made(store_calls *self, struct call *call, int64_t timeout_ms, Py_ssize_t count) {
+    uint32_t status;
+    return make(self, call, timeout_ms, &status) < 0 ? NULL : reply(status, call, count);
+}
+
+static int count_is(const char *method, Py_ssize_t count, Py_ssize_t wanted) {
+    if (count == wanted) return 1;
+    PyErr_Format(PyExc_TypeError, "%s takes %zd arguments, not %zd", method, wanted, count);
+    return 0;
+}
+
+/* The bytes of a name, which may be str or bytes. A str without UTF-8 is no name: it has no
+ * bytes. Returns -1 if there is an exception. */
+static int name_to(struct call *call, PyObject *name) {
+    if (PyUnicode_Check(name)) {
+        call->name = (const uint8_t *)PyUnicode_AsUTF8AndSize(name, &call->name_len);
+        if (call->name) return 0;
+        PyErr_Clear();
+        call->name = (const uint8_t *)"";
+        call->name_len = 0;
+        return 0;
+    }
+    if (PyBytes_Check(name)) {
+        char *bytes;
+        if (PyBytes_AsStringAndSize(name, &bytes, &call->name_len) < 0) return -1;
+        call->name = (const uint8_t *)bytes;
+        return 0;
+    }
+    PyErr_SetString(PyExc_TypeError, "the name is neither str nor bytes");
+    return -1;
+}
+
+static int number_to(uint64_t *number, PyObject *object, uint64_t most) {
+    *number = PyLong_AsUnsignedLongLong(object);
+    const int is_outside =
+        PyErr_Occurred() ? PyErr_ExceptionMatches(PyExc_OverflowError) : *number > most;
+    if (is_outside) {
+        PyErr_Clear();
+        PyErr_Format(PyExc_ValueError, "%R is not in 0 to %llu", object, (unsigned long long)most);
+    }
+    return PyErr_Occurred() ? -1 : 0;
+}
+
+static int timeout_to(int64_t *timeout_ms, PyObject *object) {
+    *timeout_ms = PyLong_AsLongLong(object);
+    return PyErr_Occurred() ? -1 : 0;
+}
+
+/* put(name, blob, data_fragments, timeout_ms) -> (status, version) */
+static PyObject *calls_put(store_calls *self, PyObject *const *words, Py_ssize_t count) {
+    struct call call = {.run = put};
+    int64_t timeout_ms;
+    Py_buffer blob;
+    if (!count_is("put", count, 4) || name_to(&call, words[0]) < 0 ||
+        number_to(&call.first, words[2], UINT32_MAX) < 0 || timeout_to(&timeout_ms, words[3]) < 0 ||
+        PyObject_GetBuffer(words[1], &blob, PyBUF_SIMPLE) < 0)
+        return NULL;
+    call.bytes = blob.len ? blob.buf : (uint8_t *)"";
+    call.len = blob.len;
+    PyObject *result = made(self, &call, timeout_ms, 1);
+    PyBuffer_Release(&blob);
+    return result;
+}
+
+/* read_into(name, start, buffer, timeout_ms) -> (status, version) */
+static PyObject *calls_read_into(store_calls *self, PyObject *const *words, Py_ssize_t count) {
+    struct call call = {.run = read_range};
+    int64_t timeout_ms;
+    Py_buffer target;
+    if (!count_is("read_into", count, 4) || name_to(&call, words[0]) < 0 ||
+        number_to(&call.first, words[1], UINT64_MAX) < 0 || timeout_to(&timeout_ms, words[3]) < 0 ||
+        PyObject_GetBuffer(words[2], &target, PyBUF_WRITABLE) < 0)
+        return NULL;
+    uint8_t nothing;
+    call.bytes = target.len ? target.buf : &nothing;
+    call.len = target.len;
+    PyObject *result = made(self, &call, timeout_ms, 1);
+    PyBuffer_Release(&target);
+    return result;
+}
+
+/* Reads so many bytes into `bytes`, a new object. Returns -1 if there is an exception. */
+static int read_new(store_calls *self, struct call *call, uint64_t length, int64_t timeout_ms,
+                    PyObject **bytes, uint32_t *status) {
+    if (length > (uint64_t)PY_SSIZE_T_MAX - 64) {
+        PyErr_NoMemory();
+        return -1;
+    }
+    call->len = (Py_ssize_t)length;
+    *bytes = PyBytes_FromStringAndSize(NULL, call->len);
+    if (!*bytes) return -1;
+    call->bytes = (uint8_t *)PyBytes_AsString(*bytes);
+    if (make(self, call, timeout_ms, status) < 0 || *status != LRC_STORE_DONE) Py_CLEAR(*bytes);
+    return PyErr_Occurred() ? -1 : 0;
+}
+
+/* Reads all bytes from `call->first` on. It asks for the length and reads, and does so again if a
+ * put came between. */
+static int read_rest(store_calls *self, struct call *call, int64_t timeout_ms, PyObject **bytes,
+                     uint32_t *status) {
+    struct call shape = {.run = stat_blob, .name = call->name, .name_len = call->name_len};
+    for (;;) {
+        if (make(self, &shape, timeout_ms, status) < 0) return -1;
+        if (*status != LRC_STORE_DONE) return 0;
+        const uint64_t size = shape.numbers[1];
+        if (call->first > size) {
+            *status = LRC_STORE_OUT_OF_RANGE;
+            return 0;
+        }
+        if (read_new(self, call, size - call->first, timeout_ms, bytes, status) < 0) return -1;
+        if (*status == LRC_STORE_DONE && call->numbers[0] == shape.numbers[0]) return 0;
+        Py_CLEAR(*bytes);
+        if (*status != LRC_STORE_DONE && *status != LRC_STORE_OUT_OF_RANGE) return 0;
+    }
+}
+
+/* get(name, start, length or None, timeout_ms) -> (status, version, bytes or None), of one version.
+ * Without a length it reads all bytes from `start` on. */
+static PyObject *calls_get(store_calls *self, PyObject *const *words, Py_ssize_t count) {
+    struct call call = {.run = read_range};
+    int64_t timeout_ms;
+    uint64_t length = 0;
+    uint32_t status;
+    PyObject *bytes = NULL;
+    if (!count_is("get", count, 4) || name_to(&call, words[0]) < 0 ||
+        number_to(&call.first, words[1], UINT64_MAX) < 0 || timeout_to(&timeout_ms, words[3]) < 0)
+        return NULL;
+    const int is_whole = words[2] == Py_None;
+    if (!is_whole && number_to(&length, words[2], UINT64_MAX) < 0) return NULL;
+    const int failed = is_whole ? read_rest(self, &call, timeout_ms, &bytes, &status)
+                                : read_new(self, &call, length, timeout_ms, &bytes, &status);
+    if (failed) return NULL;
+    if (!bytes) return Py_BuildValue("(IKO)", status, 0ULL, Py_None);
+    return Py_BuildValue("(IKN)", status, (unsigned long long)call.numbers[0], bytes);
+}
+
+/* A call of a name alone, or of a name and two numbers, whose reply has so many numbers. */
+static PyObject *named(store_calls *self, struct call *call, const char *method,
+                       PyObject *const *words, Py_ssize_t count, Py_ssize_t numbers) {
+    const Py_ssize_t wanted = call->run == lose || call->run == repair ? 4 : 2;
+    int64_t timeout_ms;
+    if (!count_is(method, count, wanted) || name_to(call, words[0]) < 0 ||
+        timeout_to(&timeout_ms, words[wanted - 1]) < 0)
+        return NULL;
+    if (wanted == 4 && (number_to(&call->first, words[1], UINT64_MAX) < 0 ||
+                        number_to(&call->second, words[2], UINT64_MAX) < 0))
+        return NULL;
+    return made(self, call, timeout_ms, numbers);
+}
+
+/* stat(name, timeout_ms) -> (status, version, length, stripes, lost) */
+static PyObject *calls_stat(store_calls *self, PyObject *const *words, Py_ssize_t count) {
+    struct call call = {.run = stat_blob};
+    return named(self, &call, "stat", words, count, 4);
+}
+
+/* delete(name, timeout_ms) -> (status, version) */
+static PyObject *calls_delete(store_calls *self, PyObject *const *words, Py_ssize_t count) {
+    struct call call = {.run = delete_blob};
+    return named(self, &call, "delete", words, count, 1);
+}
+
+/* lose(name, stripe, fragment, timeout_ms) -> (status, version) */
+static PyObject *calls_lose(store_calls *self, PyObject *const *words, Py_ssize_t count) {
+    struct call call = {.run = lose};
+    return named(self, &call, "lose", words, count, 1);
+}
+
+/* repair(name, stripe, fragment, timeout_ms) -> (status, version) */
+static PyObject *calls_repair(store_calls *self, PyObject *const *words, Py_ssize_t count) {
+    struct call call = {.run = repair};
+    return named(self, &call, "repair", words, count, 1);
+}
+
+/* trim(keep, timeout_ms) -> (status, discarded) */
+static PyObject *calls_trim(store_calls *self, PyObject *const *words, Py_ssize_t count) {
+    struct call call = {.run = trim};
+    int64_t timeout_ms;
+    if (!count_is("trim", count, 2) || number_to(&call.first, words[0], UINT64_MAX) < 0 ||
+        timeout_to(&timeout_ms, words[1]) < 0)
+        return NULL;
+    return made(self, &call, timeout_ms, 1);
+}
+
+/* mend(timeout_ms) -> (status, repaired). It runs without the GIL, and in one piece: the deadline
+ * is for each of its steps, and a signal is handled when it returns. */
+static PyObject *calls_mend(store_calls *self, PyObject *const *words, Py_ssize_t count) {
+    struct call call = {.run = mend};
+    int64_t timeout_ms;
+    uint32_t status = LRC_STORE_EMPTY;
+    if (!count_is("mend", count, 1) || timeout_to(&timeout_ms, words[0]) < 0) return NULL;
+    if (self->pool) {
+        self->calls_inside++;
+        PyThreadState *thread = PyEval_SaveThread();
+        status = on_a_session(self->pool, &call, timeout_ms);
+        PyEval_RestoreThread(thread);
+        self->calls_inside--;
+    }
+    return reply(status, &call, 1);
+}
+
+/* close() -> (status, entries, lawful). No call may be inside, or the status is NOT_ALONE. */
+static PyObject *calls_close(store_calls *self, PyObject *nothing) {
+    struct call call = {.run = NULL};
+    uint32_t status = LRC_STORE_EMPTY, lawful = 0;
+    lrc_slot slot = LRC_SLOT_EMPTY;
+    (void)nothing;
+    if (self->calls_inside) {
+        status = LRC_STORE_NOT_ALONE;
+    } else if (self->pool) {
+        status = lrc_pool_close(self->pool, &slot);
+        self->pool = NULL;
+        if (status == LRC_STORE_DONE) status = lrc_store_close(&slot, &call.numbers[0], &lawful);
+        lrc_slot_release(&slot);
+    }
+    call.numbers[1] = lawful;
+    return reply(status, &call, 2);
+}
+
+/* open(width, limit or None) -> (status,): opens a store, and makes a pool of its sessions */
+static PyObject *calls_open(store_calls *self, PyObject *const *words, Py_ssize_t count) {
+    struct call call = {.run = NULL};
+    uint64_t width, limit = 0;
+    uint32_t status = LRC_STORE_OCCUPIED;
+    lrc_slot slot = LRC_SLOT_EMPTY;
+    if (!count_is("open", count, 2) || number_to(&width, words[0], UINT32_MAX) < 0 ||
+        (words[1] != Py_None && number_to(&limit, words[1], UINT32_MAX) < 0))
+        return NULL;
+    if (!self->pool) {
+        status = words[1] == Py_None ? lrc_store_open_unjournaled((uint32_t)width, &slot)
+                                     : lrc_store_open((uint32_t)width, (uint32_t)limit, &slot);
+        if (status == LRC_STORE_DONE) status = lrc_pool_open(&slot, &self->pool);
+        lrc_slot_release(&slot);
+    }
+    return reply(status, &call, 0);
+}
+
+static void calls_dealloc(PyObject *object) {
+    store_calls *self = (store_calls *)object;
+    PyTypeObject *type = Py_TYPE(object);
+    lrc_slot slot = LRC_SLOT_EMPTY;
+    if (self->pool) {
+        lrc_pool_close(self->pool, &slot);
+        lrc_slot_release(&slot);
+    }
+    freefunc release = (freefunc)PyType_GetSlot(type, Py_tp_free);
+    release(object);
+    Py_DECREF(type);
+}
+
+#define FAST(name)                                                                                 \
+    { #name, (PyCFunction)(void (*)(void))calls_##name, METH_FASTCALL, NULL }
+static PyMethodDef methods[] = {
+    FAST(open),
+    FAST(put),
+    FAST(get),
+    FAST(read_into),
+    FAST(stat),
+    FAST(delete),
+    FAST(lose),
+    FAST(repair),
+    FAST(trim),
+    FAST(mend),
+    {"close", (PyCFunction)calls_close, METH_NOARGS, NULL},
+    {NULL, NULL, 0, NULL},
+};
+
+static PyType_Slot slots[] = {
+    {Py_tp_dealloc, calls_dealloc},
+    {Py_tp_methods, methods},
+    {Py_tp_doc, "The calls of a store, which any thread may make."},
+    {0, NULL},
+};
+
+static PyType_Spec spec = {
+    .name = "lrcstore._native.Calls",
+    .basicsize = sizeof(store_calls),
+    .flags = Py_TPFLAGS_DEFAULT,
+    .slots = slots,
+};
+
+static int add_type(PyObject *module) {
+    PyObject *type = PyType_FromSpec(&spec);
+    if (!type) return -1;
+    const int result = PyModule_AddObjectRef(module, "Calls", type);
+    Py_DECREF(type);
+    return result;
+}
+
+static PyModuleDef_Slot module_slots[] = {{Py_mod_exec, add_type}, {0, NULL}};
+
+static struct PyModuleDef module = {
+    PyModuleDef_HEAD_INIT,
+    .m_name = "_native",
+    .m_slots = module_slots,
+};
+
+PyMODINIT_FUNC PyInit__native(void) { return PyModuleDef_Init(&module); }

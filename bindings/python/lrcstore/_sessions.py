@@ -1,0 +1,150 @@
+"""The calls of `_native.Calls` by ctypes, for a Python that has no extension module."""
+
+from __future__ import annotations
+
+import contextlib
+import threading
+from typing import Any, Callable, Iterator, List, Tuple, Union
+
+from lrc_store import Session, Status, StoreError
+
+_Name = Union[str, bytes]
+_Bytes = Union[bytes, bytearray, memoryview]
+# A store has 64 sessions at a time. The first one splits the others off, and lends itself to no
+# thread.
+_LENT_AT_ONCE = 63
+
+
+def _text(name: _Name) -> str:
+    if isinstance(name, bytes):
+        return name.decode(errors="surrogateescape")
+    if not isinstance(name, str):
+        raise TypeError("the name is neither str nor bytes")
+    return name
+
+
+class Calls:
+    """The calls of a store, which any thread may make. Each takes a session, and gives it back."""
+
+    def __init__(self) -> None:
+        self._first: Session | None = None
+        self._idle: List[Session] = []
+        self._made = 0
+        self._lock = threading.Lock()
+        self._places = threading.Semaphore(_LENT_AT_ONCE)
+
+    def _session(self) -> Session:
+        """A session that no other thread has, which the caller has a place for."""
+        with self._lock:
+            if self._first is None:
+                raise StoreError("call", (), Status.EMPTY)
+            if self._idle:
+                return self._idle.pop()
+            made = self._first.split(self._made + 1)
+            self._made += 1
+            return made
+
+    @contextlib.contextmanager
+    def _lent(self, timeout_ms: int) -> Iterator[Session]:
+        seconds = None if timeout_ms < 0 else timeout_ms / 1000
+        if not self._places.acquire(timeout=seconds):
+            raise StoreError("call", (), Status.BUSY)
+        try:
+            session = self._session()
+            session.timeout = seconds
+            try:
+                yield session
+            finally:
+                self._idle.append(session)
+        finally:
+            self._places.release()
+
+    def _reply(self, timeout_ms: int, call: Callable[[Session], Any]) -> Tuple[int, Any]:
+        """The status of a call, and what it returned, or 0."""
+        try:
+            with self._lent(timeout_ms) as session:
+                return 0, call(session)
+        except StoreError as error:
+            return error.status.value, error.repaired or 0
+
+    def open(self, width: int, limit: int | None) -> Tuple[int]:
+        if self._first is not None:
+            return (Status.OCCUPIED.value,)
+        try:
+            self._first = Session.open(width, limit)
+        except StoreError as error:
+            return (error.status.value,)
+        return (0,)
+
+    def put(
+        self, name: _Name, blob: _Bytes, data_fragments: int, timeout_ms: int
+    ) -> Tuple[int, int]:
+        text = _text(name)
+        return self._reply(timeout_ms, lambda session: session.put(text, blob, data_fragments))
+
+    def get(
+        self, name: _Name, start: int, length: int | None, timeout_ms: int
+    ) -> Tuple[int, int, bytes | None]:
+        text = _text(name)
+
+        def copied(session: Session) -> Tuple[int, bytes]:
+            while True:
+                shape = session.stat(text) if length is None else None
+                if shape and start > shape.len:
+                    raise StoreError("get", (), Status.OUT_OF_RANGE)
+                target = bytearray(shape.len - start if shape else length or 0)
+                try:
+                    version = session.read_into(text, start, target)
+                except StoreError as error:
+                    if not shape or error.status != Status.OUT_OF_RANGE:
+                        raise
+                else:
+                    if not shape or version == shape.version:
+                        return version, bytes(target)
+
+        status, result = self._reply(timeout_ms, copied)
+        version, found = result or (0, None)
+        return status, version, found
+
+    def read_into(
+        self, name: _Name, start: int, buffer: bytearray | memoryview, timeout_ms: int
+    ) -> Tuple[int, int]:
+        text = _text(name)
+        return self._reply(timeout_ms, lambda session: session.read_into(text, start, buffer))
+
+    def stat(self, name: _Name, timeout_ms: int) -> Tuple[int, int, int, int, int]:
+        text = _text(name)
+        status, shape = self._reply(timeout_ms, lambda session: session.stat(text))
+        version, length, stripes, lost = shape or (0, 0, 0, 0)
+        return status, version, length, stripes, lost
+
+    def delete(self, name: _Name, timeout_ms: int) -> Tuple[int, int]:
+        text = _text(name)
+        return self._reply(timeout_ms, lambda session: session.delete(text))
+
+    def lose(self, name: _Name, stripe: int, fragment: int, timeout_ms: int) -> Tuple[int, int]:
+        text = _text(name)
+        return self._reply(timeout_ms, lambda session: session.lose(text, stripe, fragment))
+
+    def repair(self, name: _Name, stripe: int, fragment: int, timeout_ms: int) -> Tuple[int, int]:
+        text = _text(name)
+        return self._reply(timeout_ms, lambda session: session.repair(text, stripe, fragment))
+
+    def trim(self, keep: int, timeout_ms: int) -> Tuple[int, int]:
+        return self._reply(timeout_ms, lambda session: session.trim(keep))
+
+    def mend(self, timeout_ms: int) -> Tuple[int, int]:
+        return self._reply(timeout_ms, lambda session: session.mend())
+
+    def close(self) -> Tuple[int, int, int]:
+        with self._lock:
+            if self._first is None:
+                return Status.EMPTY.value, 0, 0
+            if len(self._idle) < self._made:
+                return Status.NOT_ALONE.value, 0, 0
+            for session in self._idle:
+                self._first.join(session)
+            self._idle, self._made = [], 0
+            closed = self._first.close()
+            self._first = None
+        return 0, closed.entries, 1 if closed.is_checked else 2

@@ -1,0 +1,317 @@
+#!/usr/bin/env python3
+"""The Python package `lrcstore`: package.py native|ctypes, as its calls are made."""
+
+import array
+import gc
+import sys
+import threading
+import unittest
+
+import lrcstore
+from lrcstore import Status, Store, StoreError
+from lrcstore import _store
+from recorder import Recorder
+
+NATIVE, CTYPES = "lrcstore._native", "lrcstore._sessions"
+
+
+def bytes_of(length):
+    return bytes((7 * i + i // 251) % 256 for i in range(length))
+
+
+class Calls(unittest.TestCase):
+    def setUp(self):
+        self.store = Store(4)
+        self.blob = bytes_of(200)
+
+    def test_a_blob_comes_back(self):
+        store, blob = self.store, self.blob
+        for version, (name, given, fragments) in enumerate(
+            (
+                ("str", blob, 12),
+                (b"bytes", bytearray(blob), 6),
+                ("memoryview", memoryview(blob), 12),
+                ("array", array.array("B", blob), 6),
+            )
+        ):
+            self.assertEqual(store.put(name, given, fragments), version)
+            self.assertEqual(store.get(name), blob)
+            stripes = -(-200 // (4 * fragments))
+            self.assertEqual(store.stat(name), (version, 200, stripes, 0))
+        self.assertEqual(store.get("bytes"), blob)
+        self.assertEqual(store.put("empty", b""), store.stat("empty").version)
+        self.assertEqual(store.get("empty"), b"")
+        for length in (4095, 4096, 4097, 49152):
+            Store(4).put("a", bytes_of(length))
+            store.put("long", bytes_of(length))
+            self.assertEqual(store.get("long"), bytes_of(length))
+
+    def test_ranges(self):
+        store, blob = self.store, self.blob
+        version = store.put("a", blob)
+        for start, length in ((0, 0), (0, 1), (3, 50), (199, 1), (200, 0), (0, 200)):
+            self.assertEqual(store.get("a", start, length), blob[start : start + length])
+            target = bytearray(length)
+            self.assertEqual(store.read_into("a", start, target), version)
+            self.assertEqual(target, blob[start : start + length])
+        for start in (0, 60, 200):
+            self.assertEqual(store.get("a", start), blob[start:])
+        self.refused(Status.OUT_OF_RANGE, "get('a', 201, None)", store.get, "a", 201)
+        self.refused(Status.OUT_OF_RANGE, "get('a', 1, 200)", store.get, "a", 1, 200)
+        target = bytearray(b"\xee" * 9)
+        self.refused(
+            Status.OUT_OF_RANGE, "read_into('a', 192, 9)", store.read_into, "a", 192, target
+        )
+        self.assertEqual(target, b"\xee" * 9)
+
+    def test_lost_fragments(self):
+        store, blob = self.store, self.blob
+        version = store.put("a", blob)
+        for fragment in (0, 5, 13):
+            self.assertEqual(store.lose("a", 1, fragment), version)
+        self.assertEqual(store.stat("a"), (version, 200, 5, 3))
+        self.assertEqual(store.get("a"), blob)
+        self.assertEqual(store.repair("a", 1, 5), version)
+        self.refused(Status.NOT_LOST, "repair('a', 1, 5)", store.repair, "a", 1, 5)
+        self.refused(Status.ALREADY_LOST, "lose('a', 1, 13)", store.lose, "a", 1, 13)
+        self.refused(Status.NO_FRAGMENT, "lose('a', 5, 0)", store.lose, "a", 5, 0)
+        self.assertEqual(store.mend(), 2)
+        self.assertEqual((store.mend(), store.stat("a").lost), (0, 0))
+        for fragment in range(5):
+            store.lose("a", 0, fragment)
+        self.refused(Status.UNRECOVERABLE, "get('a', 0, None)", store.get, "a")
+        self.assertEqual(store.get("a", 48), blob[48:])
+
+    def test_delete(self):
+        version = self.store.put("a", b"x")
+        self.assertEqual(self.store.delete("a"), version)
+        error = self.refused(Status.NO_NAME, "delete('a')", self.store.delete, "a")
+        self.assertIsInstance(error, lrcstore.NotFound)
+        self.assertIsInstance(error, KeyError)
+        self.refused(Status.NO_NAME, "stat(b'a')", self.store.stat, b"a")
+        self.refused(Status.NO_NAME, "get('a', 0, None)", self.store.get, "a")
+
+    def refused(self, status, text, call, *arguments):
+        with self.assertRaises(StoreError) as caught:
+            call(*arguments)
+        self.assertIs(caught.exception.status, status)
+        self.assertEqual(str(caught.exception).split(": ")[0], text)
+        return caught.exception
+
+    def test_refused_arguments(self):
+        store = self.store
+        self.refused(Status.BAD_WIDTH, "open(0)", Store, 0)
+        with self.assertRaises(StoreError) as caught:
+            Store(4, limit=0)
+        self.assertEqual(str(caught.exception).split(": ")[0], "open(4, 0)")
+        self.refused(Status.BAD_NAME, "put('A', 3, 12)", store.put, "A", b"xyz")
+        self.refused(Status.BAD_NAME, "stat('')", store.stat, "")
+        self.refused(Status.BAD_NAME, "stat('\\udc80')", store.stat, "\udc80")
+        self.refused(Status.BAD_NAME, "stat(b'\\xff')", store.stat, b"\xff")
+        self.refused(Status.BAD_ARGUMENT, "put('b', 1, 7)", store.put, "b", b"x", 7)
+        self.refused(Status.TOO_LONG, "put('a', 196609, 12)", store.put, "a", bytes(196609))
+        store.put("a", b"x")
+        for call in (
+            lambda: Store(2**32 + 4),
+            lambda: Store(4, limit=2**32 + 9),
+            lambda: store.put("a", b"x", 2**32 + 12),
+            lambda: store.get("a", -1),
+            lambda: store.get("a", 0, 2**64),
+            lambda: store.read_into("a", 2**64, bytearray(1)),
+            lambda: store.lose("a", 2**64, 0),
+            lambda: store.lose("a", 0, -1),
+            lambda: store.repair("a", -1, 0),
+            lambda: store.repair("a", 0, 2**64),
+            lambda: store.trim(-1),
+        ):
+            self.assertRaises(ValueError, call)
+        for call in (
+            lambda: store.put("a", "text"),
+            lambda: store.put("a", memoryview(bytes(9))[::2]),
+            lambda: store.put(3, b"x"),
+            lambda: store.put("a", b"x", "12"),
+            lambda: store.get(None),
+            lambda: store.get("a", 0, 1.5),
+            lambda: store.get("a", "0"),
+            lambda: store.read_into("a", 0, b"x"),
+            lambda: store.stat(None),
+            lambda: store.delete(["a"]),
+            lambda: store.lose("a", "0", 0),
+            lambda: store.repair("a", 0, None),
+            lambda: store.trim("3"),
+        ):
+            self.assertRaises((TypeError, BufferError), call)
+        self.assertEqual(store.stat("a"), (0, 1, 1, 0))
+
+    def test_the_timeout_is_none_or_a_time(self):
+        store = self.store
+        self.assertIsNone(store.timeout)
+        for seconds, milliseconds in ((0, 0), (0.0301, 31), (3, 3000), (1e300, -1)):
+            store.timeout = seconds
+            self.assertEqual((store.timeout, store._timeout_ms), (seconds, milliseconds))
+            self.assertEqual(store.put("a", b"x"), store.stat("a").version)
+        for seconds in (-1, float("nan")):
+            with self.assertRaises(ValueError):
+                store.timeout = seconds
+        store.timeout = None
+        self.assertEqual(store._timeout_ms, -1)
+
+    def test_close(self):
+        store = self.store
+        store.put("a", b"x")
+        self.assertEqual(store.close(), (0, False))
+        self.refused(Status.EMPTY, "close()", store.close)
+        self.refused(Status.EMPTY, "get('a', 0, None)", store.get, "a")
+        self.refused(Status.EMPTY, "get('a', 0, 3)", store.get, "a", 0, 3)
+        self.refused(Status.EMPTY, "mend()", store.mend)
+        self.refused(Status.EMPTY, "trim(3)", store.trim, 3)
+        self.assertEqual(_store.Calls().close()[0], Status.EMPTY)
+        calls = _store.Calls()
+        self.assertEqual(calls.open(4, None)[0], Status.DONE)
+        self.assertEqual(calls.open(4, None)[0], Status.OCCUPIED)
+        with Store(4) as other:
+            other.put("a", b"x")
+        self.refused(Status.EMPTY, "stat('a')", other.stat, "a")
+        with self.assertRaises(ZeroDivisionError), Store(4) as other:
+            other.put("a", b"x")
+            other.put("b", bytes([1 // 0]))
+        self.assertEqual(other.get("a"), b"x")
+
+    def test_a_journal(self):
+        store = Store(4, limit=5)
+        for _ in range(5):
+            store.put("a", b"x")
+        self.refused(Status.JOURNAL_FULL, "put('a', 1, 12)", store.put, "a", b"x")
+        self.assertEqual(store.trim(2), 3)
+        store.lose("a", 0, 0)
+        store.lose("a", 0, 1)
+        self.assertEqual(store.stat("a").lost, 2)
+        error = self.refused(Status.JOURNAL_FULL, "mend() after 0 repaired fragments", store.mend)
+        self.assertEqual(error.repaired, 0)
+        self.assertEqual(store.trim(4), 1)
+        error = self.refused(Status.JOURNAL_FULL, "mend() after 1 repaired fragments", store.mend)
+        self.assertEqual(error.repaired, 1)
+        self.assertEqual(store.close(), (5, True))
+
+
+class Threads(unittest.TestCase):
+    def run_all(self, count, work):
+        """Runs work(i) on so many threads at once, and raises what one of them raised."""
+        start, failures = threading.Barrier(count), []
+
+        def one(number):
+            try:
+                start.wait()
+                work(number)
+            except BaseException as error:  # told below
+                failures.append(error)
+
+        threads = [threading.Thread(target=one, args=(number,)) for number in range(count)]
+        for thread in threads:
+            thread.start()
+        for thread in threads:
+            thread.join()
+        if failures:
+            raise failures[0]
+
+    def test_more_threads_than_sessions(self):
+        store = Store(4)
+
+        def work(number):
+            name = f"name-{number}"
+            for turn in range(10):
+                blob = bytes([number]) * (turn * 700 + 1)
+                store.put(name, blob, 6 if turn % 2 else 12)
+                store.lose(name, 0, turn % 6)
+                self.assertEqual(store.get(name), blob)
+                self.assertEqual(store.repair(name, 0, turn % 6), store.stat(name).version)
+            store.delete(name)
+
+        self.run_all(80, work)
+        self.assertEqual(store.close(), (0, False))
+
+    def test_a_whole_read_is_of_one_version(self):
+        store, stop = Store(64), threading.Event()
+        store.put("a", bytes(5000))
+
+        def work(number):
+            if number == 0:
+                try:
+                    for turn in range(2000):
+                        store.put("a", bytes([turn % 251]) * (5000 + turn % 251))
+                finally:
+                    stop.set()
+                return
+            while not stop.is_set():
+                found = store.get("a")
+                self.assertEqual(found, bytes([found[0]]) * (5000 + found[0]))
+
+        self.run_all(4, work)
+
+
+@unittest.skipUnless(_store.Calls.__module__ == CTYPES, "package_busy.py has this")
+class BusyForCtypes(unittest.TestCase):
+    def test_a_call_ends_at_its_deadline(self):
+        store = Store(4)
+        store.put("a", b"x")
+        store.timeout = 0
+        with Recorder([Status.BUSY]), self.assertRaises(lrcstore.Busy):
+            store.stat("a")
+        self.assertEqual(store.stat("a").lost, 0)
+
+    def test_a_caller_waits_for_a_session(self):
+        store = Store(4)
+        store.timeout = 0.01
+        for _ in range(63):
+            store._calls._places.acquire()
+        self.assertRaises(lrcstore.Busy, store.stat, "a")
+        store._calls._places.release()
+        self.assertRaises(lrcstore.NotFound, store.stat, "a")
+
+    def test_no_store_is_closed_under_a_call(self):
+        store = Store(4)
+        with store._calls._lent(0):
+            with self.assertRaises(StoreError) as caught:
+                store.close()
+            self.assertIs(caught.exception.status, Status.NOT_ALONE)
+        self.assertEqual(store.close(), (0, False))
+
+
+class Memory(unittest.TestCase):
+    def test_stores_and_blobs_go(self):
+        before = None
+        for turn in range(40):
+            store = Store(4096)
+            store.put("a", bytes(5_000_000))
+            self.assertEqual(len(store.get("a")), 5_000_000)
+            for call in (lambda: store.get("b"), lambda: store.put("A", b"x")):
+                self.assertRaises(StoreError, call)
+            if turn % 2:
+                store.close()
+            del store
+            gc.collect()
+            with open("/proc/self/statm", encoding="ascii") as file:
+                pages = int(file.read().split()[1])
+            if turn == 9:
+                before = pages
+        self.assertLess(pages - before, 20_000)  # 80 MB, where leaks would be 400
+
+
+class Coder(unittest.TestCase):
+    def test_the_coder_is_in_the_package(self):
+        import lrc_coder
+        from lrcstore import coder
+
+        for name in coder.__all__:
+            self.assertIs(getattr(coder, name), getattr(lrc_coder, name))
+        data = [bytes([number]) * 8 for number in range(12)]
+        fragments = [*data, *coder.encode(data)]
+        others = {number: it for number, it in enumerate(fragments) if number != 3}
+        self.assertEqual(coder.rebuild(12, others, 3), data[3])
+
+
+if __name__ == "__main__":
+    wanted = {"native": NATIVE, "ctypes": CTYPES}[sys.argv.pop(1)]
+    if _store.Calls.__module__ != wanted:
+        sys.exit(f"calls are made by {_store.Calls.__module__}, not by {wanted}")
+    unittest.main()

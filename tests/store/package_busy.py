@@ -1,0 +1,87 @@
+#!/usr/bin/env python3
+"""The Python package `lrcstore` over a store that is busy for ever: busy.c is loaded before it."""
+
+import signal
+import threading
+import time
+import unittest
+
+from lrcstore import Busy, Status, Store, StoreError
+
+FOREVER = 60  # seconds that no test takes
+CALLS = {
+    "put": lambda store: store.put("a", b"x"),
+    "put of a long blob": lambda store: store.put("a", bytes(100_000)),
+    "get": lambda store: store.get("a"),
+    "get of a range": lambda store: store.get("a", 1, 3),
+    "get of a long range": lambda store: store.get("a", 1, 100_000),
+    "read_into": lambda store: store.read_into("a", 0, bytearray(3)),
+    "stat": lambda store: store.stat("a"),
+    "delete": lambda store: store.delete("a"),
+    "lose": lambda store: store.lose("a", 0, 1),
+    "repair": lambda store: store.repair("a", 0, 1),
+    "trim": lambda store: store.trim(1),
+    "mend": lambda store: store.mend(),
+}
+
+
+class Interrupted(Exception):
+    pass
+
+
+def interrupt(*_):
+    raise Interrupted
+
+
+class BusyForEver(unittest.TestCase):
+    def setUp(self):
+        self.store = Store(4)
+
+    def test_each_call_ends_at_its_deadline(self):
+        for name, call in CALLS.items():
+            for seconds in (0, 0.07):
+                self.store.timeout = seconds
+                began = time.monotonic()
+                with self.subTest(name), self.assertRaises(Busy):
+                    call(self.store)
+                took = time.monotonic() - began
+                self.assertTrue(seconds <= took < FOREVER, (name, took))
+
+    def test_a_signal_ends_each_call(self):
+        signal.signal(signal.SIGALRM, interrupt)
+        self.store.timeout = FOREVER / 10
+        for name, call in CALLS.items():
+            if name != "mend":
+                signal.setitimer(signal.ITIMER_REAL, 0.02)
+                with self.subTest(name), self.assertRaises(Interrupted):
+                    call(self.store)
+
+    def test_a_mend_has_no_deadline_of_its_own(self):
+        with self.assertRaises(StoreError) as caught:
+            self.store.mend()
+        self.assertIs(caught.exception.status, Status.NO_PASS)  # what busy.c says then
+
+    def test_other_threads_run_and_the_store_stays_open(self):
+        ended, counted = threading.Event(), 0
+        self.store.timeout = 0.3
+
+        def wait():
+            self.assertRaises(Busy, self.store.stat, "a")
+            ended.set()
+
+        thread = threading.Thread(target=wait)
+        thread.start()
+        time.sleep(0.05)
+        with self.assertRaises(StoreError) as caught:
+            self.store.close()
+        self.assertIs(caught.exception.status, Status.NOT_ALONE)
+        while not ended.is_set():
+            counted += 1
+            time.sleep(0.001)
+        thread.join()
+        self.assertGreater(counted, 5)
+        self.assertEqual(self.store.close(), (0, False))
+
+
+if __name__ == "__main__":
+    unittest.main()
