@@ -65,19 +65,18 @@ def sum_of(names, cpu):
     return total.hexdigest()
 
 
-def follow(lines, names):
+def follow(lines, count):
     """Says which crate is proved as its line comes, and gives all lines."""
-    start, seen, crate = time.monotonic(), [], ""
+    start, seen, done = time.monotonic(), [], 0
     for line in lines:
         seen.append(line)
-        named = re.match(r"crate (\w+): modules ", line)
-        crate = named.group(1) if named else crate
-        proved = re.match(r"logic=proved functions=(\d+)", line)
-        if proved and crate in names:
-            place = f"{names.index(crate) + 1:2} of {len(names)}  {crate:14}"
+        proved = re.match(r"rt: (\w+) (proved$|is kept: )", line)
+        if proved:
+            done += 1
+            how = "proved" if proved.group(2) == "proved" else "proved before"
             seconds = time.monotonic() - start
             print(
-                f"{place}{proved.group(1):>4} functions proved, {seconds:5.0f} s from the start",
+                f"{done:2} of {count}  {proved.group(1):14} {how}, {seconds:5.0f} s from the start",
                 flush=True,
             )
     return seen
@@ -99,14 +98,13 @@ def build_all(program, cpu="v2"):
                 return built
     print(f"{len(names)} crates. From nothing they take 25 to 30 minutes on 4 cores.", flush=True)
     with subprocess.Popen(
-        [sys.executable, RT, "run", f"--cpu=x86-64-{cpu}", "--", "--help"],
-        cwd=os.path.join(TOP, "crates", program),
+        [sys.executable, RT, "program", program, cpu],
         env={**os.environ, "PYTHONUNBUFFERED": "1"},
         stdout=subprocess.PIPE,
         stderr=subprocess.STDOUT,
         text=True,
     ) as run:
-        seen = follow(run.stdout, names)
+        seen = follow(run.stdout, len(names))
     if run.returncode != 0 or not os.path.exists(built):
         sys.exit("".join(seen) + f"{program} is not built")
     with open(kept, "w", encoding="utf-8") as file:

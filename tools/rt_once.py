@@ -3,6 +3,7 @@
 
     tools/rt_once.py WORD..                         the words of rt
     tools/rt_once.py archive CRATE v2|v3|v4 FILE    builds a static library for a processor
+    tools/rt_once.py program CRATE v2|v3            builds a program for a processor
 
 Checksums. rt computes the checksum of a crate anew for each path of crates.txt that leads to it:
 5,702 times for `lrcstore`, which has 18 crates below it. Here one walk over the crates computes
@@ -17,6 +18,10 @@ Archives. `ci` proves a static library and builds none. `archive` builds it over
 run, or a file has changed since, `archive` proves all by `rt lib`. For v4 (AVX-512) it works in a
 copy of the crates, in which a block has 64 bytes in place of 32: `ci` proves them there, and the
 kit's own compiler builds, since the kit refuses LLVM for v4.
+
+Programs. `program` proves what `ci` proves of the program and the crates below it, side by side and
+from the bottom up, without their tests and mutants. Kit 13f keeps it, so that each of the two takes
+what the other has proved.
 """
 
 import importlib.machinery
@@ -128,8 +133,8 @@ def crate_named(rt, name, top=TOP):
     rt.Crate.cuts_libraries = True
     rt.Crate.allowed = rt.handles_of(top)
     found = [crate for crate in rt.rtlib.crates_below(top) if crate.name == name]
-    if not found or not found[0].is_static:
-        sys.exit(f"crates.txt has no static library {name}")
+    if not found or not (found[0].is_static or found[0].is_program):
+        sys.exit(f"crates.txt has no static library or program {name}")
     return found[0]
 
 
@@ -201,6 +206,43 @@ def build_archive(rt, name, cpu, archive):
     return status
 
 
+def narrow_ci(rt, crate):
+    """Has `ci` prove this crate and those below it, and nothing else."""
+    whole_ci, whole_aside = rt.ci_over, rt.set_aside
+    names = {it.name for it in (crate, *crate.below())}
+    rt.edits_of = lambda crate: ([], [])
+    rt.Crate.has_tests = lambda self: False
+    rt.ci_over = lambda aside, anew, *_: whole_ci(aside, anew, [crate.name])
+    rt.set_aside = lambda root, found, aside: whole_aside(root, names.intersection(found), aside)
+
+
+def compile_for(rt, name, cpu):
+    """Has `ci` build a program for a processor. What it keeps is of no processor, so it neither
+    takes this program from there nor keeps it."""
+    whole, give, keep = rt.Crate.ci, rt.Kept.give, rt.Kept.keep
+
+    def ci(self, flags, tests):
+        more = [f"--cpu=x86-64-{cpu}"] if self.name == name else []
+        return whole(self, [*flags, *more], tests)
+
+    rt.Crate.ci = ci
+    rt.Kept.give = lambda self, crate, *rest: crate.name != name and give(self, crate, *rest)
+    rt.Kept.keep = lambda self, crate, *rest: crate.name != name and keep(self, crate, *rest)
+
+
+def build_program(rt, name, cpu):
+    """Proves and builds a program, over what was proved before. Returns the status."""
+    crate = crate_named(rt, name)
+    if not hasattr(rt, "Kept"):
+        command = [sys.executable, os.path.abspath(__file__), "run", f"--cpu=x86-64-{cpu}"]
+        return subprocess.run([*command, "--", "--help"], cwd=crate.folder, check=False).returncode
+    narrow_ci(rt, crate)
+    if cpu != "v2":
+        compile_for(rt, name, cpu)
+    os.chdir(TOP)
+    return rt.ci(False)
+
+
 def main():
     words = sys.argv[1:]
     rt = load_rt()
@@ -213,6 +255,10 @@ def main():
         if len(words) != 4 or words[2] not in ("v2", "v3", "v4"):
             sys.exit(__doc__)
         sys.exit(build_archive(rt, *words[1:]))
+    if words[:1] == ["program"]:
+        if len(words) != 3 or words[2] not in ("v2", "v3"):
+            sys.exit(__doc__)
+        sys.exit(build_program(rt, *words[1:]))
     sys.exit(rt.main(words))
 
 
