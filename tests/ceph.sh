@@ -51,6 +51,20 @@ other_version() {
     echo "Ceph: a plugin for another version is refused"
 }
 
+# No plugin is built for a release whose table of functions may differ.
+untested_release() {
+    local version
+    for version in 15.2.17 17.2.7 19.2.0 20.2.4 18.20.1; do
+        if CEPH_VERSION=$version "$here/build.sh" "$work/other" > "$work/printed" 2>&1; then
+            echo "a plugin for Ceph $version is built"
+            return 1
+        fi
+        grep -q "tested with Ceph 16.2 and 18.2, and this is $version" "$work/printed"
+    done
+    CEPH_VERSION=18.2.99 "$here/build.sh" "$work/other"
+    echo "Ceph: no plugin is built for a release that was not tested"
+}
+
 sanitized() {
     plugins sanitized "${sanitizers[@]}"
     program plugin_test "${sanitizers[@]}"
@@ -68,4 +82,5 @@ tool plugins test-plugin-exists azure_lrc
 tool plugins validate-profile "$profile"
 decoded_by_tool
 other_version
+untested_release
 sanitized

@@ -1,4 +1,4 @@
-/* LRC(12,2,2) and LRC(6,2,2) as an erasure code plugin of Ceph 16.2, for profiles with
+/* LRC(12,2,2) and LRC(6,2,2) as an erasure code plugin of Ceph, for profiles with
  * plugin=azure_lrc.
  *
  * A chunk's place in Ceph (its shard) is not its fragment's number in lrc_coder.h. The first half
@@ -129,6 +129,12 @@ void AzureLrc::set_places()
         fragment_at[place_of[fragment]] = uint8_t(fragment);
 }
 
+/* What a profile may have. The last two are read by Ceph alone. */
+static const std::set<std::string> PARAMETERS = {
+    "plugin", "k", "m", "crush-root", "crush-failure-domain", "crush-device-class",
+    "stripe_unit", "directory",
+};
+
 int AzureLrc::init(ErasureCodeProfile &asked, std::ostream *ss)
 {
     const auto refuse = [ss](const std::string &text) {
@@ -142,11 +148,9 @@ int AzureLrc::init(ErasureCodeProfile &asked, std::ostream *ss)
     asked["crush-device-class"];
     if ((data != "12" && data != "6") || parities != "4")
         return refuse("no code has k=" + data + " m=" + parities + "; set k=12 m=4 or k=6 m=4");
-    for (const char *key :
-         { "l", "layers", "mapping", "technique", "crush-locality", "crush-steps" })
-        if (asked.count(key))
-            return refuse(std::string("there is no parameter ") + key +
-                          "; remove it from the profile");
+    for (const auto &[key, value] : asked)
+        if (!PARAMETERS.count(key))
+            return refuse("there is no parameter " + key + "; remove it from the profile");
     k = data == "12" ? 12 : 6;
     set_places();
     profile = asked;

@@ -1,4 +1,4 @@
-/* The binary interface by which the programs of Ceph 16.2 load an erasure code plugin and call it.
+/* The binary interface by which Ceph 16.2 and 18.2 load an erasure code plugin and call it.
  *
  * No package of Debian has these declarations. They are written here from what the installed
  * plugins export: the virtual functions stand in the order of the plugins' tables, which

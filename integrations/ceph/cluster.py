@@ -65,6 +65,7 @@ osd max backfills = 4
 osd recovery max active = 4
 osd recovery sleep hdd = 0
 osd recovery sleep ssd = 0
+bdev aio max queue depth = 128
 rados osd op timeout = 120
 rados mon op timeout = 120
 """
@@ -386,7 +387,10 @@ class Cluster:
         found = {}
         for osd in osds:
             counters = self.osd_command(osd, "perf dump")["bluestore"]
-            found[osd] = (
-                counters["bluestore_buffer_hit_bytes"] + counters["bluestore_buffer_miss_bytes"]
+            # Ceph 16.2 has these counters with the prefix `bluestore_`, and 18.2 without it
+            found[osd] = sum(
+                count
+                for name, count in counters.items()
+                if re.fullmatch(r"(bluestore_)?buffer_(hit|miss)_bytes", name)
             )
         return found

@@ -531,12 +531,24 @@ static void test_profiles()
           "azure_lrc: there is no parameter mapping; remove it from the profile" },
         { { { "technique", "x" } },
           "azure_lrc: there is no parameter technique; remove it from the profile" },
+        { { { "k", "6" }, { "K", "6" } },
+          "azure_lrc: there is no parameter K; remove it from the profile" },
+        { { { "crush-failure-domian", "osd" } },
+          "azure_lrc: there is no parameter crush-failure-domian; remove it from the profile" },
     };
     for (const auto &[profile, words] : bad) {
         std::string error;
         check(!make_code("azure_lrc", profile, &error) && error == words + "\n",
               "refused: " + words + ", printed: " + error);
     }
+    const ErasureCodeProfile whole = {
+        { "plugin", "azure_lrc" },    { "k", "6" },
+        { "m", "4" },                 { "crush-root", "default" },
+        { "crush-device-class", "" }, { "crush-failure-domain", "osd" },
+        { "stripe_unit", "4096" },    { "directory", "/usr/lib/ceph/erasure-code" },
+    };
+    std::string error;
+    check(bool(make_code("azure_lrc", whole, &error)), "all parameters: " + error);
 }
 
 /* ---- Stored chunks ---- */
