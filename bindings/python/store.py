@@ -1,10 +1,8 @@
-import lrc_store
+from lrcstore import Store
 
-with lrc_store.Session.open(width=4) as session:
-    session.put("greeting", b"HELLO, WORLD")
-    session.lose("greeting", 0, 0)  # fragments 0 and 2 of stripe 0 fail
-    session.lose("greeting", 0, 2)
-    with session.read("greeting", 0, 12) as grant:  # a degraded read
-        print(bytes(grant).decode())
-    session.repair("greeting", 0, 0)
-    session.repair("greeting", 0, 2)
+with Store(width=4) as store:  # fragments of 4 bytes; any thread may call it
+    store.put("greeting", b"HELLO, WORLD")
+    store.lose("greeting", 0, 0)  # fragments 0 and 2 of stripe 0 fail
+    store.lose("greeting", 0, 2)
+    print(store.get("greeting").decode())  # a degraded read
+    store.mend()
