@@ -120,8 +120,8 @@ static void lose_many(lrc_slot *slot) {
         snprintf(name, sizeof name, "n%lu", i);
         put(slot, name, blob);
         for (uint64_t k = 0; k < LOST; k++)
-            done("lrc_store_lose", lrc_store_lose(slot, (const uint8_t *)name, strlen(name), 0,
-                                                  3 * k, &version));
+            done("lrc_store_lose",
+                 lrc_store_lose(slot, (const uint8_t *)name, strlen(name), 0, 3 * k, &version));
     }
 }
 

@@ -53,19 +53,19 @@ typedef struct {
 /* Writes the four parities of the data fragments, which are given in the order of their numbers.
  * LRC_BAD_ARGUMENT if and only if `data_fragments` is neither 12 nor 6, or the lengths of data and
  * parities are not all equal. */
-uint32_t lrc_encode(const lrc_slice *data, size_t data_fragments,
-                    uint8_t *first, size_t first_len, uint8_t *second, size_t second_len,
-                    uint8_t *third, size_t third_len, uint8_t *fourth, size_t fourth_len);
+uint32_t lrc_encode(const lrc_slice *data, size_t data_fragments, uint8_t *first, size_t first_len,
+                    uint8_t *second, size_t second_len, uint8_t *third, size_t third_len,
+                    uint8_t *fourth, size_t fourth_len);
 
 /* Adds the data fragment with the number `fragment` to the four parities. Calling it once for each
  * data fragment, in any order, on zeroed parities gives the result of lrc_encode. To overwrite a
  * data fragment, add the exclusive or of its old and its new bytes. LRC_BAD_ARGUMENT if and only
  * if `data_fragments` is neither 12 nor 6, `fragment` is not below it, or the five lengths are not
  * all equal. */
-uint32_t lrc_encode_add(size_t data_fragments, uint8_t fragment,
-                        const uint8_t *source, size_t source_len,
-                        uint8_t *first, size_t first_len, uint8_t *second, size_t second_len,
-                        uint8_t *third, size_t third_len, uint8_t *fourth, size_t fourth_len);
+uint32_t lrc_encode_add(size_t data_fragments, uint8_t fragment, const uint8_t *source,
+                        size_t source_len, uint8_t *first, size_t first_len, uint8_t *second,
+                        size_t second_len, uint8_t *third, size_t third_len, uint8_t *fourth,
+                        size_t fourth_len);
 
 /* LRC_UNRECOVERABLE if and only if `fragment` is. LRC_BAD_ARGUMENT if and only if there is no
  * such code or fragment. */
@@ -89,9 +89,9 @@ uint32_t lrc_rebuild(size_t data_fragments, const lrc_slice fragments[16], uint1
  * such code; a numbered fragment is not the code's or not in `lost`; its target does not have `len`
  * bytes; a remaining fragment has fewer than from+len bytes; that sum is more than SIZE_MAX. */
 uint32_t lrc_decode(size_t data_fragments, const lrc_slice fragments[16], uint16_t lost,
-                    const uint8_t numbers[4], size_t from, size_t len,
-                    uint8_t *first, size_t first_len, uint8_t *second, size_t second_len,
-                    uint8_t *third, size_t third_len, uint8_t *fourth, size_t fourth_len);
+                    const uint8_t numbers[4], size_t from, size_t len, uint8_t *first,
+                    size_t first_len, uint8_t *second, size_t second_len, uint8_t *third,
+                    size_t third_len, uint8_t *fourth, size_t fourth_len);
 
 /* The bytes of a plan. */
 enum { LRC_PLAN_BYTES = 24 };
@@ -113,23 +113,23 @@ uint32_t lrc_plan(size_t data_fragments, uint16_t lost, const uint8_t numbers[4]
  * code's or that the plan reads; a target does not have `len` bytes; a fragment that the plan reads
  * has fewer than from+len bytes; that sum is more than SIZE_MAX. */
 uint32_t lrc_plan_decode(const uint8_t plan[LRC_PLAN_BYTES], const lrc_slice fragments[16],
-                         size_t from, size_t len, uint8_t *first, size_t first_len,
-                         uint8_t *second, size_t second_len, uint8_t *third, size_t third_len,
-                         uint8_t *fourth, size_t fourth_len);
+                         size_t from, size_t len, uint8_t *first, size_t first_len, uint8_t *second,
+                         size_t second_len, uint8_t *third, size_t third_len, uint8_t *fourth,
+                         size_t fourth_len);
 
 /* Writes a recipe for the lost `fragment`: the numbers of other fragments, a coefficient for each,
  * and their count, at most 15. The fragment is their sum, each times its coefficient. If it is the
  * only loss of its group, they are the six (or three) others, and no recipe has fewer.
  * LRC_UNRECOVERABLE as from lrc_rebuild. LRC_BAD_ARGUMENT if and only if there is no such code or
  * fragment, or it is not in `lost`. */
-uint32_t lrc_recipe(size_t data_fragments, uint16_t lost, uint8_t fragment,
-                    uint8_t fragments[16], uint8_t coefficients[16], uint32_t *count);
+uint32_t lrc_recipe(size_t data_fragments, uint16_t lost, uint8_t fragment, uint8_t fragments[16],
+                    uint8_t coefficients[16], uint32_t *count);
 
 /* Adds `source` times `coefficient` to `target`, byte by byte, in the field. With lrc_recipe it
  * rebuilds as fragments arrive: call it on a zeroed target, once for each term, in any order and in
  * any parts. LRC_BAD_ARGUMENT if and only if the lengths differ. */
-uint32_t lrc_add(uint8_t *target, size_t target_len, uint8_t coefficient,
-                 const uint8_t *source, size_t source_len);
+uint32_t lrc_add(uint8_t *target, size_t target_len, uint8_t coefficient, const uint8_t *source,
+                 size_t source_len);
 
 /* What a status means, in English and without a full stop. "unknown status" for a number that is
  * none. The text is never freed. */
@@ -141,8 +141,8 @@ const char *lrc_coder_text(uint32_t status);
 const char *lrc_coder_cpu(void);
 
 /* lrc_is_open by a plainer name. */
-static inline uint32_t lrc_is_unrecoverable(size_t data_fragments, uint16_t lost, uint8_t fragment)
-{
+static inline uint32_t lrc_is_unrecoverable(size_t data_fragments, uint16_t lost,
+                                            uint8_t fragment) {
     return lrc_is_open(data_fragments, lost, fragment);
 }
 
@@ -152,35 +152,28 @@ static inline uint32_t lrc_is_unrecoverable(size_t data_fragments, uint16_t lost
 
 /* `data` has `data_fragments` addresses and `parities` four. */
 static inline uint32_t lrc_encode_arrays(size_t data_fragments, size_t len,
-                                         const uint8_t *const *data, uint8_t *const *parities)
-{
+                                         const uint8_t *const *data, uint8_t *const *parities) {
     lrc_slice slices[12];
     size_t i;
-    if (data_fragments != 12 && data_fragments != 6)
-        return LRC_BAD_ARGUMENT;
+    if (data_fragments != 12 && data_fragments != 6) return LRC_BAD_ARGUMENT;
     for (i = 0; i < data_fragments; i++) {
-        if (!data[i])
-            return LRC_BAD_ARGUMENT;
+        if (!data[i]) return LRC_BAD_ARGUMENT;
         slices[i].at = data[i];
         slices[i].len = len;
     }
     for (i = 0; i < 4; i++)
-        if (!parities[i])
-            return LRC_BAD_ARGUMENT;
-    return lrc_encode(slices, data_fragments, parities[0], len, parities[1], len,
-                      parities[2], len, parities[3], len);
+        if (!parities[i]) return LRC_BAD_ARGUMENT;
+    return lrc_encode(slices, data_fragments, parities[0], len, parities[1], len, parities[2], len,
+                      parities[3], len);
 }
 
 /* `parities` has four addresses. */
 static inline uint32_t lrc_encode_add_arrays(size_t data_fragments, size_t len, uint8_t fragment,
-                                             const uint8_t *source, uint8_t *const *parities)
-{
+                                             const uint8_t *source, uint8_t *const *parities) {
     size_t i;
-    if (!source)
-        return LRC_BAD_ARGUMENT;
+    if (!source) return LRC_BAD_ARGUMENT;
     for (i = 0; i < 4; i++)
-        if (!parities[i])
-            return LRC_BAD_ARGUMENT;
+        if (!parities[i]) return LRC_BAD_ARGUMENT;
     return lrc_encode_add(data_fragments, fragment, source, len, parities[0], len, parities[1], len,
                           parities[2], len, parities[3], len);
 }
@@ -189,20 +182,17 @@ static inline uint32_t lrc_encode_add_arrays(size_t data_fragments, size_t len, 
  * also if an address is given for it. */
 static inline uint32_t lrc_rebuild_arrays(size_t data_fragments, size_t len,
                                           const uint8_t *const *fragments, uint8_t fragment,
-                                          uint8_t *target)
-{
+                                          uint8_t *target) {
     static const uint8_t nothing = 0;
     lrc_slice slices[16];
     unsigned lost = 1u << (fragment & 15u);
     size_t i;
-    if ((data_fragments != 12 && data_fragments != 6) || !target)
-        return LRC_BAD_ARGUMENT;
+    if ((data_fragments != 12 && data_fragments != 6) || !target) return LRC_BAD_ARGUMENT;
     for (i = 0; i < 16; i++) {
         const uint8_t *at = i < data_fragments + 4 ? fragments[i] : NULL;
         slices[i].at = at ? at : &nothing;
         slices[i].len = at ? len : 0;
-        if (!at)
-            lost |= 1u << i;
+        if (!at) lost |= 1u << i;
     }
     return lrc_rebuild(data_fragments, slices, (uint16_t)lost, fragment, 0, target, len);
 }
@@ -210,33 +200,28 @@ static inline uint32_t lrc_rebuild_arrays(size_t data_fragments, size_t len,
 /* `fragments` and `targets` have data_fragments + 4 addresses each. A fragment that has a target
  * counts as lost, also if an address is given for it. */
 static inline uint32_t lrc_decode_arrays(size_t data_fragments, size_t len,
-                                         const uint8_t *const *fragments,
-                                         uint8_t *const *targets)
-{
+                                         const uint8_t *const *fragments, uint8_t *const *targets) {
     static const uint8_t nothing = 0;
     lrc_slice slices[16];
-    uint8_t unused = 0, numbers[4] = { LRC_NONE, LRC_NONE, LRC_NONE, LRC_NONE };
+    uint8_t unused = 0, numbers[4] = {LRC_NONE, LRC_NONE, LRC_NONE, LRC_NONE};
     uint8_t *four[4];
-    size_t lens[4] = { 0, 0, 0, 0 }, i, count = 0;
+    size_t lens[4] = {0, 0, 0, 0}, i, count = 0;
     unsigned lost = 0;
-    if (data_fragments != 12 && data_fragments != 6)
-        return LRC_BAD_ARGUMENT;
+    if (data_fragments != 12 && data_fragments != 6) return LRC_BAD_ARGUMENT;
     four[0] = four[1] = four[2] = four[3] = &unused;
     for (i = 0; i < 16; i++) {
         uint8_t *target = i < data_fragments + 4 ? targets[i] : NULL;
         const uint8_t *at = i < data_fragments + 4 && !target ? fragments[i] : NULL;
         slices[i].at = at ? at : &nothing;
         slices[i].len = at ? len : 0;
-        if (!at)
-            lost |= 1u << i;
+        if (!at) lost |= 1u << i;
         if (target && count++ < 4) {
             numbers[count - 1] = (uint8_t)i;
             four[count - 1] = target;
             lens[count - 1] = len;
         }
     }
-    if (count > 4)
-        return LRC_UNRECOVERABLE;
+    if (count > 4) return LRC_UNRECOVERABLE;
     return lrc_decode(data_fragments, slices, (uint16_t)lost, numbers, 0, len, four[0], lens[0],
                       four[1], lens[1], four[2], lens[2], four[3], lens[3]);
 }

@@ -48,7 +48,8 @@ extern "C" {
 typedef struct {
     void *at;
 } lrc_slot;
-#define LRC_SLOT_EMPTY { 0 }
+#define LRC_SLOT_EMPTY                                                                             \
+    { 0 }
 
 /* Lent bytes. The layout is that of POSIX's struct iovec, so an array of them can go to writev. */
 #ifndef LRC_SLICE
@@ -143,8 +144,8 @@ uint32_t lrc_store_close(lrc_slot *slot, uint64_t *entries, uint32_t *lawful);
 /* Does the same, and puts the journal into the empty `other`. `discarded` gets the number of calls
  * that have no entry: of those whose entry was trimmed, or without a journal of all. Releasing
  * `other` frees the memory of the store. */
-uint32_t lrc_store_close_to(lrc_slot *slot, lrc_slot *other, uint64_t *discarded,
-                            uint64_t *entries, uint32_t *lawful);
+uint32_t lrc_store_close_to(lrc_slot *slot, lrc_slot *other, uint64_t *discarded, uint64_t *entries,
+                            uint32_t *lawful);
 
 /* Writes the entry of a journal at an index, from 0. Before the call `entry->name` is a valid
  * slice, such as { (const uint8_t *)"", 0 }. Afterwards it is valid until the slot is passed to

@@ -44,6 +44,7 @@ built() {
 for each in promises instances documents figures prose believed commits; do
     part python3 tests/$each.py
 done
+part tests/lint.sh
 built test_refused_memory
 built test_sharded
 built lrcstore -- data/degraded_read.csv

@@ -99,7 +99,7 @@ waiting() {
 # pool WORDS FLAG..: its test, with these words
 pool() {
     program gcc gnu11 tests/store/pool.c -Wl,--wrap=malloc,--wrap=calloc "${@:2}" \
-        && "$work/program" $1
+        && "$work/program" ${1:+"$1"}
 }
 
 # The code for either processor, chosen by the environment.
@@ -137,12 +137,6 @@ package() {
 }
 go_tool() { tests/store/go.sh "$@" > "$work/go" 2>&1 || { cat "$work/go"; return 1; }; }
 in_go() { tests/store/go.sh run ./examples/store; }
-go_vet() {
-    local unformatted
-    unformatted=$(gofmt -l bindings/go)
-    [ -z "$unformatted" ] || { echo "gofmt would change $unformatted"; return 1; }
-    go_tool vet ./...
-}
 # A store that is busy for ever, to be loaded before the library.
 busy_library() {
     gcc -std=gnu11 -O1 "${warnings[@]}" -shared -fPIC tests/store/busy.c -o "$work/busy.so"
@@ -184,7 +178,7 @@ test_of "Python" python3 python3 python tests/store/bindings.py
 test_of "Python package by ctypes" python3 python3 python tests/store/package.py ctypes
 test_of "Python package" "$python_header" python3-dev package
 test_of "Go example" go golang-go example in_go
-test_of "Go, vet and gofmt" go golang-go go_vet
+test_of "Go, vet" go golang-go go_tool vet ./...
 test_of "Go" go golang-go go_tool test -count=1 ./...
 test_of "Go, race detector" go golang-go go_tool test -count=1 -race .
 test_of "Go, busy store" go golang-go go_busy

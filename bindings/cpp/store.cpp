@@ -1,8 +1,7 @@
 #include "lrc_store.hpp"
 #include <iostream>
 
-int main()
-{
+int main() {
     lrc::session session = lrc::session::open(4); // fragments of 4 bytes
     session.put("greeting", "HELLO, WORLD");
     session.lose("greeting", 0, 0); // fragments 0 and 2 of stripe 0 fail

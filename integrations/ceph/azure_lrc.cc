@@ -17,8 +17,7 @@
     "CEPH_VERSION has to be the version that `ceph-osd --version` prints, as a string: see build.sh"
 #endif
 
-namespace
-{
+namespace {
 
 using ceph::ChunkParts;
 using ceph::Chunks;
@@ -29,42 +28,28 @@ constexpr unsigned CHUNK_ALIGN = 64;  /* a chunk's length is a multiple of it */
 constexpr unsigned BUFFER_ALIGN = 64; /* new buffers start at a multiple of it */
 constexpr int POOL_TYPE_ERASURE = 3;
 
-ceph::buffer::ptr new_buffer(unsigned len)
-{
+ceph::buffer::ptr new_buffer(unsigned len) {
     return ceph::buffer::ptr(ceph::buffer::create_aligned(len, BUFFER_ALIGN));
 }
 
 /* The chunk's bytes, in one piece. */
-uint8_t *bytes_of(ceph::buffer::list &chunk)
-{
-    return reinterpret_cast<uint8_t *>(chunk.c_str());
-}
+uint8_t *bytes_of(ceph::buffer::list &chunk) { return reinterpret_cast<uint8_t *>(chunk.c_str()); }
 
-int result_of(uint32_t status)
-{
+int result_of(uint32_t status) {
     return status == LRC_DONE ? 0 : status == LRC_OPEN ? -EIO : -EINVAL;
 }
 
 /* The profile's value. If it has none, it gets the default. */
-std::string value_of(ErasureCodeProfile &profile, const char *key, const char *by_default)
-{
+std::string value_of(ErasureCodeProfile &profile, const char *key, const char *by_default) {
     std::string &value = profile[key];
-    if (value.empty())
-        value = by_default;
+    if (value.empty()) value = by_default;
     return value;
 }
 
-int place_of_item(int place)
-{
-    return place;
-}
-template <class T> int place_of_item(const std::pair<const int, T> &item)
-{
-    return item.first;
-}
+int place_of_item(int place) { return place; }
+template <class T> int place_of_item(const std::pair<const int, T> &item) { return item.first; }
 
-class AzureLrc final : public ceph::ErasureCodeInterface
-{
+class AzureLrc final : public ceph::ErasureCodeInterface {
 public:
     int init(ErasureCodeProfile &profile, std::ostream *ss) override;
     const ErasureCodeProfile &get_profile() const override { return profile; }
@@ -102,13 +87,11 @@ private:
 };
 
 /* The fragments at the places of the items, or false if one is no place of the code. */
-template <class Items> bool AzureLrc::fragments_at(const Items &items, uint16_t *fragments) const
-{
+template <class Items> bool AzureLrc::fragments_at(const Items &items, uint16_t *fragments) const {
     unsigned set = 0;
     for (const auto &item : items) {
         const int place = place_of_item(item);
-        if (!is_place(place))
-            return false;
+        if (!is_place(place)) return false;
         set |= 1u << fragment_at[place];
     }
     *fragments = uint16_t(set);
@@ -117,8 +100,7 @@ template <class Items> bool AzureLrc::fragments_at(const Items &items, uint16_t 
 
 /* ---- Profile ---- */
 
-void AzureLrc::set_places()
-{
+void AzureLrc::set_places() {
     const unsigned group = k / 2, half = get_chunk_count() / 2;
     place_of.resize(get_chunk_count());
     for (unsigned fragment = 0; fragment < k; fragment++)
@@ -131,15 +113,13 @@ void AzureLrc::set_places()
 
 /* What a profile may have. The last two are read by Ceph alone. */
 static const std::set<std::string> PARAMETERS = {
-    "plugin", "k", "m", "crush-root", "crush-failure-domain", "crush-device-class",
+    "plugin",      "k",         "m", "crush-root", "crush-failure-domain", "crush-device-class",
     "stripe_unit", "directory",
 };
 
-int AzureLrc::init(ErasureCodeProfile &asked, std::ostream *ss)
-{
+int AzureLrc::init(ErasureCodeProfile &asked, std::ostream *ss) {
     const auto refuse = [ss](const std::string &text) {
-        if (ss)
-            *ss << "azure_lrc: " << text << std::endl;
+        if (ss) *ss << "azure_lrc: " << text << std::endl;
         return -EINVAL;
     };
     const std::string data = value_of(asked, "k", "12"), parities = value_of(asked, "m", "4");
@@ -157,14 +137,12 @@ int AzureLrc::init(ErasureCodeProfile &asked, std::ostream *ss)
     return 0;
 }
 
-int AzureLrc::create_rule(const std::string &name, CrushWrapper &crush, std::ostream *ss) const
-{
+int AzureLrc::create_rule(const std::string &name, CrushWrapper &crush, std::ostream *ss) const {
     return crush.add_simple_rule(name, profile.at("crush-root"), profile.at("crush-failure-domain"),
                                  profile.at("crush-device-class"), "indep", POOL_TYPE_ERASURE, ss);
 }
 
-unsigned AzureLrc::get_chunk_size(unsigned object_size) const
-{
+unsigned AzureLrc::get_chunk_size(unsigned object_size) const {
     const uint64_t stripe = uint64_t(k) * CHUNK_ALIGN;
     return unsigned((object_size + stripe - 1) / stripe * CHUNK_ALIGN);
 }
@@ -174,33 +152,25 @@ unsigned AzureLrc::get_chunk_size(unsigned object_size) const
 /* The places to read for those wanted: the wanted ones that are available, and what the others are
  * made of. */
 template <class Items>
-int AzureLrc::to_read(const Places &want, const Items &available, Places *read) const
-{
+int AzureLrc::to_read(const Places &want, const Items &available, Places *read) const {
     uint16_t wanted, there, needed;
-    if (!fragments_at(want, &wanted) || !fragments_at(available, &there))
-        return -EINVAL;
-    if (int r = result_of(lrc_read_set(k, uint16_t(all() & ~there), wanted, &needed)))
-        return r;
+    if (!fragments_at(want, &wanted) || !fragments_at(available, &there)) return -EINVAL;
+    if (int r = result_of(lrc_read_set(k, uint16_t(all() & ~there), wanted, &needed))) return r;
     for (unsigned fragment = 0; fragment < get_chunk_count(); fragment++)
-        if (lrc_has(needed | (wanted & there), fragment))
-            read->insert(place_of[fragment]);
+        if (lrc_has(needed | (wanted & there), fragment)) read->insert(place_of[fragment]);
     return 0;
 }
 
-int AzureLrc::minimum_to_decode(const Places &want, const Places &available, ChunkParts *minimum)
-{
+int AzureLrc::minimum_to_decode(const Places &want, const Places &available, ChunkParts *minimum) {
     Places read;
-    if (int r = to_read(want, available, &read))
-        return r;
-    for (int place : read)
-        (*minimum)[place] = { { 0, 1 } };
+    if (int r = to_read(want, available, &read)) return r;
+    for (int place : read) (*minimum)[place] = {{0, 1}};
     return 0;
 }
 
 /* The costs are not compared. */
 int AzureLrc::minimum_to_decode_with_cost(const Places &want, const std::map<int, int> &available,
-                                          Places *minimum)
-{
+                                          Places *minimum) {
     return to_read(want, available, minimum);
 }
 
@@ -209,8 +179,7 @@ int AzureLrc::minimum_to_decode_with_cost(const Places &want, const std::map<int
 /* The chunk of a data fragment: it shares the object's bytes, unless it has to be filled up with
  * zeros. */
 ceph::buffer::list AzureLrc::data_chunk(const ceph::buffer::list &in, unsigned fragment,
-                                        unsigned len) const
-{
+                                        unsigned len) const {
     ceph::buffer::list chunk;
     const uint64_t from = uint64_t(fragment) * len;
     const unsigned rest = from < in.length() ? in.length() - unsigned(from) : 0;
@@ -219,15 +188,13 @@ ceph::buffer::list AzureLrc::data_chunk(const ceph::buffer::list &in, unsigned f
         return chunk;
     }
     ceph::buffer::ptr filled = new_buffer(len);
-    if (rest)
-        in.begin(unsigned(from)).copy(rest, filled.c_str());
+    if (rest) in.begin(unsigned(from)).copy(rest, filled.c_str());
     memset(filled.c_str() + rest, 0, len - rest);
     chunk.push_back(std::move(filled));
     return chunk;
 }
 
-int AzureLrc::encode(const Places &want, const ceph::buffer::list &in, Chunks *encoded)
-{
+int AzureLrc::encode(const Places &want, const ceph::buffer::list &in, Chunks *encoded) {
     const unsigned len = get_chunk_size(in.length());
     for (unsigned fragment = 0; fragment < get_chunk_count(); fragment++) {
         ceph::buffer::list chunk;
@@ -237,28 +204,24 @@ int AzureLrc::encode(const Places &want, const ceph::buffer::list &in, Chunks *e
             chunk.push_back(new_buffer(len));
         (*encoded)[place_of[fragment]] = std::move(chunk);
     }
-    if (int r = encode_chunks(want, encoded))
-        return r;
+    if (int r = encode_chunks(want, encoded)) return r;
     for (int place : place_of)
-        if (!want.count(place))
-            encoded->erase(place);
+        if (!want.count(place)) encoded->erase(place);
     return 0;
 }
 
 /* All chunks are given; the parities are written. */
-int AzureLrc::encode_chunks(const Places &, Chunks *encoded)
-{
+int AzureLrc::encode_chunks(const Places &, Chunks *encoded) {
     lrc_slice data[LRC_MOST_FRAGMENTS];
     uint8_t *parities[LRC_PARITIES];
     size_t len[LRC_PARITIES];
     for (unsigned fragment = 0; fragment < get_chunk_count(); fragment++) {
         const auto chunk = encoded->find(place_of[fragment]);
-        if (chunk == encoded->end())
-            return -EINVAL;
+        if (chunk == encoded->end()) return -EINVAL;
         if (!chunk->second.length())
             return 0; /* an object of no bytes, whose buffers have no memory */
         if (fragment < k) {
-            data[fragment] = { bytes_of(chunk->second), chunk->second.length() };
+            data[fragment] = {bytes_of(chunk->second), chunk->second.length()};
         } else {
             parities[fragment - k] = bytes_of(chunk->second);
             len[fragment - k] = chunk->second.length();
@@ -270,18 +233,14 @@ int AzureLrc::encode_chunks(const Places &, Chunks *encoded)
 
 /* ---- Decoding ---- */
 
-int AzureLrc::decode(const Places &want, const Chunks &chunks, Chunks *decoded, int)
-{
-    if (chunks.empty())
-        return want.empty() ? 0 : -EIO;
+int AzureLrc::decode(const Places &want, const Chunks &chunks, Chunks *decoded, int) {
+    if (chunks.empty()) return want.empty() ? 0 : -EIO;
     const unsigned len = chunks.begin()->second.length();
-    for (const auto &chunk : chunks)
-        (*decoded)[chunk.first] = chunk.second; /* shares the bytes */
+    for (const auto &chunk : chunks) (*decoded)[chunk.first] = chunk.second; /* shares the bytes */
     for (int place : want)
         if (is_place(place) && !chunks.count(place)) {
             ceph::buffer::list chunk;
-            if (len)
-                chunk.push_back(new_buffer(len));
+            if (len) chunk.push_back(new_buffer(len));
             (*decoded)[place] = std::move(chunk);
         }
     return decode_chunks(want, chunks, decoded);
@@ -289,41 +248,34 @@ int AzureLrc::decode(const Places &want, const Chunks &chunks, Chunks *decoded, 
 
 /* The wanted chunks that are not among `chunks` are written into the buffers that `decoded` has for
  * them. */
-int AzureLrc::decode_chunks(const Places &want, const Chunks &chunks, Chunks *decoded)
-{
+int AzureLrc::decode_chunks(const Places &want, const Chunks &chunks, Chunks *decoded) {
     static const uint8_t nothing = 0;
     lrc_slice fragments[LRC_MOST_FRAGMENTS];
     uint8_t *targets[LRC_MOST_FRAGMENTS] = {};
     uint16_t wanted, there, read;
     std::optional<size_t> len;
-    if (!fragments_at(want, &wanted) || !fragments_at(chunks, &there))
-        return -EINVAL;
+    if (!fragments_at(want, &wanted) || !fragments_at(chunks, &there)) return -EINVAL;
     const uint16_t lost = uint16_t(all() & ~there), to_write = wanted & lost;
     for (unsigned fragment = 0; fragment < LRC_MOST_FRAGMENTS; fragment++) {
-        fragments[fragment] = { &nothing, 0 };
-        if (!lrc_has(there | to_write, fragment))
-            continue;
+        fragments[fragment] = {&nothing, 0};
+        if (!lrc_has(there | to_write, fragment)) continue;
         const auto chunk = decoded->find(place_of[fragment]);
         if (chunk == decoded->end() ||
             len.value_or(chunk->second.length()) != chunk->second.length())
             return -EINVAL;
         len = chunk->second.length();
-        if (*len)
-            targets[fragment] = bytes_of(chunk->second);
-        if (*len && lrc_has(there, fragment))
-            fragments[fragment] = { targets[fragment], *len };
+        if (*len) targets[fragment] = bytes_of(chunk->second);
+        if (*len && lrc_has(there, fragment)) fragments[fragment] = {targets[fragment], *len};
     }
     if (!len.value_or(0)) /* an object of no bytes, whose buffers have no memory */
         return result_of(lrc_read_set(k, lost, wanted, &read));
     return result_of(lrc_rebuild_set(k, fragments, lost, to_write, targets, *len));
 }
 
-int AzureLrc::decode_concat(const Chunks &chunks, ceph::buffer::list *decoded)
-{
+int AzureLrc::decode_concat(const Chunks &chunks, ceph::buffer::list *decoded) {
     const Places want(place_of.begin(), place_of.begin() + k);
     Chunks whole;
-    if (int r = decode(want, chunks, &whole, 0))
-        return r;
+    if (int r = decode(want, chunks, &whole, 0)) return r;
     for (unsigned fragment = 0; fragment < k; fragment++)
         decoded->claim_append(whole[place_of[fragment]]);
     return 0;
@@ -331,34 +283,26 @@ int AzureLrc::decode_concat(const Chunks &chunks, ceph::buffer::list *decoded)
 
 /* ---- The plugin ---- */
 
-class Plugin final : public ceph::ErasureCodePlugin
-{
+class Plugin final : public ceph::ErasureCodePlugin {
 public:
     int factory(const std::string &, ErasureCodeProfile &profile,
-                ceph::ErasureCodeInterfaceRef *code, std::ostream *ss) override
-    {
+                ceph::ErasureCodeInterfaceRef *code, std::ostream *ss) override {
         auto made = std::make_shared<AzureLrc>();
         const int r = made->init(profile, ss);
-        if (!r)
-            *code = made;
+        if (!r) *code = made;
         return r;
     }
 };
 
-}
+} // namespace
 
 #define EXPORTED __attribute__((visibility("default")))
 
-extern "C" EXPORTED const char *__erasure_code_version()
-{
-    return CEPH_VERSION;
-}
+extern "C" EXPORTED const char *__erasure_code_version() { return CEPH_VERSION; }
 
-extern "C" EXPORTED int __erasure_code_init(char *plugin_name, char *)
-{
+extern "C" EXPORTED int __erasure_code_init(char *plugin_name, char *) {
     auto plugin = std::make_unique<Plugin>();
     const int r = ceph::ErasureCodePluginRegistry::singleton.add(plugin_name, plugin.get());
-    if (!r)
-        plugin.release();
+    if (!r) plugin.release();
     return r;
 }

@@ -4,6 +4,7 @@
 set -eu
 work=$(mktemp -d)
 trap 'rm -rf "$work"' EXIT
+# shellcheck source=integrations/ceph/programs.sh
 . "$(dirname "$0")/programs.sh"
 plugins plugins
 program plugin_bench

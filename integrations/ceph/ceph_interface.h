@@ -18,24 +18,21 @@
 
 /* Ceph's map of the cluster. Of its functions this one is called: it adds a rule that chooses one
  * place of the given type for each chunk, and returns the rule's number, or an error below 0. */
-class CrushWrapper
-{
+class CrushWrapper {
 public:
     int add_simple_rule(std::string name, std::string root, std::string failure_domain,
                         std::string device_class, std::string mode, int pool_type,
                         std::ostream *err);
 };
 
-namespace ceph
-{
+namespace ceph {
 
 using ErasureCodeProfile = std::map<std::string, std::string>;
 using Chunks = std::map<int, buffer::list>;
 /* Of each chunk to read, the parts as pairs of first part and number. This code has one part, 0. */
 using ChunkParts = std::map<int, std::vector<std::pair<int, int>>>;
 
-class ErasureCodeInterface
-{
+class ErasureCodeInterface {
 public:
     virtual ~ErasureCodeInterface() {}
     virtual int init(ErasureCodeProfile &profile, std::ostream *ss) = 0;
@@ -63,8 +60,7 @@ public:
 
 using ErasureCodeInterfaceRef = std::shared_ptr<ErasureCodeInterface>;
 
-class ErasureCodePlugin
-{
+class ErasureCodePlugin {
 public:
     void *library = nullptr; /* the program's that loaded the plugin */
     virtual ~ErasureCodePlugin() {}
@@ -73,8 +69,7 @@ public:
 };
 
 /* The list of loaded plugins that each of Ceph's programs has, and exports to its plugins. */
-class ErasureCodePluginRegistry
-{
+class ErasureCodePluginRegistry {
 public:
     static ErasureCodePluginRegistry singleton;
     int add(const std::string &name, ErasureCodePlugin *plugin);
@@ -82,7 +77,7 @@ public:
                 ErasureCodeProfile &profile, ErasureCodeInterfaceRef *code, std::ostream *ss);
 };
 
-}
+} // namespace ceph
 
 extern "C" {
 /* The version of Ceph that a plugin is built for. Another version does not load it. */

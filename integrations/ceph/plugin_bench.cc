@@ -15,29 +15,25 @@ struct Peer {
 };
 
 static const std::vector<Peer> peers = {
-    { "azure_lrc 12+4", "azure_lrc", { { "k", "12" }, { "m", "4" } } },
-    { "isa 12+4", "isa", { { "k", "12" }, { "m", "4" } } },
-    { "jerasure 12+4",
-      "jerasure",
-      { { "k", "12" }, { "m", "4" }, { "technique", "reed_sol_van" } } },
-    { "lrc k=12 m=2 l=7", "lrc", { { "k", "12" }, { "m", "2" }, { "l", "7" } } },
-    { "lrc layers 12,2,2",
-      "lrc",
-      { { "mapping", "DDDDDDDDDDDD____" },
-        { "layers", "[[\"DDDDDDDDDDDD__cc\",\"\"],[\"DDDDDD______c___\",\"\"],[\"______DDDDDD_c__"
-                    "\",\"\"]]" } } },
+    {"azure_lrc 12+4", "azure_lrc", {{"k", "12"}, {"m", "4"}}},
+    {"isa 12+4", "isa", {{"k", "12"}, {"m", "4"}}},
+    {"jerasure 12+4", "jerasure", {{"k", "12"}, {"m", "4"}, {"technique", "reed_sol_van"}}},
+    {"lrc k=12 m=2 l=7", "lrc", {{"k", "12"}, {"m", "2"}, {"l", "7"}}},
+    {"lrc layers 12,2,2",
+     "lrc",
+     {{"mapping", "DDDDDDDDDDDD____"},
+      {"layers", "[[\"DDDDDDDDDDDD__cc\",\"\"],[\"DDDDDD______c___\",\"\"],[\"______DDDDDD_c__"
+                 "\",\"\"]]"}}},
 };
 
 /* Of the sets of at most four lost chunks: for how many all chunks are recoverable, which is what
  * Ceph asks of a placement group, and for how many the data, which a client reads. */
-static void count_sets(const Peer &peer, ErasureCodeInterface &code)
-{
+static void count_sets(const Peer &peer, ErasureCodeInterface &code) {
     const unsigned n = code.get_chunk_count(), all = all_of(code), data = data_of(code);
     unsigned sets = 0, recoverable = 0, readable = 0, single = 0;
     for (unsigned lost = 0; lost <= all; lost++) {
         unsigned read;
-        if (count_of(lost) > 4)
-            continue;
+        if (count_of(lost) > 4) continue;
         sets++;
         readable += !to_read(code, data, all & ~lost, &read);
         recoverable += !to_read(code, all, all & ~lost, &read);
@@ -49,33 +45,29 @@ static void count_sets(const Peer &peer, ErasureCodeInterface &code)
            peer.name, sets, recoverable, readable, double(single) / n);
 }
 
-static double seconds_of(const std::function<void()> &work)
-{
+static double seconds_of(const std::function<void()> &work) {
     const auto start = std::chrono::steady_clock::now();
     work();
     return std::chrono::duration<double>(std::chrono::steady_clock::now() - start).count();
 }
 
 /* A code with a stripe of its own, and the sets that it is timed with. */
-class Contestant
-{
+class Contestant {
 public:
     Contestant(ErasureCodeInterfaceRef by, const buffer::list &of)
-        : code(std::move(by)), in(of), all(all_of(*code))
-    {
+        : code(std::move(by)), in(of), all(all_of(*code)) {
         code->encode(places_of(all), in, &whole);
         for (unsigned lost = 1; lost <= all; lost++) {
             unsigned read;
             if (count_of(lost) <= 4 && !to_read(*code, lost, all & ~lost, &read))
-                sets[count_of(lost)].push_back({ lost, read });
+                sets[count_of(lost)].push_back({lost, read});
         }
     }
 
     bool can(unsigned lost) const { return !lost || !sets[lost].empty(); }
 
     /* Encodes, or makes the lost chunks from those that minimum_to_decode names. */
-    void work(unsigned lost, unsigned round) const
-    {
+    void work(unsigned lost, unsigned round) const {
         Chunks made;
         if (!lost) {
             code->encode(places_of(all), in, &made);
@@ -98,16 +90,13 @@ private:
 
 /* The best of nine rounds, which all contestants take in turn. */
 static std::vector<double> best_of(const std::vector<Contestant> &contestants, unsigned lost,
-                                   unsigned times)
-{
+                                   unsigned times) {
     std::vector<double> best(contestants.size(), 0);
     for (int round = 0; round < 9; round++)
         for (size_t i = 0; i < contestants.size(); i++) {
-            if (!contestants[i].can(lost))
-                continue;
+            if (!contestants[i].can(lost)) continue;
             const double seconds = seconds_of([&] {
-                for (unsigned time = 0; time < times; time++)
-                    contestants[i].work(lost, time);
+                for (unsigned time = 0; time < times; time++) contestants[i].work(lost, time);
             });
             best[i] = best[i] > 0 ? std::min(best[i], seconds) : seconds;
         }
@@ -115,12 +104,10 @@ static std::vector<double> best_of(const std::vector<Contestant> &contestants, u
 }
 
 /* GB/s of object bytes, and in brackets how many times as fast as isa. */
-static void time_stripe(unsigned unit, const std::vector<ErasureCodeInterfaceRef> &codes)
-{
+static void time_stripe(unsigned unit, const std::vector<ErasureCodeInterfaceRef> &codes) {
     const buffer::list in = random_bytes(12 * unit, 5);
     std::vector<Contestant> contestants;
-    for (const auto &code : codes)
-        contestants.emplace_back(code, in);
+    for (const auto &code : codes) contestants.emplace_back(code, in);
     const unsigned times = std::max(16u, (8u << 20) / (12 * unit));
     for (unsigned lost = 0; lost <= 4; lost++) {
         printf("| 12 x %u KiB | %s%s |", unit >> 10, lost ? std::to_string(lost).c_str() : "encode",
@@ -135,8 +122,7 @@ static void time_stripe(unsigned unit, const std::vector<ErasureCodeInterfaceRef
     }
 }
 
-int main(int argc, char **argv)
-{
+int main(int argc, char **argv) {
     if (argc != 2 || !begin(argv[1])) {
         fprintf(stderr, "usage: plugin_bench FOLDER\n");
         return 2;
@@ -153,11 +139,9 @@ int main(int argc, char **argv)
     }
     printf("\nGB/s of object bytes, one thread; in brackets how many times as fast as isa\n\n| "
            "Stripe | Work |");
-    for (const Peer &peer : peers)
-        printf(" %s |", peer.name);
+    for (const Peer &peer : peers) printf(" %s |", peer.name);
     printf("\n|---|---|---|---|---|---|---|\n");
-    for (unsigned unit : { 4096u, 65536u, 1048576u })
-        time_stripe(unit, codes);
+    for (unsigned unit : {4096u, 65536u, 1048576u}) time_stripe(unit, codes);
     fflush(stdout);
     _exit(0); /* a plugin is never unloaded */
 }

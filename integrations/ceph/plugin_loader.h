@@ -12,12 +12,10 @@
 #include <rados/librados.h>
 #include <sstream>
 
-namespace ceph
-{
+namespace ceph {
 
 /* What Ceph's plugins log by. It is in libceph-common. */
-namespace global
-{
+namespace global {
 extern void *g_ceph_context;
 }
 
@@ -26,13 +24,11 @@ ErasureCodePluginRegistry ErasureCodePluginRegistry::singleton;
 
 static std::map<std::string, ErasureCodePlugin *> loaded;
 
-int ErasureCodePluginRegistry::add(const std::string &name, ErasureCodePlugin *plugin)
-{
+int ErasureCodePluginRegistry::add(const std::string &name, ErasureCodePlugin *plugin) {
     return loaded.emplace(name, plugin).second ? 0 : -EEXIST;
 }
 
-static int load(const std::string &name, const std::string &directory, std::ostream *ss)
-{
+static int load(const std::string &name, const std::string &directory, std::ostream *ss) {
     const std::string file = directory + "/libec_" + name + ".so";
     void *library = dlopen(file.c_str(), RTLD_NOW);
     if (!library) {
@@ -53,16 +49,14 @@ static int load(const std::string &name, const std::string &directory, std::ostr
 
 int ErasureCodePluginRegistry::factory(const std::string &name, const std::string &directory,
                                        ErasureCodeProfile &profile, ErasureCodeInterfaceRef *code,
-                                       std::ostream *ss)
-{
+                                       std::ostream *ss) {
     if (!loaded.count(name))
-        if (int r = load(name, directory, ss))
-            return r;
+        if (int r = load(name, directory, ss)) return r;
     const int r = loaded.at(name)->factory(directory, profile, code, ss);
     return r ? r : profile == (*code)->get_profile() ? 0 : -EINVAL;
 }
 
-}
+} // namespace ceph
 
 using ceph::Chunks;
 using ceph::ErasureCodeInterface;
@@ -74,11 +68,9 @@ namespace buffer = ceph::buffer;
 /* The folder that the plugins are in. */
 static std::string plugins;
 
-static bool begin(const char *folder)
-{
+static bool begin(const char *folder) {
     rados_t cluster;
-    if (rados_create(&cluster, nullptr))
-        return false;
+    if (rados_create(&cluster, nullptr)) return false;
     ceph::global::g_ceph_context = rados_cct(cluster);
     plugins = folder;
     return true;
@@ -86,8 +78,7 @@ static bool begin(const char *folder)
 
 /* A code, or null and why the plugin refused it. */
 static ErasureCodeInterfaceRef make_code(const std::string &plugin, ErasureCodeProfile profile,
-                                         std::string *error)
-{
+                                         std::string *error) {
     ErasureCodeInterfaceRef code;
     std::ostringstream ss;
     profile["plugin"] = plugin;
@@ -97,8 +88,7 @@ static ErasureCodeInterfaceRef make_code(const std::string &plugin, ErasureCodeP
     return code;
 }
 
-static buffer::list random_bytes(unsigned len, unsigned seed)
-{
+static buffer::list random_bytes(unsigned len, unsigned seed) {
     buffer::ptr bytes(buffer::create_aligned(len ? len : 1, 4096));
     uint64_t state = seed * 0x9E3779B97F4A7C15u + 1;
     for (unsigned i = 0; i < len; i++) {
@@ -110,29 +100,20 @@ static buffer::list random_bytes(unsigned len, unsigned seed)
     return list;
 }
 
-static unsigned count_of(unsigned set)
-{
-    return unsigned(__builtin_popcount(set));
-}
+static unsigned count_of(unsigned set) { return unsigned(__builtin_popcount(set)); }
 
-static Places places_of(unsigned set)
-{
+static Places places_of(unsigned set) {
     Places places;
     for (int place = 0; place < 32; place++)
-        if (set >> place & 1)
-            places.insert(place);
+        if (set >> place & 1) places.insert(place);
     return places;
 }
 
 /* All places of the code, as a set of bits. */
-static unsigned all_of(ErasureCodeInterface &code)
-{
-    return (1u << code.get_chunk_count()) - 1;
-}
+static unsigned all_of(ErasureCodeInterface &code) { return (1u << code.get_chunk_count()) - 1; }
 
 /* The places of the data. A code without a mapping has them first. */
-static unsigned data_of(ErasureCodeInterface &code)
-{
+static unsigned data_of(ErasureCodeInterface &code) {
     const auto &mapping = code.get_chunk_mapping();
     unsigned data = 0;
     for (unsigned i = 0; i < code.get_data_chunk_count(); i++)
@@ -141,21 +122,17 @@ static unsigned data_of(ErasureCodeInterface &code)
 }
 
 /* What minimum_to_decode returns, and the places that it names. */
-static int to_read(ErasureCodeInterface &code, unsigned want, unsigned available, unsigned *read)
-{
+static int to_read(ErasureCodeInterface &code, unsigned want, unsigned available, unsigned *read) {
     ceph::ChunkParts minimum;
     const int r = code.minimum_to_decode(places_of(want), places_of(available), &minimum);
     *read = 0;
-    for (const auto &item : minimum)
-        *read |= 1u << item.first;
+    for (const auto &item : minimum) *read |= 1u << item.first;
     return r;
 }
 
-static Chunks chunks_at(const Chunks &whole, unsigned set)
-{
+static Chunks chunks_at(const Chunks &whole, unsigned set) {
     Chunks chunks;
-    for (int place : places_of(set))
-        chunks[place] = whole.at(place);
+    for (int place : places_of(set)) chunks[place] = whole.at(place);
     return chunks;
 }
 

@@ -14,40 +14,33 @@
 
 static int passed, failed;
 
-static bool check(bool good, const std::string &name)
-{
+static bool check(bool good, const std::string &name) {
     (good ? passed : failed)++;
-    if (!good)
-        printf("failed: %s\n", name.c_str());
+    if (!good) printf("failed: %s\n", name.c_str());
     return good;
 }
 
-static ErasureCodeInterfaceRef code_of(const std::string &plugin, const ErasureCodeProfile &profile)
-{
+static ErasureCodeInterfaceRef code_of(const std::string &plugin,
+                                       const ErasureCodeProfile &profile) {
     std::string error;
     auto code = make_code(plugin, profile, &error);
-    if (!check(code != nullptr, plugin + " is loaded"))
-        printf("  %s\n", error.c_str());
+    if (!check(code != nullptr, plugin + " is loaded")) printf("  %s\n", error.c_str());
     return code;
 }
 
 /* Whether the chunks at the places are those of the whole. */
-static bool are_equal(const Chunks &chunks, const Chunks &whole, unsigned set)
-{
+static bool are_equal(const Chunks &chunks, const Chunks &whole, unsigned set) {
     for (int place : places_of(set))
-        if (!chunks.count(place) || !chunks.at(place).contents_equal(whole.at(place)))
-            return false;
+        if (!chunks.count(place) || !chunks.at(place).contents_equal(whole.at(place))) return false;
     return true;
 }
 
 /* ---- Whether ceph_interface.h declares what the installed plugins export ---- */
 
-namespace ceph
-{
+namespace ceph {
 
 /* The functions as ceph_interface.h declares them, under names that can be asked for. */
-class ErasureCodeProbe : public ErasureCodeInterface
-{
+class ErasureCodeProbe : public ErasureCodeInterface {
 public:
     ~ErasureCodeProbe() override;
     int init(ErasureCodeProfile &, std::ostream *) override;
@@ -71,76 +64,34 @@ public:
 
 /* Each returns something of its own, so that no two become one function. */
 ErasureCodeProbe::~ErasureCodeProbe() {}
-int ErasureCodeProbe::init(ErasureCodeProfile &, std::ostream *)
-{
-    return 0;
-}
-const ErasureCodeProfile &ErasureCodeProbe::get_profile() const
-{
-    abort();
-}
-int ErasureCodeProbe::create_rule(const std::string &, CrushWrapper &, std::ostream *) const
-{
+int ErasureCodeProbe::init(ErasureCodeProfile &, std::ostream *) { return 0; }
+const ErasureCodeProfile &ErasureCodeProbe::get_profile() const { abort(); }
+int ErasureCodeProbe::create_rule(const std::string &, CrushWrapper &, std::ostream *) const {
     return 1;
 }
-unsigned ErasureCodeProbe::get_chunk_count() const
-{
-    return 2;
-}
-unsigned ErasureCodeProbe::get_data_chunk_count() const
-{
-    return 3;
-}
-unsigned ErasureCodeProbe::get_coding_chunk_count() const
-{
-    return 4;
-}
-int ErasureCodeProbe::get_sub_chunk_count()
-{
-    return 5;
-}
-unsigned ErasureCodeProbe::get_chunk_size(unsigned) const
-{
-    return 6;
-}
-int ErasureCodeProbe::minimum_to_decode(const std::set<int> &, const std::set<int> &, ChunkParts *)
-{
+unsigned ErasureCodeProbe::get_chunk_count() const { return 2; }
+unsigned ErasureCodeProbe::get_data_chunk_count() const { return 3; }
+unsigned ErasureCodeProbe::get_coding_chunk_count() const { return 4; }
+int ErasureCodeProbe::get_sub_chunk_count() { return 5; }
+unsigned ErasureCodeProbe::get_chunk_size(unsigned) const { return 6; }
+int ErasureCodeProbe::minimum_to_decode(const std::set<int> &, const std::set<int> &,
+                                        ChunkParts *) {
     return 7;
 }
 int ErasureCodeProbe::minimum_to_decode_with_cost(const std::set<int> &, const std::map<int, int> &,
-                                                  std::set<int> *)
-{
+                                                  std::set<int> *) {
     return 8;
 }
-int ErasureCodeProbe::encode(const std::set<int> &, const buffer::list &, Chunks *)
-{
-    return 9;
-}
-int ErasureCodeProbe::encode_chunks(const std::set<int> &, Chunks *)
-{
-    return 10;
-}
-int ErasureCodeProbe::decode(const std::set<int> &, const Chunks &, Chunks *, int)
-{
-    return 11;
-}
-int ErasureCodeProbe::decode_chunks(const std::set<int> &, const Chunks &, Chunks *)
-{
-    return 12;
-}
-const std::vector<int> &ErasureCodeProbe::get_chunk_mapping() const
-{
-    abort();
-}
-int ErasureCodeProbe::decode_concat(const Chunks &, buffer::list *)
-{
-    return 13;
-}
+int ErasureCodeProbe::encode(const std::set<int> &, const buffer::list &, Chunks *) { return 9; }
+int ErasureCodeProbe::encode_chunks(const std::set<int> &, Chunks *) { return 10; }
+int ErasureCodeProbe::decode(const std::set<int> &, const Chunks &, Chunks *, int) { return 11; }
+int ErasureCodeProbe::decode_chunks(const std::set<int> &, const Chunks &, Chunks *) { return 12; }
+const std::vector<int> &ErasureCodeProbe::get_chunk_mapping() const { abort(); }
+int ErasureCodeProbe::decode_concat(const Chunks &, buffer::list *) { return 13; }
 
-}
+} // namespace ceph
 
-static std::string demangled(const char *name)
-{
+static std::string demangled(const char *name) {
     int status;
     char *const text = abi::__cxa_demangle(name, nullptr, nullptr, &status);
     const std::string whole = text ? text : name;
@@ -149,8 +100,7 @@ static std::string demangled(const char *name)
 }
 
 /* The functions in the object's table, without the names of their classes. */
-static std::vector<std::string> table_of(const ErasureCodeInterface &code)
-{
+static std::vector<std::string> table_of(const ErasureCodeInterface &code) {
     constexpr int DESTRUCTORS = 2, SLOTS = 18;
     void *const *const table = *reinterpret_cast<void *const *const *>(&code);
     std::vector<std::string> names;
@@ -168,19 +118,17 @@ static std::vector<std::string> table_of(const ErasureCodeInterface &code)
     return names;
 }
 
-static void test_tables()
-{
+static void test_tables() {
     const ceph::ErasureCodeProbe probe;
     const auto declared = table_of(probe);
     const std::vector<std::pair<const char *, ErasureCodeProfile>> theirs = {
-        { "isa", { { "k", "4" }, { "m", "2" } } },
-        { "jerasure", { { "k", "4" }, { "m", "2" }, { "technique", "reed_sol_van" } } },
-        { "lrc", { { "k", "4" }, { "m", "2" }, { "l", "3" } } },
+        {"isa", {{"k", "4"}, {"m", "2"}}},
+        {"jerasure", {{"k", "4"}, {"m", "2"}, {"technique", "reed_sol_van"}}},
+        {"lrc", {{"k", "4"}, {"m", "2"}, {"l", "3"}}},
     };
     for (const auto &[plugin, profile] : theirs) {
         auto code = code_of(plugin, profile);
-        if (!code)
-            continue;
+        if (!code) continue;
         const auto table = table_of(*code);
         check(declared == table, std::string("ceph_interface.h declares the table of ") + plugin);
         for (size_t slot = 0; slot < declared.size(); slot++)
@@ -192,28 +140,23 @@ static void test_tables()
 
 /* ---- The field and ranks, for what can be recovered at all ---- */
 
-static uint8_t product(uint8_t a, uint8_t b)
-{
+static uint8_t product(uint8_t a, uint8_t b) {
     unsigned sum = 0;
     for (unsigned x = a; b; b = uint8_t(b >> 1), x = x << 1 ^ (x & 0x80 ? 0x11D : 0))
-        if (b & 1)
-            sum ^= x;
+        if (b & 1) sum ^= x;
     return uint8_t(sum);
 }
 
-static uint8_t inverse(uint8_t a)
-{
+static uint8_t inverse(uint8_t a) {
     for (unsigned b = 1; b < 256; b++)
-        if (product(a, uint8_t(b)) == 1)
-            return uint8_t(b);
+        if (product(a, uint8_t(b)) == 1) return uint8_t(b);
     return 0;
 }
 
 using Row = std::vector<uint8_t>;
 
 /* For each place the coefficient of each data fragment, found by encoding stripes with one byte. */
-static std::vector<Row> rows_of(ErasureCodeInterface &code)
-{
+static std::vector<Row> rows_of(ErasureCodeInterface &code) {
     const unsigned k = code.get_data_chunk_count(), n = code.get_chunk_count();
     const unsigned len = code.get_chunk_size(1);
     std::vector<Row> rows(n, Row(k));
@@ -230,14 +173,11 @@ static std::vector<Row> rows_of(ErasureCodeInterface &code)
 }
 
 /* For each set of places, those that it determines: the rows in the span of the set's. */
-class Determined
-{
+class Determined {
 public:
-    explicit Determined(std::vector<Row> of) : rows(std::move(of)), basis(rows[0].size())
-    {
+    explicit Determined(std::vector<Row> of) : rows(std::move(of)), basis(rows[0].size()) {
         for (unsigned a = 0; a < 256; a++)
-            for (unsigned b = 0; b < 256; b++)
-                products[a][b] = product(uint8_t(a), uint8_t(b));
+            for (unsigned b = 0; b < 256; b++) products[a][b] = product(uint8_t(a), uint8_t(b));
         by_set.resize(1u << rows.size());
         add_from(0, 0);
     }
@@ -248,8 +188,7 @@ private:
     std::vector<uint16_t> by_set;
     uint8_t products[256][256];
 
-    Row reduce(Row row) const
-    {
+    Row reduce(Row row) const {
         for (unsigned column = 0; column < row.size(); column++)
             if (row[column] && !basis[column].empty())
                 for (unsigned i = unsigned(row.size()), by = row[column]; i-- > column;)
@@ -258,8 +197,7 @@ private:
     }
 
     /* Goes through all sets that begin with `set` and go on with places from `from`. */
-    void add_from(unsigned from, unsigned set)
-    {
+    void add_from(unsigned from, unsigned set) {
         unsigned determined = set;
         for (unsigned place = 0; place < rows.size(); place++) {
             const Row rest = reduce(rows[place]);
@@ -274,13 +212,11 @@ private:
             const size_t column = size_t(first - row.begin());
             if (first != row.end()) {
                 const uint8_t by = inverse(*first);
-                for (auto &byte : row)
-                    byte = products[by][byte];
+                for (auto &byte : row) byte = products[by][byte];
                 basis[column] = row;
             }
             add_from(place + 1, set | 1u << place);
-            if (column < basis.size())
-                basis[column].clear();
+            if (column < basis.size()) basis[column].clear();
         }
     }
 };
@@ -288,22 +224,18 @@ private:
 /* ---- Every set of lost chunks ---- */
 
 /* Decodes a stripe without each set of lost chunks, from exactly what minimum_to_decode names. */
-class LostSets
-{
+class LostSets {
 public:
     LostSets(const std::string &of, ErasureCodeInterface &by, unsigned most)
         : name(of), code(by), most_lost(most), all(all_of(by)), data(data_of(by)),
-          determined(rows_of(by))
-    {
+          determined(rows_of(by)) {
         in = random_bytes(code.get_data_chunk_count() * 512, code.get_chunk_count());
         code.encode(places_of(all), in, &whole);
     }
 
-    void test()
-    {
+    void test() {
         for (unsigned lost = 0; lost <= all; lost++)
-            if (count_of(lost) <= most_lost)
-                test_lost(lost);
+            if (count_of(lost) <= most_lost) test_lost(lost);
         check(!wrong, name + ": decoded right or refused");
         check(!longer, name + ": reads no more than is needed");
         printf(
@@ -312,8 +244,7 @@ public:
             name.c_str(), right + refused + wrong, most_lost, right, refused, wrong, questions,
             longer);
         printf("%s: one lost chunk reads", name.c_str());
-        for (const auto &[reads, chunks] : single)
-            printf(" %u (%u of the places)", reads, chunks);
+        for (const auto &[reads, chunks] : single) printf(" %u (%u of the places)", reads, chunks);
         printf("\n");
     }
 
@@ -329,21 +260,17 @@ private:
     unsigned wrong = 0, longer = 0, questions = 0;
     std::map<unsigned, unsigned> single;
 
-    void test_lost(unsigned lost)
-    {
+    void test_lost(unsigned lost) {
         bool good = test_want(lost, data) & test_want(lost, all) & test_concat(lost);
-        for (unsigned part = lost; part; part = (part - 1) & lost)
-            good &= test_want(lost, part);
+        for (unsigned part = lost; part; part = (part - 1) & lost) good &= test_want(lost, part);
         const bool recoverable = determined[all & ~lost] == all;
         right += good && recoverable;
         refused += good && !recoverable;
         wrong += !good;
-        if (!good)
-            printf("  %s: lost places %#x\n", name.c_str(), lost);
+        if (!good) printf("  %s: lost places %#x\n", name.c_str(), lost);
     }
 
-    bool test_want(unsigned lost, unsigned want)
-    {
+    bool test_want(unsigned lost, unsigned want) {
         const unsigned available = all & ~lost;
         unsigned read = 0;
         Chunks decoded;
@@ -355,16 +282,14 @@ private:
             return asking == -EIO && decoding == -EIO;
         }
         longer += want && count_of(read) > fewest(want, available);
-        if (count_of(lost) == 1 && want == lost)
-            single[count_of(read)]++;
+        if (count_of(lost) == 1 && want == lost) single[count_of(read)]++;
         const int decoding = code.decode(places_of(want), chunks_at(whole, read), &decoded, 0);
         return !asking && !(read & lost) && !decoding && are_equal(decoded, whole, want);
     }
 
     /* The fewest places that determine those wanted. A wanted chunk that is available is read
      * itself. */
-    unsigned fewest(unsigned want, unsigned available) const
-    {
+    unsigned fewest(unsigned want, unsigned available) const {
         unsigned least = all;
         for (unsigned some = available; some; some = (some - 1) & available)
             if (!(want & ~determined[some]) && !(want & available & ~some))
@@ -372,8 +297,7 @@ private:
         return least;
     }
 
-    bool test_concat(unsigned lost)
-    {
+    bool test_concat(unsigned lost) {
         const unsigned available = all & ~lost;
         buffer::list concat;
         const int r = code.decode_concat(chunks_at(whole, available), &concat);
@@ -383,13 +307,10 @@ private:
 
 /* ---- The calls ---- */
 
-static const std::vector<int> places_of_12 = {
-    0, 1, 2, 3, 4, 5, 8, 9, 10, 11, 12, 13, 6, 14, 7, 15
-};
-static const std::vector<int> places_of_6 = { 0, 1, 2, 5, 6, 7, 3, 8, 4, 9 };
+static const std::vector<int> places_of_12 = {0, 1, 2, 3, 4, 5, 8, 9, 10, 11, 12, 13, 6, 14, 7, 15};
+static const std::vector<int> places_of_6 = {0, 1, 2, 5, 6, 7, 3, 8, 4, 9};
 
-static void test_shape(const std::string &name, ErasureCodeInterface &code, unsigned k)
-{
+static void test_shape(const std::string &name, ErasureCodeInterface &code, unsigned k) {
     check(code.get_chunk_count() == k + 4 && code.get_data_chunk_count() == k &&
               code.get_coding_chunk_count() == 4 && code.get_sub_chunk_count() == 1,
           name + ": counts");
@@ -408,8 +329,7 @@ static void test_shape(const std::string &name, ErasureCodeInterface &code, unsi
 }
 
 /* The same bytes in pieces that cut chunks. */
-static buffer::list in_pieces(const buffer::list &whole)
-{
+static buffer::list in_pieces(const buffer::list &whole) {
     const std::string bytes = whole.to_str();
     buffer::list pieces;
     for (size_t from = 0, step = 1; from < bytes.size(); from += step, step = step * 3 % 1021 + 1) {
@@ -420,17 +340,15 @@ static buffer::list in_pieces(const buffer::list &whole)
     return pieces;
 }
 
-static bool test_len(ErasureCodeInterface &code, unsigned len)
-{
+static bool test_len(ErasureCodeInterface &code, unsigned len) {
     const Places all = places_of(all_of(code));
     const buffer::list in = random_bytes(len, len);
     Chunks whole, cut, some;
     bool good = !code.encode(all, in, &whole) && !code.encode(all, in_pieces(in), &cut) &&
-                !code.encode({ 1, 7 }, in, &some);
+                !code.encode({1, 7}, in, &some);
     good = good && whole.size() == all.size() && are_equal(cut, whole, all_of(code)) &&
            some.size() == 2 && are_equal(some, whole, 1u << 1 | 1u << 7);
-    for (const auto &chunk : whole)
-        good &= chunk.second.length() == code.get_chunk_size(len);
+    for (const auto &chunk : whole) good &= chunk.second.length() == code.get_chunk_size(len);
     buffer::list back, front;
     good = good && !code.decode_concat(chunks_at(whole, all_of(code) & ~0x9u), &back);
     good = good && back.length() == code.get_chunk_size(len) * code.get_data_chunk_count();
@@ -442,99 +360,86 @@ static bool test_len(ErasureCodeInterface &code, unsigned len)
 }
 
 /* Chunks of equal length in buffers of their own, filled with one byte. */
-static Chunks filled(unsigned n, unsigned len, char byte)
-{
+static Chunks filled(unsigned n, unsigned len, char byte) {
     Chunks chunks;
-    for (unsigned place = 0; place < n; place++)
-        chunks[int(place)].append(std::string(len, byte));
+    for (unsigned place = 0; place < n; place++) chunks[int(place)].append(std::string(len, byte));
     return chunks;
 }
 
 /* encode_chunks and decode_chunks write into the caller's buffers. */
-static void test_buffers(const std::string &name, ErasureCodeInterface &code)
-{
+static void test_buffers(const std::string &name, ErasureCodeInterface &code) {
     const unsigned n = code.get_chunk_count(), all = all_of(code), len = 4096;
     Chunks whole, own = filled(n, len, 'U');
     code.encode(places_of(all), random_bytes(code.get_data_chunk_count() * len, 7), &whole);
     std::vector<char *> at;
-    for (unsigned place = 0; place < n; place++)
-        at.push_back(own[int(place)].c_str());
-    for (int place : places_of(data_of(code)))
-        memcpy(at[size_t(place)], whole[place].c_str(), len);
+    for (unsigned place = 0; place < n; place++) at.push_back(own[int(place)].c_str());
+    for (int place : places_of(data_of(code))) memcpy(at[size_t(place)], whole[place].c_str(), len);
     bool good = !code.encode_chunks(places_of(all), &own) && are_equal(own, whole, all);
     const unsigned lost = 1u | 1u << (n - 1);
-    for (int place : places_of(lost))
-        memset(at[size_t(place)], 'U', len);
+    for (int place : places_of(lost)) memset(at[size_t(place)], 'U', len);
     good = good && !code.decode_chunks(places_of(lost), chunks_at(whole, all & ~lost), &own) &&
            are_equal(own, whole, all);
-    for (unsigned place = 0; place < n; place++)
-        good &= own[int(place)].c_str() == at[place];
+    for (unsigned place = 0; place < n; place++) good &= own[int(place)].c_str() == at[place];
     check(good, name + ": encode_chunks and decode_chunks write into the caller's buffers");
 }
 
-static void test_refusals(const std::string &name, ErasureCodeInterface &code)
-{
+static void test_refusals(const std::string &name, ErasureCodeInterface &code) {
     const int n = int(code.get_chunk_count());
     const unsigned all = all_of(code);
     Chunks whole, decoded;
     code.encode(places_of(all), random_bytes(code.get_data_chunk_count() * 64, 7), &whole);
-    for (unsigned len : { 0u, 63u, 65u }) {
+    for (unsigned len : {0u, 63u, 65u}) {
         Chunks uneven = chunks_at(whole, all & ~1u);
         uneven[3].clear();
         uneven[3].append_zero(len);
-        check(code.decode({ 0 }, uneven, &decoded, 64) == -EINVAL,
+        check(code.decode({0}, uneven, &decoded, 64) == -EINVAL,
               name + ": a chunk of another length is refused");
     }
     ceph::ChunkParts parts;
-    check(code.decode({ n }, whole, &decoded, 64) == -EINVAL &&
-              code.decode({ -1 }, whole, &decoded, 64) == -EINVAL &&
-              code.minimum_to_decode({ n }, { 0 }, &parts) == -EINVAL &&
-              code.minimum_to_decode({ 0 }, { 99 }, &parts) == -EINVAL,
+    check(code.decode({n}, whole, &decoded, 64) == -EINVAL &&
+              code.decode({-1}, whole, &decoded, 64) == -EINVAL &&
+              code.minimum_to_decode({n}, {0}, &parts) == -EINVAL &&
+              code.minimum_to_decode({0}, {99}, &parts) == -EINVAL,
           name + ": a place that the code does not have is refused");
-    check(code.decode({ 0 }, {}, &decoded, 64) == -EIO,
-          name + ": nothing is decoded from no chunks");
+    check(code.decode({0}, {}, &decoded, 64) == -EIO, name + ": nothing is decoded from no chunks");
     Places read;
     std::map<int, int> costs;
-    for (int place = 1; place < n; place++)
-        costs[place] = 1;
-    check(!code.minimum_to_decode_with_cost({ 0 }, costs, &read) &&
+    for (int place = 1; place < n; place++) costs[place] = 1;
+    check(!code.minimum_to_decode_with_cost({0}, costs, &read) &&
               read.size() == code.get_data_chunk_count() / 2,
           name + ": with costs, the same is read");
 }
 
 /* Place 0 is unrecoverable, place n / 2 is not: neither is written. */
-static void test_unchanged(const std::string &name, ErasureCodeInterface &code)
-{
+static void test_unchanged(const std::string &name, ErasureCodeInterface &code) {
     const unsigned n = code.get_chunk_count(), all = all_of(code), other = n / 2,
                    lost = 0xFu | 1u << other;
     Chunks whole, own = filled(n, 64, 'U');
     code.encode(places_of(all), random_bytes(code.get_data_chunk_count() * 64, 7), &whole);
-    for (int place : places_of(all & ~lost))
-        own[place] = whole[place];
+    for (int place : places_of(all & ~lost)) own[place] = whole[place];
     const Chunks remaining = chunks_at(whole, all & ~lost), before = own;
-    bool good = code.decode_chunks({ 0, int(other) }, remaining, &own) == -EIO;
+    bool good = code.decode_chunks({0, int(other)}, remaining, &own) == -EIO;
     good &= are_equal(own, filled(n, 64, 'U'), 1u | 1u << other);
     good &=
-        !code.decode_chunks({ int(other) }, remaining, &own) && are_equal(own, whole, 1u << other);
+        !code.decode_chunks({int(other)}, remaining, &own) && are_equal(own, whole, 1u << other);
     check(good, name + ": nothing is written if one wanted chunk is unrecoverable");
 }
 
-static void test_profiles()
-{
+static void test_profiles() {
     const std::vector<std::pair<ErasureCodeProfile, std::string>> bad = {
-        { { { "k", "10" } }, "azure_lrc: no code has k=10 m=4; set k=12 m=4 or k=6 m=4" },
-        { { { "m", "3" } }, "azure_lrc: no code has k=12 m=3; set k=12 m=4 or k=6 m=4" },
-        { { { "k", "12x" } }, "azure_lrc: no code has k=12x m=4; set k=12 m=4 or k=6 m=4" },
-        { { { "k", "-12" } }, "azure_lrc: no code has k=-12 m=4; set k=12 m=4 or k=6 m=4" },
-        { { { "l", "6" } }, "azure_lrc: there is no parameter l; remove it from the profile" },
-        { { { "mapping", "DD" } },
-          "azure_lrc: there is no parameter mapping; remove it from the profile" },
-        { { { "technique", "x" } },
-          "azure_lrc: there is no parameter technique; remove it from the profile" },
-        { { { "k", "6" }, { "K", "6" } },
-          "azure_lrc: there is no parameter K; remove it from the profile" },
-        { { { "crush-failure-domian", "osd" } },
-          "azure_lrc: there is no parameter crush-failure-domian; remove it from the profile" },
+        {{{"k", "10"}}, "azure_lrc: no code has k=10 m=4; set k=12 m=4 or k=6 m=4"},
+        {{{"m", "3"}}, "azure_lrc: no code has k=12 m=3; set k=12 m=4 or k=6 m=4"},
+        {{{"k", "12x"}}, "azure_lrc: no code has k=12x m=4; set k=12 m=4 or k=6 m=4"},
+        {{{"k", "-12"}}, "azure_lrc: no code has k=-12 m=4; set k=12 m=4 or k=6 m=4"},
+        {{{"l", "6"}}, "azure_lrc: there is no parameter l; remove it from the profile"},
+        {{{"mapping", "DD"}},
+         "azure_lrc: there is no parameter mapping; remove it from the profile"},
+        {{{"technique", "x"}},
+         "azure_lrc: there is no parameter technique; remove it from the profile"},
+        {{{"k", "6"}, {"K", "6"}},
+         "azure_lrc: there is no parameter K; remove it from the profile"},
+        {{{"crush-failure-domian", "osd"}},
+         "azure_lrc: there is no parameter crush-failure-domian; remove it from the profile"},
     };
     for (const auto &[profile, words] : bad) {
         std::string error;
@@ -542,10 +447,14 @@ static void test_profiles()
               "refused: " + words + ", printed: " + error);
     }
     const ErasureCodeProfile whole = {
-        { "plugin", "azure_lrc" },    { "k", "6" },
-        { "m", "4" },                 { "crush-root", "default" },
-        { "crush-device-class", "" }, { "crush-failure-domain", "osd" },
-        { "stripe_unit", "4096" },    { "directory", "/usr/lib/ceph/erasure-code" },
+        {"plugin", "azure_lrc"},
+        {"k", "6"},
+        {"m", "4"},
+        {"crush-root", "default"},
+        {"crush-device-class", ""},
+        {"crush-failure-domain", "osd"},
+        {"stripe_unit", "4096"},
+        {"directory", "/usr/lib/ceph/erasure-code"},
     };
     std::string error;
     check(bool(make_code("azure_lrc", whole, &error)), "all parameters: " + error);
@@ -553,16 +462,14 @@ static void test_profiles()
 
 /* ---- Stored chunks ---- */
 
-static std::string bytes_of_file(const std::string &path)
-{
+static std::string bytes_of_file(const std::string &path) {
     std::ifstream file(path, std::ios::binary);
-    return { std::istreambuf_iterator<char>(file), {} };
+    return {std::istreambuf_iterator<char>(file), {}};
 }
 
 /* Chunks that an earlier version stored, one after the other by their places: the object encodes to
  * them, and they are decoded without each recoverable set of at most four. */
-static void test_corpus(const std::string &corpus, ErasureCodeInterface &code, unsigned k)
-{
+static void test_corpus(const std::string &corpus, ErasureCodeInterface &code, unsigned k) {
     const std::string name = "corpus, k=" + std::to_string(k),
                       object = bytes_of_file(corpus + "/object");
     const std::string stored = bytes_of_file(corpus + "/ceph_" + std::to_string(k) + "_4");
@@ -589,16 +496,14 @@ static void test_corpus(const std::string &corpus, ErasureCodeInterface &code, u
     check(good, name + ": decoded alike");
 }
 
-static void test_code(unsigned k, const std::string &corpus)
-{
+static void test_code(unsigned k, const std::string &corpus) {
     const std::string name = "k=" + std::to_string(k);
-    auto code = code_of("azure_lrc", { { "k", std::to_string(k) }, { "m", "4" } });
-    if (!code)
-        return;
+    auto code = code_of("azure_lrc", {{"k", std::to_string(k)}, {"m", "4"}});
+    if (!code) return;
     test_shape(name, *code, k);
     bool lengths = true;
     for (unsigned len :
-         { 0u, 1u, 63u, 64u, 767u, 768u, 769u, 4096u, 49151u, 49152u, 49153u, 100000u })
+         {0u, 1u, 63u, 64u, 767u, 768u, 769u, 4096u, 49151u, 49152u, 49153u, 100000u})
         lengths &= test_len(*code, len);
     check(lengths, name + ": lengths that fill no stripe, and bytes in pieces");
     test_buffers(name, *code);
@@ -612,8 +517,7 @@ static void test_code(unsigned k, const std::string &corpus)
           name + ": the numbers of sets decoded and refused");
 }
 
-int main(int argc, char **argv)
-{
+int main(int argc, char **argv) {
     if (argc != 3 || !begin(argv[1])) {
         fprintf(stderr, "usage: plugin_test FOLDER CORPUS\n");
         return 2;

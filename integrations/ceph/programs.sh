@@ -1,4 +1,6 @@
+# shellcheck shell=bash
 # For scripts that load the plugin without a cluster; `work` names a temporary folder.
+# shellcheck disable=SC2154
 here=$(dirname "${BASH_SOURCE[0]}")
 ceph=/usr/lib/x86_64-linux-gnu/ceph
 

@@ -7,7 +7,6 @@
 extern struct ec_backend_op_stubs
     libphazr_op_stubs; /* exported by liberasurecode.so.1, and in no header */
 
-__attribute__((constructor)) static void fill_table(void)
-{
+__attribute__((constructor)) static void fill_table(void) {
     libphazr_op_stubs = lrc_backend_functions;
 }

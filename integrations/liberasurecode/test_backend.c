@@ -20,18 +20,15 @@ static int failures;
 
 static char object[100000];
 
-static void test_decode(int desc, char **fragments, uint64_t len)
-{
+static void test_decode(int desc, char **fragments, uint64_t len) {
     long sets = 0, right = 0, wrong = 0, refused = 0;
     for (unsigned lost = 0; lost < 1u << FRAGMENTS; lost++) {
         char *left[FRAGMENTS], *decoded;
         uint64_t decoded_len;
         int count = 0, result;
-        if (__builtin_popcount(lost) > 4)
-            continue;
+        if (__builtin_popcount(lost) > 4) continue;
         for (int i = 0; i < FRAGMENTS; i++)
-            if (!(lost >> i & 1))
-                left[count++] = fragments[i];
+            if (!(lost >> i & 1)) left[count++] = fragments[i];
         result = liberasurecode_decode(desc, left, count, len, 0, &decoded, &decoded_len);
         sets++;
         if (result == 0) {
@@ -51,20 +48,17 @@ static void test_decode(int desc, char **fragments, uint64_t len)
            sets, right, wrong, refused);
 }
 
-static void test_reconstruct(int desc, char **fragments, uint64_t len)
-{
+static void test_reconstruct(int desc, char **fragments, uint64_t len) {
     char *rebuilt = malloc(len);
     for (int lost = 0; rebuilt && lost < FRAGMENTS; lost++) {
         char *left[FRAGMENTS];
-        int missing[] = { lost, -1 }, none[] = { -1 }, needed[FRAGMENTS + 1], count = 0;
+        int missing[] = {lost, -1}, none[] = {-1}, needed[FRAGMENTS + 1], count = 0;
         for (int i = 0; i < FRAGMENTS; i++)
-            if (i != lost)
-                left[count++] = fragments[i];
+            if (i != lost) left[count++] = fragments[i];
         CHECK(liberasurecode_reconstruct_fragment(desc, left, count, len, lost, rebuilt) == 0);
         CHECK(memcmp(rebuilt, fragments[lost], len) == 0);
         CHECK(liberasurecode_fragments_needed(desc, missing, none, needed) == 0);
-        for (count = 0; needed[count] >= 0; count++)
-            left[count] = fragments[needed[count]];
+        for (count = 0; needed[count] >= 0; count++) left[count] = fragments[needed[count]];
         CHECK(count == (lost < 14 ? 6 : 12));
         /* liberasurecode itself refuses to rebuild while more than four are missing */
         if (lost < 14)
@@ -78,13 +72,11 @@ static void test_reconstruct(int desc, char **fragments, uint64_t len)
 
 /* Whether a fragment is reconstructed if these are lost. */
 static int is_reconstructed(int desc, char **fragments, int total, uint64_t len, unsigned lost,
-                            int wanted)
-{
+                            int wanted) {
     char *left[FRAGMENTS], *rebuilt = calloc(1, len);
     int count = 0, is_right;
     for (int i = 0; i < total; i++)
-        if (!(lost >> i & 1))
-            left[count++] = fragments[i];
+        if (!(lost >> i & 1)) left[count++] = fragments[i];
     is_right = rebuilt &&
                liberasurecode_reconstruct_fragment(desc, left, count, len, wanted, rebuilt) == 0 &&
                memcmp(rebuilt, fragments[wanted], len) == 0;
@@ -93,8 +85,7 @@ static int is_reconstructed(int desc, char **fragments, int total, uint64_t len,
 }
 
 /* The plan that a thread keeps serves its own code, lost set and fragments alone. */
-static void test_kept_plan(int desc, char **fragments, uint64_t len)
-{
+static void test_kept_plan(int desc, char **fragments, uint64_t len) {
     int small = lrc_backend_create(6, CHKSUM_CRC32);
     char **data, **parity, *others[10];
     uint64_t other_len;
@@ -102,8 +93,7 @@ static void test_kept_plan(int desc, char **fragments, uint64_t len)
     if (small <= 0 ||
         liberasurecode_encode(small, object, sizeof object, &data, &parity, &other_len) != 0)
         return;
-    for (int i = 0; i < 10; i++)
-        others[i] = i < 6 ? data[i] : parity[i - 6];
+    for (int i = 0; i < 10; i++) others[i] = i < 6 ? data[i] : parity[i - 6];
     CHECK(is_reconstructed(desc, fragments, FRAGMENTS, len, 1, 0));
     CHECK(is_reconstructed(desc, fragments, FRAGMENTS, len, 3, 0));
     CHECK(is_reconstructed(desc, fragments, FRAGMENTS, len, 3, 1));
@@ -118,9 +108,8 @@ static void test_kept_plan(int desc, char **fragments, uint64_t len)
 
 /* Fragments of another code are refused, although liberasurecode is not asked to compare headers.
  */
-static void test_other_code(int desc)
-{
-    struct ec_args args = { .k = 12, .m = 4, .w = 8, .hd = 5, .ct = CHKSUM_CRC32 };
+static void test_other_code(int desc) {
+    struct ec_args args = {.k = 12, .m = 4, .w = 8, .hd = 5, .ct = CHKSUM_CRC32};
     int other = liberasurecode_instance_create(EC_BACKEND_LIBERASURECODE_RS_VAND, &args);
     char **data, **parity, *decoded, *rebuilt, *fragments[FRAGMENTS];
     uint64_t len, decoded_len;
@@ -128,8 +117,7 @@ static void test_other_code(int desc)
     if (other <= 0 ||
         liberasurecode_encode(other, object, sizeof object, &data, &parity, &len) != 0)
         return;
-    for (int i = 0; i < FRAGMENTS; i++)
-        fragments[i] = i < 12 ? data[i] : parity[i - 12];
+    for (int i = 0; i < FRAGMENTS; i++) fragments[i] = i < 12 ? data[i] : parity[i - 12];
     rebuilt = malloc(len);
     CHECK(is_invalid_fragment(desc, fragments[0]) != 0);
     CHECK(liberasurecode_decode(desc, fragments, 15, len, 0, &decoded, &decoded_len) ==
@@ -142,19 +130,16 @@ static void test_other_code(int desc)
     puts("liberasurecode: fragments of its Reed-Solomon code are refused");
 }
 
-int main(void)
-{
+int main(void) {
     char **data, **parity, *fragments[FRAGMENTS];
     uint64_t len;
     int desc = lrc_backend_create(12, CHKSUM_CRC32);
     CHECK(lrc_backend_create(11, CHKSUM_CRC32) == -EINVALIDPARAMS);
     CHECK(desc > 0);
-    for (size_t i = 0; i < sizeof object; i++)
-        object[i] = (char)(i * 31 >> 2);
+    for (size_t i = 0; i < sizeof object; i++) object[i] = (char)(i * 31 >> 2);
     if (desc <= 0 || liberasurecode_encode(desc, object, sizeof object, &data, &parity, &len) != 0)
         return 1;
-    for (int i = 0; i < FRAGMENTS; i++)
-        fragments[i] = i < 12 ? data[i] : parity[i - 12];
+    for (int i = 0; i < FRAGMENTS; i++) fragments[i] = i < 12 ? data[i] : parity[i - 12];
     test_decode(desc, fragments, len);
     test_reconstruct(desc, fragments, len);
     test_kept_plan(desc, fragments, len);

@@ -229,8 +229,7 @@ public:
     // The first `most` of them behind an item, or the first of all.
     std::vector<Item> plan_part(const std::optional<Item> &after, uint64_t most) const {
         std::vector<Item> items = plan();
-        if (after)
-            items.erase(items.begin(), std::upper_bound(items.begin(), items.end(), *after));
+        if (after) items.erase(items.begin(), std::upper_bound(items.begin(), items.end(), *after));
         if (items.size() > most) items.resize(most);
         return items;
     }

@@ -233,8 +233,9 @@ static void *work(void *argument) {
         EXPECT(lrc_store_put_wait(session, NAME(name), blob, sizeof blob, 12, &version, -1), 0);
         lrc_pool_give(shared, session);
         EXPECT(lrc_pool_take(shared, &session, 60000), LRC_STORE_DONE);
-        EXPECT(lrc_store_read_wait(session, NAME(name), 0, got, sizeof got, &version, &lent,
-                                   &built, -1), 0);
+        EXPECT(lrc_store_read_wait(session, NAME(name), 0, got, sizeof got, &version, &lent, &built,
+                                   -1),
+               0);
         lrc_pool_give(shared, session);
         EXPECT(memcmp(got, blob, sizeof blob), 0);
     }

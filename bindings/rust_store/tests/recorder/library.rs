@@ -5,9 +5,10 @@
 mod real;
 
 pub use real::{
-    lrc_pool_close, lrc_pool_give, lrc_pool_open, lrc_pool_take, lrc_slot_buffer, lrc_slot_entry, lrc_slot_reserve, lrc_slot_runs, lrc_slot_slices,
-    lrc_store_join, lrc_store_open, lrc_store_open_unjournaled, lrc_store_split, lrc_store_text,
-    RawBuffer, RawEntry, RawPool, Slice, Slot,
+    lrc_pool_close, lrc_pool_give, lrc_pool_open, lrc_pool_take, lrc_slot_buffer, lrc_slot_entry,
+    lrc_slot_reserve, lrc_slot_runs, lrc_slot_slices, lrc_store_join, lrc_store_open,
+    lrc_store_open_unjournaled, lrc_store_split, lrc_store_text, RawBuffer, RawEntry, RawPool,
+    Slice, Slot,
 };
 use std::cell::RefCell;
 use std::collections::VecDeque;
