@@ -66,6 +66,15 @@ typedef struct {
     size_t len;
 } lrc_buffer;
 
+/* The numbers of a store. A total above UINT64_MAX is given as UINT64_MAX. */
+typedef struct {
+    uint64_t blobs, bytes;  /* the names that have a blob, and the bytes of these blobs */
+    uint64_t lost;          /* their lost fragments */
+    uint64_t unrecoverable; /* their stripes that have an unrecoverable fragment */
+    uint64_t calls;         /* the calls so far, with those whose entries were discarded */
+    uint64_t entries;       /* the entries that the journal keeps */
+} lrc_numbers;
+
 /* The call of a journal entry. */
 enum {
     LRC_CALL_PUT = 0,
@@ -241,6 +250,10 @@ uint32_t lrc_store_plan_part(lrc_slot *slot, lrc_slot *other, uint64_t most, uin
  * next one. After any other status the next call takes the next fragment. */
 uint32_t lrc_store_mend_step(lrc_slot *slot, lrc_slot *other, uint64_t *version);
 
+/* Writes the numbers of the store. It takes the same time for each store, allocates nothing, and
+ * makes no journal entry. */
+uint32_t lrc_store_numbers(lrc_slot *slot, lrc_numbers *numbers);
+
 /* Empties the slot, whatever it holds. If a session is released and not joined, its places are
  * gone, and its store can't be closed. Releasing the last session frees the store. */
 void lrc_slot_release(lrc_slot *slot);
@@ -289,6 +302,7 @@ uint32_t lrc_store_plan_part_wait(lrc_slot *slot, lrc_slot *other, uint64_t most
                                   int64_t timeout_ms);
 uint32_t lrc_store_mend_step_wait(lrc_slot *slot, lrc_slot *other, uint64_t *version,
                                   int64_t timeout_ms);
+uint32_t lrc_store_numbers_wait(lrc_slot *slot, lrc_numbers *numbers, int64_t timeout_ms);
 /* Repairs all lost fragments that can be rebuilt, by plans of at most 512 items, and returns
  * LRC_STORE_DONE. The deadline is for each of its steps. If one is refused, it stops and returns
  * that status. `repaired` gets how many it repaired, unless that is none and it was refused. */

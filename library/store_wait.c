@@ -198,6 +198,10 @@ uint32_t lrc_store_stat_wait(lrc_slot *slot, const uint8_t *name, size_t name_le
     REPEAT(0, lrc_store_stat(slot, name, name_len, version, len, stripes, lost));
 }
 
+uint32_t lrc_store_numbers_wait(lrc_slot *slot, lrc_numbers *numbers, int64_t timeout_ms) {
+    REPEAT(0, lrc_store_numbers(slot, numbers));
+}
+
 /* How many milliseconds are left, rounded up, of those that a call may wait. */
 static int64_t left_of(int64_t timeout_ms, int64_t deadline) {
     if (timeout_ms <= 0 || deadline == NEVER) return timeout_ms;

@@ -22,6 +22,7 @@ RATTLE = {
     "&mut [LentSlice<'a>]": ["*mut slice", "size"],
     "&mut LentBuffer<'a>": ["*mut buffer"],
     "&mut JournalEntry<'a>": ["*mut entry"],
+    "&mut StoreNumbers": ["*mut numbers"],
     "&mut Slot": ["*mut slot"],
     "&'a mut Slot": ["*mut slot"],
     "&mut u16": ["*mut u16"],
@@ -35,7 +36,8 @@ RATTLE = {
 }
 C = {"size_t": "size", "int64_t": "i64"}
 C.update({f"uint{bits}_t": f"u{bits}" for bits in (8, 16, 32, 64)})
-C.update({f"lrc_{kind}": kind for kind in ("slot", "slice", "buffer", "entry", "pool")})
+STRUCTURES = ("slot", "slice", "buffer", "entry", "numbers", "pool")
+C.update({f"lrc_{kind}": kind for kind in STRUCTURES})
 RUST = {"Slot": "slot", "Slice": "slice", "RawBuffer": "buffer", "RawEntry": "entry"}
 RUST.update({"RawPool": "pool", "usize": "size"})
 

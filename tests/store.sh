@@ -23,6 +23,8 @@ program() {
 
 calls() { program "$1" gnu11 tests/store/calls.c "${@:2}" && "$work/program"; }
 
+versions() { program "$1" gnu11 tests/store/versions.c "${@:2}" && "$work/program"; }
+
 threads() { program gcc gnu11 tests/store/threads.c && "$work/program" 4 && "$work/program" 16; }
 
 # The journal of a run, by a replay that shares no code with the store.
@@ -152,6 +154,8 @@ test_of "texts of both libraries" gcc gcc texts
 test_of "calls" gcc gcc calls gcc
 test_of "calls, sanitizers of gcc" gcc gcc calls gcc "${sanitizers[@]}"
 test_of "calls, sanitizers of clang" clang clang calls clang "${sanitizers[@]}"
+test_of "versions" gcc gcc versions gcc
+test_of "versions, sanitizers of gcc" gcc gcc versions gcc "${sanitizers[@]}"
 test_of "threads" gcc gcc threads
 test_of "journal" gcc gcc journal
 test_of "choice of the processor's code" gcc gcc choice

@@ -142,6 +142,10 @@ uint32_t lrc_store_mend_step(lrc_slot *slot, lrc_slot *other, uint64_t *version)
     return *script++;
 }
 
+uint32_t lrc_store_numbers(lrc_slot *slot, lrc_numbers *numbers) {
+    return called(ARGUMENTS(AT(slot), AT(numbers)));
+}
+
 /* Whether a form repeats its function with the same arguments, and returns its last status. */
 #define PASSES(call, ...)                                                                          \
     do {                                                                                           \
@@ -156,6 +160,7 @@ static void arguments(int64_t timeout_ms) {
     lrc_slot s = LRC_SLOT_EMPTY, o = LRC_SLOT_EMPTY;
     uint8_t n[3] = "nam", b[4] = "blob";
     uint64_t v = 0, x = 0, y = 0, z = 0;
+    lrc_numbers numbers = {0};
     PASSES(lrc_store_put_from_wait(&s, n, 2, &o, 6, &v, timeout_ms), AT(&s), AT(n), 2, AT(&o), 6,
            AT(&v));
     PASSES(lrc_store_read_wait(&s, n, 2, 5, b, 4, &v, &x, &y, timeout_ms), AT(&s), AT(n), 2, 5,
@@ -172,6 +177,7 @@ static void arguments(int64_t timeout_ms) {
     PASSES(lrc_store_plan_wait(&s, &o, &x, timeout_ms), AT(&s), AT(&o), AT(&x));
     PASSES(lrc_store_plan_part_wait(&s, &o, 5, &x, timeout_ms), AT(&s), AT(&o), 5);
     PASSES(lrc_store_mend_step_wait(&s, &o, &v, timeout_ms), AT(&s), AT(&o), AT(&v), 1);
+    PASSES(lrc_store_numbers_wait(&s, &numbers, timeout_ms), AT(&s), AT(&numbers));
 }
 
 /* A put is made of the given bytes, and then again of a copy that a slot keeps. */

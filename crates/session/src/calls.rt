@@ -2,15 +2,17 @@
 //! section. The session has then seen no more of the history. `Busy` never comes to a session with
 //! a room of 64. After any other error the history does not have the call, and the session may have
 //! seen further calls.
-ghost use Rattle.std.specs.Prelude.{◌≡◌, ◌≢◌, ◌⊎◌, ◌↔◌, ◌<◌, ◌≤◌, ℕ, None, length, take};
+ghost use Rattle.std.specs.Prelude.{◌≡◌, ◌≢◌, ◌⊎◌, ◌↔◌, ◌<◌, ◌≤◌, ◌-◌, ℕ, None, length, take};
 ghost use Rattle.std.specs.Prelude.{IfOk, IfErr};
 ghost use Rattle.std.specs.Option.{option_map};
 ghost use Rattle.sealed.specs.Layout.{stripe_count};
 ghost use Rattle.history.specs.Step.{put as put_of, read as read_of, lose as lose_of};
 ghost use Rattle.history.specs.Step.{repair as repair_of, delete as delete_of, stat as stat_of};
 ghost use Rattle.history.specs.History.{state_of};
+ghost use Rattle.book.specs.Numbers.{AreNumbersOf};
 ghost use Rattle.book.specs.Plan.{plan_of, items_after};
 ghost use Rattle.book.specs.Tells.{IsCallFault};
+ghost use Rattle.book.specs.Trimming.{journaled};
 ghost use Rattle.shared.specs.Calls.{Called, CanGrant, GrantedIn, IfGranted};
 ghost use Rattle.shared.specs.Deeds.{Takes, trim_deed};
 ghost use Rattle.shared.specs.Mends.{FoundBusy};
@@ -18,7 +20,7 @@ ghost use Rattle.shared.specs.Passes.{FindsBusy};
 ghost use Rattle.session.specs.KnownFault.{IsBusyOrCallFault, IsBusyOrFull};
 
 use crate::{Refused, Session};
-use shared::{Answer, Bytes, Code, Fault, Item, Name, Plan};
+use shared::{Answer, Bytes, Code, Fault, Item, Name, Numbers, Plan};
 use std::alloc::Global;
 
 impl Session {
@@ -191,6 +193,20 @@ impl Session {
         ensures lone { self.old.room ≡ 64 → result ≢ Err Fault.Busy }
     {
         self.store.try_trim_part(alloc, &mut self.pass, keep, most)
+    }
+
+    /// The totals of all blobs, and the numbers of calls and of journal entries. It is no call of
+    /// the history, and does not allocate.
+    pub fn numbers(&mut self) -> Result<Numbers, Fault>
+        ensures takes { Takes self.old None self.new }
+        ensures ok { IfOk result (AreNumbersOf self.old.store.width self.new.seen) }
+        ensures entries { IfOk result (λ n. n.entries
+            ≡ journaled self.old.store.limit (length self.new.seen - self.new.trimmed)) }
+        ensures faults { IfErr result (λ e. e ≡ Fault.Busy) }
+        ensures busy { result ≡ Err Fault.Busy → FindsBusy self.old self.new }
+        ensures lone { self.old.room ≡ 64 → result ≢ Err Fault.Busy }
+    {
+        self.store.try_numbers(&mut self.pass)
     }
 
     /// The lost fragments of all blobs. It is no call of the history.

@@ -21,7 +21,7 @@ pub use refused::Refused;
 pub use repairs::Repairs;
 pub use session::Session;
 pub use shared::{
-    Answer, Book, Bytes, Call, Code, Entry, Fault, Grant, Item, Limit, Name, Note, Plan,
+    Answer, Book, Bytes, Call, Code, Entry, Fault, Grant, Item, Limit, Name, Note, Numbers, Plan,
     is_lawful_from,
 };
 pub use slot::Slot;

@@ -5,3 +5,4 @@ pub mod Lend
 pub mod Plan
 pub mod Buffers
 pub mod Journal
+pub mod Numbers

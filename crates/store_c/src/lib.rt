@@ -10,6 +10,7 @@ mod buffers;
 mod calls;
 mod journal;
 mod lending;
+mod numbers;
 mod repairs;
 mod sessions;
 mod status;
@@ -21,11 +22,13 @@ ghost use Rattle.store_c.specs.OnSession.{IsStatCall, IsTrimCall, IsTrimPartCall
 ghost use Rattle.store_c.specs.Buffers.{IsReserveCall, IsBufferCall, IsPutFrom};
 ghost use Rattle.store_c.specs.Journal.{IsCloseToCall, IsEntryCall};
 ghost use Rattle.store_c.specs.Lend.{IsLendTo, IsSlicesCall, IsRunsCall};
+ghost use Rattle.store_c.specs.Numbers.{IsNumbersCall};
 ghost use Rattle.store_c.specs.Plan.{IsPlanTo, IsPlanPartTo, IsMendCall};
 ghost use Rattle.store_c.specs.Sessions.{IsOpenCall, IsUnjournaledCall, IsSplitCall, IsJoinCall};
 ghost use Rattle.store_c.specs.Sessions.{AreOfOneStore, IsCloseCall, IsNumberCall};
 
 use crate::journal::JournalEntry;
+use crate::numbers::StoreNumbers;
 use crate::status::{DONE, EMPTY, OCCUPIED};
 use session::{Held, LentBuffer, LentSlice, Slot};
 use std::alloc::Global;
@@ -531,6 +534,20 @@ pub extern "C" fn lrc_store_mend_step(
     slot.put(held);
     other.put(plan);
     status
+}
+
+/// Writes the numbers of the store: of blobs, of their bytes, lost fragments and stripes that are
+/// unrecoverable, of calls, and of entries in the journal.
+#[unsafe(no_mangle)]
+pub extern "C" fn lrc_store_numbers(
+    alloc: Global,
+    slot: &mut Slot,
+    numbers: &mut StoreNumbers,
+) -> u32
+    ensures { IsOnSession slot.old.held result slot.new.held (numbers.new ≡ numbers.old)
+        (λ v w. IsNumbersCall v result numbers.old numbers.new w) }
+{
+    with_session!(alloc, slot, session => numbers::numbers(session, numbers))
 }
 
 /// Drops what the slot holds.

@@ -1,0 +1,53 @@
+/* The numbers of a store, from C. */
+#include "store_test.h"
+
+enum { WIDTH = 4, BYTES = 54 };
+
+static const char FOX[] = "the quick brown fox jumps over the lazy dog 0123456789";
+
+/* Puts the text, and loses two data fragments and a parity of the first stripe. */
+static void put_with_losses(lrc_slot *slot, const char *name) {
+    uint64_t version = 0;
+    EXPECT(lrc_store_put(slot, NAME(name), (const uint8_t *)FOX, BYTES, 12, &version),
+           LRC_STORE_DONE);
+    const uint64_t fragments[] = {1, 7, 14};
+    for (size_t i = 0; i < 3; i++)
+        EXPECT(lrc_store_lose(slot, NAME(name), 0, fragments[i], &version), LRC_STORE_DONE);
+}
+
+static void expect_numbers(lrc_slot *slot, const uint64_t *want) {
+    lrc_numbers got = {9, 9, 9, 9, 9, 9};
+    EXPECT(lrc_store_numbers(slot, &got), LRC_STORE_DONE);
+    const uint64_t all[] = {got.blobs,         got.bytes, got.lost,
+                            got.unrecoverable, got.calls, got.entries};
+    for (size_t i = 0; i < 6; i++) EXPECT(all[i], want[i]);
+}
+
+static void numbers(void) {
+    lrc_slot slot = LRC_SLOT_EMPTY, other = LRC_SLOT_EMPTY;
+    lrc_numbers got = {9, 9, 9, 9, 9, 9};
+    uint64_t version = 0, discarded = 0;
+    EXPECT(lrc_store_numbers(&slot, &got), LRC_STORE_EMPTY);
+    EXPECT(got.blobs + got.bytes + got.lost + got.unrecoverable + got.calls + got.entries, 54);
+    EXPECT(lrc_store_open(WIDTH, 100, &slot), LRC_STORE_DONE);
+    EXPECT(lrc_store_split(&slot, 1, &other), LRC_STORE_DONE);
+    expect_numbers(&slot, (const uint64_t[]){0, 0, 0, 0, 0, 0});
+    put_with_losses(&slot, "fox");
+    EXPECT(lrc_store_put(&slot, NAME("dog"), (const uint8_t *)FOX, 10, 6, &version),
+           LRC_STORE_DONE);
+    expect_numbers(&other, (const uint64_t[]){2, 64, 3, 0, 5, 5});
+    for (uint64_t f = 0; f < 5; f++)
+        EXPECT(lrc_store_lose(&slot, NAME("dog"), 0, f, &version), LRC_STORE_DONE);
+    EXPECT(lrc_store_trim(&slot, 4, &discarded), LRC_STORE_DONE);
+    expect_numbers(&other, (const uint64_t[]){2, 64, 8, 1, 10, 4});
+    EXPECT(lrc_store_delete(&slot, NAME("dog"), &version), LRC_STORE_DONE);
+    EXPECT(lrc_store_numbers_wait(&other, &got, -1), LRC_STORE_DONE);
+    EXPECT(got.blobs * 100 + got.lost * 10 + got.unrecoverable, 130);
+    lrc_slot_release(&other);
+    lrc_slot_release(&slot);
+}
+
+int main(void) {
+    numbers();
+    return report("versions");
+}
