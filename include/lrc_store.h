@@ -75,6 +75,12 @@ typedef struct {
     uint64_t entries;       /* the entries that the journal keeps */
 } lrc_numbers;
 
+/* A remaining item of a plan: a lost fragment, with the name and the version of its blob. */
+typedef struct {
+    lrc_slice name;
+    uint64_t version, stripe, fragment;
+} lrc_item;
+
 /* The call of a journal entry. */
 enum {
     LRC_CALL_PUT = 0,
@@ -244,6 +250,12 @@ uint32_t lrc_store_plan(lrc_slot *slot, lrc_slot *other, uint64_t *items);
  * it is below `most`, no other part is behind. So a long plan can be made in steps, between which
  * other threads call. */
 uint32_t lrc_store_plan_part(lrc_slot *slot, lrc_slot *other, uint64_t most, uint64_t *items);
+
+/* Writes the next items of a plan into `items`, in order, as many as remain and at most `capacity`.
+ * Before the call the name of each element is a valid slice, such as { (const uint8_t *)"", 0 }.
+ * `count` gets the number of written items. Their names are valid until the slot is passed to
+ * another function. */
+uint32_t lrc_slot_items(lrc_slot *slot, lrc_item *items, size_t capacity, uint64_t *count);
 
 /* Repairs the next fragment of the plan in `other`, and returns the status of lrc_store_repair.
  * After LRC_STORE_BUSY, LRC_STORE_NO_MEMORY and LRC_STORE_JOURNAL_FULL the fragment stays the

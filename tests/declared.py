@@ -21,6 +21,7 @@ RATTLE = {
     "&mut [u8; 24]": ["*mut u8"],
     "&mut [LentSlice<'a>]": ["*mut slice", "size"],
     "&mut LentBuffer<'a>": ["*mut buffer"],
+    "&mut [PlanItem<'a>]": ["*mut item", "size"],
     "&mut JournalEntry<'a>": ["*mut entry"],
     "&mut StoreNumbers": ["*mut numbers"],
     "&mut Slot": ["*mut slot"],
@@ -36,7 +37,7 @@ RATTLE = {
 }
 C = {"size_t": "size", "int64_t": "i64"}
 C.update({f"uint{bits}_t": f"u{bits}" for bits in (8, 16, 32, 64)})
-STRUCTURES = ("slot", "slice", "buffer", "entry", "numbers", "pool")
+STRUCTURES = ("slot", "slice", "buffer", "entry", "item", "numbers", "pool")
 C.update({f"lrc_{kind}": kind for kind in STRUCTURES})
 RUST = {"Slot": "slot", "Slice": "slice", "RawBuffer": "buffer", "RawEntry": "entry"}
 RUST.update({"RawPool": "pool", "usize": "size"})

@@ -1,6 +1,6 @@
 //! The repairs of a plan, one by one.
 ghost use Rattle.std.specs.Prelude.{◌≡◌, length};
-ghost use Rattle.std.specs.List.{last_or};
+ghost use Rattle.std.specs.List.{last_or, slice_get};
 ghost use Rattle.std.specs.Option.{option_map};
 ghost use Rattle.session.specs.RepairStep.{IsRepairStep};
 
@@ -62,6 +62,13 @@ impl Repairs {
         ensures { result ≡ length self.now.items }
     {
         self.items.len() as u64
+    }
+
+    /// The remaining item at an index, from 0.
+    pub fn get(&self, index: usize) -> Option<&Item>
+        ensures { option_map (λ i. i.now) result ≡ slice_get self.now.items index }
+    {
+        self.items.get(index)
     }
 
     /// Repairs the next item, or returns `None` if there is none. After an error the item is still

@@ -5,3 +5,4 @@ mod Joins
 mod Puts
 mod Closings
 mod Plans
+mod LentItems

@@ -6,3 +6,4 @@ pub mod Plan
 pub mod Buffers
 pub mod Journal
 pub mod Numbers
+pub mod Items

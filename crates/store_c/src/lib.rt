@@ -8,6 +8,7 @@
 mod answers;
 mod buffers;
 mod calls;
+mod items;
 mod journal;
 mod lending;
 mod numbers;
@@ -20,6 +21,7 @@ ghost use Rattle.history.specs.Step.{lose as lose_of, repair as repair_of, delet
 ghost use Rattle.store_c.specs.OnSession.{IsOnSession, IsNamedCall, IsPutCall, IsReadCall};
 ghost use Rattle.store_c.specs.OnSession.{IsStatCall, IsTrimCall, IsTrimPartCall};
 ghost use Rattle.store_c.specs.Buffers.{IsReserveCall, IsBufferCall, IsPutFrom};
+ghost use Rattle.store_c.specs.Items.{IsItemsCall};
 ghost use Rattle.store_c.specs.Journal.{IsCloseToCall, IsEntryCall};
 ghost use Rattle.store_c.specs.Lend.{IsLendTo, IsSlicesCall, IsRunsCall};
 ghost use Rattle.store_c.specs.Numbers.{IsNumbersCall};
@@ -27,6 +29,7 @@ ghost use Rattle.store_c.specs.Plan.{IsPlanTo, IsPlanPartTo, IsMendCall};
 ghost use Rattle.store_c.specs.Sessions.{IsOpenCall, IsUnjournaledCall, IsSplitCall, IsJoinCall};
 ghost use Rattle.store_c.specs.Sessions.{AreOfOneStore, IsCloseCall, IsNumberCall};
 
+use crate::items::PlanItem;
 use crate::journal::JournalEntry;
 use crate::numbers::StoreNumbers;
 use crate::status::{DONE, EMPTY, OCCUPIED};
@@ -534,6 +537,30 @@ pub extern "C" fn lrc_store_mend_step(
     slot.put(held);
     other.put(plan);
     status
+}
+
+/// Writes the first remaining items of a plan to `target`, in order, as many as there are and
+/// `target` takes. Their names stay in place until the slot is passed to another call.
+#[unsafe(no_mangle)]
+pub extern "C" fn lrc_slot_items<'a>(
+    alloc: Global,
+    slot: &'a mut Slot,
+    target: &mut [PlanItem<'a>],
+    count: &mut u64,
+) -> u32
+    ensures { IsItemsCall slot.old.held result (count.old, count.new) target.old target.new }
+{
+    if slot.is_vacant(alloc) {
+        return EMPTY;
+    }
+    let held: &'a Option<Held> = slot.get_mut();
+    match held {
+        Some(Held::Repairs(left)) => {
+            *count = items::lend_items(left, target) as u64;
+            DONE
+        }
+        _ => EMPTY,
+    }
 }
 
 /// Writes the numbers of the store: of blobs, of their bytes, lost fragments and stripes that are
