@@ -3,8 +3,8 @@
  * liblrc_store. The functions down to lrc_slot_release are proved; the others are plain C.
  *
  * Slots. An lrc_slot holds one thing or nothing: a session of a store, a lent range, the rest of
- * a plan of repairs, a buffer, or the journal of a closed store. Initialise it with
- * LRC_SLOT_EMPTY. Pass only its address, and never read, write or copy its content.
+ * a plan of repairs, a buffer, a version of a blob, or the journal of a closed store. Initialise
+ * it with LRC_SLOT_EMPTY. Pass only its address, and never read, write or copy its content.
  *
  * Threads. Each thread has a session of its own, in a slot of its own, and any number of threads
  * may call at once. All their calls together have the replies of one sequential store: each
@@ -74,6 +74,13 @@ typedef struct {
     uint64_t calls;         /* the calls so far, with those whose entries were discarded */
     uint64_t entries;       /* the entries that the journal keeps */
 } lrc_numbers;
+
+/* The shape of a version of a blob. */
+typedef struct {
+    uint64_t version, len;          /* the version's number, and its bytes */
+    uint64_t stripes, lost;         /* its stripes, and the lost fragments of all of them */
+    uint32_t width, data_fragments; /* the bytes of a fragment; 12 or 6 */
+} lrc_shape;
 
 /* A remaining item of a plan: a lost fragment, with the name and the version of its blob. */
 typedef struct {
@@ -266,6 +273,36 @@ uint32_t lrc_store_mend_step(lrc_slot *slot, lrc_slot *other, uint64_t *version)
  * makes no journal entry. */
 uint32_t lrc_store_numbers(lrc_slot *slot, lrc_numbers *numbers);
 
+/* Holds the version that the name's blob has now, and puts it into the empty `other`. `version`
+ * gets its number and `len` its bytes. The journal entry is that of a read of no byte. The version
+ * stays as it is until `other` is released, even if the name is put again or deleted, or the store
+ * is closed. It shares its fragments with the store and copies none. Until then a loss or a repair
+ * of the blob does not change it in place, so that it takes longer. */
+uint32_t lrc_store_hold(lrc_slot *slot, const uint8_t *name, size_t name_len, lrc_slot *other,
+                        uint64_t *version, uint64_t *len);
+
+/* The functions from here to lrc_slot_fragment read the version in `slot`. They are no calls of the
+ * store: they take no lock, and make no journal entry.
+ *
+ * Writes its shape. The number of lost fragments is counted through all stripes. */
+uint32_t lrc_slot_shape(lrc_slot *slot, lrc_shape *shape);
+
+/* Writes which fragments of a stripe were lost when the version was held: bit `f` of `lost` is set
+ * if and only if fragment `f` was. LRC_STORE_NO_FRAGMENT if there is no such stripe. */
+uint32_t lrc_slot_lost(lrc_slot *slot, uint64_t stripe, uint16_t *lost);
+
+/* Lends `len` bytes of the version, from the byte `start` on, and puts the range into the empty
+ * `other`, as lrc_store_lend does. `pieces` gets the number of pieces. LRC_STORE_NO_MEMORY if
+ * out of memory, also for rebuilding lost fragments. */
+uint32_t lrc_slot_lend(lrc_slot *slot, uint64_t start, uint64_t len, lrc_slot *other,
+                       uint64_t *pieces);
+
+/* Lends a fragment of a stripe, data or parity, which has as many bytes as the store's width.
+ * Before the call `*bytes` is a valid slice, such as { (const uint8_t *)"", 0 }. Afterwards it is
+ * valid until the slot is passed to another function. LRC_STORE_ALREADY_LOST if the fragment was
+ * lost when the version was held. LRC_STORE_NO_FRAGMENT if there is no such fragment. */
+uint32_t lrc_slot_fragment(lrc_slot *slot, uint64_t stripe, uint64_t fragment, lrc_slice *bytes);
+
 /* Empties the slot, whatever it holds. If a session is released and not joined, its places are
  * gone, and its store can't be closed. Releasing the last session frees the store. */
 void lrc_slot_release(lrc_slot *slot);
@@ -315,6 +352,8 @@ uint32_t lrc_store_plan_part_wait(lrc_slot *slot, lrc_slot *other, uint64_t most
 uint32_t lrc_store_mend_step_wait(lrc_slot *slot, lrc_slot *other, uint64_t *version,
                                   int64_t timeout_ms);
 uint32_t lrc_store_numbers_wait(lrc_slot *slot, lrc_numbers *numbers, int64_t timeout_ms);
+uint32_t lrc_store_hold_wait(lrc_slot *slot, const uint8_t *name, size_t name_len, lrc_slot *other,
+                             uint64_t *version, uint64_t *len, int64_t timeout_ms);
 /* Repairs all lost fragments that can be rebuilt, by plans of at most 512 items, and returns
  * LRC_STORE_DONE. The deadline is for each of its steps. If one is refused, it stops and returns
  * that status. `repaired` gets how many it repaired, unless that is none and it was refused. */

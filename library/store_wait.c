@@ -202,6 +202,11 @@ uint32_t lrc_store_numbers_wait(lrc_slot *slot, lrc_numbers *numbers, int64_t ti
     REPEAT(0, lrc_store_numbers(slot, numbers));
 }
 
+uint32_t lrc_store_hold_wait(lrc_slot *slot, const uint8_t *name, size_t name_len, lrc_slot *other,
+                             uint64_t *version, uint64_t *len, int64_t timeout_ms) {
+    REPEAT(0, lrc_store_hold(slot, name, name_len, other, version, len));
+}
+
 /* How many milliseconds are left, rounded up, of those that a call may wait. */
 static int64_t left_of(int64_t timeout_ms, int64_t deadline) {
     if (timeout_ms <= 0 || deadline == NEVER) return timeout_ms;

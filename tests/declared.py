@@ -23,7 +23,9 @@ RATTLE = {
     "&mut LentBuffer<'a>": ["*mut buffer"],
     "&mut [PlanItem<'a>]": ["*mut item", "size"],
     "&mut JournalEntry<'a>": ["*mut entry"],
+    "&mut LentSlice<'a>": ["*mut slice"],
     "&mut StoreNumbers": ["*mut numbers"],
+    "&mut VersionShape": ["*mut shape"],
     "&mut Slot": ["*mut slot"],
     "&'a mut Slot": ["*mut slot"],
     "&mut u16": ["*mut u16"],
@@ -37,7 +39,7 @@ RATTLE = {
 }
 C = {"size_t": "size", "int64_t": "i64"}
 C.update({f"uint{bits}_t": f"u{bits}" for bits in (8, 16, 32, 64)})
-STRUCTURES = ("slot", "slice", "buffer", "entry", "item", "numbers", "pool")
+STRUCTURES = ("slot", "slice", "buffer", "entry", "item", "numbers", "shape", "pool")
 C.update({f"lrc_{kind}": kind for kind in STRUCTURES})
 RUST = {"Slot": "slot", "Slice": "slice", "RawBuffer": "buffer", "RawEntry": "entry"}
 RUST.update({"RawPool": "pool", "usize": "size"})

@@ -46,6 +46,19 @@ static void reads(lrc_slot *slot) {
     lrc_slot_release(&lent);
 }
 
+static void holds(lrc_slot *slot) {
+    lrc_slot held = LRC_SLOT_EMPTY, lent = LRC_SLOT_EMPTY;
+    uint64_t version = 0, len = 0, pieces = 0;
+    uint8_t got[54];
+    CALL(lrc_store_hold(slot, NAME("a"), &held, &version, &len));
+    EXPECT(len, 54);
+    CALL(lrc_slot_lend(&held, 0, 54, &lent, &pieces));
+    EXPECT(gather(&lent, got), 54);
+    EXPECT(memcmp(got, FOX, 54), 0);
+    lrc_slot_release(&lent);
+    lrc_slot_release(&held);
+}
+
 static void run(int has_journal) {
     lrc_slot slot = LRC_SLOT_EMPTY, other = LRC_SLOT_EMPTY, plan = LRC_SLOT_EMPTY;
     lrc_buffer buffer = {(uint8_t *)"", 0};
@@ -56,6 +69,7 @@ static void run(int has_journal) {
     CALL(lrc_store_lose(&slot, NAME("a"), 0, 1, &version));
     CALL(lrc_store_lose(&slot, NAME("a"), 1, 0, &version));
     reads(&slot);
+    holds(&slot);
     CALL(lrc_store_split(&slot, 5, &other));
     CALL(lrc_store_put(&other, NAME("b"), (const uint8_t *)"0123456789", 10, 6, &version));
     CALL(lrc_store_repair(&other, NAME("a"), 0, 1, &version));

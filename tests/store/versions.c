@@ -1,4 +1,4 @@
-/* The items of a plan and the numbers of a store, from C. */
+/* Held versions, the items of a plan and the numbers of a store, from C. */
 #include "store_test.h"
 
 enum { WIDTH = 4, BYTES = 54 };
@@ -48,6 +48,128 @@ static void numbers(void) {
     lrc_slot_release(&slot);
 }
 
+static void hold(lrc_slot *slot, lrc_slot *held) {
+    uint64_t version = 77, len = 77;
+    EXPECT(lrc_store_hold(held, NAME("fox"), slot, &version, &len), LRC_STORE_EMPTY);
+    EXPECT(lrc_store_hold(slot, NAME("Fox"), held, &version, &len), LRC_STORE_BAD_NAME);
+    EXPECT(lrc_store_hold(slot, NAME("none"), held, &version, &len), LRC_STORE_NO_NAME);
+    EXPECT(version + len, 154);
+    EXPECT(lrc_store_hold_wait(slot, NAME("fox"), held, &version, &len, -1), LRC_STORE_DONE);
+    EXPECT(version * 100 + len, 154);
+    version = len = 77;
+    EXPECT(lrc_store_hold(slot, NAME("fox"), held, &version, &len), LRC_STORE_OCCUPIED);
+    EXPECT(version + len, 154);
+}
+
+/* The bytes of a held version from `start` on, up to its end, as they were put. */
+static void expect_range(lrc_slot *held, uint64_t start) {
+    lrc_slot lent = LRC_SLOT_EMPTY;
+    uint64_t pieces = 0;
+    uint8_t got[BYTES + 1] = {0};
+    EXPECT(lrc_slot_lend(held, start, BYTES - start, &lent, &pieces), LRC_STORE_DONE);
+    EXPECT(pieces, start == BYTES ? 0 : (BYTES - 1) / WIDTH + 1 - start / WIDTH);
+    EXPECT(gather(&lent, got), BYTES - start);
+    EXPECT(memcmp(got, FOX + start, BYTES - start), 0);
+    lrc_slot_release(&lent);
+}
+
+/* What a held version of the text is, with the losses above. */
+static void expect_version(lrc_slot *held) {
+    lrc_shape shape = {9, 9, 9, 9, 9, 9};
+    lrc_slice bytes = NOTHING;
+    uint16_t lost = 9;
+    EXPECT(lrc_slot_shape(held, &shape), LRC_STORE_DONE);
+    EXPECT(shape.version * 10000 + shape.len * 100 + shape.stripes * 10 + shape.lost, 15423);
+    EXPECT(shape.width * 100 + shape.data_fragments, 412);
+    EXPECT(lrc_slot_lost(held, 0, &lost), LRC_STORE_DONE);
+    EXPECT(lost, 1 << 1 | 1 << 7 | 1 << 14);
+    EXPECT(lrc_slot_lost(held, 1, &lost), LRC_STORE_DONE);
+    EXPECT(lost, 0);
+    lost = 9;
+    EXPECT(lrc_slot_lost(held, 2, &lost), LRC_STORE_NO_FRAGMENT);
+    EXPECT(lost, 9);
+    EXPECT(lrc_slot_fragment(held, 0, 7, &bytes), LRC_STORE_ALREADY_LOST);
+    EXPECT(lrc_slot_fragment(held, 0, 16, &bytes), LRC_STORE_NO_FRAGMENT);
+    EXPECT(lrc_slot_fragment(held, 2, 0, &bytes), LRC_STORE_NO_FRAGMENT);
+    EXPECT(bytes.at == NOTHING.at && bytes.len == 0, 1);
+    EXPECT(lrc_slot_fragment(held, 0, 9, &bytes), LRC_STORE_DONE);
+    EXPECT(bytes.len, WIDTH);
+    EXPECT(memcmp(bytes.at, FOX + 9 * WIDTH, WIDTH), 0);
+    EXPECT(lrc_slot_fragment(held, 1, 12, &bytes), LRC_STORE_DONE);
+    EXPECT(bytes.len, WIDTH);
+    /* the parity of the last bytes: those of data fragment 0 and the half of 1 */
+    for (size_t i = 0; i < WIDTH; i++) EXPECT(bytes.at[i], FOX[48 + i] ^ (i < 2 ? FOX[52 + i] : 0));
+    for (uint64_t start = 0; start <= BYTES; start++) expect_range(held, start);
+}
+
+static void refused_ranges(lrc_slot *slot, lrc_slot *held) {
+    lrc_slot lent = LRC_SLOT_EMPTY;
+    uint64_t pieces = 77;
+    EXPECT(lrc_slot_lend(held, 0, BYTES + 1, &lent, &pieces), LRC_STORE_OUT_OF_RANGE);
+    EXPECT(lrc_slot_lend(held, UINT64_MAX, 2, &lent, &pieces), LRC_STORE_OUT_OF_RANGE);
+    EXPECT(lrc_slot_lend(held, 0, 1, slot, &pieces), LRC_STORE_OCCUPIED);
+    EXPECT(lrc_slot_lend(slot, 0, 1, &lent, &pieces), LRC_STORE_EMPTY);
+    EXPECT(lrc_slot_lend(&lent, 0, 1, held, &pieces), LRC_STORE_EMPTY);
+    EXPECT(pieces, 77);
+    EXPECT(lent.at != NULL, 0);
+}
+
+/* A slot without a version: an empty one, and that of a session. */
+static void no_version(lrc_slot *slot) {
+    lrc_shape shape = {9, 9, 9, 9, 9, 9};
+    lrc_slice bytes = NOTHING;
+    uint16_t lost = 9;
+    EXPECT(lrc_slot_shape(slot, &shape), LRC_STORE_EMPTY);
+    EXPECT(lrc_slot_lost(slot, 0, &lost), LRC_STORE_EMPTY);
+    EXPECT(lrc_slot_fragment(slot, 0, 0, &bytes), LRC_STORE_EMPTY);
+    EXPECT(shape.version + shape.lost + shape.width + lost + bytes.len, 36);
+}
+
+/* A version with an unrecoverable fragment. */
+static void unrecoverable(lrc_slot *slot) {
+    lrc_slot held = LRC_SLOT_EMPTY, lent = LRC_SLOT_EMPTY;
+    uint64_t version = 0, len = 0, pieces = 0;
+    uint8_t got[4];
+    EXPECT(lrc_store_put(slot, NAME("fox"), (const uint8_t *)FOX, BYTES, 6, &version),
+           LRC_STORE_DONE);
+    for (uint64_t f = 0; f < 5; f++)
+        EXPECT(lrc_store_lose(slot, NAME("fox"), 1, f, &version), LRC_STORE_DONE);
+    EXPECT(lrc_store_hold(slot, NAME("fox"), &held, &version, &len), LRC_STORE_DONE);
+    EXPECT(lrc_slot_lend(&held, 0, 25, &lent, &pieces), LRC_STORE_UNRECOVERABLE);
+    EXPECT(lrc_slot_lend(&held, 20, 4, &lent, &pieces), LRC_STORE_DONE);
+    EXPECT(gather(&lent, got), 4);
+    EXPECT(memcmp(got, FOX + 20, 4), 0);
+    lrc_slot_release(&lent);
+    lrc_slot_release(&held);
+}
+
+/* A held version stays as it was, whatever becomes of the name and of the store. */
+static void versions(void) {
+    lrc_slot slot = LRC_SLOT_EMPTY, other = LRC_SLOT_EMPTY, held = LRC_SLOT_EMPTY;
+    uint64_t version = 0, entries = 0;
+    uint32_t lawful = 0;
+    EXPECT(lrc_store_open(WIDTH, 100, &slot), LRC_STORE_DONE);
+    EXPECT(lrc_store_split(&slot, 1, &other), LRC_STORE_DONE);
+    put_with_losses(&slot, "fox");
+    no_version(&slot);
+    no_version(&held);
+    hold(&other, &held);
+    refused_ranges(&slot, &held);
+    expect_version(&held);
+    EXPECT(lrc_store_repair(&slot, NAME("fox"), 0, 7, &version), LRC_STORE_DONE);
+    EXPECT(lrc_store_lose(&slot, NAME("fox"), 0, 9, &version), LRC_STORE_DONE);
+    expect_version(&held);
+    EXPECT(lrc_store_delete(&slot, NAME("fox"), &version), LRC_STORE_DONE);
+    expect_version(&held);
+    unrecoverable(&slot);
+    EXPECT(lrc_store_join(&slot, &other), LRC_STORE_DONE);
+    EXPECT(lrc_store_close(&slot, &entries, &lawful), LRC_STORE_DONE);
+    EXPECT(entries, 16);
+    EXPECT(lawful, 1);
+    expect_version(&held);
+    lrc_slot_release(&held);
+}
+
 static void expect_item(const lrc_item *item, const char *name, uint64_t version,
                         uint64_t fragment) {
     EXPECT(item->name.len, strlen(name));
@@ -90,6 +212,7 @@ static void items(void) {
 
 int main(void) {
     numbers();
+    versions();
     items();
     return report("versions");
 }

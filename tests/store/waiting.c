@@ -146,6 +146,11 @@ uint32_t lrc_store_numbers(lrc_slot *slot, lrc_numbers *numbers) {
     return called(ARGUMENTS(AT(slot), AT(numbers)));
 }
 
+uint32_t lrc_store_hold(lrc_slot *slot, const uint8_t *name, size_t name_len, lrc_slot *other,
+                        uint64_t *version, uint64_t *len) {
+    return called(ARGUMENTS(AT(slot), AT(name), name_len, AT(other), AT(version), AT(len)));
+}
+
 /* Whether a form repeats its function with the same arguments, and returns its last status. */
 #define PASSES(call, ...)                                                                          \
     do {                                                                                           \
@@ -178,6 +183,8 @@ static void arguments(int64_t timeout_ms) {
     PASSES(lrc_store_plan_part_wait(&s, &o, 5, &x, timeout_ms), AT(&s), AT(&o), 5);
     PASSES(lrc_store_mend_step_wait(&s, &o, &v, timeout_ms), AT(&s), AT(&o), AT(&v), 1);
     PASSES(lrc_store_numbers_wait(&s, &numbers, timeout_ms), AT(&s), AT(&numbers));
+    PASSES(lrc_store_hold_wait(&s, n, 2, &o, &v, &x, timeout_ms), AT(&s), AT(n), 2, AT(&o), AT(&v),
+           AT(&x));
 }
 
 /* A put is made of the given bytes, and then again of a copy that a slot keeps. */

@@ -4,3 +4,4 @@ pub mod CopiedPieces
 pub mod Lendings
 pub mod RepairSteps
 pub mod Running
+pub mod LostCounts

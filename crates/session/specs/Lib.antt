@@ -7,3 +7,5 @@ pub mod LentFrom
 pub mod RepairStep
 pub mod Runs
 pub mod Rest
+pub mod VersionShows
+pub mod LostBits

@@ -1,6 +1,6 @@
 //! The contents of a slot.
 
-use crate::{Lending, Refused, Repairs, Session};
+use crate::{Lending, Refused, Repairs, Session, Version};
 use shared::Book;
 
 /// The contents of a slot.
@@ -16,6 +16,8 @@ pub enum Held {
     Buffer(Vec<u8>),
     /// The bytes of a buffer whose put was refused. They can be put again, and not be written.
     Refused(Refused),
+    /// A version of a blob, with the number of its store.
+    Version { version: Version, number: u64 },
     /// The journal of a closed store.
     Journal(Book),
 }

@@ -1,5 +1,5 @@
 //! What a program in C owns between calls. A slot holds a session of a store, a lent range, the
-//! rest of a plan, bytes to put, or a journal.
+//! rest of a plan, bytes to put, a version of a blob, or a journal.
 #![tactic(auto)]
 
 mod calls;
@@ -13,6 +13,7 @@ mod runs;
 mod session;
 mod slot;
 mod slot_lends;
+mod version;
 
 pub use copying::{Copied, copy_out};
 pub use held::Held;
@@ -21,7 +22,8 @@ pub use refused::Refused;
 pub use repairs::Repairs;
 pub use session::Session;
 pub use shared::{
-    Answer, Book, Bytes, Call, Code, Entry, Fault, Grant, Item, Limit, Name, Note, Numbers, Plan,
-    is_lawful_from,
+    Answer, Asked, Book, Bytes, Call, Code, Entry, Fault, Grant, Item, Limit, Name, Note, Numbers,
+    Plan, Snapshot, is_lawful_from,
 };
 pub use slot::Slot;
+pub use version::Version;

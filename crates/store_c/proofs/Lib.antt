@@ -6,3 +6,4 @@ mod Puts
 mod Closings
 mod Plans
 mod LentItems
+mod Holds

@@ -6,4 +6,6 @@ pub mod Plan
 pub mod Buffers
 pub mod Journal
 pub mod Numbers
+pub mod Hold
+pub mod Versions
 pub mod Items

@@ -15,12 +15,14 @@ mod numbers;
 mod repairs;
 mod sessions;
 mod status;
+mod versions;
 
 ghost use Rattle.std.specs.Prelude.{◌≡◌, None};
 ghost use Rattle.history.specs.Step.{lose as lose_of, repair as repair_of, delete as delete_of};
 ghost use Rattle.store_c.specs.OnSession.{IsOnSession, IsNamedCall, IsPutCall, IsReadCall};
 ghost use Rattle.store_c.specs.OnSession.{IsStatCall, IsTrimCall, IsTrimPartCall};
 ghost use Rattle.store_c.specs.Buffers.{IsReserveCall, IsBufferCall, IsPutFrom};
+ghost use Rattle.store_c.specs.Hold.{IsHoldCall};
 ghost use Rattle.store_c.specs.Items.{IsItemsCall};
 ghost use Rattle.store_c.specs.Journal.{IsCloseToCall, IsEntryCall};
 ghost use Rattle.store_c.specs.Lend.{IsLendTo, IsSlicesCall, IsRunsCall};
@@ -28,11 +30,13 @@ ghost use Rattle.store_c.specs.Numbers.{IsNumbersCall};
 ghost use Rattle.store_c.specs.Plan.{IsPlanTo, IsPlanPartTo, IsMendCall};
 ghost use Rattle.store_c.specs.Sessions.{IsOpenCall, IsUnjournaledCall, IsSplitCall, IsJoinCall};
 ghost use Rattle.store_c.specs.Sessions.{AreOfOneStore, IsCloseCall, IsNumberCall};
+ghost use Rattle.store_c.specs.Versions.{IsShapeCall, IsLostCall, IsFragmentCall, IsRangeCall};
 
 use crate::items::PlanItem;
 use crate::journal::JournalEntry;
 use crate::numbers::StoreNumbers;
 use crate::status::{DONE, EMPTY, OCCUPIED};
+use crate::versions::VersionShape;
 use session::{Held, LentBuffer, LentSlice, Slot};
 use std::alloc::Global;
 
@@ -575,6 +579,115 @@ pub extern "C" fn lrc_store_numbers(
         (λ v w. IsNumbersCall v result numbers.old numbers.new w) }
 {
     with_session!(alloc, slot, session => numbers::numbers(session, numbers))
+}
+
+/// Puts the version that a name's blob has into an empty slot, and writes its number and its length
+/// in bytes.
+#[unsafe(no_mangle)]
+pub extern "C" fn lrc_store_hold(
+    alloc: Global,
+    slot: &mut Slot,
+    name: &[u8],
+    other: &mut Slot,
+    version: &mut u64,
+    len: &mut u64,
+) -> u32
+    ensures { IsHoldCall slot.old.held other.old.held name.now result (version.old, len.old)
+        (version.new, len.new) slot.new.held other.new.held }
+{
+    let Some(mut held) = slot.take(alloc) else {
+        return EMPTY;
+    };
+    let status = versions::hold_by(alloc, &mut held, name, other, version, len);
+    slot.put(held);
+    status
+}
+
+/// Writes the shape of a held version.
+#[unsafe(no_mangle)]
+pub extern "C" fn lrc_slot_shape(alloc: Global, slot: &mut Slot, shape: &mut VersionShape) -> u32
+    ensures { IsShapeCall slot.old.held result shape.old shape.new slot.new.held }
+{
+    let Some(held) = slot.take(alloc) else {
+        return EMPTY;
+    };
+    let status = match &*held {
+        Some(Held::Version { version, .. }) => {
+            *shape = versions::shape_of(version);
+            DONE
+        }
+        _ => EMPTY,
+    };
+    slot.put(held);
+    status
+}
+
+/// Writes which fragments of a stripe a held version lacks, as a set of bits.
+#[unsafe(no_mangle)]
+pub extern "C" fn lrc_slot_lost(alloc: Global, slot: &mut Slot, stripe: u64, lost: &mut u16) -> u32
+    ensures { IsLostCall slot.old.held stripe result lost.old lost.new slot.new.held }
+{
+    let Some(held) = slot.take(alloc) else {
+        return EMPTY;
+    };
+    let status = match &*held {
+        Some(Held::Version { version, .. }) => versions::lost_of(version, stripe, lost),
+        _ => EMPTY,
+    };
+    slot.put(held);
+    status
+}
+
+/// Lends the bytes of a fragment that a held version has. They stay in place until the slot is
+/// passed to another call.
+#[unsafe(no_mangle)]
+pub extern "C" fn lrc_slot_fragment<'a>(
+    alloc: Global,
+    slot: &'a mut Slot,
+    stripe: u64,
+    fragment: u64,
+    bytes: &mut LentSlice<'a>,
+) -> u32
+    ensures { IsFragmentCall slot.old.held stripe fragment result bytes.old.bytes.now
+        bytes.new.bytes.now }
+{
+    if slot.is_vacant(alloc) {
+        return EMPTY;
+    }
+    let held: &'a Option<Held> = slot.get_mut();
+    match held {
+        Some(Held::Version { version, .. }) => {
+            versions::fragment_to(version, stripe, fragment, bytes)
+        }
+        _ => EMPTY,
+    }
+}
+
+/// Lends `len` bytes of a held version, from the byte `start` on, as `lrc_store_lend` does. It is
+/// no call of the store.
+#[unsafe(no_mangle)]
+pub extern "C" fn lrc_slot_lend(
+    alloc: Global,
+    slot: &mut Slot,
+    start: u64,
+    len: u64,
+    other: &mut Slot,
+    pieces: &mut u64,
+) -> u32
+    ensures { IsRangeCall slot.old.held other.old.held start len result (pieces.old, pieces.new)
+        slot.new.held other.new.held }
+{
+    let Some(held) = slot.take(alloc) else {
+        return EMPTY;
+    };
+    let status = match &*held {
+        Some(Held::Version { version, .. }) => {
+            versions::lend_to(alloc, version, start, len, other, pieces)
+        }
+        _ => EMPTY,
+    };
+    slot.put(held);
+    status
 }
 
 /// Drops what the slot holds.

@@ -1,0 +1,214 @@
+//! Versions of blobs that a slot holds.
+ghost use Rattle.std.specs.Prelude.{◌≡◌, None};
+ghost use Rattle.store_c.specs.Hold.{IsHold, IsHoldTo, IsHoldCall};
+ghost use Rattle.store_c.specs.Versions.{IsShapeOf, IsLostOf, IsFragmentTo};
+ghost use Rattle.store_c.specs.Versions.{IsRange, IsRangeTo};
+
+use crate::answers::{name_of, number_of};
+use crate::status::{
+    ALREADY_LOST, BAD_NAME, DONE, EMPTY, NO_FRAGMENT, NO_MEMORY, NO_NAME, OCCUPIED,
+    OUT_OF_RANGE, UNRECOVERABLE,
+};
+use session::{Asked, Code, Held, Lending, LentSlice, Session, Slot, Version};
+use std::alloc::Global;
+use std::boxed::Box;
+
+/// The shape of a version in C's layout: its number, its length in bytes, the numbers of stripes
+/// and of lost fragments, the bytes of a fragment, and the data fragments of a stripe.
+#[repr(C)]
+#[derive(Clone, Copy, Drop)]
+pub struct VersionShape {
+    pub version: u64,
+    pub len: u64,
+    pub stripes: u64,
+    pub lost: u64,
+    pub width: u32,
+    pub data_fragments: u32,
+}
+
+fn hold(
+    alloc: Global,
+    session: &mut Session,
+    number: u64,
+    name: &[u8],
+    other: &mut Slot,
+    version: &mut u64,
+    len: &mut u64,
+) -> u32
+    requires { other.old.held ≡ None }
+    ensures { IsHold session.old number name.now result (version.old, len.old)
+        (version.new, len.new) session.new other.new.held }
+{
+    let Some(name) = name_of(name) else {
+        return BAD_NAME;
+    };
+    let Ok(mut given) = Box::new(alloc, None::<Held>) else {
+        return NO_MEMORY;
+    };
+    match session.hold(name) {
+        Ok(Some(held)) => {
+            *version = held.snapshot().version();
+            *len = held.snapshot().len();
+            *given = Some(Held::Version {
+                version: held,
+                number,
+            });
+            other.put(given);
+            DONE
+        }
+        Ok(None) => NO_NAME,
+        Err(fault) => number_of(fault),
+    }
+}
+
+/// Does the same if the other slot is empty.
+fn hold_to(
+    alloc: Global,
+    session: &mut Session,
+    number: u64,
+    name: &[u8],
+    other: &mut Slot,
+    version: &mut u64,
+    len: &mut u64,
+) -> u32
+    ensures { IsHoldTo session.old number other.old.held name.now result (version.old, len.old)
+        (version.new, len.new) session.new other.new.held }
+{
+    if !other.is_vacant(alloc) {
+        return OCCUPIED;
+    }
+    hold(alloc, session, number, name, other, version, len)
+}
+
+/// Does the same by the session that the slot holds.
+pub(crate) fn hold_by(
+    alloc: Global,
+    held: &mut Option<Held>,
+    name: &[u8],
+    other: &mut Slot,
+    version: &mut u64,
+    len: &mut u64,
+) -> u32
+    ensures { IsHoldCall held.old other.old.held name.now result (version.old, len.old)
+        (version.new, len.new) held.new other.new.held }
+{
+    match held.take() {
+        Some(
+            Held::Session {
+                mut session,
+                number,
+            },
+        ) => {
+            let status = hold_to(alloc, &mut session, number, name, other, version, len);
+            *held = Some(Held::Session { session, number });
+            status
+        }
+        kept => {
+            *held = kept;
+            EMPTY
+        }
+    }
+}
+
+/// The shape of a version.
+pub(crate) fn shape_of(version: &Version) -> VersionShape
+    ensures { IsShapeOf version.now.sealed result }
+{
+    let blob = version.snapshot();
+    let data_fragments = match blob.code() {
+        Code::Wide => 12,
+        Code::Small => 6,
+    };
+    VersionShape {
+        version: blob.version(),
+        len: blob.len(),
+        stripes: blob.stripes(),
+        lost: version.count_lost(),
+        width: blob.width().get(),
+        data_fragments,
+    }
+}
+
+/// Writes the lost fragments of a stripe, and returns the status.
+pub(crate) fn lost_of(version: &Version, stripe: u64, lost: &mut u16) -> u32
+    ensures { IsLostOf version.now.sealed stripe result lost.old lost.new }
+{
+    match version.lost_bits(stripe) {
+        Some(bits) => {
+            *lost = bits;
+            DONE
+        }
+        None => NO_FRAGMENT,
+    }
+}
+
+/// Lends a fragment of a stripe, and returns the status.
+pub(crate) fn fragment_to<'a>(
+    version: &'a Version,
+    stripe: u64,
+    fragment: u64,
+    target: &mut LentSlice<'a>,
+) -> u32
+    ensures { IsFragmentTo version.now stripe fragment result target.old.bytes.now
+        target.new.bytes.now }
+{
+    if !version.has_fragment(stripe, fragment) {
+        return NO_FRAGMENT;
+    }
+    match version.snapshot().fragment(stripe, fragment) {
+        Some(bytes) => {
+            target.bytes = bytes;
+            DONE
+        }
+        None => ALREADY_LOST,
+    }
+}
+
+fn lend(
+    alloc: Global,
+    version: &Version,
+    start: u64,
+    len: u64,
+    other: &mut Slot,
+    pieces: &mut u64,
+) -> u32
+    requires { other.old.held ≡ None }
+    ensures { IsRange version.now start len result (pieces.old, pieces.new) other.new.held }
+{
+    let Ok(mut given) = Box::new(alloc, None::<Held>) else {
+        return NO_MEMORY;
+    };
+    let grant = match version.snapshot().read(start, len) {
+        Ok(Asked::Granted(grant)) => grant,
+        Ok(Asked::OutOfRange) => return OUT_OF_RANGE,
+        Ok(Asked::Unrecoverable) => return UNRECOVERABLE,
+        Err(_) => return NO_MEMORY,
+    };
+    match Lending::of_read(alloc, grant) {
+        Ok(lending) => {
+            *pieces = lending.len();
+            *given = Some(Held::Lending(lending));
+            other.put(given);
+            DONE
+        }
+        Err(_) => NO_MEMORY,
+    }
+}
+
+/// Does the same if the other slot is empty.
+pub(crate) fn lend_to(
+    alloc: Global,
+    version: &Version,
+    start: u64,
+    len: u64,
+    other: &mut Slot,
+    pieces: &mut u64,
+) -> u32
+    ensures { IsRangeTo version.now other.old.held start len result (pieces.old, pieces.new)
+        other.new.held }
+{
+    if !other.is_vacant(alloc) {
+        return OCCUPIED;
+    }
+    lend(alloc, version, start, len, other, pieces)
+}
