@@ -129,7 +129,8 @@ enum {
     LRC_STORE_EMPTY = 14,        /* a slot does not hold what the function needs */
     LRC_STORE_OCCUPIED = 15,     /* the slot that the function fills is not empty */
     LRC_STORE_BAD_ARGUMENT = 16, /* a limit not in 1 to 1,048,576; a number of data fragments other
-                                  * than 12 and 6; or sessions of two stores */
+                                  * than 12 and 6; slots of two stores; or bytes that are not as
+                                  * many as a fragment has */
     LRC_STORE_NOT_ALONE = 17,    /* the store has other sessions */
     LRC_STORE_NOT_REBUILT = 18,  /* out of memory for rebuilding lost fragments, or for the list of
                                   * pieces of lrc_store_lend; the history has the call, `version` is
@@ -303,6 +304,18 @@ uint32_t lrc_slot_lend(lrc_slot *slot, uint64_t start, uint64_t len, lrc_slot *o
  * lost when the version was held. LRC_STORE_NO_FRAGMENT if there is no such fragment. */
 uint32_t lrc_slot_fragment(lrc_slot *slot, uint64_t stripe, uint64_t fragment, lrc_slice *bytes);
 
+/* Repairs a lost fragment of the name of the version in `other`, which stays there, with a copy of
+ * the bytes. The caller ensures that the fragment has these bytes in that version. They may come
+ * from another device or another machine. If the name still has the version, nothing is rebuilt. If
+ * it has another one by now, that is repaired from its own fragments. The statuses and the journal
+ * entry are those of lrc_store_repair. So it returns LRC_STORE_UNRECOVERABLE if the remaining
+ * fragments do not determine the lost one, although its bytes are given.
+ *
+ * Nothing is done on LRC_STORE_BAD_ARGUMENT, if the slots are of two stores or `len` is not the
+ * store's width, and on LRC_STORE_NO_FRAGMENT, if the version has no such fragment. */
+uint32_t lrc_store_install(lrc_slot *slot, lrc_slot *other, uint64_t stripe, uint64_t fragment,
+                           const uint8_t *bytes, size_t len, uint64_t *version);
+
 /* Empties the slot, whatever it holds. If a session is released and not joined, its places are
  * gone, and its store can't be closed. Releasing the last session frees the store. */
 void lrc_slot_release(lrc_slot *slot);
@@ -354,6 +367,9 @@ uint32_t lrc_store_mend_step_wait(lrc_slot *slot, lrc_slot *other, uint64_t *ver
 uint32_t lrc_store_numbers_wait(lrc_slot *slot, lrc_numbers *numbers, int64_t timeout_ms);
 uint32_t lrc_store_hold_wait(lrc_slot *slot, const uint8_t *name, size_t name_len, lrc_slot *other,
                              uint64_t *version, uint64_t *len, int64_t timeout_ms);
+uint32_t lrc_store_install_wait(lrc_slot *slot, lrc_slot *other, uint64_t stripe, uint64_t fragment,
+                                const uint8_t *bytes, size_t len, uint64_t *version,
+                                int64_t timeout_ms);
 /* Repairs all lost fragments that can be rebuilt, by plans of at most 512 items, and returns
  * LRC_STORE_DONE. The deadline is for each of its steps. If one is refused, it stops and returns
  * that status. `repaired` gets how many it repaired, unless that is none and it was refused. */

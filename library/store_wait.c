@@ -207,6 +207,12 @@ uint32_t lrc_store_hold_wait(lrc_slot *slot, const uint8_t *name, size_t name_le
     REPEAT(0, lrc_store_hold(slot, name, name_len, other, version, len));
 }
 
+uint32_t lrc_store_install_wait(lrc_slot *slot, lrc_slot *other, uint64_t stripe, uint64_t fragment,
+                                const uint8_t *bytes, size_t len, uint64_t *version,
+                                int64_t timeout_ms) {
+    REPEAT(tries_for(len), lrc_store_install(slot, other, stripe, fragment, bytes, len, version));
+}
+
 /* How many milliseconds are left, rounded up, of those that a call may wait. */
 static int64_t left_of(int64_t timeout_ms, int64_t deadline) {
     if (timeout_ms <= 0 || deadline == NEVER) return timeout_ms;

@@ -44,7 +44,7 @@ class Declarations(unittest.TestCase):
         plain = {name: words for name, words in proved.items() if not name.endswith("_wait")}
         self.assertEqual(plain, exported)
         forms = {name: words for name, words in header.items() if name.endswith("_wait")}
-        self.assertEqual(len(forms), 15)
+        self.assertEqual(len(forms), 16)
         self.assertEqual(forms.pop("lrc_store_mend_wait"), ["*mut slot", "*mut u64", "i64"])
         for name, words in forms.items():
             self.assertEqual(words, [*header[name.removesuffix("_wait")], "i64"])

@@ -151,6 +151,11 @@ uint32_t lrc_store_hold(lrc_slot *slot, const uint8_t *name, size_t name_len, lr
     return called(ARGUMENTS(AT(slot), AT(name), name_len, AT(other), AT(version), AT(len)));
 }
 
+uint32_t lrc_store_install(lrc_slot *slot, lrc_slot *other, uint64_t stripe, uint64_t fragment,
+                           const uint8_t *bytes, size_t len, uint64_t *version) {
+    return called(ARGUMENTS(AT(slot), AT(other), stripe, fragment, AT(bytes), len, AT(version), 1));
+}
+
 /* Whether a form repeats its function with the same arguments, and returns its last status. */
 #define PASSES(call, ...)                                                                          \
     do {                                                                                           \
@@ -185,6 +190,8 @@ static void arguments(int64_t timeout_ms) {
     PASSES(lrc_store_numbers_wait(&s, &numbers, timeout_ms), AT(&s), AT(&numbers));
     PASSES(lrc_store_hold_wait(&s, n, 2, &o, &v, &x, timeout_ms), AT(&s), AT(n), 2, AT(&o), AT(&v),
            AT(&x));
+    PASSES(lrc_store_install_wait(&s, &o, 5, 4, b, 3, &v, timeout_ms), AT(&s), AT(&o), 5, 4, AT(b),
+           3, AT(&v), 1);
 }
 
 /* A put is made of the given bytes, and then again of a copy that a slot keeps. */
@@ -374,18 +381,20 @@ static void tries(void) {
     EXPECT(lrc_store_lend_wait(&s, NAME("a"), 0, 65535, &o, &v, &x, 5), LRC_STORE_BUSY);
     EXPECT(lrc_store_read_wait(&s, NAME("a"), 0, kept, 5, &v, &x, &y, 5), LRC_STORE_BUSY);
     EXPECT(lrc_store_lose_wait(&s, NAME("a"), 0, 5, &v, 5), LRC_STORE_BUSY);
+    EXPECT(lrc_store_install_wait(&s, &o, 0, 5, kept, 65535, &v, 5), LRC_STORE_BUSY);
     EXPECT(calls, 0);
     EXPECT(lrc_store_lend_wait(&s, NAME("a"), 0, 65536, &o, &v, &x, 5), OTHER_STATUS);
     EXPECT(lrc_store_read_wait(&s, NAME("a"), 0, kept, 65536, &v, &x, &y, 5), OTHER_STATUS);
     EXPECT(lrc_store_repair_wait(&s, NAME("a"), 0, 5, &v, 5), OTHER_STATUS);
     EXPECT(lrc_store_mend_step_wait(&s, &o, &v, 5), OTHER_STATUS);
     EXPECT(lrc_store_put_from_wait(&s, NAME("a"), &o, 12, &v, 5), OTHER_STATUS);
-    EXPECT(calls, 5);
+    EXPECT(lrc_store_install_wait(&s, &o, 0, 5, kept, 65536, &v, 5), OTHER_STATUS);
+    EXPECT(calls, 6);
     busy = ~0u;
     EXPECT(lrc_store_repair_wait(&s, NAME("a"), 0, 5, &v, 5), LRC_STORE_BUSY);
-    EXPECT(calls, 5 + 8);
+    EXPECT(calls, 6 + 8);
     EXPECT(lrc_store_put_wait(&s, NAME("a"), kept, 4, 12, &v, 5), LRC_STORE_BUSY);
-    EXPECT(calls, 5 + 8 + 2);
+    EXPECT(calls, 6 + 8 + 2);
     let_go(holder);
 }
 

@@ -8,4 +8,5 @@ pub mod RepairStep
 pub mod Runs
 pub mod Rest
 pub mod VersionShows
+pub mod Learns
 pub mod LostBits

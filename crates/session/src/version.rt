@@ -5,17 +5,21 @@ ghost use Rattle.lrc_code.specs.Code.{fragment_count, is_lost};
 ghost use Rattle.lrc_code.specs.Count.{count_below};
 ghost use Rattle.sealed.specs.Layout.{HasFragment, stripe_count};
 ghost use Rattle.sealed.specs.Sealed.{absent_in};
+ghost use Rattle.history.specs.Step.{repair as repair_of};
+ghost use Rattle.book.specs.Known.{IsFragmentIn};
 ghost use Rattle.shared.specs.Calls.{CanGrant};
 ghost use Rattle.shared.specs.Passes.{FindsBusy};
 ghost use Rattle.shared.specs.Snapshots.{HasNoBlob, TakesSnapshot};
 ghost use Rattle.session.specs.KnownFault.{IsBusyOrCallFault};
+ghost use Rattle.session.specs.Learns.{HasInstalled};
 ghost use Rattle.session.specs.LostBits.{AreLostBits, lost_count};
 ghost use Rattle.session.specs.VersionShows.{IsHeldFrom, IsKnownVersion, sealed_in};
 
 use crate::Session;
 use lrc_code::LostSet;
 use sealed::has_fragment;
-use shared::{Fault, Name, Receipt, Snapshot};
+use shared::{Answer, Bytes, Fault, Name, Receipt, Snapshot};
+use std::alloc::Global;
 use std::marker::Model;
 
 /// A version of a blob, held out of its store. Later calls of the store do not affect it, and its
@@ -58,6 +62,29 @@ impl Session {
         let found = self.store.try_snapshot(&mut self.pass, name.duplicate());
         let receipt = self.pass.receipt(&self.store);
         version_of(found, name, receipt)
+    }
+
+    /// Repairs a lost fragment of the version's name with the given bytes: those that the fragment
+    /// has in the version. First the session learns what was seen when the version was held. It
+    /// rebuilds nothing if the name still has the version, and else repairs as `repair` does.
+    pub fn install(
+        &mut self,
+        alloc: Global,
+        version: &mut Version,
+        stripe: u64,
+        fragment: u64,
+        bytes: Bytes,
+    ) -> Result<Answer, Fault>
+        requires store { version.old.known.store ≡ self.old.store }
+        requires known { IsFragmentIn version.old.known.seen self.old.store.width version.old.name
+            version.old.sealed.version stripe fragment bytes }
+        ensures installed { HasInstalled self.old version.old stripe fragment result self.new }
+        ensures kept { version.new ≡ version.old }
+    {
+        let receipt = version.receipt.duplicate(&self.store);
+        self.pass.accept(&self.store, receipt);
+        let (name, number) = (version.name.duplicate(), version.snapshot.version());
+        self.store.try_install(alloc, &mut self.pass, name, number, stripe, fragment, bytes)
     }
 }
 

@@ -8,4 +8,5 @@ pub mod Journal
 pub mod Numbers
 pub mod Hold
 pub mod Versions
+pub mod Install
 pub mod Items

@@ -23,6 +23,7 @@ ghost use Rattle.store_c.specs.OnSession.{IsOnSession, IsNamedCall, IsPutCall, I
 ghost use Rattle.store_c.specs.OnSession.{IsStatCall, IsTrimCall, IsTrimPartCall};
 ghost use Rattle.store_c.specs.Buffers.{IsReserveCall, IsBufferCall, IsPutFrom};
 ghost use Rattle.store_c.specs.Hold.{IsHoldCall};
+ghost use Rattle.store_c.specs.Install.{MayInstall, IsInstallCall};
 ghost use Rattle.store_c.specs.Items.{IsItemsCall};
 ghost use Rattle.store_c.specs.Journal.{IsCloseToCall, IsEntryCall};
 ghost use Rattle.store_c.specs.Lend.{IsLendTo, IsSlicesCall, IsRunsCall};
@@ -687,6 +688,37 @@ pub extern "C" fn lrc_slot_lend(
         _ => EMPTY,
     };
     slot.put(held);
+    status
+}
+
+/// Repairs a lost fragment of the name of a held version with the given bytes: those that the
+/// fragment has in the version.
+#[unsafe(no_mangle)]
+pub extern "C" fn lrc_store_install(
+    alloc: Global,
+    slot: &mut Slot,
+    other: &mut Slot,
+    stripe: u64,
+    fragment: u64,
+    bytes: &[u8],
+    version: &mut u64,
+) -> u32
+    requires { MayInstall slot.old.held other.old.held stripe fragment bytes.now }
+    ensures { IsInstallCall slot.old.held other.old.held stripe fragment bytes.now result
+        (version.old, version.new) slot.new.held other.new.held }
+{
+    let Some(mut held) = slot.take(alloc) else {
+        return EMPTY;
+    };
+    let Some(mut given) = other.take(alloc) else {
+        slot.put(held);
+        return EMPTY;
+    };
+    let status = versions::install_by(
+        alloc, &mut held, &mut given, stripe, fragment, bytes, version,
+    );
+    slot.put(held);
+    other.put(given);
     status
 }
 

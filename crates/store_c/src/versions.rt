@@ -1,15 +1,16 @@
 //! Versions of blobs that a slot holds.
-ghost use Rattle.std.specs.Prelude.{◌≡◌, None};
+ghost use Rattle.std.specs.Prelude.{◌≡◌, None, Some};
 ghost use Rattle.store_c.specs.Hold.{IsHold, IsHoldTo, IsHoldCall};
+ghost use Rattle.store_c.specs.Install.{CanInstall, MayInstall, IsInstall, IsInstallCall};
 ghost use Rattle.store_c.specs.Versions.{IsShapeOf, IsLostOf, IsFragmentTo};
 ghost use Rattle.store_c.specs.Versions.{IsRange, IsRangeTo};
 
-use crate::answers::{name_of, number_of};
+use crate::answers::{name_of, number_of, tell};
 use crate::status::{
-    ALREADY_LOST, BAD_NAME, DONE, EMPTY, NO_FRAGMENT, NO_MEMORY, NO_NAME, OCCUPIED,
+    ALREADY_LOST, BAD_ARGUMENT, BAD_NAME, DONE, EMPTY, NO_FRAGMENT, NO_MEMORY, NO_NAME, OCCUPIED,
     OUT_OF_RANGE, UNRECOVERABLE,
 };
-use session::{Asked, Code, Held, Lending, LentSlice, Session, Slot, Version};
+use session::{Asked, Bytes, Code, Held, Lending, LentSlice, Session, Slot, Version};
 use std::alloc::Global;
 use std::boxed::Box;
 
@@ -211,4 +212,125 @@ pub(crate) fn lend_to(
         return OCCUPIED;
     }
     lend(alloc, version, start, len, other, pieces)
+}
+
+/// Repairs a fragment with bytes from outside, by the session and the version that the slots hold.
+pub(crate) fn install_by(
+    alloc: Global,
+    held: &mut Option<Held>,
+    given: &mut Option<Held>,
+    stripe: u64,
+    fragment: u64,
+    bytes: &[u8],
+    told: &mut u64,
+) -> u32
+    requires { MayInstall held.old given.old stripe fragment bytes.now }
+    ensures { IsInstallCall held.old given.old stripe fragment bytes.now result
+        (told.old, told.new) held.new given.new }
+{
+    match held.take() {
+        Some(
+            Held::Session {
+                mut session,
+                number,
+            },
+        ) => {
+            let status = install_of(
+                alloc,
+                &mut session,
+                number,
+                given,
+                stripe,
+                fragment,
+                bytes,
+                told,
+            );
+            *held = Some(Held::Session { session, number });
+            status
+        }
+        kept => {
+            *held = kept;
+            EMPTY
+        }
+    }
+}
+
+/// Does the same by a session that was taken out of its slot.
+fn install_of(
+    alloc: Global,
+    session: &mut Session,
+    number: u64,
+    given: &mut Option<Held>,
+    stripe: u64,
+    fragment: u64,
+    bytes: &[u8],
+    told: &mut u64,
+) -> u32
+    requires { MayInstall (Some (Held.Session session.old number)) given.old stripe fragment
+        bytes.now }
+    ensures { IsInstallCall (Some (Held.Session session.old number)) given.old stripe fragment
+        bytes.now result (told.old, told.new) (Some (Held.Session session.new number)) given.new }
+{
+    match given.take() {
+        Some(
+            Held::Version {
+                mut version,
+                number: theirs,
+            },
+        ) => {
+            let status = install(
+                alloc,
+                session,
+                number,
+                &mut version,
+                theirs,
+                stripe,
+                fragment,
+                bytes,
+                told,
+            );
+            *given = Some(Held::Version {
+                version,
+                number: theirs,
+            });
+            status
+        }
+        kept => {
+            *given = kept;
+            EMPTY
+        }
+    }
+}
+
+/// Repairs a fragment with bytes from outside, if these may be a fragment of the version.
+fn install(
+    alloc: Global,
+    session: &mut Session,
+    number: u64,
+    version: &mut Version,
+    theirs: u64,
+    stripe: u64,
+    fragment: u64,
+    bytes: &[u8],
+    told: &mut u64,
+) -> u32
+    requires { CanInstall session.old number version.old theirs stripe fragment bytes.now }
+    ensures call { IsInstall session.old number version.old theirs stripe fragment bytes.now result
+        (told.old, told.new) session.new }
+    ensures kept { version.new ≡ version.old }
+{
+    if theirs != number {
+        return BAD_ARGUMENT;
+    }
+    if !version.has_fragment(stripe, fragment) {
+        return NO_FRAGMENT;
+    }
+    if bytes.len() != version.snapshot().width().get() as usize {
+        return BAD_ARGUMENT;
+    }
+    let Ok(bytes) = Bytes::copy_from_slice(alloc, bytes) else {
+        return NO_MEMORY;
+    };
+    let reply = session.install(alloc, version, stripe, fragment, bytes);
+    tell(&reply, told)
 }
