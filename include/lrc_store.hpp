@@ -93,6 +93,7 @@ public:
 
 private:
     friend class session;
+    friend class version;
 
     // Takes `count` pieces and all runs from the slot.
     void take(uint64_t count) {
@@ -113,6 +114,52 @@ private:
     slot lent;
     uint64_t number = 0;
     std::vector<lrc_slice> pieces, joined;
+};
+
+// A version of a blob that is held, for one thread at a time. It stays as it is while this lives,
+// whatever happens to the blob and to the store. Its calls take no lock and make no journal entry.
+class version {
+public:
+    // The number of the put that stored it, and its length in bytes.
+    uint64_t number() const { return put_number; }
+    uint64_t size() const { return len; }
+
+    lrc_shape shape() {
+        lrc_shape found{};
+        detail::check(lrc_slot_shape(held.get(), &found), "shape");
+        return found;
+    }
+
+    // Which fragments of a stripe were lost when it was held: bit f if fragment f was.
+    uint16_t lost(uint64_t stripe) {
+        uint16_t found = 0;
+        detail::check(lrc_slot_lost(held.get(), stripe, &found), "lost", stripe);
+        return found;
+    }
+
+    // Lends `count` bytes, from the byte `start` on.
+    grant read(uint64_t start, uint64_t count) {
+        grant made;
+        uint64_t pieces = 0;
+        made.number = put_number;
+        detail::check(lrc_slot_lend(held.get(), start, count, made.lent.get(), &pieces), "read",
+                      start, count);
+        made.take(pieces);
+        return made;
+    }
+
+    // Lends a fragment of a stripe, data or parity, until the next call of this version.
+    lrc_slice fragment(uint64_t stripe, uint64_t number) {
+        lrc_slice found{reinterpret_cast<const uint8_t *>(""), 0};
+        detail::check(lrc_slot_fragment(held.get(), stripe, number, &found), "fragment", stripe,
+                      number);
+        return found;
+    }
+
+private:
+    friend class session;
+    slot held;
+    uint64_t put_number = 0, len = 0;
 };
 
 // Bytes that the caller fills, and that a put stores without a copy. After the put there are none.
@@ -271,6 +318,32 @@ public:
             detail::check(status, "get", name);
             if (version == asked.version) return blob;
         }
+    }
+
+    // Holds the version that the blob has now.
+    version hold(std::string_view name) {
+        version made;
+        detail::check(lrc_store_hold_wait(held.get(), bytes(name), name.size(), made.held.get(),
+                                          &made.put_number, &made.len, wait_ms),
+                      "hold", name);
+        return made;
+    }
+
+    // Repairs a fragment with bytes that it has in a version, such as one of another machine.
+    // Returns the version of the repaired blob.
+    uint64_t install(version &known, uint64_t stripe, uint64_t fragment, std::string_view whole) {
+        uint64_t number = 0;
+        detail::check(lrc_store_install_wait(held.get(), known.held.get(), stripe, fragment,
+                                             bytes(whole), whole.size(), &number, wait_ms),
+                      "install", stripe, fragment, whole.size());
+        return number;
+    }
+
+    // The numbers of the store, such as those of its blobs and of its lost fragments.
+    lrc_numbers numbers() {
+        lrc_numbers found{};
+        detail::check(lrc_store_numbers_wait(held.get(), &found, wait_ms), "numbers");
+        return found;
     }
 
     uint64_t lose(std::string_view name, uint64_t stripe, uint64_t fragment) {

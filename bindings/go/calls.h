@@ -81,6 +81,23 @@ static inline lrc_reply pool_mend_step(lrc_pool *pool, lrc_slot *plan, int64_t t
     ON_SESSION(lrc_store_mend_step_wait(slot, plan, &reply.version, timeout_ms));
 }
 
+static inline lrc_reply pool_hold(lrc_pool *pool, _GoString_ name, lrc_slot *held,
+                                  int64_t timeout_ms) {
+    ON_SESSION(lrc_store_hold_wait(slot, NAME, held, &reply.version, &reply.len, timeout_ms));
+}
+
+static inline lrc_reply pool_install(lrc_pool *pool, lrc_slot *held, uint64_t stripe,
+                                     uint64_t fragment, const uint8_t *bytes, size_t len,
+                                     int64_t timeout_ms) {
+    if (!len) bytes = (const uint8_t *)"";
+    ON_SESSION(lrc_store_install_wait(slot, held, stripe, fragment, bytes, len, &reply.version,
+                                      timeout_ms));
+}
+
+static inline lrc_reply pool_numbers(lrc_pool *pool, lrc_numbers *numbers, int64_t timeout_ms) {
+    ON_SESSION(lrc_store_numbers_wait(slot, numbers, timeout_ms));
+}
+
 /* Opens a store, without a journal if `limit` is 0, and makes a pool of its session. */
 static inline uint32_t open_pool(uint32_t width, uint32_t limit, lrc_pool **pool) {
     lrc_slot slot = LRC_SLOT_EMPTY;
@@ -99,6 +116,13 @@ static inline uint32_t close_pool(lrc_pool *pool) {
     if (status == LRC_STORE_DONE) status = lrc_store_close(&slot, &entries, &lawful);
     lrc_slot_release(&slot);
     return status;
+}
+
+/* The bytes of a fragment of a held version, which are valid until the slot is passed on. */
+static inline uint32_t fragment_of(lrc_slot *held, uint64_t stripe, uint64_t fragment,
+                                   lrc_slice *bytes) {
+    *bytes = (lrc_slice){(const uint8_t *)"", 0};
+    return lrc_slot_fragment(held, stripe, fragment, bytes);
 }
 
 /* An empty slot, which C keeps in place. NULL if out of memory. */

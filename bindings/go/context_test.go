@@ -32,6 +32,14 @@ var calls = map[string]func(s *Store, ctx context.Context) error{
 	},
 	"Trim": func(s *Store, ctx context.Context) error { return second(s.Trim(ctx, 0)) },
 	"Mend": func(s *Store, ctx context.Context) error { return second(s.Mend(ctx)) },
+	"Hold": func(s *Store, ctx context.Context) error {
+		_, err := s.Hold(ctx, "a")
+		return err
+	},
+	"Numbers": func(s *Store, ctx context.Context) error {
+		_, err := s.Numbers(ctx)
+		return err
+	},
 }
 
 func second(_ uint64, err error) error { return err }

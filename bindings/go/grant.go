@@ -43,10 +43,15 @@ func (s *Store) Lend(ctx context.Context, name string, off, n int64) (*Grant, er
 		C.free_slot(slot)
 		return nil, err
 	}
+	return grantOf(name, version, slot), nil
+}
+
+// grantOf returns a grant of the range in a slot.
+func grantOf(name string, version uint64, slot *C.lrc_slot) *Grant {
 	g := &Grant{name: name, version: version, slot: slot}
 	g.findRuns()
 	runtime.SetFinalizer(g, (*Grant).Close)
-	return g, nil
+	return g
 }
 
 // findRuns asks for the runs of the range.

@@ -179,6 +179,80 @@ void reads() {
     EXPECT(s.stat("c").len, 0u);
 }
 
+void versions() {
+    const std::string blob = bytes_of(200);
+    session s = degraded(blob);
+    lrc::version held = s.hold("a");
+    EXPECT(held.number(), 2u);
+    EXPECT(held.size(), 200u);
+    s.put("a", "other");
+    s.remove("old");
+    const lrc_shape shape = held.shape();
+    EXPECT(shape.version, 2u);
+    EXPECT(shape.len, 200u);
+    EXPECT(shape.stripes, 5u);
+    EXPECT(shape.lost, 4u);
+    EXPECT(shape.width, 4u);
+    EXPECT(shape.data_fragments, 12u);
+    EXPECT(held.lost(0), 1u << 1 | 1u << 2);
+    EXPECT(held.lost(1), 0u);
+    EXPECT(held.lost(2), 1u << 11);
+    const lrc::grant grant = held.read(3, 80);
+    EXPECT(grant.version(), 2u);
+    EXPECT(grant.str(), blob.substr(3, 80));
+    EXPECT(grant.slices().size() > 1, true);
+    EXPECT(held.read(0, 200).str(), blob);
+    EXPECT(text_of(held.fragment(1, 2)), blob.substr(48 + 8, 4));
+    EXPECT(held.fragment(0, 15).len, 4u);
+    EXPECT_ERROR(held.read(1, 200), LRC_STORE_OUT_OF_RANGE, "read(1, 200)");
+    EXPECT_ERROR(held.fragment(0, 1), LRC_STORE_ALREADY_LOST, "fragment(0, 1)");
+    EXPECT_ERROR(held.fragment(5, 1), LRC_STORE_NO_FRAGMENT, "fragment(5, 1)");
+    EXPECT_ERROR(held.lost(5), LRC_STORE_NO_FRAGMENT, "lost(5)");
+    EXPECT_ERROR(s.hold("old"), LRC_STORE_NO_NAME, "hold(\"old\")");
+    lrc::version none = std::move(held);
+    EXPECT_ERROR(held.shape(), LRC_STORE_EMPTY, "shape()");
+    EXPECT(none.read(0, 200).str(), blob);
+}
+
+void installs() {
+    const std::string blob = bytes_of(96);
+    session s = session::open(4, 1000), other = session::open(4, 1000);
+    EXPECT(s.put("a", blob), 1u);
+    lrc::version whole = s.hold("a");
+    s.lose("a", 1, 3);
+    const std::string fragment = text_of(whole.fragment(1, 3));
+    EXPECT_ERROR(s.install(whole, 1, 3, "abc"), LRC_STORE_BAD_ARGUMENT, "install(1, 3, 3)");
+    EXPECT_ERROR(s.install(whole, 0, 3, blob.substr(12, 4)), LRC_STORE_NOT_LOST,
+                 "install(0, 3, 4)");
+    EXPECT_ERROR(other.install(whole, 1, 3, fragment), LRC_STORE_BAD_ARGUMENT, "install(1, 3, 4)");
+    recorder::statuses = {LRC_STORE_BUSY};
+    recorder::calls.clear();
+    s.set_timeout(milliseconds(7));
+    EXPECT_ERROR(s.install(whole, 1, 3, fragment), LRC_STORE_BUSY, "install(1, 3, 4)");
+    EXPECT(recorder::calls.back().second, 7);
+    EXPECT(s.install(whole, 1, 3, fragment), 1u);
+    EXPECT(s.get("a"), blob);
+    EXPECT(s.hold("a").lost(1), 0u);
+}
+
+void numbers() {
+    session s = degraded(bytes_of(200));
+    lrc_numbers found = s.numbers();
+    EXPECT(found.blobs, 2u);
+    EXPECT(found.bytes, 201u);
+    EXPECT(found.lost, 4u);
+    EXPECT(found.unrecoverable, 0u);
+    EXPECT(found.calls, 6u);
+    EXPECT(found.entries, 6u);
+    for (uint64_t fragment = 3; fragment < 6; fragment++) s.lose("a", 0, fragment);
+    s.trim(5);
+    found = s.numbers();
+    EXPECT(found.lost, 7u);
+    EXPECT(found.unrecoverable, 1u);
+    EXPECT(found.calls, 9u);
+    EXPECT(found.entries, 5u);
+}
+
 void get_asks_again() {
     session s = session::open(4, 1000), other = s.split(1);
     const std::string blob = bytes_of(200);
@@ -211,6 +285,8 @@ std::vector<waiting_call> waiting_calls(session &s, lrc::buffer &blob, char *tar
         {"trim", "trim(2)", [&] { s.trim(2); }},
         {"stat", "get(\"a\")", [&] { s.get("a"); }},
         {"mend", "mend() after 0 repaired fragments", [&] { s.mend(); }},
+        {"hold", "hold(\"a\")", [&] { s.hold("a"); }},
+        {"numbers", "numbers()", [&] { s.numbers(); }},
     };
 }
 
@@ -490,6 +566,9 @@ int main() {
     sessions();
     buffers();
     reads();
+    versions();
+    installs();
+    numbers();
     get_asks_again();
     timeouts();
     a_call_ends_at_its_deadline();

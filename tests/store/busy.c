@@ -33,3 +33,8 @@ FORM(trim, lrc_slot *slot, uint64_t keep, uint64_t *discarded)
 FORM(plan_part, lrc_slot *slot, lrc_slot *other, uint64_t most, uint64_t *items)
 FORM(mend_step, lrc_slot *slot, lrc_slot *other, uint64_t *version)
 FORM(mend, lrc_slot *slot, uint64_t *repaired)
+FORM(hold, lrc_slot *slot, const uint8_t *name, size_t name_len, lrc_slot *other, uint64_t *version,
+     uint64_t *len)
+FORM(install, lrc_slot *slot, lrc_slot *other, uint64_t stripe, uint64_t fragment,
+     const uint8_t *bytes, size_t len, uint64_t *version)
+FORM(numbers, lrc_slot *slot, lrc_numbers *numbers)

@@ -63,4 +63,7 @@ template <class Close, class... Arguments> uint32_t closing(Close close, Argumen
 #define lrc_store_stat_wait(...) RECORDED(stat, __VA_ARGS__)
 #define lrc_store_trim_wait(...) RECORDED(trim, __VA_ARGS__)
 #define lrc_store_mend_wait(...) RECORDED(mend, __VA_ARGS__)
+#define lrc_store_hold_wait(...) RECORDED(hold, __VA_ARGS__)
+#define lrc_store_install_wait(...) RECORDED(install, __VA_ARGS__)
+#define lrc_store_numbers_wait(...) RECORDED(numbers, __VA_ARGS__)
 #endif

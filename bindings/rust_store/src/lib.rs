@@ -14,10 +14,12 @@ mod pool;
 #[cfg(test)]
 #[path = "../tests/recorder/tests.rs"]
 mod tests;
+mod version;
 
 pub use errors::{Error, MendError, Refused, Status};
 pub use journal::{Call, Entry, Journal};
 pub use pool::{Lease, Pool};
+pub use version::{Numbers, Version, VersionShape};
 
 use errors::{check, DONE};
 use library::*;
@@ -110,6 +112,25 @@ unsafe impl Send for Grant {}
 unsafe impl Sync for Grant {}
 
 impl Grant {
+    /// A range that was lent into a slot, with so many pieces; or the status of a failure.
+    fn of(lent: Slot, version: u64, pieces: u64) -> Result<Grant, u32> {
+        let (mut lent, mut pieces) = (lent, pieces);
+        let mut slices = vec![Slice::empty(); pieces as usize];
+        let (at, capacity) = (slices.as_mut_ptr(), slices.len());
+        // SAFETY: the slices are valid, and so many are passed.
+        let status = unsafe { lrc_slot_slices(&mut lent, at, capacity, &mut pieces) };
+        if status != DONE {
+            return Err(status);
+        }
+        let runs = runs_of(&mut lent);
+        Ok(Grant {
+            _lent: lent,
+            version,
+            slices,
+            runs,
+        })
+    }
+
     /// The version of the blob.
     pub fn version(&self) -> u64 {
         self.version
@@ -326,19 +347,11 @@ impl Session {
                 self.wait_ms,
             )
         };
-        let check = |status| check(status, format_args!("read({name:?}, {start}, {len})"));
-        check(status)?;
-        let mut slices = vec![Slice::empty(); pieces as usize];
-        let (at, capacity) = (slices.as_mut_ptr(), slices.len());
-        let status = unsafe { lrc_slot_slices(&mut lent, at, capacity, &mut pieces) };
-        check(status)?;
-        let runs = runs_of(&mut lent);
-        Ok(Grant {
-            _lent: lent,
-            version,
-            slices,
-            runs,
-        })
+        let failed = |status| Error::new(status, format_args!("read({name:?}, {start}, {len})"));
+        if status != DONE {
+            return Err(failed(status));
+        }
+        Grant::of(lent, version, pieces).map_err(failed)
     }
 
     /// Copies as many bytes of a blob as `target` has, from the byte `start` on, and returns the

@@ -69,6 +69,30 @@ pub struct RawEntry {
     pub status: u32,
 }
 
+/// The layout of `lrc_numbers`.
+#[repr(C)]
+#[derive(Default)]
+pub struct RawNumbers {
+    pub blobs: u64,
+    pub bytes: u64,
+    pub lost: u64,
+    pub unrecoverable: u64,
+    pub calls: u64,
+    pub entries: u64,
+}
+
+/// The layout of `lrc_shape`.
+#[repr(C)]
+#[derive(Default)]
+pub struct RawShape {
+    pub version: u64,
+    pub len: u64,
+    pub stripes: u64,
+    pub lost: u64,
+    pub width: u32,
+    pub data_fragments: u32,
+}
+
 #[rustfmt::skip]
 extern "C" {
     pub fn lrc_store_open(width: u32, limit: u32, slot: *mut Slot) -> u32;
@@ -92,6 +116,13 @@ extern "C" {
     pub fn lrc_store_stat_wait(slot: *mut Slot, name: *const u8, name_len: usize, version: *mut u64, len: *mut u64, stripes: *mut u64, lost: *mut u64, timeout_ms: i64) -> u32;
     pub fn lrc_store_trim_wait(slot: *mut Slot, keep: u64, discarded: *mut u64, timeout_ms: i64) -> u32;
     pub fn lrc_store_mend_wait(slot: *mut Slot, repaired: *mut u64, timeout_ms: i64) -> u32;
+    pub fn lrc_store_hold_wait(slot: *mut Slot, name: *const u8, name_len: usize, other: *mut Slot, version: *mut u64, len: *mut u64, timeout_ms: i64) -> u32;
+    pub fn lrc_store_install_wait(slot: *mut Slot, other: *mut Slot, stripe: u64, fragment: u64, bytes: *const u8, len: usize, version: *mut u64, timeout_ms: i64) -> u32;
+    pub fn lrc_store_numbers_wait(slot: *mut Slot, numbers: *mut RawNumbers, timeout_ms: i64) -> u32;
+    pub fn lrc_slot_shape(slot: *mut Slot, shape: *mut RawShape) -> u32;
+    pub fn lrc_slot_lost(slot: *mut Slot, stripe: u64, lost: *mut u16) -> u32;
+    pub fn lrc_slot_lend(slot: *mut Slot, start: u64, len: u64, other: *mut Slot, pieces: *mut u64) -> u32;
+    pub fn lrc_slot_fragment(slot: *mut Slot, stripe: u64, fragment: u64, bytes: *mut Slice) -> u32;
     pub fn lrc_pool_open(slot: *mut Slot, pool: *mut *mut RawPool) -> u32;
     pub fn lrc_pool_take(pool: *mut RawPool, session: *mut *mut Slot, timeout_ms: i64) -> u32;
     pub fn lrc_pool_give(pool: *mut RawPool, session: *mut Slot);

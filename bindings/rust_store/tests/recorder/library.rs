@@ -6,9 +6,10 @@ mod real;
 
 pub use real::{
     lrc_pool_close, lrc_pool_give, lrc_pool_open, lrc_pool_take, lrc_slot_buffer, lrc_slot_entry,
-    lrc_slot_reserve, lrc_slot_runs, lrc_slot_slices, lrc_store_join, lrc_store_open,
-    lrc_store_open_unjournaled, lrc_store_split, lrc_store_text, RawBuffer, RawEntry, RawPool,
-    Slice, Slot,
+    lrc_slot_fragment, lrc_slot_lend, lrc_slot_lost, lrc_slot_reserve, lrc_slot_runs,
+    lrc_slot_shape, lrc_slot_slices, lrc_store_join, lrc_store_open, lrc_store_open_unjournaled,
+    lrc_store_split, lrc_store_text, RawBuffer, RawEntry, RawNumbers, RawPool, RawShape, Slice,
+    Slot,
 };
 use std::cell::RefCell;
 use std::collections::VecDeque;
@@ -95,4 +96,7 @@ recorded! {
     lrc_store_stat_wait(slot: *mut Slot, name: *const u8, name_len: usize, version: *mut u64, len: *mut u64, stripes: *mut u64, lost: *mut u64);
     lrc_store_trim_wait(slot: *mut Slot, keep: u64, discarded: *mut u64);
     lrc_store_mend_wait(slot: *mut Slot, repaired: *mut u64);
+    lrc_store_hold_wait(slot: *mut Slot, name: *const u8, name_len: usize, other: *mut Slot, version: *mut u64, len: *mut u64);
+    lrc_store_install_wait(slot: *mut Slot, other: *mut Slot, stripe: u64, fragment: u64, bytes: *const u8, len: usize, version: *mut u64);
+    lrc_store_numbers_wait(slot: *mut Slot, numbers: *mut RawNumbers);
 }

@@ -38,10 +38,12 @@ fn waiting_calls(session: &mut Session) -> Vec<Result<(), Error>> {
         session.delete("b").map(drop),
         session.stat("a").map(drop),
         session.trim(2).map(drop),
+        session.hold("a").map(drop),
+        session.numbers().map(drop),
     ]
 }
 
-const NAMES: [&str; 9] = [
+const NAMES: [&str; 11] = [
     "lrc_store_put_wait",
     "lrc_store_put_from_wait",
     "lrc_store_lend_wait",
@@ -51,6 +53,8 @@ const NAMES: [&str; 9] = [
     "lrc_store_delete_wait",
     "lrc_store_stat_wait",
     "lrc_store_trim_wait",
+    "lrc_store_hold_wait",
+    "lrc_store_numbers_wait",
 ];
 
 #[test]
@@ -82,9 +86,21 @@ fn each_call_has_the_timeout() {
 }
 
 #[test]
+fn an_install_has_the_timeout() {
+    let mut session = Session::open(4, 1000).unwrap();
+    session.put("a", b"HELLO", Code::Wide).unwrap();
+    let mut known = session.hold("a").unwrap();
+    session.set_timeout(Some(Duration::from_secs(2)));
+    script(&[BUSY]);
+    let (result, calls) = recorded(|| session.install(&mut known, 0, 1, b"O..."));
+    assert_eq!(result.unwrap_err().status, Status::Busy);
+    assert_eq!(calls, [("lrc_store_install_wait", 2000)]);
+}
+
+#[test]
 fn a_deadline_is_an_error_of_each_call() {
     let mut session = Session::open(4, 1000).unwrap();
-    script(&[BUSY; 9]);
+    script(&[BUSY; 11]);
     let results = waiting_calls(&mut session);
     let shown: Vec<String> = results
         .into_iter()
@@ -108,6 +124,8 @@ fn a_deadline_is_an_error_of_each_call() {
         "delete(\"b\")",
         "stat(\"a\")",
         "trim(2)",
+        "hold(\"a\")",
+        "numbers()",
     ];
     assert_eq!(shown, wanted);
     assert_eq!(unread(), 0);
