@@ -114,6 +114,20 @@ class _Entry(ctypes.Structure):
     ]
 
 
+class _Numbers(ctypes.Structure):
+    _fields_ = [
+        (field, ctypes.c_uint64)
+        for field in ("blobs", "bytes", "lost", "unrecoverable", "calls", "entries")
+    ]
+
+
+class _Shape(ctypes.Structure):
+    _fields_ = [
+        *((field, ctypes.c_uint64) for field in ("version", "len", "stripes", "lost")),
+        *((field, ctypes.c_uint32) for field in ("width", "data_fragments")),
+    ]
+
+
 SONAME = "liblrc_store.so.0.1"
 _CALLS = ("put", "read", "lose", "repair", "delete", "stat")
 _U32, _U64, _SIZE, _MS = ctypes.c_uint32, ctypes.c_uint64, ctypes.c_size_t, ctypes.c_int64
@@ -140,6 +154,13 @@ DECLARED = {
     "lrc_store_trim_wait": [_SLOT, _U64, _OUT, _MS],
     "lrc_store_plan_part_wait": [_SLOT, _SLOT, _U64, _OUT, _MS],
     "lrc_store_mend_step_wait": [_SLOT, _SLOT, _OUT, _MS],
+    "lrc_store_hold_wait": [*_NAMED, _SLOT, _OUT, _OUT, _MS],
+    "lrc_store_install_wait": [_SLOT, _SLOT, _U64, _U64, _BYTES, _SIZE, _OUT, _MS],
+    "lrc_store_numbers_wait": [_SLOT, ctypes.POINTER(_Numbers), _MS],
+    "lrc_slot_shape": [_SLOT, ctypes.POINTER(_Shape)],
+    "lrc_slot_lost": [_SLOT, _U64, ctypes.POINTER(ctypes.c_uint16)],
+    "lrc_slot_lend": [_SLOT, _U64, _U64, _SLOT, _OUT],
+    "lrc_slot_fragment": [_SLOT, _U64, _U64, ctypes.POINTER(_Slice)],
     "lrc_slot_release": [_SLOT],
     "lrc_store_text": [_U32],
 }
@@ -222,6 +243,30 @@ class Shape(NamedTuple):
     len: int
     stripes: int
     lost: int
+
+
+class VersionShape(NamedTuple):
+    """A held version's number, its length in bytes, the numbers of its stripes and lost fragments,
+    the bytes of a fragment, and the data fragments of a stripe: 12 or 6."""
+
+    version: int
+    len: int
+    stripes: int
+    lost: int
+    width: int
+    data_fragments: int
+
+
+class Numbers(NamedTuple):
+    """The numbers of a store: of blobs, of their bytes, lost fragments and unrecoverable stripes,
+    of calls, and of entries in the journal."""
+
+    blobs: int
+    bytes: int
+    lost: int
+    unrecoverable: int
+    calls: int
+    entries: int
 
 
 class Closed(NamedTuple):
@@ -325,6 +370,46 @@ class Grant:
     def __exit__(self, *_: object) -> None:
         self._runs, self.runs, self.pieces = [], [], []
         self._lent = None
+
+
+class Version:
+    """A version of a blob that is held, for one thread at a time.
+
+    It stays as it is while this lives, whatever happens to the blob and to the store. Its calls
+    take no lock and make no journal entry.
+    """
+
+    def __init__(self, held: _Slot, number: int, size: int) -> None:
+        self._held, self.number, self.size = held, number, size
+
+    def shape(self) -> VersionShape:
+        """Its shape. The lost fragments are counted through all stripes."""
+        found = _Shape()
+        _check(_library.lrc_slot_shape(self._held, found), "shape")
+        return VersionShape(*(getattr(found, field) for field in VersionShape._fields))
+
+    def lost(self, stripe: int) -> List[int]:
+        """The fragments of a stripe that were lost when it was held."""
+        found = ctypes.c_uint16()
+        _check(
+            _library.lrc_slot_lost(self._held, _number("stripe", stripe), found), "lost", stripe
+        )
+        return [fragment for fragment in range(16) if found.value >> fragment & 1]
+
+    def read(self, start: int, length: int) -> Grant:
+        """Lends `length` bytes, from the byte `start` on."""
+        lent, pieces = _Slot(), _U64()
+        wanted = _number("start", start), _number("length", length)
+        _check(_library.lrc_slot_lend(self._held, *wanted, lent, pieces), "read", start, length)
+        return Grant(lent, self.number, pieces.value)
+
+    def fragment(self, stripe: int, fragment: int) -> bytes:
+        """A copy of a fragment of a stripe, data or parity."""
+        (found,) = _slices(1)
+        place = _number("stripe", stripe), _number("fragment", fragment)
+        status = _library.lrc_slot_fragment(self._held, *place, found)
+        _check(status, "fragment", stripe, fragment)
+        return ctypes.string_at(found.at, found.len)
 
 
 def _entry(held: _Slot, index: int) -> Entry:
@@ -505,6 +590,31 @@ class Session:
                 _check(status, "get", name)
                 if version == shape.version:
                     return blob
+
+    def hold(self, name: str) -> Version:
+        """Holds the version that a blob has now."""
+        held, version, size = _Slot(), _U64(), _U64()
+        _check(self._wait("lrc_store_hold_wait", *_named(name), held, version, size), "hold", name)
+        return Version(held, version.value, size.value)
+
+    def install(self, known: Version, stripe: int, fragment: int, whole: Buffer) -> int:
+        """Repairs a fragment with bytes that it has in a version, such as one of another machine.
+
+        The caller ensures that the fragment has these bytes. Returns the version of the repaired
+        blob.
+        """
+        version, source = _U64(), bytes(_view("the fragment", whole))
+        place = _number("stripe", stripe), _number("fragment", fragment)
+        words = known._held, *place, source, len(source), version
+        status = self._wait("lrc_store_install_wait", *words)
+        _check(status, "install", stripe, fragment, len(source))
+        return version.value
+
+    def numbers(self) -> Numbers:
+        """The numbers of the store. It takes the same time for each store."""
+        found = _Numbers()
+        _check(self._wait("lrc_store_numbers_wait", found), "numbers")
+        return Numbers(*(getattr(found, field) for field in Numbers._fields))
 
     def lose(self, name: str, stripe: int, fragment: int) -> int:
         """Loses a fragment of a stripe, as after a disk failure."""

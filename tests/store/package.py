@@ -177,6 +177,78 @@ class Calls(unittest.TestCase):
             other.put("b", bytes([1 // 0]))
         self.assertEqual(other.get("a"), b"x")
 
+    def test_a_version_stays_as_it_is(self):
+        store, blob = self.store, self.blob
+        number = store.put("a", blob, 6)
+        for stripe, fragment in ((2, 9), (0, 3), (0, 1)):
+            store.lose("a", stripe, fragment)
+        held = store.hold(b"a")
+        self.assertEqual((held.number, held.size), (number, 200))
+        store.delete("a")
+        self.assertEqual(held.shape(), (number, 200, 9, 3, 4, 6))
+        self.assertEqual([held.lost(stripe) for stripe in range(3)], [[1, 3], [], [9]])
+        store.close()
+        for start, length in ((0, 200), (3, 80), (0, 0), (200, 0), (199, 1)):
+            self.assertEqual(held.read(start, length), blob[start : start + length])
+        self.assertEqual((held.read(), held.read(60)), (blob, blob[60:]))
+        self.assertEqual(held.fragment(1, 2), blob[32:36])
+        self.assertEqual(len(held.fragment(0, 9)), 4)
+        self.refused(Status.ALREADY_LOST, "fragment(0, 3)", held.fragment, 0, 3)
+        self.refused(Status.NO_FRAGMENT, "fragment(9, 0)", held.fragment, 9, 0)
+        self.refused(Status.NO_FRAGMENT, "fragment(0, 10)", held.fragment, 0, 10)
+        self.refused(Status.NO_FRAGMENT, "lost(9)", held.lost, 9)
+        self.refused(Status.OUT_OF_RANGE, "read(1, 200)", held.read, 1, 200)
+        self.refused(Status.OUT_OF_RANGE, "read(201, None)", held.read, 201)
+        for call in (lambda: held.read(-1, 1), lambda: held.lost(-1), lambda: held.fragment(0, -1)):
+            self.assertRaises(ValueError, call)
+        self.refused(Status.EMPTY, "hold('a')", store.hold, "a")
+        self.refused(Status.NO_NAME, "hold('b')", Store(4).hold, "b")
+        empty = _store.Held()
+        self.assertEqual(empty.read(0, 1), (Status.EMPTY, None))
+        self.assertEqual(empty.fragment(0, 1), (Status.EMPTY, None))
+        self.assertEqual(empty.lost(0), (Status.EMPTY, 0))
+        self.assertEqual(empty.shape(), (Status.EMPTY, 0, 0, 0, 0, 0, 0))
+
+    def test_a_fragment_is_installed(self):
+        store, blob = self.store, self.blob
+        number = store.put("a", blob)
+        whole = store.hold("a")
+        store.lose("a", 1, 3)
+        fragment = whole.fragment(1, 3)
+        self.assertEqual(fragment, blob[60:64])
+        install = store.install
+        self.refused(Status.BAD_ARGUMENT, "install(1, 3, 3)", install, whole, 1, 3, b"abc")
+        self.refused(Status.BAD_ARGUMENT, "install(1, 3, 0)", install, whole, 1, 3, b"")
+        self.refused(Status.NOT_LOST, "install(0, 3, 4)", install, whole, 0, 3, blob[12:16])
+        self.refused(Status.NO_FRAGMENT, "install(5, 3, 4)", install, whole, 5, 3, fragment)
+        other = Store(4).install
+        self.refused(Status.BAD_ARGUMENT, "install(1, 3, 4)", other, whole, 1, 3, fragment)
+        self.assertEqual(store.install(whole, 1, 3, bytearray(fragment)), number)
+        self.assertEqual((store.get("a"), store.stat("a").lost), (blob, 0))
+        for call in (
+            lambda: store._calls.install("a", 1, 3, fragment, -1),
+            lambda: install(whole, 1, 3, "text"),
+        ):
+            self.assertRaises(TypeError, call)
+        self.assertRaises(ValueError, install, whole, -1, 3, fragment)
+        self.assertRaises(ValueError, install, whole, 1, 2**64, fragment)
+        self.assertEqual(
+            store._calls.install(_store.Held(), 1, 3, fragment, -1), (Status.EMPTY, 0)
+        )
+        store.close()
+        self.refused(Status.EMPTY, "install(1, 3, 4)", install, whole, 1, 3, fragment)
+
+    def test_numbers(self):
+        store = Store(4, limit=100)
+        store.put("a", self.blob)
+        store.put("b", b"x", 6)
+        for fragment in range(4):
+            store.lose("a", 0, fragment)
+        store.trim(5)
+        self.assertEqual(store.numbers(), (2, 201, 4, 1, 6, 5))
+        store.close()
+        self.refused(Status.EMPTY, "numbers()", store.numbers)
+
     def test_a_journal(self):
         store = Store(4, limit=5)
         for _ in range(5):

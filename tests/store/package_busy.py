@@ -22,6 +22,8 @@ CALLS = {
     "repair": lambda store: store.repair("a", 0, 1),
     "trim": lambda store: store.trim(1),
     "mend": lambda store: store.mend(),
+    "hold": lambda store: store.hold("a"),
+    "numbers": lambda store: store.numbers(),
 }
 
 

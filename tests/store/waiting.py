@@ -30,6 +30,8 @@ CALLS = {
     "repair": (lambda session: session.repair("a", 0, 9), "lrc_store_repair_wait"),
     "stat": (lambda session: session.stat("a"), "lrc_store_stat_wait"),
     "mend": (lambda session: session.mend(), "lrc_store_plan_part_wait"),
+    "hold": (lambda session: session.hold("a"), "lrc_store_hold_wait"),
+    "numbers": (lambda session: session.numbers(), "lrc_store_numbers_wait"),
     "trim": (lambda session: session.trim(2), "lrc_store_trim_wait"),
     "delete": (lambda session: session.delete("a"), "lrc_store_delete_wait"),
 }

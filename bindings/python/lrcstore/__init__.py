@@ -4,17 +4,30 @@
 fragments are lost. `lrcstore.coder` encodes and rebuilds fragments of your own.
 """
 
-from lrc_store import Busy, Closed, NotFound, OutOfMemory, Shape, Status, StoreError
+from lrc_store import (
+    Busy,
+    Closed,
+    NotFound,
+    Numbers,
+    OutOfMemory,
+    Shape,
+    Status,
+    StoreError,
+    VersionShape,
+)
 
-from ._store import Store
+from ._store import Store, Version
 
 __all__ = [
     "Busy",
     "Closed",
     "NotFound",
+    "Numbers",
     "OutOfMemory",
     "Shape",
     "Status",
     "Store",
     "StoreError",
+    "Version",
+    "VersionShape",
 ]

@@ -10,14 +10,20 @@
 
 #include "lrc_store.h"
 
+#include <string.h>
 #include <time.h>
 
-enum { SHORT_BYTES = 4096, SLICE_MS = 50, MOST_NUMBERS = 4 };
+enum { SHORT_BYTES = 4096, SLICE_MS = 50, MOST_NUMBERS = 6 };
 
 typedef struct {
     PyObject_HEAD lrc_pool *pool; /* NULL once it is closed */
     unsigned long calls_inside;   /* guarded by the GIL */
 } store_calls;
+
+/* A version of a blob that is held. The GIL guards it. */
+typedef struct {
+    PyObject_HEAD lrc_slot slot;
+} held_version;
 
 /* A call: its arguments, and the numbers that it writes. */
 struct call {
@@ -27,6 +33,7 @@ struct call {
     uint64_t first, second;
     uint8_t *bytes;
     Py_ssize_t len;
+    lrc_slot *held;
     uint64_t numbers[MOST_NUMBERS];
 };
 
@@ -69,6 +76,25 @@ static uint32_t trim(lrc_slot *session, struct call *call, int64_t timeout_ms) {
 
 static uint32_t mend(lrc_slot *session, struct call *call, int64_t timeout_ms) {
     return lrc_store_mend_wait(session, &call->numbers[0], timeout_ms);
+}
+
+static uint32_t hold(lrc_slot *session, struct call *call, int64_t timeout_ms) {
+    return lrc_store_hold_wait(session, call->name, (size_t)call->name_len, call->held,
+                               &call->numbers[0], &call->numbers[1], timeout_ms);
+}
+
+static uint32_t install(lrc_slot *session, struct call *call, int64_t timeout_ms) {
+    return lrc_store_install_wait(session, call->held, call->first, call->second, call->bytes,
+                                  (size_t)call->len, &call->numbers[0], timeout_ms);
+}
+
+static uint32_t tell_numbers(lrc_slot *session, struct call *call, int64_t timeout_ms) {
+    lrc_numbers found = {0};
+    const uint32_t status = lrc_store_numbers_wait(session, &found, timeout_ms);
+    const uint64_t numbers[] = {found.blobs,         found.bytes, found.lost,
+                                found.unrecoverable, found.calls, found.entries};
+    memcpy(call->numbers, numbers, sizeof numbers);
+    return status;
 }
 
 static int64_t now_ms(void) {
@@ -331,6 +357,119 @@ static PyObject *calls_mend(store_calls *self, PyObject *const *words, Py_ssize_
     return reply(status, &call, 1);
 }
 
+/* numbers(timeout_ms) -> (status, blobs, bytes, lost, unrecoverable, calls, entries) */
+static PyObject *calls_numbers(store_calls *self, PyObject *const *words, Py_ssize_t count) {
+    struct call call = {.run = tell_numbers};
+    int64_t timeout_ms;
+    if (!count_is("numbers", count, 1) || timeout_to(&timeout_ms, words[0]) < 0) return NULL;
+    return made(self, &call, timeout_ms, 6);
+}
+
+static void held_dealloc(PyObject *object) {
+    PyTypeObject *type = Py_TYPE(object);
+    lrc_slot_release(&((held_version *)object)->slot);
+    ((freefunc)PyType_GetSlot(type, Py_tp_free))(object);
+    Py_DECREF(type);
+}
+
+/* The slot of a version, or NULL with an exception. */
+static lrc_slot *slot_of(PyObject *object) {
+    if (PyType_GetSlot(Py_TYPE(object), Py_tp_dealloc) == (void *)held_dealloc)
+        return &((held_version *)object)->slot;
+    PyErr_SetString(PyExc_TypeError, "the version is no Held");
+    return NULL;
+}
+
+/* hold(name, held, timeout_ms) -> (status, version, length) */
+static PyObject *calls_hold(store_calls *self, PyObject *const *words, Py_ssize_t count) {
+    struct call call = {.run = hold};
+    int64_t timeout_ms;
+    if (!count_is("hold", count, 3) || name_to(&call, words[0]) < 0 ||
+        !(call.held = slot_of(words[1])) || timeout_to(&timeout_ms, words[2]) < 0)
+        return NULL;
+    return made(self, &call, timeout_ms, 2);
+}
+
+/* install(held, stripe, fragment, bytes, timeout_ms) -> (status, version). A version is passed to
+ * one call at a time, so it keeps the GIL, and tries until the deadline. */
+static PyObject *calls_install(store_calls *self, PyObject *const *words, Py_ssize_t count) {
+    struct call call = {.run = install};
+    int64_t timeout_ms;
+    uint32_t status = LRC_STORE_EMPTY;
+    Py_buffer whole;
+    if (!count_is("install", count, 5) || !(call.held = slot_of(words[0])) ||
+        number_to(&call.first, words[1], UINT64_MAX) < 0 ||
+        number_to(&call.second, words[2], UINT64_MAX) < 0 ||
+        timeout_to(&timeout_ms, words[4]) < 0 ||
+        PyObject_GetBuffer(words[3], &whole, PyBUF_SIMPLE) < 0)
+        return NULL;
+    call.bytes = whole.len ? whole.buf : (uint8_t *)"";
+    call.len = whole.len;
+    if (self->pool) status = on_a_session(self->pool, &call, timeout_ms);
+    PyBuffer_Release(&whole);
+    return reply(status, &call, 1);
+}
+
+/* shape() -> (status, version, length, stripes, lost, width, data_fragments) */
+static PyObject *held_shape(held_version *self, PyObject *nothing) {
+    lrc_shape found = {0};
+    (void)nothing;
+    const uint32_t status = lrc_slot_shape(&self->slot, &found);
+    const struct call call = {.numbers = {found.version, found.len, found.stripes, found.lost,
+                                          found.width, found.data_fragments}};
+    return reply(status, &call, 6);
+}
+
+/* lost(stripe) -> (status, the set of lost fragments as bits) */
+static PyObject *held_lost(held_version *self, PyObject *stripe) {
+    struct call call = {.run = NULL};
+    uint16_t found = 0;
+    if (number_to(&call.first, stripe, UINT64_MAX) < 0) return NULL;
+    const uint32_t status = lrc_slot_lost(&self->slot, call.first, &found);
+    call.numbers[0] = found;
+    return reply(status, &call, 1);
+}
+
+/* A copy of a lent range of so many bytes, or NULL with an exception. */
+static PyObject *copy_of_range(lrc_slot *range, uint64_t length) {
+    PyObject *bytes = PyBytes_FromStringAndSize(NULL, (Py_ssize_t)length);
+    if (!bytes) return NULL;
+    char *target = PyBytes_AsString(bytes);
+    for (uint64_t from = 0, count = 1; count;) {
+        lrc_slice run = {(const uint8_t *)"", 0};
+        lrc_slot_runs(range, from, &run, 1, &count);
+        memcpy(target + from, run.at, run.len);
+        from += run.len;
+    }
+    return bytes;
+}
+
+/* read(start, length) -> (status, bytes or None) */
+static PyObject *held_read(held_version *self, PyObject *const *words, Py_ssize_t count) {
+    uint64_t start, length, pieces;
+    lrc_slot range = LRC_SLOT_EMPTY;
+    if (!count_is("read", count, 2) || number_to(&start, words[0], UINT64_MAX) < 0 ||
+        number_to(&length, words[1], UINT64_MAX) < 0)
+        return NULL;
+    const uint32_t status = lrc_slot_lend(&self->slot, start, length, &range, &pieces);
+    if (status != LRC_STORE_DONE) return Py_BuildValue("(IO)", status, Py_None);
+    PyObject *bytes = copy_of_range(&range, length);
+    lrc_slot_release(&range);
+    return bytes ? Py_BuildValue("(IN)", status, bytes) : NULL;
+}
+
+/* fragment(stripe, fragment) -> (status, bytes or None) */
+static PyObject *held_fragment(held_version *self, PyObject *const *words, Py_ssize_t count) {
+    uint64_t stripe, fragment;
+    lrc_slice found = {(const uint8_t *)"", 0};
+    if (!count_is("fragment", count, 2) || number_to(&stripe, words[0], UINT64_MAX) < 0 ||
+        number_to(&fragment, words[1], UINT64_MAX) < 0)
+        return NULL;
+    const uint32_t status = lrc_slot_fragment(&self->slot, stripe, fragment, &found);
+    if (status != LRC_STORE_DONE) return Py_BuildValue("(IO)", status, Py_None);
+    return Py_BuildValue("(Iy#)", status, found.at, (Py_ssize_t)found.len);
+}
+
 /* close() -> (status, entries, lawful). No call may be inside, or the status is NOT_ALONE. */
 static PyObject *calls_close(store_calls *self, PyObject *nothing) {
     struct call call = {.run = NULL};
@@ -380,46 +519,68 @@ static void calls_dealloc(PyObject *object) {
     Py_DECREF(type);
 }
 
-#define FAST(name)                                                                                 \
-    { #name, (PyCFunction)(void (*)(void))calls_##name, METH_FASTCALL, NULL }
-static PyMethodDef methods[] = {
-    FAST(open),
-    FAST(put),
-    FAST(get),
-    FAST(read_into),
-    FAST(stat),
-    FAST(delete),
-    FAST(lose),
-    FAST(repair),
-    FAST(trim),
-    FAST(mend),
-    {"close", (PyCFunction)calls_close, METH_NOARGS, NULL},
+#define FAST(type, name)                                                                           \
+    { #name, (PyCFunction)(void (*)(void))type##_##name, METH_FASTCALL, NULL }
+static PyMethodDef calls_methods[] = {
+    FAST(calls, open),     FAST(calls, put),
+    FAST(calls, get),      FAST(calls, read_into),
+    FAST(calls, stat),     FAST(calls, delete),
+    FAST(calls, lose),     FAST(calls, repair),
+    FAST(calls, trim),     FAST(calls, mend),
+    FAST(calls, numbers),  FAST(calls, hold),
+    FAST(calls, install),  {"close", (PyCFunction)calls_close, METH_NOARGS, NULL},
     {NULL, NULL, 0, NULL},
 };
 
-static PyType_Slot slots[] = {
+static PyType_Slot calls_slots[] = {
     {Py_tp_dealloc, calls_dealloc},
-    {Py_tp_methods, methods},
+    {Py_tp_methods, calls_methods},
     {Py_tp_doc, "The calls of a store, which any thread may make."},
     {0, NULL},
 };
 
-static PyType_Spec spec = {
+static PyType_Spec calls_spec = {
     .name = "lrcstore._native.Calls",
     .basicsize = sizeof(store_calls),
     .flags = Py_TPFLAGS_DEFAULT,
-    .slots = slots,
+    .slots = calls_slots,
 };
 
-static int add_type(PyObject *module) {
-    PyObject *type = PyType_FromSpec(&spec);
+static PyMethodDef held_methods[] = {
+    FAST(held, read),
+    FAST(held, fragment),
+    {"shape", (PyCFunction)held_shape, METH_NOARGS, NULL},
+    {"lost", (PyCFunction)held_lost, METH_O, NULL},
+    {NULL, NULL, 0, NULL},
+};
+
+static PyType_Slot held_slots[] = {
+    {Py_tp_dealloc, held_dealloc},
+    {Py_tp_methods, held_methods},
+    {Py_tp_doc, "A version of a blob, once a call has held one."},
+    {0, NULL},
+};
+
+static PyType_Spec held_spec = {
+    .name = "lrcstore._native.Held",
+    .basicsize = sizeof(held_version),
+    .flags = Py_TPFLAGS_DEFAULT,
+    .slots = held_slots,
+};
+
+static int add_type(PyObject *module, const char *name, PyType_Spec *spec) {
+    PyObject *type = PyType_FromSpec(spec);
     if (!type) return -1;
-    const int result = PyModule_AddObjectRef(module, "Calls", type);
+    const int result = PyModule_AddObjectRef(module, name, type);
     Py_DECREF(type);
     return result;
 }
 
-static PyModuleDef_Slot module_slots[] = {{Py_mod_exec, add_type}, {0, NULL}};
+static int add_types(PyObject *module) {
+    return add_type(module, "Calls", &calls_spec) < 0 ? -1 : add_type(module, "Held", &held_spec);
+}
+
+static PyModuleDef_Slot module_slots[] = {{Py_mod_exec, add_types}, {0, NULL}};
 
 static struct PyModuleDef module = {
     PyModuleDef_HEAD_INIT,

@@ -3,10 +3,11 @@
 from __future__ import annotations
 
 import contextlib
+import functools
 import threading
 from typing import Any, Callable, Iterator, List, Tuple, Union
 
-from lrc_store import Session, Status, StoreError
+from lrc_store import Session, Status, StoreError, Version
 
 _Name = Union[str, bytes]
 _Bytes = Union[bytes, bytearray, memoryview]
@@ -21,6 +22,44 @@ def _text(name: _Name) -> str:
     if not isinstance(name, str):
         raise TypeError("the name is neither str nor bytes")
     return name
+
+
+def _told(call: Callable[[], Any]) -> Tuple[int, Any]:
+    """The status of a call, and what it returned, or None."""
+    try:
+        return 0, call()
+    except StoreError as error:
+        return error.status.value, None
+
+
+class Held:
+    """A version of a blob, once a call has held one."""
+
+    def __init__(self) -> None:
+        self.version: Version | None = None
+        self._lock = threading.Lock()
+
+    def _of(self, call: Callable[[Version], Any]) -> Tuple[int, Any]:
+        with self._lock:
+            version = self.version
+            if version is None:
+                return Status.EMPTY.value, None
+            return _told(functools.partial(call, version))
+
+    def shape(self) -> Tuple[int, int, int, int, int, int, int]:
+        status, shape = self._of(lambda version: version.shape())
+        a, b, c, d, e, f = shape or (0,) * 6
+        return status, a, b, c, d, e, f
+
+    def lost(self, stripe: int) -> Tuple[int, int]:
+        status, lost = self._of(lambda version: version.lost(stripe))
+        return status, sum(1 << fragment for fragment in lost or ())
+
+    def read(self, start: int, length: int) -> Tuple[int, bytes | None]:
+        return self._of(lambda version: bytes(version.read(start, length)))
+
+    def fragment(self, stripe: int, fragment: int) -> Tuple[int, bytes | None]:
+        return self._of(lambda version: version.fragment(stripe, fragment))
 
 
 class Calls:
@@ -135,6 +174,32 @@ class Calls:
 
     def mend(self, timeout_ms: int) -> Tuple[int, int]:
         return self._reply(timeout_ms, lambda session: session.mend())
+
+    def numbers(self, timeout_ms: int) -> Tuple[int, int, int, int, int, int, int]:
+        status, numbers = self._reply(timeout_ms, lambda session: session.numbers())
+        a, b, c, d, e, f = numbers or (0,) * 6
+        return status, a, b, c, d, e, f
+
+    def hold(self, name: _Name, held: Held, timeout_ms: int) -> Tuple[int, int, int]:
+        text = _text(name)
+        if held.version is not None:
+            return Status.OCCUPIED.value, 0, 0
+        status, version = self._reply(timeout_ms, lambda session: session.hold(text))
+        held.version = version or None
+        return status, version.number if version else 0, version.size if version else 0
+
+    def install(
+        self, held: Held, stripe: int, fragment: int, whole: _Bytes, timeout_ms: int
+    ) -> Tuple[int, int]:
+        if not isinstance(held, Held):
+            raise TypeError("the version is no Held")
+        with held._lock:
+            if held.version is None:
+                return Status.EMPTY.value, 0
+            known: Version = held.version
+            return self._reply(
+                timeout_ms, lambda session: session.install(known, stripe, fragment, whole)
+            )
 
     def close(self) -> Tuple[int, int, int]:
         with self._lock:

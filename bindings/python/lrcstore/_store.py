@@ -3,17 +3,26 @@
 from __future__ import annotations
 
 import math
-from typing import TYPE_CHECKING, Union
+from typing import TYPE_CHECKING, List, Union
 
-from lrc_store import _ERRORS, Closed, Shape, Status, StoreError, _check
+from lrc_store import (
+    _ERRORS,
+    Closed,
+    Numbers,
+    Shape,
+    Status,
+    StoreError,
+    VersionShape,
+    _check,
+)
 
 if TYPE_CHECKING:
-    from ._native import Calls
+    from ._native import Calls, Held
 else:
     try:
-        from ._native import Calls
+        from ._native import Calls, Held
     except ImportError:
-        from ._sessions import Calls
+        from ._sessions import Calls, Held
 
 Name = Union[str, bytes]
 # No call waits so long: 31 years.
@@ -23,6 +32,43 @@ Buffer = Union[bytes, bytearray, memoryview]
 
 def _length(buffer: Buffer) -> int:
     return memoryview(buffer).nbytes
+
+
+class Version:
+    """A version of a blob that is held, by `Store.hold`. Any thread may call it.
+
+    It stays as it is while this lives, whatever happens to the blob and to the store. Its calls
+    take no lock of the store and make no journal entry. `number` is that of the put that stored it,
+    and `size` its length in bytes.
+    """
+
+    def __init__(self, held: Held, number: int, size: int) -> None:
+        self._held, self.number, self.size = held, number, size
+
+    def shape(self) -> VersionShape:
+        """Its shape. The lost fragments are counted through all stripes."""
+        status, *shape = self._held.shape()
+        _check(status, "shape")
+        return VersionShape(*shape)
+
+    def lost(self, stripe: int) -> List[int]:
+        """The fragments of a stripe that were lost when it was held."""
+        status, bits = self._held.lost(stripe)
+        _check(status, "lost", stripe)
+        return [fragment for fragment in range(16) if bits >> fragment & 1]
+
+    def read(self, start: int = 0, length: int | None = None) -> bytes:
+        """A copy of `length` bytes from the byte `start` on. Without a length it is all of them."""
+        wanted = max(0, self.size - start) if length is None else length
+        status, found = self._held.read(start, wanted)
+        _check(status, "read", start, length)
+        return found or b""
+
+    def fragment(self, stripe: int, fragment: int) -> bytes:
+        """A copy of a fragment of a stripe, data or parity."""
+        status, found = self._held.fragment(stripe, fragment)
+        _check(status, "fragment", stripe, fragment)
+        return found or b""
 
 
 class Store:
@@ -133,6 +179,34 @@ class Store:
             kind = _ERRORS.get(Status(status), StoreError)
             raise kind("mend", (), Status(status), repaired)
         return repaired
+
+    def hold(self, name: Name) -> Version:
+        """Holds the version that a blob has now."""
+        held = Held()
+        status, number, size = self._calls.hold(name, held, self._timeout_ms)
+        if status:
+            _check(status, "hold", name)
+        return Version(held, number, size)
+
+    def install(self, known: Version, stripe: int, fragment: int, whole: Buffer) -> int:
+        """Repairs a fragment with bytes that it has in a version, such as one of another machine.
+
+        The caller ensures that the fragment has these bytes. Returns the version of the repaired
+        blob.
+        """
+        status, version = self._calls.install(
+            known._held, stripe, fragment, whole, self._timeout_ms
+        )
+        if status:
+            _check(status, "install", stripe, fragment, _length(whole))
+        return version
+
+    def numbers(self) -> Numbers:
+        """The numbers of the store. It takes the same time for each store."""
+        status, *numbers = self._calls.numbers(self._timeout_ms)
+        if status:
+            _check(status, "numbers")
+        return Numbers(*numbers)
 
     def trim(self, keep: int) -> int:
         """Discards all journal entries but the last `keep`, and returns how many it discarded."""
