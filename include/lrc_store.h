@@ -270,6 +270,9 @@ uint32_t lrc_slot_items(lrc_slot *slot, lrc_item *items, size_t capacity, uint64
  * next one. After any other status the next call takes the next fragment. */
 uint32_t lrc_store_mend_step(lrc_slot *slot, lrc_slot *other, uint64_t *version);
 
+/* Leaves out the next items of a plan, as many as remain and at most `count`. */
+uint32_t lrc_slot_skip(lrc_slot *slot, uint64_t count);
+
 /* Writes the numbers of the store. It takes the same time for each store, allocates nothing, and
  * makes no journal entry. */
 uint32_t lrc_store_numbers(lrc_slot *slot, lrc_numbers *numbers);
@@ -396,6 +399,24 @@ void lrc_pool_give(lrc_pool *pool, lrc_slot *session);
 /* Joins all sessions into one in the empty `slot`, and frees the pool. LRC_STORE_NOT_ALONE if a
  * session is lent. No thread may use the pool meanwhile or afterwards. */
 uint32_t lrc_pool_close(lrc_pool *pool, lrc_slot *slot);
+
+/* ---- A mending: one plan of repairs that any number of threads work off, each on a session of
+ * its own. It is made in parts, so that other threads call between them. */
+typedef struct lrc_mending lrc_mending;
+
+/* Begins a mending. LRC_STORE_NO_MEMORY if out of memory. */
+uint32_t lrc_mending_open(lrc_mending **mending);
+
+/* Repairs lost fragments that no other thread of the mending repairs, and returns LRC_STORE_DONE
+ * once there are no more. The sessions of a mending are of one store. The deadline is for each of
+ * its steps. If one is refused, as a repair with LRC_STORE_JOURNAL_FULL, it stops and returns that
+ * status; its fragment is left to the next call of any thread. `repaired` gets how many it
+ * repaired, unless that is none and it was refused. */
+uint32_t lrc_mending_work(lrc_mending *mending, lrc_slot *session, uint64_t *repaired,
+                          int64_t timeout_ms);
+
+/* Frees the mending. No thread may use it meanwhile or afterwards. */
+void lrc_mending_close(lrc_mending *mending);
 
 #ifdef __cplusplus
 }

@@ -13,6 +13,7 @@
 #define _GNU_SOURCE
 #include "deadline.h"
 #include "lrc_store.h"
+#include "mend.h"
 
 #include <pthread.h>
 #include <string.h>
@@ -31,9 +32,6 @@ enum { SPINS = 16, PAUSES = 32, SHORTEST_NS = 100000, LONGEST_NS = 1600000 };
 /* How many entries are discarded at once, and how long a trim sleeps before its next part, so that
  * threads that sleep get the turn. */
 enum { TRIMMED_AT_ONCE = 512, BETWEEN_NS = 20000 };
-
-/* How many items are planned at once. */
-enum { PLANNED_AT_ONCE = 512 };
 
 /* How many entries a journal may have. A trim discards no more, however many others add. */
 enum { MOST_ENTRIES = 1 << 20 };
@@ -253,13 +251,6 @@ uint32_t lrc_store_plan_part_wait(lrc_slot *slot, lrc_slot *other, uint64_t most
 uint32_t lrc_store_mend_step_wait(lrc_slot *slot, lrc_slot *other, uint64_t *version,
                                   int64_t timeout_ms) {
     REPEAT(TRIES, lrc_store_mend_step(slot, other, version));
-}
-
-/* Whether a mend goes on to its next fragment: this one is repaired, or cannot be. */
-static int is_past(uint32_t status) {
-    return status == LRC_STORE_DONE || status == LRC_STORE_NO_NAME ||
-           status == LRC_STORE_NO_FRAGMENT || status == LRC_STORE_NOT_LOST ||
-           status == LRC_STORE_UNRECOVERABLE;
 }
 
 /* Makes the next part of a plan, and repairs its items. The status is LRC_STORE_NOTHING_LEFT once

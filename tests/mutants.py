@@ -117,6 +117,11 @@ TESTS = {
         " -o program",
         "./program",
     ),
+    "mending": Test(
+        f"{C} tests/store/mending.c library/store_mend.c library/store_wait.c -Wl,--wrap=calloc"
+        f" {STORE} -o program",
+        "./program",
+    ),
     "waits": store_program("edges/waits.c", seconds=25),
     "calls": store_program("edges/calls.cpp", "4"),
     "threads": store_program("edges/threads.cpp", "4"),

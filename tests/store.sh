@@ -104,6 +104,19 @@ pool() {
         && "$work/program" ${1:+"$1"}
 }
 
+# mending WORDS FLAG..: its test, with these words
+mending() {
+    program gcc gnu11 tests/store/mending.c -Wl,--wrap=calloc "${@:2}" \
+        && "$work/program" ${1:+"$1"}
+}
+
+mending_sanitized() {
+    local TSAN_OPTIONS=ignore_noninstrumented_modules=1
+    export TSAN_OPTIONS
+    local store=$LRC_LIBRARIES/liblrc_store.so
+    mending shared library/store_mend.c -g -fsanitize=thread -Wl,-rpath,"$LRC_LIBRARIES"
+}
+
 # The code for either processor, chosen by the environment.
 choice() {
     program gcc gnu11 tests/store/calls.c && "$work/program" && LRC_STORE_CPU=v2 "$work/program"
@@ -165,6 +178,10 @@ test_of "waiting, sanitizers of gcc" gcc gcc waiting "${sanitizers[@]}"
 test_of "pool" gcc gcc pool ""
 test_of "pool, sanitizers of gcc" gcc gcc pool "" "${sanitizers[@]}" library/store_pool.c \
     -Wl,--allow-multiple-definition
+test_of "mending" gcc gcc mending ""
+test_of "mending, sanitizers of gcc" gcc gcc mending "" "${sanitizers[@]}" library/store_mend.c \
+    -Wl,--allow-multiple-definition
+test_of "mending, ThreadSanitizer" gcc gcc mending_sanitized
 test_of "threads, ThreadSanitizer" gcc gcc threads_sanitized
 test_of "pool, ThreadSanitizer" gcc gcc pool_sanitized
 test_of "refused memory" gcc gcc refuse
