@@ -270,8 +270,8 @@ uint32_t lrc_slot_items(lrc_slot *slot, lrc_item *items, size_t capacity, uint64
  * next one. After any other status the next call takes the next fragment. */
 uint32_t lrc_store_mend_step(lrc_slot *slot, lrc_slot *other, uint64_t *version);
 
-/* Leaves out the next items of a plan, as many as remain and at most `count`. */
-uint32_t lrc_slot_skip(lrc_slot *slot, uint64_t count);
+/* Leaves out the next item of a plan. LRC_STORE_NOTHING_LEFT if none remains. */
+uint32_t lrc_slot_skip(lrc_slot *slot);
 
 /* Writes the numbers of the store. It takes the same time for each store, allocates nothing, and
  * makes no journal entry. */

@@ -57,7 +57,7 @@ static void take_items(lrc_mending *mending) {
         ticket->stripe = item.stripe;
         ticket->fragment = item.fragment;
         item.name = (lrc_slice){(const uint8_t *)"", 0};
-        lrc_slot_skip(&mending->plan, 1);
+        lrc_slot_skip(&mending->plan);
     }
 }
 

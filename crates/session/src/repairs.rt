@@ -1,5 +1,5 @@
 //! The repairs of a plan, one by one.
-ghost use Rattle.std.specs.Prelude.{◌≡◌, length};
+ghost use Rattle.std.specs.Prelude.{◌≡◌, ◌≢◌, ◌↔◌, [], length, drop, IsTrue};
 ghost use Rattle.std.specs.List.{last_or, slice_get};
 ghost use Rattle.std.specs.Option.{option_map};
 ghost use Rattle.session.specs.RepairStep.{IsRepairStep};
@@ -84,5 +84,14 @@ impl Repairs {
             let _item = self.items.pop_front();
         }
         Some(reply)
+    }
+
+    /// Leaves out the next item, and returns whether there was one.
+    pub fn skip(&mut self) -> bool
+        ensures items { self.new.items ≡ drop 1 self.old.items }
+        ensures some { IsTrue result ↔ (self.old.items ≢ []) }
+        ensures last { self.new.last ≡ self.old.last }
+    {
+        self.items.pop_front().is_some()
     }
 }
