@@ -29,7 +29,7 @@ FENCE = re.compile(r"^```(\w*)\n(.*?)^```$", re.M | re.S)
 QUOTED = re.compile(r"^(?:\d +)?([\w:]+) +(ensures .*)$")
 NAMED = re.compile(r"`([A-Za-z]\w*(?:::\w+)*)`: (`\w+`(?:, `\w+`)*)")
 LINK = re.compile(r"\]\(([^)#:\s]*)(?:#([\w-]+))?\)")
-FOLDERS = "bench|bindings|crates|docs|examples|include|integrations|packaging|tests|tools"
+FOLDERS = "bench|bindings|crates|docs|examples|include|integrations|packaging|scripts|tests|tools"
 PATH = re.compile(rf"`((?:{FOLDERS})/[\w./-]*\w)`")
 COMMAND = re.compile(rf"(?<![\w./$-])((?:{FOLDERS})/[\w./-]*\w)")
 FIGURE = re.compile(r"\b\d[\d.]* \(\d+\.\d+\)")
@@ -84,7 +84,7 @@ class Code:
         ]
         bound = glob.glob(os.path.join(TOP, "bindings", "**", "*.*"), recursive=True)
         printed = [os.path.join(CRATES, name, "stdout") for name in PRINTING]
-        printed += glob.glob(os.path.join(TOP, "examples", "*.txt"))
+        printed += glob.glob(os.path.join(TOP, "scripts", "*.txt"))
         self.rust = [read(path) for path in rattle]
         self.bound = [read(path) for path in bound if path.endswith((".c", ".cpp", ".py", ".rs"))]
         self.printed = [read(path) for path in printed]

@@ -89,7 +89,7 @@ def wrong_output():
     """The lines that README.md says a script prints."""
     printed = {
         line
-        for path in glob.glob(os.path.join(TOP, "examples", "*.txt"))
+        for path in glob.glob(os.path.join(TOP, "scripts", "*.txt"))
         for line in read(path).splitlines()
     }
     for line in re.findall(r"^    (\d+ [a-z].*|calls \d+|lawful \w+)$", page("README.md"), re.M):
@@ -101,7 +101,7 @@ def wrong_words():
     """The words with which a script is refused, and the replies of its rows."""
     text = page("docs", "script.md")
     words = re.findall(r"Word::\w+ => \"(\w+)\"", page("crates", "script", "src", "rows.rt"))
-    tests = text[text.index("| Word | Test that failed |") : text.index("`examples/refused/`")]
+    tests = text[text.index("| Word | Test that failed |") : text.index("`scripts/refused/`")]
     yield from (
         f"docs/script.md has no word {word}" for word in words if f"| `{word}` |" not in tests
     )

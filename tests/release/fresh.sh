@@ -45,7 +45,7 @@ make_root() {
     echo force-unsafe-io > "$root/etc/dpkg/dpkg.cfg.d/quick"
     cp -r "$work/dist" "$root/dist"
     mkdir "$root/src"
-    cp -rL bindings examples tests/install tests/release "$root/src/"
+    cp -rL bindings scripts tests/install tests/release "$root/src/"
     in_root "apt-get -o Acquire::Retries=3 update" || { echo "no list of packages"; return 1; }
 }
 
@@ -72,7 +72,7 @@ program() {
     steps "cd / && ${install/apt install/apt-get install -y --no-install-recommends}" || return
     steps "test \"\$(lrcstore --version)\" = 'lrcstore $number'" || return
     steps "$run > /src/printed && cmp /src/printed /src/shown" || return
-    steps 'cd /src/examples && lrcstore degraded_read.csv --history > /src/printed
+    steps 'cd /src/scripts && lrcstore degraded_read.csv --history > /src/printed
         cmp /src/printed degraded_read.txt'
 }
 
@@ -176,8 +176,8 @@ moved() {
         if find /usr -name "*lrc_*" -o -name "*lrcstore*" | grep .; then exit 1; fi' || return
     steps 'mkdir -p "/srv/a place" && cd "/srv/a place" && tar -xzf /dist/lrcstore-*.tar.gz
         mv lrcstore-* here && cd here && sha256sum --quiet -c share/lrcstore/SHA256SUMS
-        bin/lrcstore /src/examples/degraded_read.csv --history > /src/printed
-        cmp /src/printed /src/examples/degraded_read.txt
+        bin/lrcstore /src/scripts/degraded_read.csv --history > /src/printed
+        cmp /src/printed /src/scripts/degraded_read.txt
         mv "/srv/a place/here" /srv/moved
         cd /src && PYTHONPATH=/srv/moved/share/lrcstore/python python3 /tmp/store.py'
 }

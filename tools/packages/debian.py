@@ -17,7 +17,7 @@ from packages.reproducible import environment, normalise
 HERE = os.path.join("packaging", "debian")
 # What the packages have of the clone, or compile.
 LEFT_OUT = shutil.ignore_patterns("__pycache__", "target", "*.so", "*.pyc")
-PARTS = ("include", "integrations", "bindings", "docs", "examples", "CHANGELOG.md", "SECURITY.md")
+PARTS = ("include", "integrations", "bindings", "docs", "scripts", "CHANGELOG.md", "SECURITY.md")
 # The plugin is loaded by the Ceph that it was built for and by no other: this one is tested.
 CEPH, AFTER_CEPH = "16.2.15", "16.2.16~"
 NO_PLUGINS = "pkg.lrcstore.noplugins"

@@ -1,4 +1,4 @@
-//! Runs the scripts of `examples/` and `examples/refused/` as the program would, and compares the
+//! Runs the scripts of `scripts/` and `scripts/refused/` as the program would, and compares the
 //! output with the texts beside them. For a refused script it compares the message. It prints the
 //! words of each run, and ends with status 1 at the first difference.
 #![tactic(auto)]
