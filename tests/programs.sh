@@ -57,7 +57,7 @@ if [ -z "${LRC_LIBRARIES:-}" ]; then
     export LRC_LIBRARIES=$work/libraries
     tools/libraries.py --from "$LRC_BUILT" --to "$LRC_LIBRARIES" || failed=$((failed + 1))
 fi
-for each in library store install edges; do part tests/$each.sh; done
+for each in library store install services edges; do part tests/$each.sh; done
 if [ -n "${LRC_BUILT:-}" ]; then
     part tests/release.sh
 else

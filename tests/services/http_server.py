@@ -1,0 +1,150 @@
+#!/usr/bin/env python3
+"""examples/server_http: http_server.py, with the package `lrcstore` on PYTHONPATH."""
+
+import http.client
+import os
+import signal
+import subprocess
+import sys
+import threading
+import time
+import unittest
+
+TOP = os.path.dirname(os.path.dirname(os.path.dirname(os.path.abspath(__file__))))
+SERVER = os.path.join(TOP, "examples", "server_http", "server.py")
+PATIENCE = 60  # seconds that no step takes
+
+
+def bytes_of(length, seed=0):
+    return bytes((7 * i + i // 251 + seed) % 256 for i in range(length))
+
+
+class Server:
+    """A server in a process of its own, for a with block."""
+
+    def __init__(self, *words):
+        self.command = [sys.executable, SERVER, "--port", "0", *words]
+
+    def __enter__(self):
+        self.process = subprocess.Popen(self.command, stdout=subprocess.PIPE, text=True)
+        self.port = int(self.process.stdout.readline())
+        return self
+
+    def __exit__(self, *_):
+        self.process.send_signal(signal.SIGTERM)
+        self.status = self.process.wait(PATIENCE)
+        self.process.stdout.close()
+
+    def ask(self, method, path, body=None, **headers):
+        """The status, the headers and the body of a reply."""
+        client = http.client.HTTPConnection("127.0.0.1", self.port, timeout=PATIENCE)
+        names = {name.replace("_", "-"): value for name, value in headers.items()}
+        client.request(method, path, body, names)
+        reply = client.getresponse()
+        found = reply.status, reply.headers, reply.read()
+        client.close()
+        return found
+
+    def metric(self, name):
+        text = self.ask("GET", "/metrics")[2].decode()
+        return dict(line.split() for line in text.splitlines())[f"lrcstore_{name}"]
+
+
+class Objects(unittest.TestCase):
+    def setUp(self):
+        self.server = Server("--width", "16", "--scrub", "3600")
+        self.server.__enter__()
+        self.blob = bytes_of(1000)
+
+    def tearDown(self):
+        self.server.__exit__()
+        self.assertEqual(self.server.status, 0)
+
+    def test_an_object_comes_back(self):
+        ask = self.server.ask
+        status, headers, _ = ask("PUT", "/a/b c?%20", self.blob)
+        self.assertEqual((status, headers["ETag"]), (201, '"0"'))
+        status, headers, body = ask("GET", "/a/b c?%20")
+        self.assertEqual((status, headers["ETag"], body), (200, '"0"', self.blob))
+        status, headers, body = ask("HEAD", "/a/b c?%20")
+        self.assertEqual((status, headers["Content-Length"], body), (200, "1000", b""))
+        self.assertEqual(ask("GET", "/a/other")[0], 404)
+        self.assertEqual(ask("DELETE", "/a/b c?%20")[0], 204)
+        self.assertEqual(ask("DELETE", "/a/b c?%20")[0], 404)
+        self.assertEqual(ask("GET", "/a/b c?%20")[0], 404)
+        self.assertEqual(ask("PUT", "/empty", b"")[0], 201)
+        self.assertEqual(ask("GET", "/empty")[2], b"")
+
+    def test_ranges(self):
+        ask = self.server.ask
+        ask("PUT", "/a", self.blob)
+        for asked, start, end in (
+            ("bytes=0-0", 0, 0),
+            ("bytes=100-299", 100, 299),
+            ("bytes=990-", 990, 999),
+            ("bytes=990-5000", 990, 999),
+            ("bytes=-10", 990, 999),
+            ("bytes=-5000", 0, 999),
+        ):
+            status, headers, body = ask("GET", "/a", Range=asked)
+            self.assertEqual((status, body), (206, self.blob[start : end + 1]), asked)
+            self.assertEqual(headers["Content-Range"], f"bytes {start}-{end}/1000")
+        for asked in ("bytes=1000-", "bytes=2-1", "bytes=-0"):
+            self.assertEqual(ask("GET", "/a", Range=asked)[0], 416, asked)
+        for asked in ("bytes=-", "lines=0-1", "bytes=0-1,3-4"):
+            self.assertEqual(ask("GET", "/a", Range=asked)[2], self.blob, asked)
+
+    def test_what_is_refused(self):
+        ask = self.server.ask
+        self.assertEqual(ask("PUT", "/a", bytes(12 * 16 * 4096 + 1))[0], 413)
+        self.assertEqual(ask("POST", "/a?lose=0.0")[0], 404)
+        ask("PUT", "/a", self.blob)
+        for words in ("", "?lose=1", "?lose=x.1", "?lose=0.16", "?lose=6.0"):
+            self.assertEqual(ask("POST", f"/a{words}")[0], 400, words)
+        for fragment in range(4):
+            self.assertEqual(ask("POST", f"/a?lose=1.{fragment}")[0], 204)
+        self.assertEqual(ask("POST", "/a?lose=1.3")[0], 409)
+        self.assertEqual(ask("GET", "/a")[0], 503)
+        self.assertEqual(ask("GET", "/a", Range="bytes=0-191")[2], self.blob[:192])
+
+    def test_metrics(self):
+        server = self.server
+        server.ask("PUT", "/a", self.blob)
+        server.ask("PUT", "/b", self.blob)
+        server.ask("POST", "/a?lose=0.3")
+        server.ask("GET", "/none")
+        found = [server.metric(name) for name in ("blobs", "bytes", "lost", "errors_total")]
+        self.assertEqual(found, ["2", "2000", "1", "0"])
+        self.assertEqual(server.metric("requests_total"), "9")
+
+
+class Failures(unittest.TestCase):
+    def test_objects_are_served_while_fragments_are_lost_and_repaired(self):
+        with Server("--width", "64", "--scrub", "0.01") as server:
+            blobs = {f"/{number}": bytes_of(3000 + number, number) for number in range(4)}
+            for path, blob in blobs.items():
+                server.ask("PUT", path, blob)
+            wrong = []
+
+            def read(path):
+                for turn in range(30):
+                    server.ask("POST", f"{path}?lose={turn % 4}.{turn % 16}")
+                    status, _, body = server.ask("GET", path)
+                    if (status, body) != (200, blobs[path]):
+                        wrong.append((path, status))
+
+            threads = [threading.Thread(target=read, args=(path,)) for path in blobs]
+            for thread in threads:
+                thread.start()
+            for thread in threads:
+                thread.join()
+            self.assertEqual(wrong, [])
+            end = time.monotonic() + PATIENCE
+            while server.metric("lost") != "0" and time.monotonic() < end:
+                time.sleep(0.05)
+            self.assertEqual(server.metric("lost"), "0")
+            self.assertGreater(int(server.metric("repaired_total")), 0)
+
+
+if __name__ == "__main__":
+    unittest.main()

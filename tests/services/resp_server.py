@@ -1,0 +1,171 @@
+#!/usr/bin/env python3
+"""examples/server_resp: resp_server.py PROGRAM"""
+
+import random
+import socket
+import subprocess
+import sys
+import threading
+import unittest
+
+PROGRAM = sys.argv.pop(1)
+PATIENCE = 60  # seconds that no step takes
+
+
+def bytes_of(length, seed=0):
+    return bytes((7 * i + i // 251 + seed) % 256 for i in range(length))
+
+
+def encoded(*words):
+    """A command of the protocol."""
+    parts = [word if isinstance(word, bytes) else str(word).encode() for word in words]
+    return b"*%d\r\n" % len(parts) + b"".join(b"$%d\r\n%s\r\n" % (len(it), it) for it in parts)
+
+
+class Client:
+    def __init__(self, port):
+        self.socket = socket.create_connection(("127.0.0.1", port), PATIENCE)
+        self.file = self.socket.makefile("rb")
+
+    def close(self):
+        self.file.close()
+        self.socket.close()
+
+    def reply(self):
+        """A reply: bytes, None, an int, a list, or an Exception."""
+        line = self.file.readline()
+        kind, text = line[:1], line[1:-2]
+        if kind == b"$":
+            return None if text == b"-1" else self.file.read(int(text) + 2)[:-2]
+        if kind == b"*":
+            return [self.reply() for _ in range(int(text))]
+        if kind == b":":
+            return int(text)
+        return ValueError(text.decode()) if kind == b"-" else text
+
+    def ask(self, *words):
+        self.socket.sendall(encoded(*words))
+        return self.reply()
+
+
+class Server(unittest.TestCase):
+    def setUp(self):
+        command = [PROGRAM, "0", "16"]
+        self.process = subprocess.Popen(command, stdout=subprocess.PIPE, text=True)
+        self.port = int(self.process.stdout.readline())
+        self.client = Client(self.port)
+
+    def tearDown(self):
+        self.client.close()
+        self.assertIsNone(self.process.poll(), "the server ended")
+        self.process.terminate()
+        self.process.wait(PATIENCE)
+        self.process.stdout.close()
+
+    def refused(self, text, *words):
+        reply = self.client.ask(*words)
+        self.assertIsInstance(reply, ValueError)
+        self.assertIn(text, str(reply))
+
+    def test_values_come_back(self):
+        ask = self.client.ask
+        for key in (b"a", b"key:000000000001", b"", b"\0\xff\r\n", bytes_of(5000)):
+            self.assertIsNone(ask("GET", key))
+            self.assertEqual(ask("EXISTS", key), 0)
+            for length in (0, 1, 191, 192, 193, 100_000):
+                value = bytes_of(length, len(key))
+                self.assertEqual(ask("SET", key, value), b"OK")
+                self.assertEqual(ask("GET", key), value)
+                self.assertEqual(ask("STRLEN", key), length)
+                self.assertEqual(ask("EXISTS", key), 1)
+            self.assertEqual(ask("DEL", key), 1)
+            self.assertEqual(ask("DEL", key), 0)
+            self.assertEqual((ask("STRLEN", key), ask("GET", key)), (0, None))
+
+    def test_other_commands(self):
+        ask = self.client.ask
+        self.assertEqual(ask("PING"), b"PONG")
+        self.assertEqual(ask("ping"), b"PONG")
+        self.assertEqual(ask("ECHO", b"a\r\nb"), b"a\r\nb")
+        self.assertEqual(ask("COMMAND", "DOCS"), [])
+        self.assertEqual(ask("CONFIG", "GET", "save"), [])
+        self.assertEqual(ask("DBSIZE"), 0)
+        for word in ("NONE", "GETS", "SE"):
+            self.refused("unknown command", word, "a", "b")
+        for words in (("GET",), ("SET", "a"), ("LOSE", "a", "0")):
+            self.refused("too few words", *words)
+        self.assertEqual(ask("QUIT"), b"OK")
+        self.assertEqual(self.client.file.read(), b"")
+
+    def test_fragments_fail(self):
+        ask, value = self.client.ask, bytes_of(1000)
+        self.refused("has no blob", "LOSE", "a", 0, 0)
+        ask("SET", "a", value)
+        for stripe, fragment in ((0, 0), (0, 13), (5, 15)):
+            self.assertEqual(ask("LOSE", "a", stripe, fragment), b"OK")
+        self.refused("lost already", "LOSE", "a", 0, 13)
+        self.assertEqual(ask("GET", "a"), value)
+        text = ask("INFO").decode()
+        self.assertIn("lost_fragments:3\r\n", text)
+        self.assertIn("bytes:1005\r\n", text)
+        self.assertEqual((ask("MEND"), ask("MEND"), ask("DBSIZE")), (3, 0, 1))
+        for fragment in range(2, 6):
+            ask("LOSE", "a", 1, fragment)
+        self.refused("remaining fragments", "GET", "a")
+        self.assertEqual(ask("EXISTS", "a"), 1)
+        self.assertIn("unrecoverable_stripes:1\r\n", ask("INFO").decode())
+
+    def test_commands_in_parts_and_in_a_row(self):
+        all_of_them = b"".join(encoded("SET", f"k{i}", bytes_of(i)) for i in range(300))
+        for byte in all_of_them[:60]:
+            self.client.socket.sendall(bytes([byte]))
+        self.client.socket.sendall(all_of_them[60:])
+        self.assertEqual([self.client.reply() for _ in range(300)], [b"OK"] * 300)
+        self.client.socket.sendall(b"".join(encoded("GET", f"k{i}") for i in range(300)))
+        found = [self.client.reply() for _ in range(300)]
+        self.assertEqual(found, [bytes_of(i) for i in range(300)])
+
+    def test_nonsense_ends_the_connection(self):
+        for text in (
+            b"PING\r\n",
+            b"*0\r\n",
+            b"*9\r\n",
+            b"*1\r\n+PING\r\n",
+            b"*1\r\n$x\r\n",
+            b"*1\r\n$99999999999999999999\r\n",
+            b"*" + b"1" * 40,
+        ):
+            client = Client(self.port)
+            client.socket.sendall(text)
+            self.assertIn("protocol", str(client.reply()), text)
+            self.assertEqual(client.file.read(), b"")
+            client.close()
+        self.assertEqual(self.client.ask("PING"), b"PONG")
+
+    def test_many_clients(self):
+        wrong = []
+
+        def work(seed):
+            client, values, chance = Client(self.port), {}, random.Random(seed)
+            for _ in range(200):
+                key = f"{seed}:{chance.randrange(10)}"
+                if chance.random() < 0.4:
+                    values[key] = bytes_of(chance.randrange(3000), seed)
+                    client.ask("SET", key, values[key])
+                elif chance.random() < 0.2:
+                    client.ask("LOSE", key, 0, chance.randrange(16))
+                    client.ask("MEND")
+                elif client.ask("GET", key) != values.get(key):
+                    wrong.append(key)
+            client.close()
+
+        threads = [threading.Thread(target=work, args=(seed,)) for seed in range(80)]
+        for thread in threads:
+            thread.start()
+        for thread in threads:
+            thread.join()
+        self.assertEqual(wrong, [])
+
+
+if __name__ == "__main__":
+    unittest.main()
