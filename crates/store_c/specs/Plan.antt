@@ -1,5 +1,5 @@
 -- The repairs of a plan, for C.
-use Rattle.std.specs.Prelude.{◌≡◌, ◌≢◌, ◌⊎◌, ℕ, List, [], ◌∷◌, length, take, Result, Option, Some, None}
+use Rattle.std.specs.Prelude.{◌≡◌, ◌≢◌, ◌⊎◌, ℕ, List, [], ◌∷◌, length, take, drop, Result, Option, Some, None}
 use Rattle.std.specs.List.{last_or}
 use Rattle.sealed.specs.declared.fault.Fault.{Fault}
 use Rattle.sealed.specs.declared.fault.Fault.TheVariants.{Busy, NoMemory}
@@ -71,3 +71,15 @@ IsMendCall (Some (Session v number)) (Some (Repairs rest)) status versions (Some
     IsMendStep v rest.items status versions.0 versions.1 w left.items × (left.last ≡ rest.last) × (same ≡ number)
 IsMendCall (Some (Session v number)) (Some (Repairs rest)) status versions new given = ⊥
 IsMendCall old other status versions new given = (status ≡ empty) × (versions.1 ≡ versions.0) × (new ≡ old) × (given ≡ other)
+
+-- the next item was left out, or none remains
+pub record IsSkip (items : List Item) (status : ℕ) (left : List Item) : Type 0 where
+  pub left_is : left ≡ drop 1 items
+  pub some : items ≢ [] → status ≡ done
+  pub none : items ≡ [] → status ≡ nothing_left
+
+-- the slot holds the rest of a plan; or nothing was done
+abbrev pub IsSkipCall : Option Held → ℕ → Option Held → Type 0
+IsSkipCall (Some (Repairs rest)) status (Some (Repairs left)) = IsSkip rest.items status left.items × (left.last ≡ rest.last)
+IsSkipCall (Some (Repairs rest)) status new = ⊥
+IsSkipCall old status new = (status ≡ empty) × (new ≡ old)

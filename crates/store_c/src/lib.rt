@@ -28,7 +28,7 @@ ghost use Rattle.store_c.specs.Items.{IsItemsCall};
 ghost use Rattle.store_c.specs.Journal.{IsCloseToCall, IsEntryCall};
 ghost use Rattle.store_c.specs.Lend.{IsLendTo, IsSlicesCall, IsRunsCall};
 ghost use Rattle.store_c.specs.Numbers.{IsNumbersCall};
-ghost use Rattle.store_c.specs.Plan.{IsPlanTo, IsPlanPartTo, IsMendCall};
+ghost use Rattle.store_c.specs.Plan.{IsPlanTo, IsPlanPartTo, IsMendCall, IsSkipCall};
 ghost use Rattle.store_c.specs.Sessions.{IsOpenCall, IsUnjournaledCall, IsSplitCall, IsJoinCall};
 ghost use Rattle.store_c.specs.Sessions.{AreOfOneStore, IsCloseCall, IsNumberCall};
 ghost use Rattle.store_c.specs.Versions.{IsShapeCall, IsLostCall, IsFragmentCall, IsRangeCall};
@@ -719,6 +719,22 @@ pub extern "C" fn lrc_store_install(
     );
     slot.put(held);
     other.put(given);
+    status
+}
+
+/// Leaves out the next item of a plan.
+#[unsafe(no_mangle)]
+pub extern "C" fn lrc_slot_skip(alloc: Global, slot: &mut Slot) -> u32
+    ensures { IsSkipCall slot.old.held result slot.new.held }
+{
+    let Some(mut held) = slot.take(alloc) else {
+        return EMPTY;
+    };
+    let status = match &mut *held {
+        Some(Held::Repairs(left)) => repairs::skip(left),
+        _ => EMPTY,
+    };
+    slot.put(held);
     status
 }
 

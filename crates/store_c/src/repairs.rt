@@ -2,7 +2,7 @@
 ghost use Rattle.std.specs.Prelude.{◌≡◌, [], None, Some};
 ghost use Rattle.std.specs.List.{last_or};
 ghost use Rattle.session.specs.declared.held.Held.TheVariants.{Repairs as RepairsHeld};
-ghost use Rattle.store_c.specs.Plan.{HasPlan, IsPlanTo, IsPlanPartTo, IsMendStep};
+ghost use Rattle.store_c.specs.Plan.{HasPlan, IsPlanTo, IsPlanPartTo, IsMendStep, IsSkip};
 ghost use Rattle.store_c.specs.Plan.{all_lost, some_lost};
 
 use crate::answers::{number_of, tell};
@@ -139,4 +139,11 @@ pub(crate) fn mend_step(
         Some(reply) => tell(&reply, version),
         None => NOTHING_LEFT,
     }
+}
+
+pub(crate) fn skip(repairs: &mut Repairs) -> u32
+    ensures skip { IsSkip repairs.old.items result repairs.new.items }
+    ensures last { repairs.new.last ≡ repairs.old.last }
+{
+    if repairs.skip() { DONE } else { NOTHING_LEFT }
 }
