@@ -327,6 +327,14 @@ void lrc_slot_release(lrc_slot *slot);
  * none. The text is never freed. */
 const char *lrc_store_text(uint32_t status);
 
+/* How many bytes a name has that lrc_store_name makes. */
+enum { LRC_STORE_NAME_LEN = 32 };
+
+/* Writes a name for a key of any bytes: 160 bits of its SHA-256, in base32. `name` has
+ * LRC_STORE_NAME_LEN bytes. So a service can have keys that are no names. Nobody has found two keys
+ * with one name. */
+void lrc_store_name(const uint8_t *key, size_t key_len, uint8_t *name);
+
 /* The processor level whose code is used, "x86-64-v3" or "x86-64-v2". The library chooses when it
  * is loaded. LRC_STORE_CPU=v2 in the environment forces the second. */
 const char *lrc_store_cpu(void);

@@ -57,6 +57,14 @@ void check(uint32_t status, const char *call, const Arguments &...arguments) {
 
 } // namespace detail
 
+// A name for a key of any bytes. Nobody has found two keys with one name.
+inline std::string name_of(std::string_view key) {
+    std::string name(LRC_STORE_NAME_LEN, '\0');
+    lrc_store_name(reinterpret_cast<const uint8_t *>(key.data() ? key.data() : ""), key.size(),
+                   reinterpret_cast<uint8_t *>(name.data()));
+    return name;
+}
+
 // A slot, which its destructor releases. Its content may be moved: one copy counts at a time.
 class slot {
 public:

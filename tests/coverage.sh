@@ -39,6 +39,7 @@ c_sources() {
     object wait gcc library/store_wait.c
     object pool gcc library/store_pool.c
     object mend gcc library/store_mend.c
+    object name gcc library/store_name.c
     object store_text gcc library/store_text.c
     object coder_text gcc library/coder_text.c
     object choice gcc library/choice.c -fPIC -O1 '-DEACH(of)=of(choice_first) of(choice_second)' \
@@ -49,12 +50,13 @@ c_sources() {
             -Dlrc_store_open_numbered=open_numbered \
             -Dlrc_store_open_unjournaled_numbered=unjournaled_numbered
     done
-    for each in edges/{waits,texts,numbers,choice} store/{waiting,pool,mending} library/{coder,texts}; do
+    for each in edges/{waits,texts,numbers,choice} store/{waiting,pool,mending,names} library/{coder,texts}; do
         object "${each/\//_}" gcc "tests/$each.c"
     done
     run waits "$work"/{edges_waits,wait}.o "${wrapped[@]}" "${store[@]}" --
     run waiting "$work"/{store_waiting,wait}.o --
     run pooled "$work"/{store_pool,pool}.o -Wl,--wrap=malloc,--wrap=calloc "${store[@]}" --
+    run named "$work"/{store_names,name}.o --
     run mended "$work"/{store_mending,mend,wait}.o -Wl,--wrap=calloc "${store[@]}" --
     run texts "$work"/{edges_texts,store_text,coder_text}.o --
     run other_texts "$work"/{library_texts,store_text,coder_text}.o \

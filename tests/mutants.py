@@ -117,6 +117,7 @@ TESTS = {
         " -o program",
         "./program",
     ),
+    "names": Test(f"{C} tests/store/names.c library/store_name.c -o program", "./program"),
     "mending": Test(
         f"{C} tests/store/mending.c library/store_mend.c library/store_wait.c -Wl,--wrap=calloc"
         f" {STORE} -o program",

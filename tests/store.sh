@@ -61,6 +61,8 @@ refuse() {
 
 texts() { program gcc c99 tests/library/texts.c "$coder" && "$work/program"; }
 
+names() { program gcc gnu11 tests/store/names.c && "$work/program"; }
+
 room() { program gcc gnu11 tests/store/room.c && "$work/program"; }
 
 lost_sets() { program gcc gnu11 tests/store/lost_sets.c "$coder" && "$work/program"; }
@@ -189,6 +191,7 @@ test_of "refused memory, sanitizers of gcc" gcc gcc refuse "${sanitizers[@]}"
 test_of "refused memory, valgrind" valgrind valgrind memory
 test_of "lost sets" gcc gcc lost_sets
 test_of "room of a blob" gcc gcc room
+test_of "names of keys" gcc gcc names
 test_of "C example" gcc gcc example in_c
 test_of "C++" g++ g++ cpp "${sanitizers[@]}"
 test_of "C++ example" g++ g++ example in_cpp "${sanitizers[@]}"

@@ -125,6 +125,10 @@ static inline uint32_t fragment_of(lrc_slot *held, uint64_t stripe, uint64_t fra
     return lrc_slot_fragment(held, stripe, fragment, bytes);
 }
 
+static inline void name_of(const uint8_t *key, size_t len, uint8_t *name) {
+    lrc_store_name(len ? key : (const uint8_t *)"", len, name);
+}
+
 /* An empty slot, which C keeps in place. NULL if out of memory. */
 static inline lrc_slot *new_slot(void) { return calloc(1, sizeof(lrc_slot)); }
 

@@ -162,6 +162,13 @@ func patience(ctx context.Context) (int64, error) {
 	return int64((wait + time.Millisecond - 1) / time.Millisecond), nil
 }
 
+// NameOf returns a name for a key of any bytes. Nobody has found two keys with one name.
+func NameOf(key []byte) string {
+	var name [C.LRC_STORE_NAME_LEN]byte
+	C.name_of(address(key), C.size_t(len(key)), address(name[:]))
+	return string(name[:])
+}
+
 // address returns that of the first byte, or nil if there is none.
 func address(p []byte) *C.uint8_t {
 	if len(p) == 0 {

@@ -139,6 +139,20 @@ func TestInstall(t *testing.T) {
 	}
 }
 
+func TestNameOf(t *testing.T) {
+	if name := lrcstore.NameOf(nil); name != "4oymiquy7qobjgx36tejs35zeqt24qpe" {
+		t.Error(name)
+	}
+	store, key := opened(t), []byte("Some Key/\xff")
+	if lrcstore.NameOf(key) == lrcstore.NameOf([]byte("Some Key/\xfe")) {
+		t.Error("two keys have one name")
+	}
+	must(t)(store.Put(background, lrcstore.NameOf(key), key))
+	if blob, _, err := store.Get(background, lrcstore.NameOf(key)); string(blob) != string(key) {
+		t.Error(err)
+	}
+}
+
 func TestNumbers(t *testing.T) {
 	store := opened(t, lrcstore.WithJournal(100))
 	must(t)(store.Put(background, "a", pattern(200)))

@@ -161,6 +161,7 @@ DECLARED = {
     "lrc_slot_lost": [_SLOT, _U64, ctypes.POINTER(ctypes.c_uint16)],
     "lrc_slot_lend": [_SLOT, _U64, _U64, _SLOT, _OUT],
     "lrc_slot_fragment": [_SLOT, _U64, _U64, ctypes.POINTER(_Slice)],
+    "lrc_store_name": [_BYTES, _SIZE, _BYTES],
     "lrc_slot_release": [_SLOT],
     "lrc_store_text": [_U32],
 }
@@ -176,7 +177,7 @@ def _load() -> ctypes.CDLL:
     for name, types in DECLARED.items():
         getattr(library, name).argtypes = types
         getattr(library, name).restype = _U32
-    library.lrc_slot_release.restype = None
+    library.lrc_slot_release.restype = library.lrc_store_name.restype = None
     library.lrc_store_text.restype = ctypes.c_char_p
     return library
 
@@ -219,6 +220,14 @@ def _named(name: str) -> Tuple[bytes, int]:
         raise TypeError(f"the name is of type {type(name).__name__}, expected str")
     text = name.encode(errors="surrogatepass")  # no valid name, which the library says
     return text, len(text)
+
+
+def name_of(key: Union[str, Buffer]) -> str:
+    """A name for a key of any characters or bytes. Nobody has found two keys with one name."""
+    whole = key.encode() if isinstance(key, str) else bytes(_view("the key", key))
+    name = ctypes.create_string_buffer(32)
+    _library.lrc_store_name(whole, len(whole), name)
+    return name.raw.decode()
 
 
 def _view(what: str, data: Buffer) -> memoryview:

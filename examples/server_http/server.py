@@ -11,16 +11,15 @@ is lost. It prints its port once it serves, and ends at SIGINT and SIGTERM.
 from __future__ import annotations
 
 import argparse
-import hashlib
 import re
 import signal
 import threading
 from http import HTTPStatus
 from http.server import BaseHTTPRequestHandler, ThreadingHTTPServer
 from typing import Callable, List, Tuple
-from urllib.parse import unquote, urlsplit
+from urllib.parse import unquote_to_bytes, urlsplit
 
-from lrcstore import NotFound, Status, Store, StoreError
+from lrcstore import NotFound, Status, Store, StoreError, name_of
 
 REPLIES = {
     Status.NO_NAME: HTTPStatus.NOT_FOUND,
@@ -77,9 +76,8 @@ class Handler(BaseHTTPRequestHandler):
 
     @property
     def name(self) -> str:
-        """The name of the path in the store, which takes 32 characters: a hash of the path."""
-        path = unquote(urlsplit(self.path).path)
-        return hashlib.blake2b(path.encode(errors="surrogateescape"), digest_size=16).hexdigest()
+        """The name of the path in the store."""
+        return name_of(unquote_to_bytes(urlsplit(self.path).path))
 
     def reply(self, status: HTTPStatus, body: bytes = b"", **headers: str) -> None:
         self.begin(status, len(body), **headers)

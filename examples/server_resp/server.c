@@ -21,7 +21,7 @@
 #include <sys/socket.h>
 #include <unistd.h>
 
-enum { MOST_WORDS = 8, NAME_LEN = 32, READ_AT_ONCE = 65536, MOST_BYTES = 64 << 20, RUNS = 16 };
+enum { MOST_WORDS = 8, READ_AT_ONCE = 65536, MOST_BYTES = 64 << 20, RUNS = 16 };
 
 struct bytes {
     char *at;
@@ -38,12 +38,6 @@ struct client {
     lrc_pool *pool;
     struct bytes in, out;
     int is_over;
-};
-
-/* A key as the store's name: a hash of 124 bits, since a name has at most 32 bytes of a few kinds.
- * The key stands before the value in the blob, and is compared. */
-struct name {
-    uint8_t text[NAME_LEN];
 };
 
 /* ---- bytes */
@@ -87,88 +81,37 @@ static void say_error(struct client *client, uint32_t status) {
     say(client, "\r\n");
 }
 
-/* ---- keys and values */
+/* ---- commands */
 
-static uint64_t mix(uint64_t hash) {
-    hash = (hash ^ hash >> 33) * 0xff51afd7ed558ccdU;
-    hash = (hash ^ hash >> 33) * 0xc4ceb9fe1a85ec53U;
-    return hash ^ hash >> 33;
-}
+/* The name of a key in the store. */
+struct name {
+    uint8_t text[LRC_STORE_NAME_LEN];
+};
 
 static struct name name_of(struct word key) {
-    uint64_t hashes[2] = {key.len, ~key.len};
     struct name name;
-    for (size_t i = 0; i < key.len; i++)
-        for (int j = 0; j < 2; j++) hashes[j] = mix(hashes[j] * 31 + (uint8_t)key.at[i] + 1);
-    for (size_t i = 0; i < NAME_LEN; i++)
-        name.text[i] = (uint8_t) "0123456789abcdef"[hashes[i / 16] >> i % 16 * 4 & 15];
+    lrc_store_name((const uint8_t *)key.at, key.len, name.text);
     return name;
 }
 
-/* The key that a version begins with, behind its length, is this one. */
-static int has_key(lrc_slot *version, uint64_t len, struct word key) {
-    lrc_slot range = LRC_SLOT_EMPTY;
-    lrc_slice runs[RUNS];
-    uint64_t pieces, count = RUNS, at = 0;
-    uint32_t key_len = (uint32_t)key.len;
-    int same = 1;
-    if (len < sizeof key_len + key.len) return 0;
-    if (lrc_slot_lend(version, 0, sizeof key_len + key.len, &range, &pieces)) return 0;
-    while (count == RUNS && same) {
-        for (int i = 0; i < RUNS; i++) runs[i] = (lrc_slice){(const uint8_t *)"", 0};
-        lrc_slot_runs(&range, at, runs, RUNS, &count);
-        for (uint64_t i = 0; i < count; i++)
-            for (size_t j = 0; j < runs[i].len; j++, at++)
-                same &=
-                    runs[i].at[j] == (at < sizeof key_len ? (uint8_t)(key_len >> 8 * at)
-                                                          : (uint8_t)key.at[at - sizeof key_len]);
-    }
-    lrc_slot_release(&range);
-    return same;
-}
-
-/* Holds the version of a key, and tells the length of its value. LRC_STORE_NO_NAME also if another
- * key has the same name. */
-static uint32_t hold(lrc_slot *session, struct word key, lrc_slot *version, uint64_t *len) {
-    const struct name name = name_of(key);
-    uint64_t number, whole;
-    const uint32_t status =
-        lrc_store_hold_wait(session, name.text, NAME_LEN, version, &number, &whole, -1);
-    if (status) return status;
-    if (!has_key(version, whole, key)) return LRC_STORE_NO_NAME;
-    *len = whole - sizeof(uint32_t) - key.len;
-    return LRC_STORE_DONE;
-}
-
-/* ---- commands */
-
 static void set(struct client *client, lrc_slot *session, const struct word *words) {
-    const struct word key = words[1], value = words[2];
-    const struct name name = name_of(key);
-    lrc_slot blob = LRC_SLOT_EMPTY;
-    lrc_buffer buffer = {(uint8_t *)"", 0};
+    const struct name name = name_of(words[1]);
     uint64_t version;
-    uint32_t status = lrc_slot_reserve(sizeof(uint32_t) + key.len + value.len, &blob);
-    if (status == LRC_STORE_DONE) status = lrc_slot_buffer(&blob, &buffer);
-    if (status == LRC_STORE_DONE) {
-        for (size_t i = 0; i < sizeof(uint32_t); i++) buffer.at[i] = (uint8_t)(key.len >> 8 * i);
-        memcpy(buffer.at + sizeof(uint32_t), key.at, key.len);
-        memcpy(buffer.at + sizeof(uint32_t) + key.len, value.at, value.len);
-        status = lrc_store_put_from_wait(session, name.text, NAME_LEN, &blob, 12, &version, -1);
-    }
-    lrc_slot_release(&blob);
+    const uint32_t status =
+        lrc_store_put_wait(session, name.text, sizeof name.text, (const uint8_t *)words[2].at,
+                           words[2].len, 12, &version, -1);
     if (status)
         say_error(client, status);
     else
         say(client, "+OK\r\n");
 }
 
-/* Sends so many bytes of a version, from `start` on, which are lent and not copied before. */
-static void say_range(struct client *client, lrc_slot *version, uint64_t start, uint64_t len) {
+/* Sends the bytes of a version, which are lent. */
+static void say_version(struct client *client, lrc_slot *version, uint64_t len) {
     lrc_slot range = LRC_SLOT_EMPTY;
     lrc_slice runs[RUNS];
     uint64_t pieces, count = RUNS, at = 0;
-    const uint32_t status = lrc_slot_lend(version, start, len, &range, &pieces);
+    const uint32_t status = lrc_slot_lend(version, 0, len, &range, &pieces);
     if (status) {
         say_error(client, status);
         return;
@@ -185,11 +128,13 @@ static void say_range(struct client *client, lrc_slot *version, uint64_t start, 
 }
 
 static void get(struct client *client, lrc_slot *session, const struct word *words) {
+    const struct name name = name_of(words[1]);
     lrc_slot version = LRC_SLOT_EMPTY;
-    uint64_t len;
-    const uint32_t status = hold(session, words[1], &version, &len);
+    uint64_t number, len;
+    const uint32_t status =
+        lrc_store_hold_wait(session, name.text, sizeof name.text, &version, &number, &len, -1);
     if (status == LRC_STORE_DONE)
-        say_range(client, &version, sizeof(uint32_t) + words[1].len, len);
+        say_version(client, &version, len);
     else if (status == LRC_STORE_NO_NAME)
         say(client, "$-1\r\n");
     else
@@ -200,9 +145,10 @@ static void get(struct client *client, lrc_slot *session, const struct word *wor
 /* The length of a key's value, and whether it has one. Says an error itself. */
 static int measured(struct client *client, lrc_slot *session, struct word key, uint64_t *len,
                     int *exists) {
-    lrc_slot version = LRC_SLOT_EMPTY;
-    const uint32_t status = hold(session, key, &version, len);
-    lrc_slot_release(&version);
+    const struct name name = name_of(key);
+    uint64_t version, stripes, lost;
+    const uint32_t status = lrc_store_stat_wait(session, name.text, sizeof name.text, &version, len,
+                                                &stripes, &lost, -1);
     *exists = status == LRC_STORE_DONE;
     if (*exists || status == LRC_STORE_NO_NAME) return 1;
     say_error(client, status);
@@ -218,17 +164,15 @@ static void tell_length(struct client *client, lrc_slot *session, const struct w
 static void tell_presence(struct client *client, lrc_slot *session, const struct word *words) {
     uint64_t len;
     int exists;
-    if (measured(client, session, words[1], &len, &exists)) say_number(client, ':', exists);
+    if (measured(client, session, words[1], &len, &exists))
+        say_number(client, ':', (uint64_t)exists);
 }
 
 static void delete (struct client *client, lrc_slot *session, const struct word *words) {
     const struct name name = name_of(words[1]);
-    uint64_t len, version;
-    int exists;
-    if (!measured(client, session, words[1], &len, &exists)) return;
-    const uint32_t status = exists
-                                ? lrc_store_delete_wait(session, name.text, NAME_LEN, &version, -1)
-                                : LRC_STORE_NO_NAME;
+    uint64_t version;
+    const uint32_t status =
+        lrc_store_delete_wait(session, name.text, sizeof name.text, &version, -1);
     if (status == LRC_STORE_DONE || status == LRC_STORE_NO_NAME)
         say_number(client, ':', status == LRC_STORE_DONE);
     else
@@ -244,8 +188,9 @@ static uint64_t number_in(struct word word) {
 static void lose(struct client *client, lrc_slot *session, const struct word *words) {
     const struct name name = name_of(words[1]);
     uint64_t version;
-    const uint32_t status = lrc_store_lose_wait(session, name.text, NAME_LEN, number_in(words[2]),
-                                                number_in(words[3]), &version, -1);
+    const uint32_t status =
+        lrc_store_lose_wait(session, name.text, sizeof name.text, number_in(words[2]),
+                            number_in(words[3]), &version, -1);
     if (status)
         say_error(client, status);
     else

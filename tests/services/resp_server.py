@@ -107,7 +107,7 @@ class Server(unittest.TestCase):
         self.assertEqual(ask("GET", "a"), value)
         text = ask("INFO").decode()
         self.assertIn("lost_fragments:3\r\n", text)
-        self.assertIn("bytes:1005\r\n", text)
+        self.assertIn("bytes:1000\r\n", text)
         self.assertEqual((ask("MEND"), ask("MEND"), ask("DBSIZE")), (3, 0, 1))
         for fragment in range(2, 6):
             ask("LOSE", "a", 1, fragment)

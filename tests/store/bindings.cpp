@@ -253,6 +253,16 @@ void numbers() {
     EXPECT(found.entries, 5u);
 }
 
+void names() {
+    EXPECT(lrc::name_of(""), "4oymiquy7qobjgx36tejs35zeqt24qpe");
+    EXPECT(lrc::name_of(std::string_view()), lrc::name_of(""));
+    EXPECT(lrc::name_of("Some Key/1"), lrc::name_of("Some Key/1"));
+    EXPECT(lrc::name_of("Some Key/1") != lrc::name_of("Some Key/2"), true);
+    session s = session::open(4);
+    s.put(lrc::name_of("Some Key/1"), "x");
+    EXPECT(s.get(lrc::name_of("Some Key/1")), "x");
+}
+
 void get_asks_again() {
     session s = session::open(4, 1000), other = s.split(1);
     const std::string blob = bytes_of(200);
@@ -569,6 +579,7 @@ int main() {
     versions();
     installs();
     numbers();
+    names();
     get_asks_again();
     timeouts();
     a_call_ends_at_its_deadline();

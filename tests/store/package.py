@@ -2,7 +2,9 @@
 """The Python package `lrcstore`: package.py native|ctypes, as its calls are made."""
 
 import array
+import base64
 import gc
+import hashlib
 import sys
 import threading
 import unittest
@@ -248,6 +250,15 @@ class Calls(unittest.TestCase):
         self.assertEqual(store.numbers(), (2, 201, 4, 1, 6, 5))
         store.close()
         self.refused(Status.EMPTY, "numbers()", store.numbers)
+
+    def test_a_key_of_any_kind_has_a_name(self):
+        for key in ("", "Some Key/\u20ac", b"\0\xff", bytearray(70), bytes_of(1000)):
+            whole = key.encode() if isinstance(key, str) else bytes(key)
+            wanted = base64.b32encode(hashlib.sha256(whole).digest()[:20]).decode().lower()
+            self.assertEqual(lrcstore.name_of(key), wanted)
+            self.store.put(lrcstore.name_of(key), whole)
+            self.assertEqual(self.store.get(lrcstore.name_of(key)), whole)
+        self.assertRaises(TypeError, lrcstore.name_of, 3)
 
     def test_a_journal(self):
         store = Store(4, limit=5)

@@ -14,6 +14,7 @@ from lrc_store import (
     Status,
     StoreError,
     VersionShape,
+    name_of,
 )
 
 from ._store import Store, Version
@@ -30,4 +31,5 @@ __all__ = [
     "StoreError",
     "Version",
     "VersionShape",
+    "name_of",
 ]

@@ -26,6 +26,14 @@ use library::*;
 use std::ffi::c_void;
 use std::time::Duration;
 
+/// A name for a key of any bytes. Nobody has found two keys with one name.
+pub fn name_of(key: &[u8]) -> String {
+    let mut name = [0; 32];
+    // SAFETY: the key is valid for its length, and the name has as many bytes as are written.
+    unsafe { lrc_store_name(key.as_ptr(), key.len(), name.as_mut_ptr()) };
+    String::from_utf8_lossy(&name).into_owned()
+}
+
 /// A code, by its number of data fragments.
 #[derive(Clone, Copy, Debug, PartialEq, Eq)]
 pub enum Code {

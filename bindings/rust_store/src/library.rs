@@ -127,6 +127,7 @@ extern "C" {
     pub fn lrc_pool_take(pool: *mut RawPool, session: *mut *mut Slot, timeout_ms: i64) -> u32;
     pub fn lrc_pool_give(pool: *mut RawPool, session: *mut Slot);
     pub fn lrc_pool_close(pool: *mut RawPool, slot: *mut Slot) -> u32;
+    pub fn lrc_store_name(key: *const u8, key_len: usize, name: *mut u8);
     pub fn lrc_slot_release(slot: *mut Slot);
     pub fn lrc_store_text(status: u32) -> *const c_char;
 }

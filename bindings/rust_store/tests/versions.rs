@@ -1,6 +1,6 @@
 //! Held versions, fragments out and in, and the numbers of a store.
 
-use lrc_store::{Code, Session, Status};
+use lrc_store::{name_of, Code, Session, Status};
 
 fn blob(len: usize) -> Vec<u8> {
     (0..len).map(|i| (i * 7 + i / 251) as u8).collect()
@@ -71,6 +71,16 @@ fn a_fragment_is_installed() {
     assert_eq!(session.install(&mut whole, 1, 3, &fragment), Ok(0));
     assert_eq!(session.get("a").unwrap(), blob);
     assert_eq!(session.stat("a").unwrap().lost, 0);
+}
+
+#[test]
+fn a_key_of_any_bytes_has_a_name() {
+    assert_eq!(name_of(b""), "4oymiquy7qobjgx36tejs35zeqt24qpe");
+    let (name, other) = (name_of(b"Some Key/\xff"), name_of(b"Some Key/\xfe"));
+    assert_ne!(name, other);
+    let mut session = Session::open(4, None).unwrap();
+    session.put(&name, b"x", Code::Small).unwrap();
+    assert_eq!(session.get(&name).unwrap(), b"x");
 }
 
 #[test]
