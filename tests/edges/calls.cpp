@@ -2,13 +2,13 @@
 // status, each output, each byte. In every other round, allocations are refused inside of calls.
 // Where a call has a waiting form, either is called. calls SECONDS; SEED=.. repeats a run. Link it
 // with -Wl,--wrap=malloc,--wrap=realloc,--wrap=free.
-#include "calls_of_blobs.hpp"
+#include "calls_of_versions.hpp"
 
 namespace {
 
-class World : public BlobCalls {
+class World : public VersionCalls {
 public:
-    using BlobCalls::BlobCalls;
+    using VersionCalls::VersionCalls;
 
     // A few thousand calls, after which nothing is left allocated.
     void round(bool with_refusals) {
@@ -158,6 +158,7 @@ private:
         const uint64_t kind = random.below(1000);
         const auto is_session = [](const Held &each) { return each.holds == Holds::session; };
         if (std::none_of(held.begin(), held.end(), is_session) && !random.one_in(3)) return open();
+        if (random.one_in(6)) return call_of_versions();
         if (kind < 3) return open();
         if (kind < 30) return split();
         if (kind < 60) return join();

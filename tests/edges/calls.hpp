@@ -12,7 +12,7 @@
 // Whether lrc_slot_buffer gives a buffer. A refused put changes that.
 enum class Writable { yes, maybe, no };
 
-enum class Holds { nothing, session, lending, plan, buffer, journal };
+enum class Holds { nothing, session, lending, plan, buffer, journal, version };
 
 struct Held {
     lrc_slot slot = LRC_SLOT_EMPTY;
@@ -25,7 +25,8 @@ struct Held {
     std::vector<model::Item> items;       // of a plan
     size_t next = 0;                      // of a plan
     std::optional<model::Item> last;      // of a plan: the item behind which its next part begins
-    std::string content;                  // of a buffer
+    std::string content;                  // of a buffer; of a version: its name
+    model::Blob blob;                     // of a version
     Writable is_writable = Writable::yes; // of a buffer
     std::deque<model::Entry> entries;     // of a journal
 
@@ -86,7 +87,7 @@ public:
     // The same, and another than `slot`.
     Held &other_with(Holds what, const Held &slot) {
         for (;;)
-            if (Held &found = with(random.one_in(6) ? Holds(random.below(6)) : what);
+            if (Held &found = with(random.one_in(6) ? Holds(random.below(7)) : what);
                 &found != &slot)
                 return found;
     }

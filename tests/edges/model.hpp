@@ -144,6 +144,13 @@ struct Blob {
         return code_of(data).is_unrecoverable(lost_of(stripe), unsigned(fragment));
     }
 
+    uint32_t status_of_read(uint64_t start, uint64_t count) const {
+        if (start > len || count > len - start) return LRC_STORE_OUT_OF_RANGE;
+        for (const Part &part : parts(start, count))
+            if (is_unrecoverable(part.stripe, part.fragment)) return LRC_STORE_UNRECOVERABLE;
+        return LRC_STORE_DONE;
+    }
+
     std::vector<Part> parts(uint64_t start, uint64_t count) const {
         std::vector<Part> cut;
         for (uint64_t at = start, end = start + count; at < end; at += cut.back().len) {
@@ -200,7 +207,8 @@ public:
             return;
         }
         Blob &blob = found->second;
-        if (entry.call == LRC_CALL_READ) entry.status = read(entry, blob);
+        if (entry.call == LRC_CALL_READ)
+            entry.status = blob.status_of_read(entry.first, entry.second);
         if (entry.call == LRC_CALL_LOSE || entry.call == LRC_CALL_REPAIR)
             entry.status = entry.first >= blob.stripes || entry.second >= blob.data + 4
                                ? uint32_t{LRC_STORE_NO_FRAGMENT}
@@ -214,6 +222,21 @@ public:
             entry.lost = blob.lost_count;
         }
         if (entry.call == LRC_CALL_DELETE) blobs.erase(found);
+    }
+
+    lrc_numbers numbers() const {
+        lrc_numbers all = {blobs.size(), 0, 0, 0, discarded + journal.size(), journal.size()};
+        for (const auto &[name, blob] : blobs) {
+            all.bytes += blob.len;
+            all.lost += blob.lost_count;
+            for (const auto &[stripe, lost] : blob.lost)
+                for (unsigned f = 0; f < 16; f++)
+                    if (blob.is_unrecoverable(stripe, f)) {
+                        all.unrecoverable++;
+                        break;
+                    }
+        }
+        return all;
     }
 
     // All lost fragments, by name, stripe and fragment.
@@ -245,14 +268,6 @@ private:
         blob.stripes = (blob.len + stripe - 1) / stripe;
         blob.bytes = bytes;
         blobs[entry.name] = blob;
-    }
-
-    static uint32_t read(const Entry &entry, const Blob &blob) {
-        if (entry.first > blob.len || entry.second > blob.len - entry.first)
-            return LRC_STORE_OUT_OF_RANGE;
-        for (const Part &part : blob.parts(entry.first, entry.second))
-            if (blob.is_unrecoverable(part.stripe, part.fragment)) return LRC_STORE_UNRECOVERABLE;
-        return LRC_STORE_DONE;
     }
 
     static uint32_t lose(const Entry &entry, Blob &blob) {
