@@ -26,6 +26,7 @@ sources_of_debian() {
 make_root() {
     local sources
     sources=$(sources_of_debian)
+    grep -q '^VERSION_ID="12"' /etc/os-release || { echo "no Debian 12 here"; return 1; }
     [ "$(id -u)" = 0 ] || { echo "no root user"; return 1; }
     [ -n "${RELEASE_MOUNTS:-}" ] || { echo "no namespace of mounts"; return 1; }
     mkdir "$root"
@@ -68,7 +69,7 @@ program() {
     run=$(sed -n 's/^    \(lrcstore .*\)/\1/p' README.md)
     sed -n '/^    1 stored 1$/,/^    lawful yes$/s/^    //p' README.md > "$root/src/shown"
     [ -s "$root/src/shown" ] && [ -n "$install" ] && [ -n "$run" ] || return
-    steps 'if command -v rt || command -v rattle || command -v gcc; then exit 1; fi' || return
+    steps 'if command -v rt || command -v rattle; then exit 1; fi' || return
     steps "cd / && ${install/apt install/apt-get install -y --no-install-recommends}" || return
     steps "test \"\$(lrcstore --version)\" = 'lrcstore $number'" || return
     steps "$run > /src/printed && cmp /src/printed /src/shown" || return
@@ -136,7 +137,7 @@ in_python() {
 }
 
 by_pip() {
-    steps 'apt-get purge -y python3-lrcstore && python3 -m venv /venv
+    steps 'dpkg --purge python3-lrcstore && python3 -m venv /venv
         /venv/bin/pip install --no-index /dist/lrcstore-*.whl && cd /tmp
         test "$(/venv/bin/python store.py)" = "HELLO, WORLD"
         test "$(/venv/bin/python rebuild.py)" = HELL'
