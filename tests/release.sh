@@ -44,22 +44,22 @@ clone_here() {
     git ls-files -z --cached --others --exclude-standard \
         | xargs -0 sh -c 'for it; do [ ! -e "$it" ] || cp -P --parents "$it" "$0"; done' \
             "$clone"
-    (cd "$clone" && git init -q && git add -A \
+    (cd "$clone" && git init -q -b main && git add -A \
         && git -c user.name=tests -c user.email=tests@invalid commit -q -m "ci: what is here")
 }
 
 # What Debian packages need here. What is missing is skipped.
 choose_kinds() {
-    local missing=""
+    local missing
     if ! has dpkg-buildpackage || ! has dh || ! has dh_python3; then
         skipped+=("Debian packages: no debhelper, dh-python")
         return
     fi
     kinds+=(deb)
-    has /usr/include/liberasurecode/erasurecode_backend.h || missing=liberasurecode-dev
-    has /usr/include/rados/buffer.h || missing="$missing libradospp-dev"
+    missing=$(PYTHONPATH=tools PYTHONDONTWRITEBYTECODE=1 python3 -c \
+        'from packages import debian; print(*debian.missing_for_plugins(), sep=", ")')
     [ -z "$missing" ] && return
-    skipped+=("plugins in packages: no ${missing# }")
+    skipped+=("plugins in packages: no $missing")
     options+=(--no-plugins)
 }
 
