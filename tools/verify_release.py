@@ -5,9 +5,9 @@
 
 It clones the commit that DIST's provenance names, makes the same kinds of packages there, and
 prints each file of DIST that differs, with its members that do. With --from it packs again from
-BUILT, which needs no kit. Without, it proves and builds anew first, which takes most of an hour;
-then LOG has the verdicts. --keep leaves the packages in FOLDER. The status is 0 if and only if
-every file is the same.
+BUILT, which needs no kit. Without, it builds first, which takes most of an hour on a machine that
+has proved nothing of it; then LOG has the verdicts. --keep leaves the packages in FOLDER. The
+status is 0 if and only if every file is the same.
 """
 
 import argparse

@@ -158,6 +158,27 @@ class Records(Folder):
         )
         self.assertEqual(record.sources("command_line"), ran.stdout.split()[0])
 
+    def test_what_is_not_reused_is_proved_and_built(self):
+        self.write("as it is", "ready", "libcoder_c_v2.a")
+        asked = []
+
+        def prove(*words):
+            asked.append(words[:2])
+            return self.write(" ".join(words[:2]), "proved")
+
+        os.mkdir(self.path("built"))
+        program = self.write("program", "program")
+        with mock.patch.object(libraries, "prove", prove), mock.patch.object(
+            libraries, "kit_libc", lambda built: program
+        ), mock.patch.object(building.build, "build_all", lambda name: program):
+            building.fill(self.path("built"), self.path("ready"))
+        self.assertEqual(sorted(os.listdir(self.path("built"))), sorted(record.FILES))
+        self.assertEqual(asked, [it for it in record.ARCHIVES.values() if it != ("coder_c", "v2")])
+        found = {it: reproducible.read_bytes(self.path("built", it)) for it in record.FILES}
+        self.assertEqual(found["libcoder_c_v2.a"], b"as it is")
+        self.assertEqual(found["libstore_c_v3.a"], b"store_c v3")
+        self.assertTrue(os.access(self.path("built", record.PROGRAM), os.X_OK))
+
     def built(self):
         """A folder as BUILT, of other bytes."""
         for it in record.FILES:
