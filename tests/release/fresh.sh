@@ -2,7 +2,7 @@
 # Part of tests/release.sh: the packages in a fresh Debian 12 that has no kit. $root is its folder,
 # and $work/dist has the packages. What Debian itself has is installed before a test, and what can't
 # be had is skipped; the packages of the release are then installed by apt without a network.
-# shellcheck disable=SC2016 # commands are for the other root
+# shellcheck disable=SC2016,SC2154 # commands are for the other root, variables of the script
 
 # in_root COMMAND: runs it there, with no variable of this system
 in_root() {
