@@ -63,9 +63,9 @@ class Objects(unittest.TestCase):
     def test_an_object_comes_back(self):
         ask = self.server.ask
         status, headers, _ = ask("PUT", "/a/b c?%20", self.blob)
-        self.assertEqual((status, headers["ETag"]), (201, '"0"'))
+        self.assertEqual((status, headers["ETag"]), (201, '"1"'))
         status, headers, body = ask("GET", "/a/b c?%20")
-        self.assertEqual((status, headers["ETag"], body), (200, '"0"', self.blob))
+        self.assertEqual((status, headers["ETag"], body), (200, '"1"', self.blob))
         status, headers, body = ask("HEAD", "/a/b c?%20")
         self.assertEqual((status, headers["Content-Length"], body), (200, "1000", b""))
         self.assertEqual(ask("GET", "/a/other")[0], 404)

@@ -34,7 +34,8 @@ class Calls(unittest.TestCase):
                 (b"bytes", bytearray(blob), 6),
                 ("memoryview", memoryview(blob), 12),
                 ("array", array.array("B", blob), 6),
-            )
+            ),
+            1,
         ):
             self.assertEqual(store.put(name, given, fragments), version)
             self.assertEqual(store.get(name), blob)
@@ -143,7 +144,7 @@ class Calls(unittest.TestCase):
             lambda: store.trim("3"),
         ):
             self.assertRaises((TypeError, BufferError), call)
-        self.assertEqual(store.stat("a"), (0, 1, 1, 0))
+        self.assertEqual(store.stat("a"), (1, 1, 1, 0))
 
     def test_the_timeout_is_none_or_a_time(self):
         store = self.store
@@ -165,7 +166,7 @@ class Calls(unittest.TestCase):
         self.refused(Status.EMPTY, "close()", store.close)
         self.refused(Status.EMPTY, "get('a', 0, None)", store.get, "a")
         self.refused(Status.EMPTY, "get('a', 0, 3)", store.get, "a", 0, 3)
-        self.refused(Status.EMPTY, "mend()", store.mend)
+        self.refused(Status.EMPTY, "mend() after 0 repaired fragments", store.mend)
         self.refused(Status.EMPTY, "trim(3)", store.trim, 3)
         self.assertEqual(_store.Calls().close()[0], Status.EMPTY)
         calls = _store.Calls()

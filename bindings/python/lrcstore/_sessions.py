@@ -7,7 +7,7 @@ import functools
 import threading
 from typing import Any, Callable, Iterator, List, Tuple, Union
 
-from lrc_store import Session, Status, StoreError, Version
+from lrc_store import Session, Status, StoreError, Version, _number
 
 _Name = Union[str, bytes]
 _Bytes = Union[bytes, bytearray, memoryview]
@@ -126,12 +126,14 @@ class Calls:
     ) -> Tuple[int, int, bytes | None]:
         text = _text(name)
 
+        wanted = _number("length", length or 0)
+
         def copied(session: Session) -> Tuple[int, bytes]:
             while True:
                 shape = session.stat(text) if length is None else None
                 if shape and start > shape.len:
                     raise StoreError("get", (), Status.OUT_OF_RANGE)
-                target = bytearray(shape.len - start if shape else length or 0)
+                target = bytearray(shape.len - start if shape else wanted)
                 try:
                     version = session.read_into(text, start, target)
                 except StoreError as error:

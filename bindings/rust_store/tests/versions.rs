@@ -15,13 +15,13 @@ fn a_version_stays_as_it_is() {
     let mut held = session.hold("a").unwrap();
     assert_eq!(
         (held.number(), held.len(), held.is_empty()),
-        (0, 200, false)
+        (1, 200, false)
     );
     session.delete("a").unwrap();
     let shape = held.shape().unwrap();
     assert_eq!(
         (shape.version, shape.len, shape.stripes, shape.lost),
-        (0, 200, 9, 2)
+        (1, 200, 9, 2)
     );
     assert_eq!((shape.width, shape.code), (4, Code::Small));
     assert_eq!(held.lost(2).unwrap(), 1 << 9);
@@ -29,7 +29,7 @@ fn a_version_stays_as_it_is() {
     assert_eq!(held.lost(9).unwrap_err().status, Status::NoFragment);
     drop(session);
     let grant = held.read(3, 80).unwrap();
-    assert_eq!(grant.version(), 0);
+    assert_eq!(grant.version(), 1);
     assert_eq!(grant.to_vec(), blob[3..83]);
     assert!(grant.pieces().count() > 1);
     assert_eq!(held.read(0, 200).unwrap().to_vec(), blob);
@@ -68,7 +68,7 @@ fn a_fragment_is_installed() {
     assert_eq!(error.status, Status::NotLost);
     let error = other.install(&mut whole, 1, 3, &fragment).unwrap_err();
     assert_eq!(error.status, Status::BadArgument);
-    assert_eq!(session.install(&mut whole, 1, 3, &fragment), Ok(0));
+    assert_eq!(session.install(&mut whole, 1, 3, &fragment), Ok(1));
     assert_eq!(session.get("a").unwrap(), blob);
     assert_eq!(session.stat("a").unwrap().lost, 0);
 }
