@@ -45,7 +45,8 @@ clone_here() {
         | xargs -0 sh -c 'for it; do [ ! -e "$it" ] || cp -P --parents "$it" "$0"; done' \
             "$clone"
     (cd "$clone" && git init -q -b main && git add -A \
-        && git -c user.name=tests -c user.email=tests@invalid commit -q -m "ci: what is here")
+        && git -c user.name=tests -c user.email=tests@invalid -c commit.gpgsign=false \
+            commit -q --no-verify -m "ci: what is here")
 }
 
 # What Debian packages need here. What is missing is skipped.

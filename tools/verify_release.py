@@ -54,8 +54,9 @@ def made_again(given, folder):
 
 def main():
     given = arguments()
-    if not glob.glob(os.path.join(given.dist, comparing.PROVENANCE)):
-        sys.exit(f"{given.dist} has no {comparing.PROVENANCE}")
+    for each in (comparing.PROVENANCE, comparing.SUMS):
+        if not glob.glob(os.path.join(given.dist, each)):
+            sys.exit(f"{given.dist} has no {each}")
     wrong = list(comparing.wrong_sums(given.dist))
     with tempfile.TemporaryDirectory() as folder:
         wrong += comparing.differences(given.dist, made_again(given, folder))

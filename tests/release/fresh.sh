@@ -29,6 +29,7 @@ make_root() {
     grep -q '^VERSION_ID="12"' /etc/os-release || { echo "no Debian 12 here"; return 1; }
     [ "$(id -u)" = 0 ] || { echo "no root user"; return 1; }
     [ -n "${RELEASE_MOUNTS:-}" ] || { echo "no namespace of mounts"; return 1; }
+    [ "$(df -k --output=avail "$work" | tail -n 1)" -gt 4000000 ] || { echo "no 4 GB"; return 1; }
     mkdir "$root"
     if [ -n "${LRC_DEBIAN:-}" ]; then
         tar -C "$root" -xf "$LRC_DEBIAN" || { echo "no $LRC_DEBIAN"; return 1; }
