@@ -1,5 +1,5 @@
 //! One call in a shard's critical section.
-ghost use Rattle.std.specs.Prelude.{◌≡◌, ◌≢◌, ◌⊎◌, ◌+◌, IfOk, IfErr};
+ghost use Rattle.std.specs.Prelude.{◌≡◌, ◌≢◌, ◌⊎◌, ◌+◌, [], Err, IfOk, IfErr, IsOk};
 ghost use Rattle.one_map.specs.OneMap.{operation_shard};
 ghost use Rattle.shared.specs.Calls.{Called};
 ghost use Rattle.shared.specs.Deeds.{deed_of, act_if};
@@ -52,7 +52,8 @@ impl Shard {
         result
     }
 
-    /// As `make`, if no other thread is in the critical section. Else `Busy`.
+    /// As `make`, if no other thread is in the critical section. Else `Busy`, and the request is
+    /// lost; `try_prepared` gives it back.
     pub fn try_make(
         &self,
         ledger: &Ledger<StoreAct>,
@@ -83,11 +84,55 @@ impl Shard {
         ensures follower { IsKeptUp ledger.now.setup seat.old.shard seat.old.shows.acts
             seat.new.shows.acts follower.old follower.new }
     {
+        match self.try_prepared(ledger, seat, follower, request) {
+            Ok(reply) => reply,
+            Err(_) => Err(Fault::Busy),
+        }
+    }
+
+    /// Makes a call on a name of this shard, if no other thread is in the critical section. If one
+    /// is there, it gives the request back as it was, as `Store::try_prepared` does.
+    pub fn try_prepared(
+        &self,
+        ledger: &Ledger<StoreAct>,
+        seat: &mut ShardSeat,
+        follower: &mut Follower<StoreAct>,
+        request: Request,
+    ) -> Result<Result<Answer, Fault>, Request>
+        requires shard { seat.old.shows.store ≡ self.now }
+        requires at { IsSeatOf ledger.now seat.old }
+        requires ledger { follower.old.ledger ≡ ledger.now }
+        requires name { operation_shard ledger.now.setup.count (operation_of request)
+            ≡ seat.old.shard }
+        requires can { CanAsk seat.old.shows request }
+        ensures called { IfOk result
+            (λ reply. Called seat.old.shows (operation_of request) reply seat.new.shows) }
+        ensures granted { IfOk result
+            (λ reply. IfOk reply (IsGrantedTo seat.new.shows.seen self.now.width request)) }
+        ensures no_memory { IfOk result (λ reply. reply ≡ Err Fault.NoMemory
+            → WantedFor seat.new.shows.seen self.now.width request) }
+        ensures faults { IfOk result (λ reply. IfErr reply (IsFaultOf request)) }
+        ensures entered { IfOk result (λ _. VisitsOnce seat.old.shows seat.new.shows) }
+        ensures kept { IfErr result (λ r. r ≡ request) }
+        ensures refused { IfErr result (λ _. Called seat.old.shows (operation_of request)
+            (Err Fault.Busy) seat.new.shows) }
+        ensures busy { IfErr result (λ _. FindsBusy seat.old.shows seat.new.shows) }
+        ensures lone { seat.old.shows.room ≡ 64 → IsOk result }
+        ensures same { (seat.new.ledger ≡ seat.old.ledger) × (seat.new.shard ≡ seat.old.shard) }
+        ensures listed { IfOk result (λ reply. IsListed seat.old.shard
+            (act_if seat.old.shows.who (deed_of (operation_of request) reply))
+            seat.old.shows.acts seat.new.shows.acts (listing_of follower.old)
+            (listing_of follower.new)) }
+        ensures unlisted { IfErr result (λ _. IsListed seat.old.shard [] seat.old.shows.acts
+            seat.new.shows.acts (listing_of follower.old) (listing_of follower.new)) }
+        ensures follower { IsKeptUp ledger.now.setup seat.old.shard seat.old.shows.acts
+            seat.new.shows.acts follower.old follower.new }
+    {
         let Some(mut inside) = self.gate.try_enter(&mut seat.seat) else {
-            return Err(Fault::Busy);
+            return Err(request);
         };
-        let result = request.make_on(&mut inside.value.value.0, seat.who);
+        let reply = request.make_on(&mut inside.value.value.0, seat.who);
         leave_book(ledger, &self.gate, &mut seat.seat, follower, inside);
-        result
+        Ok(reply)
     }
 }

@@ -4,10 +4,13 @@
 
 mod entry;
 mod mending;
+mod numbers;
 mod plan;
+mod plan_part;
 mod seat;
 mod shard;
 mod trim;
+mod trim_part;
 
 pub use seat::{SeatReceipt, ShardSeat};
 pub use shard::Shard;

@@ -1,8 +1,9 @@
 //! The lost fragments of a shard.
-ghost use Rattle.std.specs.Prelude.{◌≡◌, [], None, IfOk, IfErr};
+ghost use Rattle.std.specs.Prelude.{◌≡◌, ◌≢◌, ◌⊎◌, [], None, IfOk, IfErr};
 ghost use Rattle.history.specs.History.{state_of};
 ghost use Rattle.book.specs.Plan.{plan_of};
 ghost use Rattle.shared.specs.Deeds.{Takes};
+ghost use Rattle.shared.specs.Passes.{FindsBusy, VisitsOnce};
 ghost use Rattle.shard.specs.Seats.{IsSeatOf};
 ghost use Rattle.shard.specs.Listed.{IsListed, IsKeptUp, listing_of};
 
@@ -36,6 +37,37 @@ impl Shard {
             seat.new.shows.acts follower.old follower.new }
     {
         let inside = ledger.enter(rt, &self.gate, &mut seat.seat);
+        let plan = inside.value.value.0.plan(alloc);
+        leave_book(ledger, &self.gate, &mut seat.seat, follower, inside);
+        plan.map_err(|_| Fault::NoMemory)
+    }
+
+    /// As `plan`, if no other thread is in the critical section. Else `Busy`.
+    pub fn try_plan(
+        &self,
+        alloc: Global,
+        ledger: &Ledger<StoreAct>,
+        seat: &mut ShardSeat,
+        follower: &mut Follower<StoreAct>,
+    ) -> Result<Plan, Fault>
+        requires shard { seat.old.shows.store ≡ self.now }
+        requires at { IsSeatOf ledger.now seat.old }
+        requires ledger { follower.old.ledger ≡ ledger.now }
+        ensures takes { Takes seat.old.shows None seat.new.shows }
+        ensures ok { IfOk result (λ p. p.items.items ≡ plan_of (state_of seat.new.shows.seen)) }
+        ensures faults { IfErr result (λ e. (e ≡ Fault.Busy) ⊎ (e ≡ Fault.NoMemory)) }
+        ensures busy { result ≡ Err Fault.Busy → FindsBusy seat.old.shows seat.new.shows }
+        ensures entered { result ≢ Err Fault.Busy → VisitsOnce seat.old.shows seat.new.shows }
+        ensures lone { seat.old.shows.room ≡ 64 → result ≢ Err Fault.Busy }
+        ensures same { (seat.new.ledger ≡ seat.old.ledger) × (seat.new.shard ≡ seat.old.shard) }
+        ensures listed { IsListed seat.old.shard [] seat.old.shows.acts seat.new.shows.acts
+            (listing_of follower.old) (listing_of follower.new) }
+        ensures follower { IsKeptUp ledger.now.setup seat.old.shard seat.old.shows.acts
+            seat.new.shows.acts follower.old follower.new }
+    {
+        let Some(inside) = self.gate.try_enter(&mut seat.seat) else {
+            return Err(Fault::Busy);
+        };
         let plan = inside.value.value.0.plan(alloc);
         leave_book(ledger, &self.gate, &mut seat.seat, follower, inside);
         plan.map_err(|_| Fault::NoMemory)

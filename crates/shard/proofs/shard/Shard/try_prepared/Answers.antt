@@ -11,10 +11,10 @@ use Rattle.ledger_map.specs.Legal.{event_shard}
 use Rattle.shard.specs.Seats.{books_in, plain}
 use Rattle.shard.specs.Listed.{IsListed, listing_of}
 use Rattle.shard.proofs.Visits.{enters, leaves, beside, keeper_ledger, may_leave, Visited, visited, busy_seat, busy_place, busy_acts, found_inside, nothing_listed, nothing_changed, expected_now, left_books, listed_called, calls_made}
-use Rattle.shard.proofs.shard.Shard.try_make.Goals as goal
+use Rattle.shard.proofs.shard.Shard.try_prepared.Goals as goal
 
-pub make_on-result-requires : goal.make_on-result-requires
-make_on-result-requires c =
+pub make_on-reply-requires : goal.make_on-reply-requires
+make_on-reply-requires c =
     let e = c.try_enter.ensures in
     can_make_inside (plain c.seat.inside.seat) (plain c.try_enter.new.seat) c.in-Some.inside.value.value.0 c.seat.inside.who c.args.request _ (ap (λ t. t.shows) c.seat.view_is) c.seat.invariant.pass
     (enters c.seat.inside.seat c.try_enter.new.seat c.in-Some.inside.value (record { same = (e.kept.0, e.kept.1, e.kept.2); seen = e.seen; found = c.in-Some.ensures.found.1; lone = λ all. (e.lone all).1 })) c.requires.can
@@ -27,17 +27,17 @@ leave_book-requires-clause-ledger c =
 pub leave_book-requires-clause-found : goal.leave_book-requires-clause-found
 leave_book-requires-clause-found c =
     let e = c.try_enter.ensures in
-    let m = c.make_on-result.ensures in
+    let m = c.make_on-reply.ensures in
     may_leave c.args.ledger.now c.seat.inside.seat c.try_enter.new.seat c.in-Some.inside.value c.seat.inside.who c.args.seat.now c.seat.view_is c.requires.at c.seat.invariant (record { same = (e.kept.0, e.kept.1, e.kept.2); seen = e.seen; found = c.in-Some.ensures.found.1; lone = λ all. (e.lone all).1 })
-    c.make_on-result.new.kept (made_by c.seat.inside.who (operation_of c.args.request) c.make_on-result.result) 0 (call_goes_on c.make_on-result.result c.in-Some.inside.value.value.0.0.value c.make_on-result.new.kept.0.value c.seat.inside.who (operation_of c.args.request) m.kept (answered c.make_on-result.result c.in-Some.inside.value.value.0.0.value c.make_on-result.new.kept.0.value c.seat.inside.who (operation_of c.args.request) m.ok m.full) m.err) (calls_made (event_shard c.args.ledger.now.setup.count) c.args.seat.now.shard c.seat.inside.who (operation_of c.args.request) c.make_on-result.result (λ _. c.requires.name))
+    c.make_on-reply.new.kept (made_by c.seat.inside.who (operation_of c.args.request) c.make_on-reply.result) 0 (call_goes_on c.make_on-reply.result c.in-Some.inside.value.value.0.0.value c.make_on-reply.new.kept.0.value c.seat.inside.who (operation_of c.args.request) m.kept (answered c.make_on-reply.result c.in-Some.inside.value.value.0.0.value c.make_on-reply.new.kept.0.value c.seat.inside.who (operation_of c.args.request) m.ok m.full) m.err) (calls_made (event_shard c.args.ledger.now.setup.count) c.args.seat.now.shard c.seat.inside.who (operation_of c.args.request) c.make_on-reply.result (λ _. c.requires.name))
 
-visit : (c : goal.After-leave_book) → Visited c.args.ledger.now.setup c.seat.inside.seat c.leave_book.new.seat c.seat.inside.who c.args.seat.now c.in-Some.inside.value.value.0 (made_by c.seat.inside.who (operation_of c.args.request) c.make_on-result.result) 0 c.args.follower.now c.leave_book.new.follower
+visit : (c : goal.After-leave_book) → Visited c.args.ledger.now.setup c.seat.inside.seat c.leave_book.new.seat c.seat.inside.who c.args.seat.now c.in-Some.inside.value.value.0 (made_by c.seat.inside.who (operation_of c.args.request) c.make_on-reply.result) 0 c.args.follower.now c.leave_book.new.follower
 visit c =
     let e = c.try_enter.ensures in
-    let m = c.make_on-result.ensures in
+    let m = c.make_on-reply.ensures in
     let l = c.leave_book.ensures in
-    visited c.args.ledger.now c.seat.inside.seat c.try_enter.new.seat c.leave_book.new.seat c.in-Some.inside.value c.make_on-result.new.kept c.seat.inside.who c.args.seat.now (made_by c.seat.inside.who (operation_of c.args.request) c.make_on-result.result) 0 c.args.follower.now c.leave_book.new.follower
-    c.seat.view_is c.requires.at c.seat.invariant (record { same = (e.kept.0, e.kept.1, e.kept.2); seen = e.seen; found = c.in-Some.ensures.found.1; lone = λ all. (e.lone all).1 }) (call_goes_on c.make_on-result.result c.in-Some.inside.value.value.0.0.value c.make_on-result.new.kept.0.value c.seat.inside.who (operation_of c.args.request) m.kept (answered c.make_on-result.result c.in-Some.inside.value.value.0.0.value c.make_on-result.new.kept.0.value c.seat.inside.who (operation_of c.args.request) m.ok m.full) m.err)
+    visited c.args.ledger.now c.seat.inside.seat c.try_enter.new.seat c.leave_book.new.seat c.in-Some.inside.value c.make_on-reply.new.kept c.seat.inside.who c.args.seat.now (made_by c.seat.inside.who (operation_of c.args.request) c.make_on-reply.result) 0 c.args.follower.now c.leave_book.new.follower
+    c.seat.view_is c.requires.at c.seat.invariant (record { same = (e.kept.0, e.kept.1, e.kept.2); seen = e.seen; found = c.in-Some.ensures.found.1; lone = λ all. (e.lone all).1 }) (call_goes_on c.make_on-reply.result c.in-Some.inside.value.value.0.0.value c.make_on-reply.new.kept.0.value c.seat.inside.who (operation_of c.args.request) m.kept (answered c.make_on-reply.result c.in-Some.inside.value.value.0.0.value c.make_on-reply.new.kept.0.value c.seat.inside.who (operation_of c.args.request) m.ok m.full) m.err)
     (record { same = (l.kept.0, l.kept.1, l.kept.2); list = l.list; own = l.own }) l.recorded l.follower l.one_map
 
 pub invariant_of-seat-2 : goal.invariant_of-seat-2
@@ -57,30 +57,30 @@ can c =
 
 pub returns-clause-called : goal.returns-clause-called
 returns-clause-called c =
-    let m = c.make_on-result.ensures in
+    let m = c.make_on-reply.ensures in
     let l = c.leave_book.ensures in
-    subst (λ v. Called v (operation_of c.args.request) c.make_on-result.result (shows (plain c.leave_book.new.seat) c.seat.inside.who)) (ap (λ t. t.shows) c.seat.view_is)
-    (called (plain c.seat.inside.seat) (plain c.leave_book.new.seat) c.in-Some.inside.value.value.0 c.seat.inside.who (operation_of c.args.request) c.make_on-result.result (visit c).step
-    (left_base (plain c.try_enter.new.seat) (plain c.leave_book.new.seat) c.in-Some.inside.value.value.0 c.make_on-result.new.kept (leaves c.try_enter.new.seat c.leave_book.new.seat (beside c.in-Some.inside.value c.make_on-result.new.kept) _ (record { same = (l.kept.0, l.kept.1, l.kept.2); list = l.list; own = l.own })) m.kept.2) m.full
+    subst (λ v. Called v (operation_of c.args.request) c.make_on-reply.result (shows (plain c.leave_book.new.seat) c.seat.inside.who)) (ap (λ t. t.shows) c.seat.view_is)
+    (called (plain c.seat.inside.seat) (plain c.leave_book.new.seat) c.in-Some.inside.value.value.0 c.seat.inside.who (operation_of c.args.request) c.make_on-reply.result (visit c).step
+    (left_base (plain c.try_enter.new.seat) (plain c.leave_book.new.seat) c.in-Some.inside.value.value.0 c.make_on-reply.new.kept (leaves c.try_enter.new.seat c.leave_book.new.seat (beside c.in-Some.inside.value c.make_on-reply.new.kept) _ (record { same = (l.kept.0, l.kept.1, l.kept.2); list = l.list; own = l.own })) m.kept.2) m.full
     (λ _. request_fits c.in-Some.inside.value.value.0.0.value c.args.request (can c))
-    (never_too_long c.make_on-result.result c.args.request m.faults))
+    (never_too_long c.make_on-reply.result c.args.request m.faults))
 
 pub returns-clause-granted : goal.returns-clause-granted
 returns-clause-granted c =
-    all_granted c.make_on-result.result (plain c.seat.inside.seat) (plain c.leave_book.new.seat) c.in-Some.inside.value.value.0 c.seat.inside.who c.args.self.now.width c.args.request (visit c).step
+    all_granted c.make_on-reply.result (plain c.seat.inside.seat) (plain c.leave_book.new.seat) c.in-Some.inside.value.value.0 c.seat.inside.who c.args.self.now.width c.args.request (visit c).step
     (ap (λ (s : Which). s.width) ((visit c).step.store ∙ ap (λ t. t.shows.store) c.seat.view_is ∙ c.requires.shard))
-    c.make_on-result.ensures.answer
+    c.make_on-reply.ensures.answer
 
 pub returns-clause-no_memory : goal.returns-clause-no_memory
 returns-clause-no_memory c =
-    wanted_for c.make_on-result.result (plain c.seat.inside.seat) (plain c.leave_book.new.seat) c.in-Some.inside.value.value.0 c.seat.inside.who c.args.self.now.width c.args.request (visit c).step
+    wanted_for c.make_on-reply.result (plain c.seat.inside.seat) (plain c.leave_book.new.seat) c.in-Some.inside.value.value.0 c.seat.inside.who c.args.self.now.width c.args.request (visit c).step
     (ap (λ (s : Which). s.width) ((visit c).step.store ∙ ap (λ t. t.shows.store) c.seat.view_is ∙ c.requires.shard))
-    c.make_on-result.ensures.no_memory
+    c.make_on-reply.ensures.no_memory
 
 pub returns-clause-listed : goal.returns-clause-listed
 returns-clause-listed c =
-    subst (λ t. IsListed c.args.seat.now.shard (act_if t.shows.who (deed_of (operation_of c.args.request) c.make_on-result.result)) c.args.seat.now.shows.acts (acts_of (books_in c.leave_book.new.seat.list)) (listing_of c.args.follower.now) (listing_of c.leave_book.new.follower)) c.seat.view_is
-    (listed_called c.args.seat.now.shard c.seat.inside.who (operation_of c.args.request) c.make_on-result.result _ _ _ _ (visit c).listed)
+    subst (λ t. IsListed c.args.seat.now.shard (act_if t.shows.who (deed_of (operation_of c.args.request) c.make_on-reply.result)) c.args.seat.now.shows.acts (acts_of (books_in c.leave_book.new.seat.list)) (listing_of c.args.follower.now) (listing_of c.leave_book.new.follower)) c.seat.view_is
+    (listed_called c.args.seat.now.shard c.seat.inside.who (operation_of c.args.request) c.make_on-reply.result _ _ _ _ (visit c).listed)
 
 -- ---- another thread was inside
 pub invariant_of-seat : goal.invariant_of-seat
@@ -89,22 +89,22 @@ invariant_of-seat c = busy_seat c.seat.inside.seat c.try_enter.new.seat c.seat.i
 pub returns-in_default-clause-same : goal.returns-in_default-clause-same
 returns-in_default-clause-same c = busy_place c.seat.inside.seat c.try_enter.new.seat c.seat.inside.who c.args.seat.now c.seat.view_is c.in_default.ensures.none
 
-pub returns-in_default-clause-listed : goal.returns-in_default-clause-listed
-returns-in_default-clause-listed c = nothing_listed _ _ _ _ _ refl (busy_acts c.seat.inside.seat c.try_enter.new.seat c.seat.inside.who c.args.seat.now c.seat.view_is c.in_default.ensures.none)
+pub returns-in_default-clause-unlisted : goal.returns-in_default-clause-unlisted
+returns-in_default-clause-unlisted c = nothing_listed _ _ _ _ _ refl (busy_acts c.seat.inside.seat c.try_enter.new.seat c.seat.inside.who c.args.seat.now c.seat.view_is c.in_default.ensures.none)
 
 pub returns-in_default-clause-follower : goal.returns-in_default-clause-follower
 returns-in_default-clause-follower c =
     nothing_changed _ _ _ _ c.args.follower.now (busy_acts c.seat.inside.seat c.try_enter.new.seat c.seat.inside.who c.args.seat.now c.seat.view_is c.in_default.ensures.none)
 
 pub returns-clause-entered : goal.returns-clause-entered
-returns-clause-entered c = λ _.
-    visits_once (plain c.seat.inside.seat) (plain c.try_enter.new.seat) (plain c.leave_book.new.seat) c.seat.inside.who c.args.seat.now.shows c.make_on-result.new.kept
-    (expected_now c.seat.inside.seat c.try_enter.new.seat c.in-Some.ensures.expected) (left_books c.try_enter.new.seat c.leave_book.new.seat c.in-Some.inside.value c.make_on-result.new.kept c.leave_book.ensures.list) (visit c).step.visits (ap (λ t. t.shows) c.seat.view_is)
+returns-clause-entered c =
+    visits_once (plain c.seat.inside.seat) (plain c.try_enter.new.seat) (plain c.leave_book.new.seat) c.seat.inside.who c.args.seat.now.shows c.make_on-reply.new.kept
+    (expected_now c.seat.inside.seat c.try_enter.new.seat c.in-Some.ensures.expected) (left_books c.try_enter.new.seat c.leave_book.new.seat c.in-Some.inside.value c.make_on-reply.new.kept c.leave_book.ensures.list) (visit c).step.visits (ap (λ t. t.shows) c.seat.view_is)
 
 pub returns-in_default-clause-busy : goal.returns-in_default-clause-busy
-returns-in_default-clause-busy c = λ _.
+returns-in_default-clause-busy c =
     finds_busy (plain c.seat.inside.seat) (plain c.try_enter.new.seat) c.seat.inside.who c.args.seat.now.shows (found_inside c.seat.inside.seat c.try_enter.new.seat c.in_default.ensures.none) (ap (λ t. t.shows) c.seat.view_is)
 
-pub returns-in_default-clause-called : goal.returns-in_default-clause-called
-returns-in_default-clause-called c =
+pub returns-in_default-clause-refused : goal.returns-in_default-clause-refused
+returns-in_default-clause-refused c =
     was_busy (plain c.seat.inside.seat) (plain c.try_enter.new.seat) c.seat.inside.who c.args.seat.now.shows (operation_of c.args.request) c.seat.invariant.pass (found_inside c.seat.inside.seat c.try_enter.new.seat c.in_default.ensures.none) (ap (λ t. t.shows) c.seat.view_is)

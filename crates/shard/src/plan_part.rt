@@ -1,0 +1,85 @@
+//! The lost fragments of a shard in parts.
+ghost use Rattle.std.specs.Prelude.{◌≡◌, ◌≢◌, ◌⊎◌, [], None, take, IfOk, IfErr};
+ghost use Rattle.std.specs.Option.{option_map};
+ghost use Rattle.history.specs.History.{state_of};
+ghost use Rattle.book.specs.Plan.{plan_of, items_after};
+ghost use Rattle.shared.specs.Deeds.{Takes};
+ghost use Rattle.shared.specs.Passes.{FindsBusy, VisitsOnce};
+ghost use Rattle.shard.specs.Seats.{IsSeatOf};
+ghost use Rattle.shard.specs.Listed.{IsListed, IsKeptUp, listing_of};
+
+use crate::{Shard, ShardSeat};
+use book::{Fault, Item, Plan};
+use ledger::{Follower, Ledger};
+use ledger_map::{StoreAct, leave_book};
+use std::alloc::Global;
+use std::sync::Wait;
+
+impl Shard {
+    /// The first `most` items of the plan that come behind `after`, as `Store::plan_part` lists
+    /// them.
+    pub fn plan_part<R: Wait>(
+        &self,
+        rt: &R,
+        alloc: Global,
+        ledger: &Ledger<StoreAct>,
+        seat: &mut ShardSeat,
+        follower: &mut Follower<StoreAct>,
+        after: Option<&Item>,
+        most: usize,
+    ) -> Result<Plan, Fault>
+        requires shard { seat.old.shows.store ≡ self.now }
+        requires at { IsSeatOf ledger.now seat.old }
+        requires ledger { follower.old.ledger ≡ ledger.now }
+        ensures takes { Takes seat.old.shows None seat.new.shows }
+        ensures ok { IfOk result (λ p. p.items.items ≡ take most
+            (items_after (option_map (λ i. i.now) after.entry)
+            (plan_of (state_of seat.new.shows.seen)))) }
+        ensures faults { IfErr result (λ e. e ≡ Fault.NoMemory) }
+        ensures same { (seat.new.ledger ≡ seat.old.ledger) × (seat.new.shard ≡ seat.old.shard) }
+        ensures listed { IsListed seat.old.shard [] seat.old.shows.acts seat.new.shows.acts
+            (listing_of follower.old) (listing_of follower.new) }
+        ensures follower { IsKeptUp ledger.now.setup seat.old.shard seat.old.shows.acts
+            seat.new.shows.acts follower.old follower.new }
+    {
+        let inside = ledger.enter(rt, &self.gate, &mut seat.seat);
+        let part = inside.value.value.0.plan_part(alloc, after, most);
+        leave_book(ledger, &self.gate, &mut seat.seat, follower, inside);
+        part.map_err(|_| Fault::NoMemory)
+    }
+
+    /// As `plan_part`, if no other thread is in the critical section. Else `Busy`.
+    pub fn try_plan_part(
+        &self,
+        alloc: Global,
+        ledger: &Ledger<StoreAct>,
+        seat: &mut ShardSeat,
+        follower: &mut Follower<StoreAct>,
+        after: Option<&Item>,
+        most: usize,
+    ) -> Result<Plan, Fault>
+        requires shard { seat.old.shows.store ≡ self.now }
+        requires at { IsSeatOf ledger.now seat.old }
+        requires ledger { follower.old.ledger ≡ ledger.now }
+        ensures takes { Takes seat.old.shows None seat.new.shows }
+        ensures ok { IfOk result (λ p. p.items.items ≡ take most
+            (items_after (option_map (λ i. i.now) after.entry)
+            (plan_of (state_of seat.new.shows.seen)))) }
+        ensures faults { IfErr result (λ e. (e ≡ Fault.Busy) ⊎ (e ≡ Fault.NoMemory)) }
+        ensures busy { result ≡ Err Fault.Busy → FindsBusy seat.old.shows seat.new.shows }
+        ensures entered { result ≢ Err Fault.Busy → VisitsOnce seat.old.shows seat.new.shows }
+        ensures lone { seat.old.shows.room ≡ 64 → result ≢ Err Fault.Busy }
+        ensures same { (seat.new.ledger ≡ seat.old.ledger) × (seat.new.shard ≡ seat.old.shard) }
+        ensures listed { IsListed seat.old.shard [] seat.old.shows.acts seat.new.shows.acts
+            (listing_of follower.old) (listing_of follower.new) }
+        ensures follower { IsKeptUp ledger.now.setup seat.old.shard seat.old.shows.acts
+            seat.new.shows.acts follower.old follower.new }
+    {
+        let Some(inside) = self.gate.try_enter(&mut seat.seat) else {
+            return Err(Fault::Busy);
+        };
+        let part = inside.value.value.0.plan_part(alloc, after, most);
+        leave_book(ledger, &self.gate, &mut seat.seat, follower, inside);
+        part.map_err(|_| Fault::NoMemory)
+    }
+}
