@@ -7,6 +7,10 @@ pub mod Closings
 pub mod Rooms
 pub mod Seats
 pub mod Requests
+pub mod Replies
+pub mod Snapshots
+pub mod Totals
+pub mod TrimParts
 pub mod Listings
 pub mod Joins
 pub mod Openings

@@ -1,18 +1,23 @@
--- What is known of prepared puts, and of those that were refused.
+-- What is known of prepared calls, and of puts that were refused.
 use Rattle.std.proofs.Common.{◌≡◌, ◌⊎◌, ℕ, zero, suc, ◌<◌, ◌≤◌, List, [], ◌∷◌, length, All, Some, Err, slice_get, slice_set, refl, ap, sym, subst, ◌∙◌, arith}
 use Rattle.std.proofs.lemmas.List.{length-map}
+use Rattle.std.specs.Global.{Global}
 use Rattle.lrc_code.specs.declared.Code.{Code}
 use Rattle.sealed.specs.declared.fault.Fault.{Fault}
 use Rattle.sealed.specs.declared.fault.Fault.TheVariants.{NoMemory, TooLong}
 use Rattle.sealed.specs.Layout.{stripe_count}
 use Rattle.history.specs.Step.{put}
+use Rattle.history.specs.History.{History}
+use Rattle.book.specs.Known.{IsFragmentIn}
 use Rattle.one_map.specs.Hash.{shard_of}
 use Rattle.one_map.proofs.Hash.{shard_below_count}
+use Rattle.requests.specs.declared.request.Request.TheVariants.{Install}
 use Rattle.shared.specs.Passes.{Which, Shows}
 use Rattle.shared.proofs.Requests.{refused_put}
 use Rattle.shard.proofs.Visits.{nothing_listed, refused_acts}
 use Rattle.sharded.specs.Passes.{StoreShows, PassShows, stores_of, store_of, AreConsistent}
-use Rattle.sharded.specs.Steps.{IsCallAt, width_at, width_for}
+use Rattle.sharded.specs.Requests.{CanAskAt}
+use Rattle.sharded.specs.Steps.{IsCallAt, width_at, width_for, seen_at, seen_for}
 use Rattle.sharded.specs.Listings.{who_at, shown_at, listing, IsListedCall}
 use Rattle.sharded.proofs.Steps.{width_there}
 use Rattle.sharded.proofs.Openings.{all_at}
@@ -69,3 +74,17 @@ pub refused_listed : (v : PassShows) (n : List ℕ) (code : Code) (b : List ℕ)
 refused_listed v n code b f is =
     let k = shard_of (length v.shards) n in
     nothing_listed k _ (shown_at v.shards k) (shown_at v.shards k) (listing v) (refused_acts (who_at v.shards k) (put n code b) (Err f) f refl is) refl
+
+-- ---- an install
+-- what the pass to the shard of the name has seen
+pub seen_named : (vs : List Shows) (k : ℕ) (v : Shows) → slice_get vs k ≡ Some v → seen_at vs k ≡ v.seen
+seen_named [] k v e = absurd (cc)
+seen_named (x ∷ vs) zero v e = let same : x ≡ v = cc in ap (λ (y : Shows). y.seen) same
+seen_named (x ∷ vs) (suc k) v e = seen_named vs k v e
+
+-- who knows the fragment can install it at the shard of the name
+pub can_install : (v : PassShows) (store : StoreShows) (alloc : Global) (n : List ℕ) (version j f : ℕ) (bytes : List ℕ) → store_of v ≡ store → IsFragmentIn (seen_for v.shards n) (width_for store.shards n) n version j f bytes
+    → CanAskAt v.shards (Install alloc n version j f bytes)
+can_install v store alloc n version j f bytes same known shown there =
+    let width = named_width v.shards store.shards n shown (ap (λ (s : StoreShows). s.shards) same) there in
+    subst (λ (u : History × ℕ). IsFragmentIn u.0 u.1 n version j f bytes) (λ i. (seen_named v.shards (shard_of (length v.shards) n) shown there i, width i)) known

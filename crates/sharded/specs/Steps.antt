@@ -1,10 +1,11 @@
 -- A step at one shard: a call at the shard of its name, a trim, or a plan.
 use Rattle.std.specs.Prelude.{◌≡◌, ℕ, zero, suc, List, [], ◌∷◌, length, slice_get, slice_set}
-use Rattle.std.specs.Prelude.{None, Some, Result, IfOk}
+use Rattle.std.specs.Prelude.{take, Option, None, Some, Result, IfOk}
 use Rattle.sealed.specs.declared.fault.Fault.{Fault}
 use Rattle.history.specs.Step.{Operation, repair}
 use Rattle.history.specs.History.{History, state_of}
-use Rattle.book.specs.Plan.{plan_of}
+use Rattle.book.specs.Plan.{plan_of, items_after}
+use Rattle.book.specs.declared.plan.Item.{Item}
 use Rattle.book.specs.declared.plan.Plan.{Plan}
 use Rattle.book.specs.declared.answer.Answer.{Answer}
 use Rattle.shared.specs.Passes.{Which, Shows, FindsBusy}
@@ -40,6 +41,14 @@ abbrev pub IsPlanAt : List Shows → ℕ → Result Plan Fault → List Shows �
 IsPlanAt vs k r ws =
     IsStepAt k
     (λ v w. Takes v None w × IfOk r (λ p. p.items.items ≡ plan_of (state_of w.seen))) vs ws
+
+-- the first `most` items of the plan of a shard that come behind an item
+abbrev pub IsPlanPartAt : Option Item → ℕ → List Shows → ℕ → Result Plan Fault → List Shows → Type 0
+IsPlanPartAt a most vs k r ws =
+    IsStepAt k
+    (λ v w. Takes v None w
+    × IfOk r (λ p. p.items.items ≡ take most (items_after a (plan_of (state_of w.seen)))))
+    vs ws
 
 -- ---- the shard of a name
 abbrev pub width_at : List Which → ℕ → ℕ

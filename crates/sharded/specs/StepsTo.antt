@@ -1,4 +1,4 @@
--- Steps at all shards, one after the other: trims, and plans.
+-- Steps at all shards, one after the other: trims, plans, and looks.
 use Rattle.std.specs.Prelude.{◌≡◌, ℕ, zero, suc, List, [], ◌∷◌, length, None, Some}
 use Rattle.std.specs.List.{flat_map}
 use Rattle.history.specs.History.{state_of}
@@ -28,6 +28,11 @@ module _ (P : Shows → Shows → Type 0) where
 -- the pass may have seen more, and did nothing
 abbrev pub HasLooked : Shows → Shows → Type 0
 HasLooked v w = Takes v None w
+
+-- the passes to the first shards have looked, and that to the next found another caller inside
+abbrev pub HaveLookedToBusy : List Shows → List Shows → Type 0
+HaveLookedToBusy vs ws =
+    (n : ℕ) × (us : List Shows) × AreStepsTo HasLooked n vs us × IsStepAt n FindsBusy us ws
 
 -- a journal was trimmed to its last entries
 abbrev pub IsTrimmed : ℕ → Shows → Shows → Type 0

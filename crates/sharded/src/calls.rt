@@ -71,6 +71,31 @@ impl ShardedStore {
         }
     }
 
+    /// As `put_as`, of a copy of the bytes, which is made as the blob is sealed.
+    pub fn put_copy<R: Wait>(
+        &self,
+        rt: &R,
+        alloc: Global,
+        pass: &mut ShardedPass,
+        name: Name,
+        bytes: &[u8],
+        code: Code,
+    ) -> Result<Answer, Fault>
+        requires { store_of pass.old ≡ self.now }
+        ensures called { IsCallAt pass.old.shards (put_of name code bytes.now) result
+            pass.new.shards }
+        ensures listed { IsListedCall pass.old (put_of name code bytes.now) result pass.new }
+        ensures same { store_of pass.new ≡ self.now }
+        ensures too_long { (result ≡ Err Fault.TooLong)
+            ↔ (4096 < stripe_count code (width_for self.now.shards name) (length bytes.now)) }
+        ensures faults { IfErr result (λ e. IsCallFault e ⊎ (e ≡ Fault.TooLong)) }
+    {
+        match self.prepare_copy(alloc, name, bytes, code) {
+            Ok(request) => self.make(rt, pass, request),
+            Err(fault) => pass.refuse(fault),
+        }
+    }
+
     /// Grants `len` bytes of the blob of a name, from the byte `start` on, as `Store::read` does.
     ///
     /// A grant keeps the blob as it was, whatever later calls do.

@@ -7,10 +7,14 @@
 mod calls;
 mod close;
 mod entry;
+mod install;
 mod journals;
+mod numbers;
+mod parts;
 mod pass;
 mod prepared;
 mod receipts;
+mod snapshot;
 mod store;
 mod try_calls;
 mod workers;
@@ -20,6 +24,9 @@ pub use mender::{Done, Drawer, Gather, Report, Tickets, WorkFault, gather};
 pub use one_map::{find_shard, prove_one_map};
 pub use receipts::ShardedReceipt;
 pub use requests::Request;
-pub use shared::{Answer, Book, Bytes, Code, Fault, Grant, Limit, Name, Pass, Plan, Plans, Store};
+pub use shared::{
+    Answer, Book, Bytes, Code, Fault, Grant, Item, Limit, Name, Numbers, Pass, Plan, Plans,
+    Snapshot, Store, prepare_install,
+};
 pub use store::{ShardedPass, ShardedStore};
 pub use workers::{scrub, work};

@@ -76,6 +76,34 @@ impl ShardedStore {
         }
     }
 
+    /// As `try_put_as`, of a copy of the bytes, which is made as the blob is sealed.
+    pub fn try_put_copy(
+        &self,
+        alloc: Global,
+        pass: &mut ShardedPass,
+        name: Name,
+        bytes: &[u8],
+        code: Code,
+    ) -> Result<Answer, Fault>
+        requires { store_of pass.old ≡ self.now }
+        ensures called { IsCallAt pass.old.shards (put_of name code bytes.now) result
+            pass.new.shards }
+        ensures listed { IsListedCall pass.old (put_of name code bytes.now) result pass.new }
+        ensures same { store_of pass.new ≡ self.now }
+        ensures too_long { (result ≡ Err Fault.TooLong)
+            ↔ (4096 < stripe_count code (width_for self.now.shards name) (length bytes.now)) }
+        ensures faults { IfErr result
+            (λ e. (e ≡ Fault.Busy) ⊎ IsCallFault e ⊎ (e ≡ Fault.TooLong)) }
+        ensures busy { result ≡ Err Fault.Busy
+            → IsBusyAt pass.old.shards (put_of name code bytes.now) pass.new.shards }
+        ensures lone { AreLone pass.old.shards → result ≢ Err Fault.Busy }
+    {
+        match self.prepare_copy(alloc, name, bytes, code) {
+            Ok(request) => self.try_make(pass, request),
+            Err(fault) => pass.refuse(fault),
+        }
+    }
+
     /// Grants `len` bytes of the blob of a name, from the byte `start` on, as `Store::try_read`
     /// does.
     ///

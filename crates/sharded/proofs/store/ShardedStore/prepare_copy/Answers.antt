@@ -1,0 +1,35 @@
+use Rattle.std.proofs.Common.{rules, ◌≡◌, ◌<◌, ℕ, Ok, Err, Result, length, ap, sym, subst, ◌∙◌}
+use Rattle.std.specs.Prelude.{◌↔◌}
+use Rattle.sealed.specs.declared.fault.Fault.{Fault}
+use Rattle.sealed.specs.declared.fault.Fault.TheVariants.{TooLong}
+use Rattle.sealed.specs.Layout.{stripe_count}
+use Rattle.history.specs.Step.{put}
+use Rattle.requests.proofs.Bytes.{bytes_are}
+use Rattle.requests.specs.declared.request.Request.{Request}
+use Rattle.requests.specs.declared.request.Request.TheVariants.{Put}
+use Rattle.sharded.specs.Steps.{width_for}
+use Rattle.sharded.proofs.Requests.{wide_for, wide_at}
+use Rattle.sharded.proofs.store.ShardedStore.prepare_copy.Goals as goal
+
+pub returns-clause-put : goal.returns-clause-put
+returns-clause-put c = λ i. put c.args.name (c.in_ok-sealed.ensures.shape.2 i) (bytes_are c.in_ok-sealed.sealed c.args.bytes.now c.in_ok-sealed.ensures.ok i)
+
+pub returns-clause-can : goal.returns-clause-can
+returns-clause-can c = λ v is shown there. (
+  c.in_ok-sealed.ensures.shape.1 ∙ sym (wide_at c.self.inside.width v.shards c.self.inside.shards.items _ shown c.self.invariant.3 (ap (λ s. s.shards) (is ∙ sym c.self.view_is)) there),
+  (c.args.bytes.now, c.in_ok-sealed.ensures.ok),
+)
+
+pub returns-clause-refusals : goal.returns-clause-refusals
+returns-clause-refusals c = λ e. (λ is. is, λ is. is)
+
+pub returns-clause-too_long : goal.returns-clause-too_long
+returns-clause-too_long c =
+    let made : Result Request Fault = Ok (Put c.args.alloc c.args.name c.in_ok-sealed.sealed) in
+    let same = ap (λ s. width_for s.shards c.args.name) (sym c.self.view_is) ∙ wide_for c.self.inside.width c.self.inside.shards.items c.args.name c.self.invariant.3 c.self.invariant.0 in
+    subst (λ (w : ℕ). (made ≡ Err TooLong) ↔ (4096 < stripe_count c.args.code w (length c.args.bytes.now))) (sym same) (search rules)
+
+pub returns-in_err-sealed-clause-too_long : goal.returns-in_err-sealed-clause-too_long
+returns-in_err-sealed-clause-too_long c =
+    let same = ap (λ s. width_for s.shards c.args.name) (sym c.self.view_is) ∙ wide_for c.self.inside.width c.self.inside.shards.items c.args.name c.self.invariant.3 c.self.invariant.0 in
+    subst (λ (w : ℕ). (c.from_residual.result ≡ Err TooLong) ↔ (4096 < stripe_count c.args.code w (length c.args.bytes.now))) (sym same) (search rules)
