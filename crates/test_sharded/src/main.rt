@@ -15,6 +15,7 @@ mod mending;
 mod names;
 mod order;
 mod threads;
+mod whole;
 
 use anyhow::{Context, Result, ensure};
 use sharded::{Limit, ShardedPass, ShardedStore};
@@ -64,6 +65,9 @@ fn main(rt: HostRuntime) -> Result<()> {
     println!(rt; "64 shards: each call gives its answer")?;
     let (store, mut pass) = open(alloc, 4)?;
     order::run(&rt, &store, &mut pass)?;
+    let (store, mut pass) = open(alloc, 4)?;
+    whole::run(&rt, alloc, &store, &mut pass)?;
+    println!(rt; "4 shards: what is done over all gives its answer")?;
     if has_word(&rt) {
         return Ok(());
     }
