@@ -23,8 +23,10 @@ struct ticket {
 
 struct lrc_mending {
     pthread_mutex_t mutex;
-    lrc_slot plan;
-    int is_last; /* whether no part is behind this one */
+    pthread_cond_t planned;
+    lrc_slot plan;   /* for the thread that plans alone */
+    int is_planning; /* whether a thread makes the next part */
+    int is_last;     /* whether no part is behind this one */
     size_t drawn, count, back_count;
     struct ticket tickets[PLANNED_AT_ONCE], back[MOST_WORKERS];
 };
@@ -33,12 +35,14 @@ uint32_t lrc_mending_open(lrc_mending **mending) {
     lrc_mending *made = calloc(1, sizeof *made);
     if (!made) return LRC_STORE_NO_MEMORY;
     pthread_mutex_init(&made->mutex, NULL);
+    pthread_cond_init(&made->planned, NULL);
     *mending = made;
     return LRC_STORE_DONE;
 }
 
 void lrc_mending_close(lrc_mending *mending) {
     lrc_slot_release(&mending->plan);
+    pthread_cond_destroy(&mending->planned);
     pthread_mutex_destroy(&mending->mutex);
     free(mending);
 }
@@ -61,40 +65,78 @@ static void take_items(lrc_mending *mending) {
     }
 }
 
-/* Draws a ticket, and plans the next part for it if all of this one are drawn. The status is
- * LRC_STORE_NOTHING_LEFT if there is none. The caller holds the mutex. */
-static uint32_t draw(lrc_mending *mending, lrc_slot *session, struct ticket *ticket,
-                     int64_t timeout_ms) {
+/* Ends the making of a part. Those that wait for it draw, or make it themselves. */
+static void end_planning(void *argument) {
+    lrc_mending *mending = argument;
+    pthread_mutex_lock(&mending->mutex);
+    mending->is_planning = 0;
+    pthread_cond_broadcast(&mending->planned);
+    pthread_mutex_unlock(&mending->mutex);
+}
+
+/* Makes the next part, for the thread that has taken this on. */
+static uint32_t plan(lrc_mending *mending, lrc_slot *session, int64_t timeout_ms) {
     uint64_t items = 0;
-    if (mending->back_count) {
-        *ticket = mending->back[--mending->back_count];
-        return LRC_STORE_DONE;
-    }
-    if (mending->drawn == mending->count && !mending->is_last) {
-        const uint32_t status =
-            lrc_store_plan_part_wait(session, &mending->plan, PLANNED_AT_ONCE, &items, timeout_ms);
-        if (status != LRC_STORE_DONE) return status;
+    uint32_t status;
+    pthread_cleanup_push(end_planning, mending);
+    status = lrc_store_plan_part_wait(session, &mending->plan, PLANNED_AT_ONCE, &items, timeout_ms);
+    if (status == LRC_STORE_DONE) {
+        pthread_mutex_lock(&mending->mutex);
         mending->is_last = items < PLANNED_AT_ONCE;
         take_items(mending);
+        pthread_mutex_unlock(&mending->mutex);
     }
-    if (mending->drawn == mending->count) return LRC_STORE_NOTHING_LEFT;
-    *ticket = mending->tickets[mending->drawn++];
-    return LRC_STORE_DONE;
+    pthread_cleanup_pop(1);
+    return status;
 }
 
 static void unlock(void *mutex) { pthread_mutex_unlock(mutex); }
 
-/* Does the same for a caller that does not hold the mutex. */
-static uint32_t draw_alone(lrc_mending *mending, lrc_slot *session, struct ticket *ticket,
-                           int64_t timeout_ms) {
-    const int64_t deadline = deadline_after(timeout_ms);
+static int has_ticket(const lrc_mending *mending) {
+    return mending->back_count || mending->drawn < mending->count;
+}
+
+/* Locks the mutex: while a thread makes the next part, not before that is over or the deadline has
+ * passed. */
+static void lock_to_draw(lrc_mending *mending, int64_t deadline) {
     const struct timespec end = {deadline / NS_OF_S, deadline % NS_OF_S};
-    uint32_t status;
-    if (pthread_mutex_clocklock(&mending->mutex, CLOCK_MONOTONIC, &end)) return LRC_STORE_BUSY;
+    pthread_mutex_lock(&mending->mutex);
     pthread_cleanup_push(unlock, &mending->mutex);
-    status = draw(mending, session, ticket, timeout_ms);
-    pthread_cleanup_pop(1);
+    while (!has_ticket(mending) && !mending->is_last && mending->is_planning &&
+           !pthread_cond_clockwait(&mending->planned, &mending->mutex, CLOCK_MONOTONIC, &end)) {
+    }
+    pthread_cleanup_pop(0);
+}
+
+/* Draws a ticket, if there is one at hand. LRC_STORE_NOTHING_LEFT: there are no more;
+ * LRC_STORE_BUSY: another thread has not made the next part by the deadline; LRC_STORE_EMPTY: the
+ * caller has taken on to make it. */
+static uint32_t draw_at_hand(lrc_mending *mending, struct ticket *ticket, int64_t deadline) {
+    uint32_t status = LRC_STORE_DONE;
+    lock_to_draw(mending, deadline);
+    if (mending->back_count)
+        *ticket = mending->back[--mending->back_count];
+    else if (mending->drawn < mending->count)
+        *ticket = mending->tickets[mending->drawn++];
+    else if (mending->is_last)
+        status = LRC_STORE_NOTHING_LEFT;
+    else
+        status = mending->is_planning ? LRC_STORE_BUSY : LRC_STORE_EMPTY;
+    if (status == LRC_STORE_EMPTY) mending->is_planning = 1;
+    pthread_mutex_unlock(&mending->mutex);
     return status;
+}
+
+/* Draws a ticket, and makes the next part for it if need be. */
+static uint32_t draw(lrc_mending *mending, lrc_slot *session, struct ticket *ticket,
+                     int64_t timeout_ms) {
+    const int64_t deadline = deadline_after(timeout_ms);
+    for (;;) {
+        uint32_t status = draw_at_hand(mending, ticket, deadline);
+        if (status != LRC_STORE_EMPTY) return status;
+        status = plan(mending, session, timeout_ms);
+        if (status != LRC_STORE_DONE) return status;
+    }
 }
 
 struct drawn {
@@ -129,11 +171,11 @@ uint32_t lrc_mending_work(lrc_mending *mending, lrc_slot *session, uint64_t *rep
                           int64_t timeout_ms) {
     struct drawn drawn = {.mending = mending};
     uint64_t all = 0;
-    uint32_t status = draw_alone(mending, session, &drawn.ticket, timeout_ms);
+    uint32_t status = draw(mending, session, &drawn.ticket, timeout_ms);
     while (status == LRC_STORE_DONE) {
         status = repair(&drawn, session, timeout_ms);
         all += status == LRC_STORE_DONE;
-        if (is_past(status)) status = draw_alone(mending, session, &drawn.ticket, timeout_ms);
+        if (is_past(status)) status = draw(mending, session, &drawn.ticket, timeout_ms);
     }
     if (status == LRC_STORE_NOTHING_LEFT) status = LRC_STORE_DONE;
     if (status == LRC_STORE_DONE || all) *repaired = all;

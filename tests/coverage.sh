@@ -57,7 +57,8 @@ c_sources() {
     run waiting "$work"/{store_waiting,wait}.o --
     run pooled "$work"/{store_pool,pool}.o -Wl,--wrap=malloc,--wrap=calloc "${store[@]}" --
     run named "$work"/{store_names,name}.o --
-    run mended "$work"/{store_mending,mend,wait}.o -Wl,--wrap=calloc "${store[@]}" --
+    run mended "$work"/{store_mending,mend,wait}.o \
+        -Wl,--wrap=calloc,--wrap=lrc_store_plan_part_wait "${store[@]}" --
     run texts "$work"/{edges_texts,store_text,coder_text}.o --
     run other_texts "$work"/{library_texts,store_text,coder_text}.o \
         "-Wl,--allow-multiple-definition" "${coder[@]}" --

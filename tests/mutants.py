@@ -119,8 +119,8 @@ TESTS = {
     ),
     "names": Test(f"{C} tests/store/names.c library/store_name.c -o program", "./program"),
     "mending": Test(
-        f"{C} tests/store/mending.c library/store_mend.c library/store_wait.c -Wl,--wrap=calloc"
-        f" {STORE} -o program",
+        f"{C} tests/store/mending.c library/store_mend.c library/store_wait.c"
+        f" -Wl,--wrap=calloc,--wrap=lrc_store_plan_part_wait {STORE} -o program",
         "./program",
     ),
     "waits": store_program("edges/waits.c", seconds=25),

@@ -108,7 +108,8 @@ pool() {
 
 # mending WORDS FLAG..: its test, with these words
 mending() {
-    program gcc gnu11 tests/store/mending.c -Wl,--wrap=calloc "${@:2}" \
+    program gcc gnu11 tests/store/mending.c library/store_mend.c \
+        -Wl,--wrap=calloc,--wrap=lrc_store_plan_part_wait,--allow-multiple-definition "${@:2}" \
         && "$work/program" ${1:+"$1"}
 }
 
@@ -116,7 +117,7 @@ mending_sanitized() {
     local TSAN_OPTIONS=ignore_noninstrumented_modules=1
     export TSAN_OPTIONS
     local store=$LRC_LIBRARIES/liblrc_store.so
-    mending shared library/store_mend.c -g -fsanitize=thread -Wl,-rpath,"$LRC_LIBRARIES"
+    mending uncancelled -g -fsanitize=thread -Wl,-rpath,"$LRC_LIBRARIES"
 }
 
 # The code for either processor, chosen by the environment.
@@ -181,8 +182,7 @@ test_of "pool" gcc gcc pool ""
 test_of "pool, sanitizers of gcc" gcc gcc pool "" "${sanitizers[@]}" library/store_pool.c \
     -Wl,--allow-multiple-definition
 test_of "mending" gcc gcc mending ""
-test_of "mending, sanitizers of gcc" gcc gcc mending "" "${sanitizers[@]}" library/store_mend.c \
-    -Wl,--allow-multiple-definition
+test_of "mending, sanitizers of gcc" gcc gcc mending "" "${sanitizers[@]}"
 test_of "mending, ThreadSanitizer" gcc gcc mending_sanitized
 test_of "threads, ThreadSanitizer" gcc gcc threads_sanitized
 test_of "pool, ThreadSanitizer" gcc gcc pool_sanitized

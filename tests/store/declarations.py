@@ -18,6 +18,9 @@ PYTHON = {
     ctypes.POINTER(lrc_store._Slot): "* slot",
     ctypes.POINTER(lrc_store._Slice): "* slice",
     ctypes.POINTER(lrc_store._Entry): "* entry",
+    ctypes.POINTER(lrc_store._Numbers): "* numbers",
+    ctypes.POINTER(lrc_store._Shape): "* shape",
+    ctypes.POINTER(ctypes.c_uint16): "* u16",
     ctypes.POINTER(ctypes.c_uint64): "* u64",
     ctypes.POINTER(ctypes.c_uint32): "* u32",
     ctypes.c_char_p: "* u8",
@@ -26,6 +29,8 @@ PYTHON = {
     ctypes.c_uint32: "u32",
     ctypes.c_int64: "i64",
 }
+# The functions that are plain C, beside the waiting forms.
+UNPROVED = re.compile("_pool_|_mending_|lrc_store_name")
 CALLS = ("PUT", "READ", "LOSE", "REPAIR", "DELETE", "STAT")
 
 
@@ -40,7 +45,7 @@ class Declarations(unittest.TestCase):
         for name in ("lrc_store_open", "lrc_store_open_unjournaled"):
             exported[name].remove("u64")  # the number of the store
         del exported["lrc_slot_number"]  # for the library's own use
-        proved = {name: words for name, words in header.items() if "_pool_" not in name}
+        proved = {name: words for name, words in header.items() if not UNPROVED.search(name)}
         plain = {name: words for name, words in proved.items() if not name.endswith("_wait")}
         self.assertEqual(plain, exported)
         forms = {name: words for name, words in header.items() if name.endswith("_wait")}
@@ -49,7 +54,7 @@ class Declarations(unittest.TestCase):
         for name, words in forms.items():
             self.assertEqual(words, [*header[name.removesuffix("_wait")], "i64"])
         rust = declared.in_rust(self.rust)
-        self.assertEqual(len(rust), 26)
+        self.assertEqual(len(rust), 34)
         self.assertEqual(rust, {name: header[name] for name in rust})
         header["lrc_store_text"] = ["u32"]
         python = {
@@ -63,6 +68,8 @@ class Declarations(unittest.TestCase):
             ("buffer", "RawBuffer", None),
             ("slot", "Slot", lrc_store._Slot),
             ("entry", "RawEntry", lrc_store._Entry),
+            ("numbers", "RawNumbers", lrc_store._Numbers),
+            ("shape", "RawShape", lrc_store._Shape),
         ):
             block = re.search(rf"typedef struct \{{([^}}]*)\}} lrc_{name};", self.header)[1]
             block = re.sub(r"/\*.*?\*/", "", block, flags=re.S)

@@ -1,5 +1,6 @@
-/* Mendings: one plan that many threads work off. Link with --wrap=calloc. With a word it does not
- * refuse memory to the library, which may be a shared object. */
+/* Mendings: one plan that many threads work off. Link with library/store_mend.c, and with
+ * --wrap=calloc,--wrap=lrc_store_plan_part_wait. With a word it cancels no thread, after which
+ * ThreadSanitizer reports an error of its own. */
 #include "store_test.h"
 #include <pthread.h>
 #include <stdatomic.h>
@@ -15,6 +16,20 @@ void *__real_calloc(size_t count, size_t size);
 void *__wrap_calloc(size_t count, size_t size);
 void *__wrap_calloc(size_t count, size_t size) {
     return refuses_memory ? NULL : __real_calloc(count, size);
+}
+
+/* Whether the thread that makes a part of a plan stays there. */
+static atomic_int plans_for_ever;
+
+uint32_t __real_lrc_store_plan_part_wait(lrc_slot *slot, lrc_slot *other, uint64_t most,
+                                         uint64_t *items, int64_t timeout_ms);
+uint32_t __wrap_lrc_store_plan_part_wait(lrc_slot *slot, lrc_slot *other, uint64_t most,
+                                         uint64_t *items, int64_t timeout_ms);
+uint32_t __wrap_lrc_store_plan_part_wait(lrc_slot *slot, lrc_slot *other, uint64_t most,
+                                         uint64_t *items, int64_t timeout_ms) {
+    if (plans_for_ever == 1) plans_for_ever = 2;
+    while (plans_for_ever) usleep(1000); /* a cancellation point */
+    return __real_lrc_store_plan_part_wait(slot, other, most, items, timeout_ms);
 }
 
 static int64_t now_ms(void) {
@@ -171,14 +186,27 @@ static void skips(void) {
     closed(&slot);
 }
 
-/* Another thread has the mutex, and is for ever at its plan, of a store that is always busy: a
- * caller returns at its deadline. */
+/* A worker that makes a part of the plan until it is told to go on. */
+static struct worker planner(lrc_slot *slot, lrc_mending *mending) {
+    struct worker worker = {.mending = mending};
+    EXPECT(lrc_store_split(slot, 1, &worker.session), LRC_STORE_DONE);
+    return worker;
+}
+
+static void start_planning(struct worker *worker) {
+    plans_for_ever = 1;
+    EXPECT(pthread_create(&worker->thread, NULL, work, worker), 0);
+    while (plans_for_ever != 2) usleep(1000);
+}
+
+/* While another thread makes a part, a caller returns at its deadline. */
 static void deadlines(void) {
     lrc_mending *mending = NULL;
     lrc_slot slot = degraded(100000);
     uint64_t repaired = 77;
     EXPECT(lrc_mending_open(&mending), LRC_STORE_DONE);
-    EXPECT(pthread_mutex_lock((pthread_mutex_t *)mending), 0); /* its first field */
+    struct worker worker = planner(&slot, mending);
+    start_planning(&worker);
     for (int64_t timeout_ms = 0; timeout_ms <= 60; timeout_ms += 30) {
         const int64_t began = now_ms();
         EXPECT(lrc_mending_work(mending, &slot, &repaired, timeout_ms), LRC_STORE_BUSY);
@@ -186,40 +214,46 @@ static void deadlines(void) {
         EXPECT(took >= timeout_ms - 1 && took < SLOW_MS, 1);
     }
     EXPECT(repaired, 77);
-    EXPECT(pthread_mutex_unlock((pthread_mutex_t *)mending), 0);
-    EXPECT(lrc_mending_work(mending, &slot, &repaired, 0), LRC_STORE_DONE);
-    EXPECT(repaired, STRIPES * LOST_EACH + 1);
+    plans_for_ever = 0;
+    pthread_join(worker.thread, NULL);
+    EXPECT(worker.status, LRC_STORE_DONE);
+    EXPECT(worker.repaired, STRIPES * LOST_EACH + 1);
+    EXPECT(lrc_store_join(&slot, &worker.session), LRC_STORE_DONE);
     lrc_mending_close(mending);
     closed(&slot);
 }
 
-/* A worker that is cancelled hands its ticket back. */
+/* A caller that waits for a part makes it itself, once the thread that was at it is cancelled. */
 static void cancels(void) {
-    struct worker worker = {0};
+    lrc_mending *mending = NULL;
     lrc_slot slot = degraded(100000);
-    uint64_t repaired = 0;
-    EXPECT(lrc_mending_open(&worker.mending), LRC_STORE_DONE);
-    EXPECT(lrc_store_split(&slot, 1, &worker.session), LRC_STORE_DONE);
-    EXPECT(pthread_create(&worker.thread, NULL, work, &worker), 0);
-    pthread_cancel(worker.thread);
-    pthread_join(worker.thread, NULL);
-    EXPECT(lrc_mending_work(worker.mending, &slot, &repaired, -1), LRC_STORE_DONE);
-    EXPECT(lost_of(&slot), 4);
-    EXPECT(lrc_store_join(&slot, &worker.session), LRC_STORE_DONE);
-    lrc_mending_close(worker.mending);
+    EXPECT(lrc_mending_open(&mending), LRC_STORE_DONE);
+    struct worker first = planner(&slot, mending), second = planner(&slot, mending);
+    start_planning(&first);
+    EXPECT(pthread_create(&second.thread, NULL, work, &second), 0);
+    usleep(20000);
+    pthread_cancel(first.thread);
+    pthread_join(first.thread, NULL);
+    plans_for_ever = 0;
+    pthread_join(second.thread, NULL);
+    EXPECT(second.status, LRC_STORE_DONE);
+    EXPECT(second.repaired, STRIPES * LOST_EACH + 1);
+    EXPECT(lrc_store_join(&slot, &first.session), LRC_STORE_DONE);
+    EXPECT(lrc_store_join(&slot, &second.session), LRC_STORE_DONE);
+    lrc_mending_close(mending);
     closed(&slot);
 }
 
 int main(int words, char **word) {
     (void)word;
-    alarm(50); /* a call that never returns ends the test */
-    if (words < 2) refuses();
+    alarm(100); /* a call that never returns ends the test */
+    refuses();
     skips();
     shared(1);
     shared(WORKERS);
     stops_and_goes_on();
     closes_early();
     deadlines();
-    cancels();
+    if (words < 2) cancels();
     return report("mending");
 }
