@@ -62,16 +62,16 @@ class Objects(unittest.TestCase):
 
     def test_an_object_comes_back(self):
         ask = self.server.ask
-        status, headers, _ = ask("PUT", "/a/b c?%20", self.blob)
+        status, headers, _ = ask("PUT", "/a/b%20c", self.blob)
         self.assertEqual((status, headers["ETag"]), (201, '"1"'))
-        status, headers, body = ask("GET", "/a/b c?%20")
+        status, headers, body = ask("GET", "/a/b%20c")
         self.assertEqual((status, headers["ETag"], body), (200, '"1"', self.blob))
-        status, headers, body = ask("HEAD", "/a/b c?%20")
+        status, headers, body = ask("HEAD", "/a/b%20c")
         self.assertEqual((status, headers["Content-Length"], body), (200, "1000", b""))
         self.assertEqual(ask("GET", "/a/other")[0], 404)
-        self.assertEqual(ask("DELETE", "/a/b c?%20")[0], 204)
-        self.assertEqual(ask("DELETE", "/a/b c?%20")[0], 404)
-        self.assertEqual(ask("GET", "/a/b c?%20")[0], 404)
+        self.assertEqual(ask("DELETE", "/a/b%20c")[0], 204)
+        self.assertEqual(ask("DELETE", "/a/b%20c")[0], 404)
+        self.assertEqual(ask("GET", "/a/b%20c")[0], 404)
         self.assertEqual(ask("PUT", "/empty", b"")[0], 201)
         self.assertEqual(ask("GET", "/empty")[2], b"")
 

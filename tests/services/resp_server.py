@@ -103,7 +103,7 @@ class Server(unittest.TestCase):
         ask("SET", "a", value)
         for stripe, fragment in ((0, 0), (0, 13), (5, 15)):
             self.assertEqual(ask("LOSE", "a", stripe, fragment), b"OK")
-        self.refused("lost already", "LOSE", "a", 0, 13)
+        self.refused("lost before", "LOSE", "a", 0, 13)
         self.assertEqual(ask("GET", "a"), value)
         text = ask("INFO").decode()
         self.assertIn("lost_fragments:3\r\n", text)
