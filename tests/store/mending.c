@@ -186,7 +186,7 @@ static void skips(void) {
     closed(&slot);
 }
 
-/* A worker that makes a part of the plan until it is told to go on. */
+/* A worker that makes a part of the plan as long as `plans_for_ever` says so. */
 static struct worker planner(lrc_slot *slot, lrc_mending *mending) {
     struct worker worker = {.mending = mending};
     EXPECT(lrc_store_split(slot, 1, &worker.session), LRC_STORE_DONE);
