@@ -9,11 +9,11 @@
 processor, and what they come from in BUILT. With --reuse it takes from FOLDER what is built there,
 and with --verdicts the prover's last line of each crate from LOG, what `rt ci --anew` has printed.
 
-`pack` needs no kit, and takes a minute or two. It writes packages into DIST, all kinds if none is
-named, with their provenance, a bill of materials and checksums. The bytes of DIST depend on BUILT,
-the commit, and the compiler alone. It needs gcc and binutils; for `deb` debhelper, dh-python, and
-the headers of liberasurecode and Ceph, unless --no-plugins leaves these plugins out. Without a file
-LICENSE it ends, unless --unlicensed is given.
+`pack` needs no kit, and takes less than a minute. It writes packages into DIST, all kinds if none
+is named, with their provenance, a bill of materials and checksums. The bytes of DIST depend on
+BUILT, the commit, and the compiler alone. It needs gcc and binutils; for `deb` debhelper,
+dh-python, and the headers of liberasurecode and Ceph, unless --no-plugins leaves these plugins out.
+Without a file LICENSE it ends, unless --unlicensed is given.
 """
 
 import argparse

@@ -330,7 +330,7 @@ class Debian(Folder):
             self.assertEqual(debian.missing_for_plugins(), ["a-package"])
 
     def test_the_plugin_is_for_the_ceph_that_is_tested(self):
-        self.assertIn(f"| Ceph | {debian.CEPH},", libraries.read("docs", "limits.md"))
+        self.assertIn(f"| Ceph | {debian.CEPH} ", libraries.read("docs", "limits.md"))
         *first, last = debian.CEPH.split(".")
         self.assertEqual(debian.AFTER_CEPH, ".".join([*first, f"{int(last) + 1}~"]))
 

@@ -31,6 +31,7 @@ def fill(root, source, linked, provenance):
         files.library(name, linked)
         files.python(name)
         files.rust(name)
+    files.python_package(linked)
     files.go()
     files.copy(provenance, "share/lrcstore/provenance.json")
     if licence.text():

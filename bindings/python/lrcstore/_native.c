@@ -13,7 +13,7 @@
 #include <string.h>
 #include <time.h>
 
-enum { SHORT_BYTES = 4096, SLICE_MS = 50, MOST_NUMBERS = 6 };
+enum { SHORT_BYTES = 4096, SLICE_MS = 50, MOST_NUMBERS = 6, NS_OF_MS = 1000000 };
 
 typedef struct {
     PyObject_HEAD lrc_pool *pool; /* NULL once it is closed */
@@ -97,10 +97,10 @@ static uint32_t tell_numbers(lrc_slot *session, struct call *call, int64_t timeo
     return status;
 }
 
-static int64_t now_ms(void) {
+static int64_t now_ns(void) {
     struct timespec now;
     clock_gettime(CLOCK_MONOTONIC, &now);
-    return (int64_t)now.tv_sec * 1000 + now.tv_nsec / 1000000;
+    return (int64_t)now.tv_sec * 1000 * NS_OF_MS + now.tv_nsec;
 }
 
 static uint32_t on_a_session(lrc_pool *pool, struct call *call, int64_t timeout_ms) {
@@ -115,10 +115,10 @@ static uint32_t on_a_session(lrc_pool *pool, struct call *call, int64_t timeout_
 /* Makes the call without the GIL, in slices between which Python handles signals. The status is
  * LRC_STORE_BUSY at the deadline. Returns -1 if a handler raised an exception. */
 static int wait_for(lrc_pool *pool, struct call *call, int64_t timeout_ms, uint32_t *status) {
-    const int64_t end = timeout_ms < 0 ? INT64_MAX : now_ms() + timeout_ms;
+    const int64_t end = timeout_ms < 0 ? INT64_MAX : now_ns() + timeout_ms * NS_OF_MS;
     for (;;) {
-        const int64_t left = end - now_ms();
-        const int64_t slice = left < 0 ? 0 : left < SLICE_MS ? left : SLICE_MS;
+        const int64_t left = end - now_ns(), left_ms = left <= 0 ? 0 : left / NS_OF_MS + 1;
+        const int64_t slice = left_ms < SLICE_MS ? left_ms : SLICE_MS;
         PyThreadState *thread = PyEval_SaveThread();
         *status = on_a_session(pool, call, slice);
         PyEval_RestoreThread(thread);
