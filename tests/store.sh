@@ -76,7 +76,7 @@ memory() {
 symbols() {
     local needed='malloc|realloc|free|getrandom|clock_gettime|nanosleep'
     needed+='|pthread_mutex_(init|destroy|lock|trylock|clocklock|unlock)|pthread_testcancel'
-    needed+='|pthread_cond_(clockwait|signal|destroy)|calloc'
+    needed+='|pthread_cond_(init|clockwait|signal|broadcast|destroy)|calloc'
     # what pthread_cleanup_push becomes
     needed+='|__pthread_(register_cancel|unregister_cancel|unwind_next)|__sigsetjmp'
     tests/library/symbols.sh lrc_store "$needed|getenv|strcmp|mem(cmp|cpy|move|set)" \
