@@ -272,8 +272,13 @@ def trial(base, name, mutant=None):
         wrong = plant(mutant, tree) if mutant else None
         if not wrong and not succeeds(test.build, tree, 240):
             wrong = f"does not build: {last_lines(tree)}"
-        if not wrong and succeeds(test.run, tree, test.seconds) == (mutant is not None):
-            wrong = "survives" if mutant else f"fails without a mutant: {last_lines(tree)}"
+        if not wrong and mutant and succeeds(test.run, tree, test.seconds):
+            wrong = "survives"
+        # twice, since others run beside it
+        if not mutant and not wrong and not any(
+            succeeds(test.run, tree, test.seconds) for _ in range(2)
+        ):
+            wrong = f"fails without a mutant: {last_lines(tree)}"
     return wrong, time.monotonic() - started
 
 
