@@ -83,16 +83,17 @@ python_module() {
         > "$work/printed" 2>&1 || { cat "$work/printed"; exit 1; }
 }
 
-# The package's extension module. Its lines are counted in a copy of the package.
+# The package with its extension module, in a copy.
 python_extension() {
     local headers
     headers=$(dirname "$(PYTHONPATH=tools /usr/bin/python3 tools/python_extension.py --header)")
-    cp -r bindings/python "$work/python"
-    gcc "${flags[@]}" -I "$headers" -fPIC -shared bindings/python/lrcstore/_native.c \
-        "$LRC_LIBRARIES/liblrc_store.so" -o "$work/python/lrcstore/_native.abi3.so"
+    cp -r bindings/python "$work/package"
+    object native gcc bindings/python/lrcstore/_native.c -I "$headers" -fPIC
+    gcc --coverage -shared "$work/native.o" "$LRC_LIBRARIES/liblrc_store.so" \
+        -o "$work/package/lrcstore/_native.abi3.so"
     gcc -w -I include -fPIC -shared tests/store/busy.c -o "$work/busy.so"
-    PYTHONPATH=$work/python python_module tests/store/package.py native
-    LD_PRELOAD=$work/busy.so PYTHONPATH=$work/python python_module tests/store/package_busy.py
+    PYTHONPATH=$work/package python_module tests/store/package.py native
+    LD_PRELOAD=$work/busy.so PYTHONPATH=$work/package python_module tests/store/package_busy.py
 }
 
 python_modules() {
@@ -102,7 +103,9 @@ python_modules() {
     python_module tests/store/bindings.py
     python_module tests/store/package.py ctypes
     python_extension
-    python3-coverage combine --quiet
+    # the copy's lines are those of the package
+    printf '[paths]\nof =\n    %s\n    %s\n' "$PWD/bindings/python" "$work/package" > "$work/paths"
+    python3-coverage combine --quiet --rcfile "$work/paths"
     python3-coverage json --quiet -o "$work/python.json"
 }
 
