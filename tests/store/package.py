@@ -67,6 +67,13 @@ class Calls(unittest.TestCase):
         )
         self.assertEqual(target, b"\xee" * 9)
 
+    def test_buffers_are_given_back(self):
+        store, blob = self.store, bytearray(self.blob)
+        version = store.put("a", blob)
+        blob.append(1)
+        self.assertEqual(store.read_into("a", 0, memoryview(blob)[:200]), version)
+        blob.append(2)
+
     def test_lost_fragments(self):
         store, blob = self.store, self.blob
         version = store.put("a", blob)
@@ -154,7 +161,7 @@ class Calls(unittest.TestCase):
             self.assertEqual((store.timeout, store._timeout_ms), (seconds, milliseconds))
             self.assertEqual(store.put("a", b"x"), store.stat("a").version)
         for seconds in (-1, float("nan")):
-            with self.assertRaises(ValueError):
+            with self.assertRaisesRegex(ValueError, "timeout"):
                 store.timeout = seconds
         store.timeout = None
         self.assertEqual(store._timeout_ms, -1)
@@ -322,7 +329,8 @@ class Threads(unittest.TestCase):
             if number == 0:
                 try:
                     for turn in range(2000):
-                        store.put("a", bytes([turn % 251]) * (5000 + turn % 251))
+                        more = turn * 97 % 251  # longer and shorter in turn
+                        store.put("a", bytes([more]) * (5000 + more))
                 finally:
                     stop.set()
                 return
@@ -355,9 +363,12 @@ class BusyForCtypes(unittest.TestCase):
     def test_no_store_is_closed_under_a_call(self):
         store = Store(4)
         with store._calls._lent(0):
+            with store._calls._lent(0):
+                pass
             with self.assertRaises(StoreError) as caught:
                 store.close()
             self.assertIs(caught.exception.status, Status.NOT_ALONE)
+            self.assertEqual(len(store._calls._idle), 1)
         self.assertEqual(store.close(), (0, False))
 
 
@@ -368,6 +379,7 @@ class Memory(unittest.TestCase):
             store = Store(4096)
             store.put("a", bytes(5_000_000))
             self.assertEqual(len(store.get("a")), 5_000_000)
+            self.assertEqual(store.hold("a").size, 5_000_000)
             for call in (lambda: store.get("b"), lambda: store.put("A", b"x")):
                 self.assertRaises(StoreError, call)
             if turn % 2:
