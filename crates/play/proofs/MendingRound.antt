@@ -183,20 +183,19 @@ did_none acts who [] fresh = refl
 did_none acts who (p ∷ ps) fresh = (λ i. fresh.0.2 i ++ did_none acts (who + 1) ps fresh.1 i)
 
 -- ---- the mend as a round
-pub mend_round : (store : Which) (workers : ℕ) (rows : List Row) (round top base number : ℕ) (is : IsMendOf rows round top base number) (old dismissed hired renewed : Shows) (passes : List Shows) (plan : List Item) (tickets : TableId)
+pub mend_round : (store : Which) (workers : ℕ) (rows : List Row) (round top base number : ℕ) (is : IsMendOf rows round top base number) (old hired renewed : Shows) (passes : List Shows) (plan : List Item) (tickets : TableId)
     (works : List (Work Mending)) (rans : List (Ran Returned)) (outcome : RowOutcome) (done : List NumberedOutcome)
-    → AreNew old.acts 1 passes → IsPrefix old.acts dismissed.acts → dismissed.did ≡ old.did ++ did_by passes → (hired.acts ≡ dismissed.acts) × (hired.did ≡ dismissed.did) → IsAllOwn hired → IsPrefix hired.acts renewed.acts
+    → AreNew old.acts 1 passes → IsPrefix old.acts hired.acts → hired.did ≡ old.did ++ did_by passes → IsAllOwn hired → IsPrefix hired.acts renewed.acts
     → AreWorkers store (passes_of works) → AreNew hired.acts 1 (passes_of works) → AreMenders plan tickets works → DidAll DidMend works rans → AreEnded (outcomes_of rans) → HaveSeen renewed.acts (passes_back rans)
     → renewed.did ≡ hired.did ++ did_by (passes_back rans) → plan ≡ plan_of (standing_of hired.acts).state → length rans ≡ workers → TellsMend plan (outcomes_of rans) outcome → AreDrawnOnce (outcomes_of rans)
     → IsRound store.width store.limit workers rows round top base (number ∷ []) old.acts renewed.acts old.did renewed.did done (done ++ record { number = number; outcome = outcome } ∷ [])
-mend_round store workers rows round top base number is old dismissed hired renewed passes plan tickets works rans outcome done idle more joined same own later at fresh are did ended seen all_did planned many tells drawn =
+mend_round store workers rows round top base number is old hired renewed passes plan tickets works rans outcome done idle longer joined own later at fresh are did ended seen all_did planned many tells drawn =
     let m = menders_did store rows round top base number is.past is.few is.in_round hired.acts renewed.acts plan tickets 1 works rans at fresh are did ended seen in
     let one : Account = record { done = record { number = number; outcome = outcome }; steps = m.steps; found = Some hired.acts } in
     let steps : steps_in (one ∷ []) ≡ m.steps = append-nil m.steps in
-    let longer : IsPrefix old.acts hired.acts = subst (IsPrefix old.acts) (sym same.0) more in
     let le : length old.acts ≤ length hired.acts = prefix_length old.acts hired.acts longer in
     let none : old.did ++ did_by passes ≡ old.did = ap (λ l. old.did ++ l) (did_none old.acts 1 passes idle) ∙ append-nil old.did in
-    let did_same : hired.did ≡ old.did = same.1 ∙ joined ∙ none in
+    let did_same : hired.did ≡ old.did = joined ∙ none in
     let outcomes : length (outcomes_of rans) ≡ length rans = length-map rans (λ r. r.outcome) in
     let by_workers = each-both (λ (p : Placed). 1 ≤ p.step.who) (λ (p : Placed). p.step.who < 1 + length (outcomes_of rans)) m.steps m.labels m.below in
     let mended = mends_told workers plan (outcomes_of rans) m.steps outcome m.in_order m.took tells drawn

@@ -20,7 +20,9 @@ use Rattle.rounds.specs.declared.pool.Pool.{Pool}
 use Rattle.play.specs.Runs.{round_in}
 use Rattle.play.specs.Lists.{Each, Pairs}
 use Rattle.play.specs.Accounts.{Placed, act_at, Stands, own_places, Account, dones_in, numbers_in, steps_in, earlier, HasDone, IsAccount, IsCallOf, IsMendOf, RiseFrom, IsGood, IsLater, IsNext, IsDone, IsRound, IsPlayed}
+use Rattle.play.specs.Progress.{AreTold, HasRun, IsReadyFor, IsRowAt, Waits, numbers_of}
 use Rattle.play.specs.declared.calls.WorkerJob.{WorkerJob}
+use Rattle.play.specs.declared.rows.Progress.{Progress}
 use Rattle.transcript.specs.declared.outcome.NumberedOutcome.{NumberedOutcome}
 use Rattle.play.proofs.Buckets.{each-append, each-across, each-both, each-weaker, pairs-append}
 
@@ -108,10 +110,6 @@ played_more w l workers rows round base top numbers before acts old_did new_did 
           (each-weaker (IsNext base top before acts old_did ys) (IsDone w l top acts (xs ++ ys)) (done_now w l base top before acts old_did xs ys p.places p.stand p.few) r.accounts r.are_next));
     }
 
--- each row up to this one has one outcome
-abbrev pub AreTold : ℕ → List ℕ → List ℕ → Type 0
-AreTold top told waiting = (k : ℕ) → times k told + times k waiting ≡ once_later (top + 1) k
-
 -- ---- the calls that wait for the round's end
 pub rise_more : (base : ℕ) (calls : List WorkerJob) (c : WorkerJob) → RiseFrom base calls → base < c.job.row → Each (λ (d : WorkerJob). d.job.row < c.job.row) calls → RiseFrom base (calls ++ c ∷ [])
 rise_more base [] c rise less all = (less, tt)
@@ -121,18 +119,6 @@ rise_more base (d ∷ calls) c rise less all = (rise.0, rise_more d.job.row call
 pub calls_longer : (workers : ℕ) (rows : List Row) (round top later : ℕ) (calls : List WorkerJob) → top ≤ later → Each (IsCallOf workers rows round top) calls → Each (IsCallOf workers rows round later) calls
 calls_longer workers rows round top later calls le are = each-weaker (IsCallOf workers rows round top) (IsCallOf workers rows round later)
     (λ c is. let few : c.job.row ≤ top = is.few in record { before = is.before; row = is.row; number = is.number; there = is.there; worker = is.worker; worker_is = is.worker_is; task = is.task; few = omega arith; in_round = is.in_round }) calls are
-
-abbrev pub numbers_of : List WorkerJob → List ℕ
-numbers_of calls = map (λ (c : WorkerJob). c.job.row) calls
-
--- the rows up to some row are done, and the calls of the rows behind it, up to this one, wait
-pub record Waits (w l workers : ℕ) (rows : List Row) (round number : ℕ) (acts : List Act) (did : List ℕ) (done : List NumberedOutcome) (calls : List WorkerJob) : Type 0 where
-  pub base : ℕ
-  pub le : base ≤ number
-  pub played : IsPlayed w l workers rows base acts did done
-  pub are : Each (IsCallOf workers rows round number) calls
-  pub rise : RiseFrom base calls
-  pub once : AreTold number (numbers_in done) (numbers_of calls)
 
 -- the property of a round of calls that were made
 abbrev pub MakesRound : ℕ → ℕ → ℕ → List WorkerJob → List Act → List Act → List ℕ → List ℕ → List NumberedOutcome → List NumberedOutcome → Type 0
@@ -163,6 +149,21 @@ made_last w l workers rows round number before acts old_did new_did old new pool
 pub waits_none : (w l workers : ℕ) (rows : List Row) (round base number : ℕ) (acts : List Act) (did : List ℕ) (done : List NumberedOutcome) → base ≤ number → IsPlayed w l workers rows base acts did done
     → AreTold number (numbers_in done) [] → Waits w l workers rows round number acts did done []
 waits_none w l workers rows round base number acts did done le played once = record { base = base; le = le; played = played; are = tt; rise = tt; once = once }
+
+none_told : (k : ℕ) → times k [] + times k [] ≡ once_later (0 + 1) k
+none_told k = grind (arith, nat_tests)
+
+-- before the first row
+pub run_none : (store : Which) (workers : ℕ) (rows : List Row) (p : Progress) → IsFresh store p.pool → length p.pool.passes.items ≡ workers → p.pool.first.did ≡ [] → p.done.items ≡ [] → p.calls.items ≡ []
+    → HasRun store workers rows 0 p
+run_none store workers rows p ready many did done none =
+    let acts = p.pool.first.acts in
+    record {
+      ready = ready;
+      many = many;
+      waits = subst (λ (u : List ℕ × (List NumberedOutcome × List WorkerJob)). Waits store.width store.limit workers rows p.round 0 acts u.0 u.1.0 u.1.1) (λ i. (sym did i, (sym done i, sym none i)))
+          (waits_none store.width store.limit workers rows p.round 0 0 acts [] [] (omega arith) (played_none store.width store.limit workers rows acts) none_told);
+    }
 
 -- one more waits
 pub waits_more : (w l workers : ℕ) (rows : List Row) (round number : ℕ) (acts : List Act) (did : List ℕ) (done : List NumberedOutcome) (calls : List WorkerJob) (c : WorkerJob) → Waits w l workers rows round number acts did done calls
@@ -206,56 +207,52 @@ round_there done rest row rows number all is =
     at [] = refl
     at (x ∷ done) = at done
 
--- what a row finds, once the calls of an earlier round are made
-pub record Finds (store : Which) (workers : ℕ) (rows : List Row) (row : Row) (number : ℕ) (round : ℕ) (pool : Pool) (done : List NumberedOutcome) (calls : List WorkerJob) : Type 0 where
-  pub ready : IsFresh store pool
-  pub many : length pool.passes.items ≡ workers
-  pub waits : Waits store.width store.limit workers rows row.round number pool.first.acts pool.first.did done calls
-  pub current : round ≡ row.round
-  pub mends : row.task ≡ Mend → calls ≡ []
+-- where a row stands
+pub row_within : (rows : List Row) (before number : ℕ) (row : Row) → IsRowAt rows before number row → (before ≤ length rows) × (1 ≤ number) × (number ≤ length rows)
+row_within rows before number row at =
+    let long : length rows ≡ length at.done + length (row ∷ at.rest) = ap length at.all ∙ length-append at.done (row ∷ at.rest) in
+    let before_is = at.before_is in
+    let number_is = at.number_is in
+    (omega arith, omega arith, omega arith)
 
--- the calls of the round before are made
-pub finds_made : (store : Which) (workers : ℕ) (rows : List Row) (row : Row) (number round current : ℕ) (old pool joined : Pool) (before done joined_done : List NumberedOutcome) (calls ready now : List WorkerJob)
-    → Waits store.width store.limit workers rows round number old.first.acts old.first.did before calls → ready ≡ calls → IsFresh store pool → length old.passes.items ≡ workers
-    → length pool.passes.items ≡ length old.passes.items → IsPrefix old.first.acts pool.first.acts
-    → MakesRound store.width store.limit (length old.passes.items) ready old.first.acts pool.first.acts old.first.did pool.first.did before done
-    → joined ≡ pool → joined_done ≡ done → now ≡ [] → current ≡ row.round → Finds store workers rows row number current joined joined_done now
-finds_made store workers rows row number round current old pool joined before done joined_done calls ready now waits same is_ready old_many new_many more ran pool_is done_is none current_is =
-    let made = made_all store.width store.limit workers rows round number old.first.acts pool.first.acts old.first.did pool.first.did before done calls waits more
-    (subst (λ (u : ℕ × List WorkerJob). MakesRound store.width store.limit u.0 u.1 old.first.acts pool.first.acts old.first.did pool.first.did before done) (λ i. (old_many i, same i)) ran) in
+-- the calls of the round before have run
+pub ready_made : (store : Which) (workers before : ℕ) (rows : List Row) (row : Row) (p q : Progress) → HasRun store workers rows before p → IsFresh store q.pool → length q.pool.passes.items ≡ length p.pool.passes.items
+    → IsPrefix p.pool.first.acts q.pool.first.acts
+    → MakesRound store.width store.limit (length p.pool.passes.items) p.calls.items p.pool.first.acts q.pool.first.acts p.pool.first.did q.pool.first.did p.done.items q.done.items
+    → q.calls.items ≡ [] → q.round ≡ row.round → IsReadyFor store workers rows before row q
+ready_made store workers before rows row p q run ready many more ran none round =
+    let first = q.pool.first in
+    let made = made_last store.width store.limit workers rows p.round before p.pool.first.acts first.acts p.pool.first.did first.did p.done.items q.done.items (length p.pool.passes.items) p.calls.items run.waits more run.many ran in
     record {
-      ready = subst (IsFresh store) (sym pool_is) is_ready;
-      many = ap (λ (c : Pool). length c.passes.items) pool_is ∙ new_many ∙ old_many;
-      waits = subst (λ (u : Pool × (List NumberedOutcome × List WorkerJob)). Waits store.width store.limit workers rows row.round number u.0.first.acts u.0.first.did u.1.0 u.1.1) (λ i. (sym pool_is i, (sym done_is i, sym none i)))
-          (waits_none store.width store.limit workers rows row.round number number pool.first.acts pool.first.did done (omega arith) made.0 made.1);
-      current = current_is;
+      run = record {
+        ready = ready;
+        many = many ∙ run.many;
+        waits = subst (Waits store.width store.limit workers rows q.round before first.acts first.did q.done.items) (sym none)
+            (waits_none store.width store.limit workers rows q.round before before first.acts first.did q.done.items (omega arith) made.0 made.1);
+      };
+      round = round;
       mends = λ task. none;
     }
 
--- the round goes on
-pub finds_same : (store : Which) (workers : ℕ) (rows : List Row) (row : Row) (number round current : ℕ) (pool joined : Pool) (done joined_done : List NumberedOutcome) (calls now : List WorkerJob)
-    → Waits store.width store.limit workers rows round number pool.first.acts pool.first.did done calls → IsFresh store pool → length pool.passes.items ≡ workers → joined ≡ pool → joined_done ≡ done → now ≡ calls
-    → current ≡ round → round ≡ row.round → (row.task ≡ Mend → ⊥) → Finds store workers rows row number current joined joined_done now
-finds_same store workers rows row number round current pool joined done joined_done calls now waits is_ready many pool_is done_is calls_is current_is same no_mend = record {
-  ready = subst (IsFresh store) (sym pool_is) is_ready;
-  many = ap (λ (c : Pool). length c.passes.items) pool_is ∙ many;
-  waits = subst (λ (u : Pool × (List NumberedOutcome × (List WorkerJob × ℕ))). Waits store.width store.limit workers rows u.1.1.1 number u.0.first.acts u.0.first.did u.1.0 u.1.1.0) (λ i. (sym pool_is i, (sym done_is i, (sym calls_is i, same i)))) waits;
-  current = current_is ∙ same;
-  mends = λ task. absurd (no_mend task);
-}
-
 -- a call's row
-pub makes_call : (store : Which) (workers : ℕ) (rows done_rows rest : List Row) (row : Row) (ask : Ask) (number next round : ℕ) (pool : Pool) (done : List NumberedOutcome) (calls pushed : List WorkerJob)
-    → Finds store workers rows row number round pool done calls → number ≡ length done_rows → next ≡ number + 1 → rows ≡ done_rows ++ row ∷ rest → row.task ≡ Make ask → HasWorker workers row
-    → pushed ≡ calls ++ record { worker = row.worker; job = record { row = next; ask = ask } } ∷ [] → Waits store.width store.limit workers rows round next pool.first.acts pool.first.did done pushed
-makes_call store workers rows done_rows rest row ask number next round pool done calls pushed f at next_is all task one is =
-    let c : WorkerJob = record { worker = row.worker; job = record { row = next; ask = ask } } in
-    let here : round_in rows next ≡ row.round = round_there done_rows rest row rows next all (omega arith) in
-    let by_one = subst (IsWorkerOf workers row.worker) task one in
-    let call : IsCallOf workers rows row.round (number + 1) c =
-    record { before = length done_rows; row = row; number = omega arith; there = row_there done_rows rest row rows all; worker = refl; worker_is = by_one; task = task; few = omega arith; in_round = here } in
-    let more = waits_more store.width store.limit workers rows row.round number pool.first.acts pool.first.did done calls c f.waits call next_is in
-    subst (λ (u : ℕ × (ℕ × List WorkerJob)). Waits store.width store.limit workers rows u.0 u.1.0 pool.first.acts pool.first.did done u.1.1) (λ i. (sym f.current i, (sym next_is i, sym is i))) more
+pub makes_call : (store : Which) (workers before number : ℕ) (rows : List Row) (row : Row) (ask : Ask) (p q : Progress) → IsReadyFor store workers rows before row p → IsRowAt rows before number row → All (HasWorker workers) rows
+    → row.task ≡ Make ask → q.pool ≡ p.pool → q.done.items ≡ p.done.items → q.round ≡ p.round
+    → q.calls.items ≡ p.calls.items ++ record { worker = row.worker; job = record { row = number; ask = ask } } ∷ [] → HasRun store workers rows number q
+makes_call store workers before number rows row ask p q f at all_have task pool done round is =
+    let c : WorkerJob = record { worker = row.worker; job = record { row = number; ask = ask } } in
+    let before_is = at.before_is in
+    let number_is = at.number_is in
+    let here : round_in rows number ≡ row.round = round_there at.done at.rest row rows number at.all (omega arith) in
+    let by_one = subst (IsWorkerOf workers row.worker) task (has_worker workers rows at.done at.rest row at.all all_have) in
+    let call : IsCallOf workers rows p.round (before + 1) c =
+    record { before = length at.done; row = row; number = omega arith; there = row_there at.done at.rest row rows at.all; worker = refl; worker_is = by_one; task = task; few = omega arith; in_round = here ∙ sym f.round } in
+    let more = waits_more store.width store.limit workers rows p.round before p.pool.first.acts p.pool.first.did p.done.items p.calls.items c f.run.waits call number_is in
+    record {
+      ready = subst (IsFresh store) (sym pool) f.run.ready;
+      many = ap (λ (o : Pool). length o.passes.items) pool ∙ f.run.many;
+      waits = subst (λ (u : (ℕ × ℕ) × (Pool × (List NumberedOutcome × List WorkerJob))). Waits store.width store.limit workers rows u.0.0 u.0.1 u.1.0.first.acts u.1.0.first.did u.1.1.0 u.1.1.1)
+          (λ i. ((sym round i, sym number_is i), (sym pool i, (sym done i, sym is i)))) more;
+    }
 
 -- the property of a mend
 abbrev pub MakesMend : ℕ → ℕ → ℕ → ℕ → List Act → List Act → List ℕ → List ℕ → List NumberedOutcome → List NumberedOutcome → Type 0
@@ -263,26 +260,34 @@ MakesMend w l workers number before acts old_did new_did old new =
     (rows : List Row) (round top base : ℕ) → IsMendOf rows round top base number → IsRound w l workers rows round top base (number ∷ []) before acts old_did new_did old new
 
 -- a mend's row
-pub makes_mend : (store : Which) (workers : ℕ) (rows done_rows rest : List Row) (row : Row) (number next round : ℕ) (pool mended : Pool) (done new : List NumberedOutcome) (calls : List WorkerJob)
-    → Finds store workers rows row number round pool done calls → number ≡ length done_rows → next ≡ number + 1 → rows ≡ done_rows ++ row ∷ rest → row.task ≡ Mend → IsPrefix pool.first.acts mended.first.acts
-    → MakesMend store.width store.limit (length pool.passes.items) next pool.first.acts mended.first.acts pool.first.did mended.first.did done new
-    → Waits store.width store.limit workers rows round next mended.first.acts mended.first.did new calls
-makes_mend store workers rows done_rows rest row number next round pool mended done new calls f at next_is all task more ran =
-    let w = f.waits in
-    let none : calls ≡ [] = f.mends task in
-    let le : w.base ≤ number = w.le in
-    let here : round_in rows next ≡ row.round = round_there done_rows rest row rows next all (omega arith) in
-    let mend : IsMendOf rows row.round next w.base next =
-    record { before = length done_rows; row = row; number_is = omega arith; there = row_there done_rows rest row rows all; task = task; past = omega arith; few = omega arith; in_round = here } in
-    let r = subst (λ n. IsRound store.width store.limit n rows row.round next w.base (next ∷ []) pool.first.acts mended.first.acts pool.first.did mended.first.did done new) f.many (ran rows row.round next w.base mend) in
-    let played = played_more store.width store.limit workers rows row.round w.base next (next ∷ []) pool.first.acts mended.first.acts pool.first.did mended.first.did done new (omega arith) more w.played r in
-    let once : AreTold next (numbers_in new) [] = λ k.
-    let both = ap (times k) (ap numbers_in r.dones ∙ map-append (λ (d : NumberedOutcome). d.number) done (dones_in r.accounts)) ∙ times-append k (numbers_in done) (numbers_in (dones_in r.accounts)) in
-    let mine = r.once k ∙ times-one k next in
-    let before = w.once k in
-    let no_calls : times k (numbers_of calls) ≡ 0 = ap (λ (l : List WorkerJob). times k (numbers_of l)) none in
-    let last = once_later-suc next k (omega arith) in
-    let same : once_later next k ≡ once_later (number + 1) k = ap (λ n. once_later n k) next_is in
-    omega (arith, both, mine, before, no_calls, last, same) in
-    subst (Waits store.width store.limit workers rows round next mended.first.acts mended.first.did new) (sym none)
-    (waits_none store.width store.limit workers rows round next next mended.first.acts mended.first.did new (omega arith) played once)
+pub makes_mend : (store : Which) (workers before number : ℕ) (rows : List Row) (row : Row) (p q : Progress) → IsReadyFor store workers rows before row p → IsRowAt rows before number row → row.task ≡ Mend
+    → IsFresh store q.pool → length q.pool.passes.items ≡ length p.pool.passes.items → IsPrefix p.pool.first.acts q.pool.first.acts
+    → MakesMend store.width store.limit (length p.pool.passes.items) number p.pool.first.acts q.pool.first.acts p.pool.first.did q.pool.first.did p.done.items q.done.items
+    → q.calls.items ≡ p.calls.items → HasRun store workers rows number q
+makes_mend store workers before number rows row p q f at task ready many more ran same =
+    let w = f.run.waits in
+    let old = p.pool.first in
+    let new = q.pool.first in
+    let before_is = at.before_is in
+    let number_is = at.number_is in
+    let none : p.calls.items ≡ [] = f.mends task in
+    let le : w.base ≤ before = w.le in
+    let here : round_in rows number ≡ row.round = round_there at.done at.rest row rows number at.all (omega arith) in
+    let mend : IsMendOf rows row.round number w.base number =
+    record { before = length at.done; row = row; number_is = omega arith; there = row_there at.done at.rest row rows at.all; task = task; past = omega arith; few = omega arith; in_round = here } in
+    let r = subst (λ n. IsRound store.width store.limit n rows row.round number w.base (number ∷ []) old.acts new.acts old.did new.did p.done.items q.done.items) f.run.many (ran rows row.round number w.base mend) in
+    let played = played_more store.width store.limit workers rows row.round w.base number (number ∷ []) old.acts new.acts old.did new.did p.done.items q.done.items (omega arith) more w.played r in
+    let once : AreTold number (numbers_in q.done.items) [] = λ k.
+    let both = ap (times k) (ap numbers_in r.dones ∙ map-append (λ (d : NumberedOutcome). d.number) p.done.items (dones_in r.accounts)) ∙ times-append k (numbers_in p.done.items) (numbers_in (dones_in r.accounts)) in
+    let mine = r.once k ∙ times-one k number in
+    let before_once = w.once k in
+    let no_calls : times k (numbers_of p.calls.items) ≡ 0 = ap (λ (l : List WorkerJob). times k (numbers_of l)) none in
+    let last = once_later-suc number k (omega arith) in
+    let same_number : once_later number k ≡ once_later (before + 1) k = ap (λ n. once_later n k) number_is in
+    omega (arith, both, mine, before_once, no_calls, last, same_number) in
+    record {
+      ready = ready;
+      many = many ∙ f.run.many;
+      waits = subst (Waits store.width store.limit workers rows q.round number new.acts new.did q.done.items) (sym (same ∙ none))
+          (waits_none store.width store.limit workers rows q.round number number new.acts new.did q.done.items (omega arith) played once);
+    }
