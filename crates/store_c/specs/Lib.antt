@@ -10,3 +10,4 @@ pub mod Hold
 pub mod Versions
 pub mod Install
 pub mod Items
+pub mod Shards

@@ -14,6 +14,7 @@ mod lending;
 mod numbers;
 mod repairs;
 mod sessions;
+mod shards;
 mod status;
 mod versions;
 
@@ -31,6 +32,7 @@ ghost use Rattle.store_c.specs.Numbers.{IsNumbersCall};
 ghost use Rattle.store_c.specs.Plan.{IsPlanTo, IsPlanPartTo, IsMendCall, IsSkipCall};
 ghost use Rattle.store_c.specs.Sessions.{IsOpenCall, IsUnjournaledCall, IsSplitCall, IsJoinCall};
 ghost use Rattle.store_c.specs.Sessions.{AreOfOneStore, IsCloseCall, IsNumberCall};
+ghost use Rattle.store_c.specs.Shards.{IsShardCall};
 ghost use Rattle.store_c.specs.Versions.{IsShapeCall, IsLostCall, IsFragmentCall, IsRangeCall};
 
 use crate::items::PlanItem;
@@ -736,6 +738,17 @@ pub extern "C" fn lrc_slot_skip(alloc: Global, slot: &mut Slot) -> u32
     };
     slot.put(held);
     status
+}
+
+/// Writes the shard that a name has in a store of so many shards.
+///
+/// The calls of all shards, in any order that keeps each shard's, are those of one object over one
+/// map, as `one_map::prove_one_map` states.
+#[unsafe(no_mangle)]
+pub extern "C" fn lrc_store_shard(name: &[u8], shards: u32, shard: &mut u32) -> u32
+    ensures { IsShardCall name.now shards result shard.old shard.new }
+{
+    shards::shard_of_name(name, shards, shard)
 }
 
 /// Drops what the slot holds.
