@@ -128,14 +128,15 @@ enum {
     LRC_STORE_NO_PASS = 13,      /* the session has no place for a further one */
     LRC_STORE_EMPTY = 14,        /* a slot does not hold what the function needs */
     LRC_STORE_OCCUPIED = 15,     /* the slot that the function fills is not empty */
-    LRC_STORE_BAD_ARGUMENT = 16, /* a limit not in 1 to 1,048,576; a number of data fragments other
-                                  * than 12 and 6; slots of two stores; or bytes that are not as
-                                  * many as a fragment has */
+    LRC_STORE_BAD_ARGUMENT = 16, /* a limit not in 1 to 1,048,576; a number of shards not in 1 to
+                                  * 64; a number of data fragments other than 12 and 6; slots of two
+                                  * stores; or bytes that are not as many as a fragment has */
     LRC_STORE_NOT_ALONE = 17,    /* the store has other sessions */
     LRC_STORE_NOT_REBUILT = 18,  /* out of memory for rebuilding lost fragments, or for the list of
                                   * pieces of lrc_store_lend; the history has the call, `version` is
                                   * written, and any byte of `target` may be */
-    LRC_STORE_NOTHING_LEFT = 19  /* the plan has no further item, or the journal no such entry */
+    LRC_STORE_NOTHING_LEFT = 19  /* the plan has no further item, the journal no such entry, or
+                                  * the store no such shard */
 };
 
 /* Opens a store whose fragments have `width` bytes and whose journal holds at most `limit`
@@ -319,6 +320,10 @@ uint32_t lrc_slot_fragment(lrc_slot *slot, uint64_t stripe, uint64_t fragment, l
 uint32_t lrc_store_install(lrc_slot *slot, lrc_slot *other, uint64_t stripe, uint64_t fragment,
                            const uint8_t *bytes, size_t len, uint64_t *version);
 
+/* Writes the shard of a name in a store of `shards` shards, 1 to 64: a number below `shards`, which
+ * depends on the two alone. LRC_STORE_BAD_ARGUMENT for another number of shards. */
+uint32_t lrc_store_shard(const uint8_t *name, size_t name_len, uint32_t shards, uint32_t *shard);
+
 /* Empties the slot, whatever it holds. If a session is released and not joined, its places are
  * gone, and its store can't be closed. Releasing the last session frees the store. */
 void lrc_slot_release(lrc_slot *slot);
@@ -330,9 +335,10 @@ const char *lrc_store_text(uint32_t status);
 /* How many bytes a name has that lrc_store_name makes. */
 enum { LRC_STORE_NAME_LEN = 32 };
 
-/* Writes a name for a key of any bytes: 160 bits of its SHA-256, in base32. `name` has
- * LRC_STORE_NAME_LEN bytes. So a service can have keys that are no names. Nobody has found two keys
- * with one name. */
+/* Writes a name for a key of any bytes, so that a service can have keys that are no names. `name`
+ * has LRC_STORE_NAME_LEN bytes. A key of at most 19 bytes is written backwards in base32, and
+ * filled with dots. Of a longer one it is the BLAKE2s hash of 160 bits, in base32: nobody has found
+ * two of them with one name. */
 void lrc_store_name(const uint8_t *key, size_t key_len, uint8_t *name);
 
 /* The processor level whose code is used, "x86-64-v3" or "x86-64-v2". The library chooses when it
@@ -378,6 +384,12 @@ uint32_t lrc_store_mend_step_wait(lrc_slot *slot, lrc_slot *other, uint64_t *ver
 uint32_t lrc_store_numbers_wait(lrc_slot *slot, lrc_numbers *numbers, int64_t timeout_ms);
 uint32_t lrc_store_hold_wait(lrc_slot *slot, const uint8_t *name, size_t name_len, lrc_slot *other,
                              uint64_t *version, uint64_t *len, int64_t timeout_ms);
+/* Lends all bytes of the version that the name's blob has now, and puts them into the empty
+ * `other`, as lrc_store_hold and lrc_slot_lend do. `version` and `len` are written if a version was
+ * held, also on LRC_STORE_UNRECOVERABLE, LRC_STORE_OCCUPIED and, if lost fragments are to be
+ * rebuilt, LRC_STORE_NO_MEMORY. */
+uint32_t lrc_store_get_wait(lrc_slot *slot, const uint8_t *name, size_t name_len, lrc_slot *other,
+                            uint64_t *version, uint64_t *len, uint64_t *pieces, int64_t timeout_ms);
 uint32_t lrc_store_install_wait(lrc_slot *slot, lrc_slot *other, uint64_t stripe, uint64_t fragment,
                                 const uint8_t *bytes, size_t len, uint64_t *version,
                                 int64_t timeout_ms);
@@ -407,6 +419,52 @@ void lrc_pool_give(lrc_pool *pool, lrc_slot *session);
 /* Joins all sessions into one in the empty `slot`, and frees the pool. LRC_STORE_NOT_ALONE if a
  * session is lent. No thread may use the pool meanwhile or afterwards. */
 uint32_t lrc_pool_close(lrc_pool *pool, lrc_slot *slot);
+
+/* ---- A store of several shards, for threads that come and go. Any threads may share it. Each
+ * shard is a store with a critical section of its own, and holds the names that lrc_store_shard
+ * gives it. So calls of names of different shards never wait for each other. The calls of all
+ * threads have the replies of one sequential store over all names. A version is the number of a put
+ * at its shard.
+ *
+ * A thread finds the pool of a name's shard, takes a session, makes calls of names of this shard on
+ * it, and gives it back to the pool. */
+typedef struct lrc_shards lrc_shards;
+
+typedef struct {
+    size_t size;     /* sizeof(lrc_options); later versions may have more options */
+    uint32_t width;  /* the bytes of a fragment */
+    uint32_t shards; /* 1 to 64 */
+    uint32_t limit;  /* how many entries the journal of each shard may have; 0 for no journals */
+} lrc_options;
+
+/* Opens a store. LRC_STORE_BAD_WIDTH and LRC_STORE_NO_MEMORY as lrc_store_open.
+ * LRC_STORE_BAD_ARGUMENT for a limit or a number of shards that is out of range, and for options
+ * that this version does not know: a greater `size` with other bytes than 0 behind `limit`. */
+uint32_t lrc_shards_open(const lrc_options *options, lrc_shards **shards);
+
+/* Writes the pool of the shard of a name. LRC_STORE_BAD_NAME if it is none. */
+uint32_t lrc_shards_find(lrc_shards *shards, const uint8_t *name, size_t name_len, lrc_pool **pool);
+
+/* Writes the pool of a shard. LRC_STORE_NOTHING_LEFT if there are not so many. */
+uint32_t lrc_shards_at(lrc_shards *shards, uint32_t shard, lrc_pool **pool);
+
+/* Writes the numbers of all shards together. Each shard is counted at a moment of its own, on a
+ * session of its pool: LRC_STORE_NO_MEMORY if none can be made. */
+uint32_t lrc_shards_numbers(lrc_shards *shards, lrc_numbers *numbers, int64_t timeout_ms);
+
+/* Trims the journal of each shard, as lrc_store_trim_wait does, also with LRC_STORE_NO_MEMORY. If a
+ * shard is refused after others, `discarded` gets how many entries these had. */
+uint32_t lrc_shards_trim(lrc_shards *shards, uint64_t keep, uint64_t *discarded,
+                         int64_t timeout_ms);
+
+/* Repairs all lost fragments that can be rebuilt, as lrc_store_mend_wait does, also with
+ * LRC_STORE_NO_MEMORY. Threads that mend at once begin with different shards. */
+uint32_t lrc_shards_mend(lrc_shards *shards, uint64_t *repaired, int64_t timeout_ms);
+
+/* Closes the store and frees it. `entries` and `lawful` are those of lrc_store_close, of all
+ * journals. LRC_STORE_NOT_ALONE if a session is lent. No thread may use the store meanwhile or
+ * afterwards. */
+uint32_t lrc_shards_close(lrc_shards *shards, uint64_t *entries, uint32_t *lawful);
 
 /* ---- A mending: one plan of repairs that any number of threads work off, each on a session of
  * its own. It is made in parts, so that other threads call between them. */

@@ -55,13 +55,27 @@ void check(uint32_t status, const char *call, const Arguments &...arguments) {
     throw store_error(text + ')', status);
 }
 
+// What a mend with this status returns.
+inline uint64_t mended(uint32_t status, uint64_t repaired) {
+    if (status != LRC_STORE_DONE) throw mend_error(status, repaired);
+    return repaired;
+}
+
+inline const uint8_t *bytes(std::string_view text) {
+    return reinterpret_cast<const uint8_t *>(text.data() ? text.data() : "");
+}
+
+// A timeout as the library has it. Without one a call waits for ever.
+inline int64_t wait_of(std::optional<std::chrono::milliseconds> timeout) {
+    return timeout ? std::max<int64_t>(timeout->count(), 0) : -1;
+}
+
 } // namespace detail
 
 // A name for a key of any bytes. Nobody has found two keys with one name.
 inline std::string name_of(std::string_view key) {
     std::string name(LRC_STORE_NAME_LEN, '\0');
-    lrc_store_name(reinterpret_cast<const uint8_t *>(key.data() ? key.data() : ""), key.size(),
-                   reinterpret_cast<uint8_t *>(name.data()));
+    lrc_store_name(detail::bytes(key), key.size(), reinterpret_cast<uint8_t *>(name.data()));
     return name;
 }
 
@@ -242,7 +256,7 @@ public:
     // How long a call waits for the critical section at a time. It then throws store_error with
     // LRC_STORE_BUSY. Without a timeout, as at first, it waits until it gets in.
     void set_timeout(std::optional<std::chrono::milliseconds> timeout) {
-        wait_ms = timeout ? std::max<int64_t>(timeout->count(), 0) : -1;
+        wait_ms = detail::wait_of(timeout);
     }
 
     // Splits off a session, with the label `who` in the journal and with this session's timeout.
@@ -281,7 +295,7 @@ public:
     uint64_t put(std::string_view name, buffer &blob, uint32_t data_fragments = 12) {
         uint64_t version = 0;
         blob.bytes = lrc_buffer{&buffer::none, 0};
-        detail::check(lrc_store_put_from_wait(held.get(), bytes(name), name.size(),
+        detail::check(lrc_store_put_from_wait(held.get(), detail::bytes(name), name.size(),
                                               blob.reserved.get(), data_fragments, &version,
                                               wait_ms),
                       "put", name, blob.reserved_len, data_fragments);
@@ -290,8 +304,9 @@ public:
 
     uint64_t put(std::string_view name, std::string_view blob, uint32_t data_fragments = 12) {
         uint64_t version = 0;
-        detail::check(lrc_store_put_wait(held.get(), bytes(name), name.size(), bytes(blob),
-                                         blob.size(), data_fragments, &version, wait_ms),
+        detail::check(lrc_store_put_wait(held.get(), detail::bytes(name), name.size(),
+                                         detail::bytes(blob), blob.size(), data_fragments, &version,
+                                         wait_ms),
                       "put", name, blob.size(), data_fragments);
         return version;
     }
@@ -300,7 +315,7 @@ public:
     grant read(std::string_view name, uint64_t start, uint64_t len) {
         grant made;
         uint64_t count = 0;
-        detail::check(lrc_store_lend_wait(held.get(), bytes(name), name.size(), start, len,
+        detail::check(lrc_store_lend_wait(held.get(), detail::bytes(name), name.size(), start, len,
                                           made.lent.get(), &made.number, &count, wait_ms),
                       "read", name, start, len);
         made.take(count);
@@ -331,8 +346,8 @@ public:
     // Holds the version that the blob has now.
     version hold(std::string_view name) {
         version made;
-        detail::check(lrc_store_hold_wait(held.get(), bytes(name), name.size(), made.held.get(),
-                                          &made.put_number, &made.len, wait_ms),
+        detail::check(lrc_store_hold_wait(held.get(), detail::bytes(name), name.size(),
+                                          made.held.get(), &made.put_number, &made.len, wait_ms),
                       "hold", name);
         return made;
     }
@@ -342,7 +357,7 @@ public:
     uint64_t install(version &known, uint64_t stripe, uint64_t fragment, std::string_view whole) {
         uint64_t number = 0;
         detail::check(lrc_store_install_wait(held.get(), known.held.get(), stripe, fragment,
-                                             bytes(whole), whole.size(), &number, wait_ms),
+                                             detail::bytes(whole), whole.size(), &number, wait_ms),
                       "install", stripe, fragment, whole.size());
         return number;
     }
@@ -356,16 +371,16 @@ public:
 
     uint64_t lose(std::string_view name, uint64_t stripe, uint64_t fragment) {
         uint64_t version = 0;
-        detail::check(lrc_store_lose_wait(held.get(), bytes(name), name.size(), stripe, fragment,
-                                          &version, wait_ms),
+        detail::check(lrc_store_lose_wait(held.get(), detail::bytes(name), name.size(), stripe,
+                                          fragment, &version, wait_ms),
                       "lose", name, stripe, fragment);
         return version;
     }
 
     uint64_t repair(std::string_view name, uint64_t stripe, uint64_t fragment) {
         uint64_t version = 0;
-        detail::check(lrc_store_repair_wait(held.get(), bytes(name), name.size(), stripe, fragment,
-                                            &version, wait_ms),
+        detail::check(lrc_store_repair_wait(held.get(), detail::bytes(name), name.size(), stripe,
+                                            fragment, &version, wait_ms),
                       "repair", name, stripe, fragment);
         return version;
     }
@@ -373,7 +388,7 @@ public:
     uint64_t remove(std::string_view name) {
         uint64_t version = 0;
         detail::check(
-            lrc_store_delete_wait(held.get(), bytes(name), name.size(), &version, wait_ms),
+            lrc_store_delete_wait(held.get(), detail::bytes(name), name.size(), &version, wait_ms),
             "remove", name);
         return version;
     }
@@ -390,8 +405,7 @@ public:
     uint64_t mend() {
         uint64_t repaired = 0;
         const uint32_t status = lrc_store_mend_wait(held.get(), &repaired, wait_ms);
-        if (status != LRC_STORE_DONE) throw mend_error(status, repaired);
-        return repaired;
+        return detail::mended(status, repaired);
     }
 
     // The slot, for calls of lrc_store.h that have no other form here. It has to keep a session of
@@ -399,23 +413,20 @@ public:
     lrc_slot *native_handle() { return held.get(); }
 
 private:
-    static const uint8_t *bytes(std::string_view text) {
-        return reinterpret_cast<const uint8_t *>(text.data() ? text.data() : "");
-    }
-
     uint32_t copy(std::string_view name, uint64_t start, void *target, size_t len,
                   uint64_t *version) {
         uint64_t lent = 0, built = 0;
         uint8_t none = 0;
-        return lrc_store_read_wait(held.get(), bytes(name), name.size(), start,
+        return lrc_store_read_wait(held.get(), detail::bytes(name), name.size(), start,
                                    target ? static_cast<uint8_t *>(target) : &none, len, version,
                                    &lent, &built, wait_ms);
     }
 
     shape shape_for(const char *call, std::string_view name) {
         shape found{};
-        detail::check(lrc_store_stat_wait(held.get(), bytes(name), name.size(), &found.version,
-                                          &found.len, &found.stripes, &found.lost, wait_ms),
+        detail::check(lrc_store_stat_wait(held.get(), detail::bytes(name), name.size(),
+                                          &found.version, &found.len, &found.stripes, &found.lost,
+                                          wait_ms),
                       call, name);
         return found;
     }
@@ -441,6 +452,7 @@ public:
 
     private:
         friend class pool;
+        friend class sharded_store;
         lease(lrc_pool *lender, lrc_slot *session_place, int64_t wait_ms)
             : from(lender), place(session_place) {
             std::swap(*lent.held.get(), *place);
@@ -482,6 +494,85 @@ public:
 private:
     lrc_pool *held = nullptr;
     int64_t wait_ms;
+};
+
+// A store of several shards, for threads that come and go. Any threads may share it. Each name
+// belongs to one shard, which has a critical section of its own, so threads that call different
+// names seldom wait for each other.
+class sharded_store {
+public:
+    // Opens a store of 1 to 64 shards without journals. Its fragments have `width` bytes.
+    sharded_store(uint32_t width, uint32_t shards) {
+        detail::check(open(width, shards, 0), "sharded_store", width, shards);
+    }
+    // The same with a journal for each shard, of at most `limit` entries.
+    sharded_store(uint32_t width, uint32_t shards, uint32_t limit) {
+        detail::check(limit ? open(width, shards, limit) : uint32_t{LRC_STORE_BAD_ARGUMENT},
+                      "sharded_store", width, shards, limit);
+    }
+    sharded_store(sharded_store &&) = delete;
+    ~sharded_store() {
+        uint64_t entries;
+        uint32_t lawful;
+        if (held) lrc_shards_close(held, &entries, &lawful);
+    }
+
+    // How long a call waits at a time, also one of a session that is lent afterwards. Without a
+    // timeout, as at first, it waits until it gets in. No other thread may call meanwhile.
+    void set_timeout(std::optional<std::chrono::milliseconds> timeout) {
+        wait_ms = detail::wait_of(timeout);
+    }
+
+    // Lends a session of the shard of a name, for calls of names of this shard.
+    pool::lease take(std::string_view name) {
+        lrc_pool *shard = nullptr;
+        lrc_slot *place = nullptr;
+        detail::check(lrc_shards_find(held, detail::bytes(name), name.size(), &shard), "take",
+                      name);
+        detail::check(lrc_pool_take(shard, &place, wait_ms), "take", name);
+        return pool::lease(shard, place, wait_ms);
+    }
+
+    // The numbers of all shards together.
+    lrc_numbers numbers() {
+        lrc_numbers found{};
+        detail::check(lrc_shards_numbers(held, &found, wait_ms), "numbers");
+        return found;
+    }
+
+    // Discards all entries of each shard's journal except the last `keep`.
+    uint64_t trim(uint64_t keep) {
+        uint64_t discarded = 0;
+        detail::check(lrc_shards_trim(held, keep, &discarded, wait_ms), "trim", keep);
+        return discarded;
+    }
+
+    // Repairs all lost fragments that can be rebuilt, and returns their number. Throws mend_error.
+    uint64_t mend() {
+        uint64_t repaired = 0;
+        const uint32_t status = lrc_shards_mend(held, &repaired, wait_ms);
+        return detail::mended(status, repaired);
+    }
+
+    // Throws store_error with LRC_STORE_NOT_ALONE if a session is lent. The store cannot be used
+    // afterwards.
+    closed close() {
+        closed report{};
+        uint32_t lawful = 0;
+        detail::check(lrc_shards_close(held, &report.entries, &lawful), "close");
+        report.is_checked = lawful == 1;
+        held = nullptr;
+        return report;
+    }
+
+private:
+    uint32_t open(uint32_t width, uint32_t shards, uint32_t limit) {
+        const lrc_options options{sizeof(lrc_options), width, shards, limit};
+        return lrc_shards_open(&options, &held);
+    }
+
+    lrc_shards *held = nullptr;
+    int64_t wait_ms = -1;
 };
 
 } // namespace lrc

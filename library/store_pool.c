@@ -6,7 +6,7 @@
  * the first of them. */
 #define _GNU_SOURCE
 #include "deadline.h"
-#include "lrc_store.h"
+#include "pool.h"
 
 #include <pthread.h>
 #include <stdlib.h>
@@ -141,12 +141,16 @@ static int is_lent(const lrc_pool *pool) {
     return pool->idle_count < pool->made + !pool->can_split;
 }
 
-uint32_t lrc_pool_close(lrc_pool *pool, lrc_slot *slot) {
-    if (slot->at) return LRC_STORE_OCCUPIED;
+int pool_is_busy(lrc_pool *pool) {
     pthread_mutex_lock(&pool->mutex);
     const int is_busy = is_lent(pool);
     pthread_mutex_unlock(&pool->mutex);
-    if (is_busy) return LRC_STORE_NOT_ALONE;
+    return is_busy;
+}
+
+uint32_t lrc_pool_close(lrc_pool *pool, lrc_slot *slot) {
+    if (slot->at) return LRC_STORE_OCCUPIED;
+    if (pool_is_busy(pool)) return LRC_STORE_NOT_ALONE;
     for (unsigned i = 0; i < pool->made; i++) {
         lrc_store_join(&pool->root, &pool->sessions[i]);
         lrc_slot_release(&pool->sessions[i]); /* if it is not the one that was lent */

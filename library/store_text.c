@@ -19,12 +19,13 @@ static const char *const texts[] = {
     [LRC_STORE_EMPTY] = "the slot lacks what the call needs: it was closed, joined or released, "
                         "or is in use",
     [LRC_STORE_OCCUPIED] = "the slot to be filled is not empty",
-    [LRC_STORE_BAD_ARGUMENT] = "the limit is not in 1 to 1,048,576, the data fragments are not 12 "
-                               "or 6, the slots are of two stores, or the bytes are not as many "
-                               "as a fragment has",
+    [LRC_STORE_BAD_ARGUMENT] = "the limit is not in 1 to 1,048,576, the shards are not 1 to 64, "
+                               "the data fragments are not 12 or 6, the slots are of two stores, "
+                               "or the bytes are not as many as a fragment has",
     [LRC_STORE_NOT_ALONE] = "the store has other sessions: join them first",
     [LRC_STORE_NOT_REBUILT] = "out of memory for rebuilding lost fragments",
-    [LRC_STORE_NOTHING_LEFT] = "the plan has no further item, or the journal no such entry",
+    [LRC_STORE_NOTHING_LEFT] = "the plan has no further item, the journal no such entry, or the "
+                               "store no such shard",
 };
 
 const char *lrc_store_text(uint32_t status) {

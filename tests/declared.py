@@ -39,10 +39,12 @@ RATTLE = {
 }
 C = {"size_t": "size", "int64_t": "i64"}
 C.update({f"uint{bits}_t": f"u{bits}" for bits in (8, 16, 32, 64)})
-STRUCTURES = ("slot", "slice", "buffer", "entry", "item", "numbers", "shape", "pool", "mending")
+STRUCTURES = ("slot", "slice", "buffer", "entry", "item", "numbers", "shape", "options")
+STRUCTURES += ("pool", "mending", "shards")
 C.update({f"lrc_{kind}": kind for kind in STRUCTURES})
 RUST = {"Slot": "slot", "Slice": "slice", "RawBuffer": "buffer", "RawEntry": "entry"}
 RUST.update({"RawPool": "pool", "RawNumbers": "numbers", "RawShape": "shape", "usize": "size"})
+RUST.update({"RawShards": "shards", "RawOptions": "options"})
 
 
 def read(*path):

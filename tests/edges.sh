@@ -39,10 +39,12 @@ coder_calls() {
     done
 }
 
-# Two programs of one thread each, side by side.
+shards() { random shards "$store" && "$work/shards" "$((seconds / 3 + 1))"; }
+
+# Programs of one thread each, side by side.
 one_thread() {
     local first
-    coder_calls &
+    { coder_calls && shards; } &
     first=$!
     calls
     local status=$?

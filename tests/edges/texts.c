@@ -4,11 +4,26 @@
 #include "store_test.h"
 
 /* What the text of each status of lrc_store.h has, in the order of the numbers. */
-static const char *const STORE[] = {
-    "done",      "critical section", "no blob",    "range",      "do not determine",
-    "no such",   "lost before",      "not lost",   "memory",     "journal is full",
-    "4,096",     "1 to 32 bytes",    "65,536",     "split",      "slot lacks",
-    "not empty", "1,048,576",        "other sess", "rebuilding", "no further item"};
+static const char *const STORE[] = {"done",
+                                    "critical section",
+                                    "no blob",
+                                    "range",
+                                    "do not determine",
+                                    "no such",
+                                    "lost before",
+                                    "not lost",
+                                    "memory",
+                                    "journal is full",
+                                    "4,096",
+                                    "1 to 32 bytes",
+                                    "65,536",
+                                    "split",
+                                    "slot lacks",
+                                    "not empty",
+                                    "1,048,576, the shards are not 1 to 64",
+                                    "other sess",
+                                    "rebuilding",
+                                    "no such shard"};
 static const char *const CODER[] = {"done", "unrecoverable", "argument"};
 
 static void texts(const char *(*text_of)(uint32_t), const char *const *parts, uint32_t count) {

@@ -170,17 +170,27 @@ static void check_mend_step(struct call *call) {
     EXPECT(lrc_store_repair(&call->slot, BLOB_NAME, 0, 5, &version), LRC_STORE_NOT_LOST);
 }
 
-static const struct form FORMS[] = {{"put", put, check_put, 0, 0},
-                                    {"put_from", put_from, check_put, 1, 0},
-                                    {"read", read_range, check_read, 0, 0},
-                                    {"lend", lend, check_lend, 0, 0},
-                                    {"lose", lose, check_lose, 0, 0},
-                                    {"repair", repair, check_repair, 0, 0},
-                                    {"delete", delete_blob, check_delete, 0, 0},
-                                    {"stat", stat_blob, check_stat, 0, 0},
-                                    {"trim", trim, check_trim, 0, 0},
-                                    {"plan", plan, check_plan, 0, 0},
-                                    {"mend_step", mend_step, check_mend_step, 0, 1}};
+static uint32_t get_whole(struct call *call, int64_t timeout) {
+    return lrc_store_get_wait(&call->slot, BLOB_NAME, &call->other, &call->outputs[0],
+                              &call->outputs[1], &call->outputs[2], timeout);
+}
+
+static void check_get(struct call *call) {
+    uint8_t got[128];
+    EXPECT(call->outputs[0], 4);
+    EXPECT(call->outputs[1], 77);
+    EXPECT(call->outputs[2], 20);
+    EXPECT(gather(&call->other, got), 77);
+    EXPECT(memcmp(got, bytes(), 77), 0);
+}
+
+static const struct form FORMS[] = {
+    {"put", put, check_put, 0, 0},          {"put_from", put_from, check_put, 1, 0},
+    {"read", read_range, check_read, 0, 0}, {"lend", lend, check_lend, 0, 0},
+    {"get", get_whole, check_get, 0, 0},    {"lose", lose, check_lose, 0, 0},
+    {"repair", repair, check_repair, 0, 0}, {"delete", delete_blob, check_delete, 0, 0},
+    {"stat", stat_blob, check_stat, 0, 0},  {"trim", trim, check_trim, 0, 0},
+    {"plan", plan, check_plan, 0, 0},       {"mend_step", mend_step, check_mend_step, 0, 1}};
 enum { FORM_COUNT = sizeof FORMS / sizeof *FORMS, SLACK_MS = 1500, STAY_MS = 30 };
 
 /* Says which form and deadline an earlier message is about. */

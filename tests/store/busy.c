@@ -1,8 +1,10 @@
-/* Waiting forms of a store that is busy for ever. They are loaded before liblrc_store.so, by
- * LD_PRELOAD. Without a deadline a form returns LRC_STORE_NO_PASS, which no real one does. */
+/* Waiting forms of a store that is busy for ever, and the calls of a sharded one that wait. They
+ * are loaded before liblrc_store.so, by LD_PRELOAD. Without a deadline a form returns
+ * LRC_STORE_NO_PASS, which no real one does. */
 #define _GNU_SOURCE
 #include "lrc_store.h"
 
+#include <string.h>
 #include <time.h>
 
 static uint32_t busy(int64_t timeout_ms) {
@@ -12,8 +14,9 @@ static uint32_t busy(int64_t timeout_ms) {
     return LRC_STORE_BUSY;
 }
 
-#define FORM(name, ...)                                                                            \
-    uint32_t lrc_store_##name##_wait(__VA_ARGS__, int64_t timeout_ms) { return busy(timeout_ms); }
+#define WAITS(function, ...)                                                                       \
+    uint32_t function(__VA_ARGS__, int64_t timeout_ms) { return busy(timeout_ms); }
+#define FORM(name, ...) WAITS(lrc_store_##name##_wait, __VA_ARGS__)
 
 #pragma GCC diagnostic ignored "-Wunused-parameter"
 FORM(put, lrc_slot *slot, const uint8_t *name, size_t name_len, const uint8_t *blob,
@@ -29,12 +32,18 @@ FORM(repair, lrc_slot *slot, const uint8_t *name, size_t name_len, uint64_t stri
 FORM(delete, lrc_slot *slot, const uint8_t *name, size_t name_len, uint64_t *version)
 FORM(stat, lrc_slot *slot, const uint8_t *name, size_t name_len, uint64_t *version, uint64_t *len,
      uint64_t *stripes, uint64_t *lost)
-FORM(trim, lrc_slot *slot, uint64_t keep, uint64_t *discarded)
 FORM(plan_part, lrc_slot *slot, lrc_slot *other, uint64_t most, uint64_t *items)
 FORM(mend_step, lrc_slot *slot, lrc_slot *other, uint64_t *version)
-FORM(mend, lrc_slot *slot, uint64_t *repaired)
-FORM(hold, lrc_slot *slot, const uint8_t *name, size_t name_len, lrc_slot *other, uint64_t *version,
-     uint64_t *len)
 FORM(install, lrc_slot *slot, lrc_slot *other, uint64_t stripe, uint64_t fragment,
      const uint8_t *bytes, size_t len, uint64_t *version)
-FORM(numbers, lrc_slot *slot, lrc_numbers *numbers)
+WAITS(lrc_shards_numbers, lrc_shards *shards, lrc_numbers *numbers)
+WAITS(lrc_shards_trim, lrc_shards *shards, uint64_t keep, uint64_t *discarded)
+WAITS(lrc_shards_mend, lrc_shards *shards, uint64_t *repaired)
+
+/* The version of one name is held at once. */
+uint32_t lrc_store_hold_wait(lrc_slot *slot, const uint8_t *name, size_t name_len, lrc_slot *other,
+                             uint64_t *version, uint64_t *len, int64_t timeout_ms) {
+    if (name_len != 4 || memcmp(name, "held", 4) != 0) return busy(timeout_ms);
+    *version = *len = 1;
+    return LRC_STORE_DONE;
+}

@@ -145,6 +145,56 @@ static void unrecoverable(lrc_slot *slot) {
     lrc_slot_release(&held);
 }
 
+/* Calls of a whole read that lend nothing. `held` is not empty, and "fox" has the text. */
+static void refused_gets(lrc_slot *slot, lrc_slot *held) {
+    lrc_slot whole = LRC_SLOT_EMPTY;
+    uint64_t version = 77, len = 77, pieces = 77;
+    EXPECT(lrc_store_get_wait(held, NAME("fox"), &whole, &version, &len, &pieces, 0),
+           LRC_STORE_EMPTY);
+    EXPECT(lrc_store_get_wait(slot, NAME("Fox"), &whole, &version, &len, &pieces, 0),
+           LRC_STORE_BAD_NAME);
+    EXPECT(lrc_store_get_wait(slot, NAME("none"), &whole, &version, &len, &pieces, 0),
+           LRC_STORE_NO_NAME);
+    EXPECT(version + len + pieces, 231);
+    EXPECT(lrc_store_get_wait(slot, NAME("fox"), held, &version, &len, &pieces, 0),
+           LRC_STORE_OCCUPIED);
+    EXPECT(version * 100 + len, 154);
+    EXPECT(pieces, 77);
+    EXPECT(whole.at != NULL, 0);
+}
+
+/* A whole blob, degraded, stays as it was when it was lent. */
+static void whole_reads(void) {
+    lrc_slot slot = LRC_SLOT_EMPTY, whole = LRC_SLOT_EMPTY, held = LRC_SLOT_EMPTY;
+    uint64_t version = 0, len = 77, pieces = 0;
+    uint8_t got[BYTES];
+    EXPECT(lrc_store_open_unjournaled(WIDTH, &slot), LRC_STORE_DONE);
+    put_with_losses(&slot, "fox");
+    EXPECT(lrc_store_hold(&slot, NAME("fox"), &held, &version, &len), LRC_STORE_DONE);
+    refused_gets(&slot, &held);
+    EXPECT(lrc_store_get_wait(&slot, NAME("fox"), &whole, &version, &len, &pieces, -1),
+           LRC_STORE_DONE);
+    EXPECT(version * 100 + len, 154);
+    EXPECT(pieces, 14);
+    for (uint64_t f = 2; f < 6; f++)
+        EXPECT(lrc_store_lose(&slot, NAME("fox"), 0, f, &version), LRC_STORE_DONE);
+    version = len = pieces = 0;
+    EXPECT(lrc_store_get_wait(&slot, NAME("fox"), &(lrc_slot)LRC_SLOT_EMPTY, &version, &len,
+                              &pieces, -1),
+           LRC_STORE_UNRECOVERABLE);
+    EXPECT(version * 100 + len + pieces, 154);
+    EXPECT(lrc_store_put(&slot, NAME("fox"), (const uint8_t *)"", 0, 12, &version), LRC_STORE_DONE);
+    EXPECT(gather(&whole, got), BYTES);
+    EXPECT(memcmp(got, FOX, BYTES), 0);
+    lrc_slot_release(&whole);
+    EXPECT(lrc_store_get_wait(&slot, NAME("fox"), &whole, &version, &len, &pieces, -1),
+           LRC_STORE_DONE);
+    EXPECT(version * 100 + len + pieces, 200);
+    lrc_slot_release(&whole);
+    lrc_slot_release(&held);
+    lrc_slot_release(&slot);
+}
+
 /* A held version stays as it was, whatever becomes of the name and of the store. */
 static void versions(void) {
     lrc_slot slot = LRC_SLOT_EMPTY, other = LRC_SLOT_EMPTY, held = LRC_SLOT_EMPTY;
@@ -269,6 +319,7 @@ static void items(void) {
 int main(void) {
     numbers();
     versions();
+    whole_reads();
     installs();
     items();
     return report("versions");
