@@ -120,24 +120,42 @@ mending_sanitized() {
     mending uncancelled -g -fsanitize=thread -Wl,-rpath,"$LRC_LIBRARIES"
 }
 
+# shards WORDS FLAG..: its test, with these words
+shards() {
+    program gcc gnu11 tests/store/shards.c library/store_shards.c library/store_pool.c \
+        -Wl,--wrap=malloc,--wrap=calloc,--wrap=lrc_store_numbers_wait \
+        -Wl,--allow-multiple-definition "${@:2}" && "$work/program" ${1:+"$1"}
+}
+
+shards_sanitized() {
+    local TSAN_OPTIONS=ignore_noninstrumented_modules=1
+    export TSAN_OPTIONS
+    local store=$LRC_LIBRARIES/liblrc_store.so
+    shards shared -g -fsanitize=thread -Wl,-rpath,"$LRC_LIBRARIES"
+}
+
 # The code for either processor, chosen by the environment.
 choice() {
     program gcc gnu11 tests/store/calls.c && "$work/program" && LRC_STORE_CPU=v2 "$work/program"
 }
 
-# Each language's example prints what was stored.
-example() {
-    [ "$("$@")" = "HELLO, WORLD" ] || { echo "the example prints something else: $*"; return 1; }
+# example COMMAND WORD..: each language's example prints what was stored
+example() { prints "HELLO, WORLD" "$@"; }
+# And that of a store of several shards.
+sharded() { prints "HELLO, WORLD: 2000 repaired, 0 lost" "$@"; }
+# prints TEXT COMMAND WORD..: whether the command prints this
+prints() {
+    [ "$("${@:2}")" = "$1" ] || { echo "the example prints something else: ${*:2}"; return 1; }
 }
 
-in_c() { program gcc c99 bindings/c/store.c && "$work/program"; }
+in_c() { program gcc c99 "bindings/c/${1:-store}.c" && "$work/program"; }
 cpp() { program g++ c++17 tests/store/bindings.cpp "$@" && "$work/program"; }
-in_cpp() { program g++ c++17 bindings/cpp/store.cpp "$@" && "$work/program"; }
+in_cpp() { program g++ c++17 "bindings/cpp/$1.cpp" "${@:2}" && "$work/program"; }
 rust() {
     CARGO_TARGET_DIR="$work/cargo" CARGO_TERM_COLOR=never cargo "$1" --quiet --offline --release \
         --manifest-path bindings/rust_store/Cargo.toml "${@:2}"
 }
-in_rust() { rust run --example store; }
+in_rust() { rust run --example "$1"; }
 rust_tests() { rust test > "$work/rust" 2>&1 || { cat "$work/rust"; return 1; }; }
 python_with() {
     LRC_STORE_SO="$LRC_LIBRARIES/liblrc_store.so" LRC_CODER_SO="$LRC_LIBRARIES/liblrc_coder.so" \
@@ -154,7 +172,7 @@ package() {
             python_with tests/store/package_busy.py
 }
 go_tool() { tests/store/go.sh "$@" > "$work/go" 2>&1 || { cat "$work/go"; return 1; }; }
-in_go() { tests/store/go.sh run ./examples/store; }
+in_go() { tests/store/go.sh run "./examples/$1"; }
 # A store that is busy for ever, to be loaded before the library.
 busy_library() {
     gcc -std=gnu11 -O1 "${warnings[@]}" -shared -fPIC tests/store/busy.c -o "$work/busy.so"
@@ -184,6 +202,9 @@ test_of "pool, sanitizers of gcc" gcc gcc pool "" "${sanitizers[@]}" library/sto
 test_of "mending" gcc gcc mending ""
 test_of "mending, sanitizers of gcc" gcc gcc mending "" "${sanitizers[@]}"
 test_of "mending, ThreadSanitizer" gcc gcc mending_sanitized
+test_of "shards" gcc gcc shards ""
+test_of "shards, sanitizers of gcc" gcc gcc shards uncancelled "${sanitizers[@]}"
+test_of "shards, ThreadSanitizer" gcc gcc shards_sanitized
 test_of "threads, ThreadSanitizer" gcc gcc threads_sanitized
 test_of "pool, ThreadSanitizer" gcc gcc pool_sanitized
 test_of "refused memory" gcc gcc refuse
@@ -193,15 +214,20 @@ test_of "lost sets" gcc gcc lost_sets
 test_of "room of a blob" gcc gcc room
 test_of "names of keys" gcc gcc names
 test_of "C example" gcc gcc example in_c
+test_of "C example of shards" gcc gcc sharded in_c shards
 test_of "C++" g++ g++ cpp "${sanitizers[@]}"
-test_of "C++ example" g++ g++ example in_cpp "${sanitizers[@]}"
-test_of "Rust example" cargo cargo example in_rust
+test_of "C++ example" g++ g++ example in_cpp store "${sanitizers[@]}"
+test_of "C++ example of shards" g++ g++ sharded in_cpp shards "${sanitizers[@]}"
+test_of "Rust example" cargo cargo example in_rust store
+test_of "Rust example of shards" cargo cargo sharded in_rust shards
 test_of "Rust" cargo cargo rust_tests
 test_of "Python example" python3 python3 example python bindings/python/store.py
+test_of "Python example of shards" python3 python3 sharded python bindings/python/shards.py
 test_of "Python" python3 python3 python tests/store/bindings.py
 test_of "Python package by ctypes" python3 python3 python tests/store/package.py ctypes
 test_of "Python package" "$python_header" python3-dev package
-test_of "Go example" go golang-go example in_go
+test_of "Go example" go golang-go example in_go store
+test_of "Go example of shards" go golang-go sharded in_go shards
 test_of "Go, vet" go golang-go go_tool vet ./...
 test_of "Go" go golang-go go_tool test -count=1 ./...
 test_of "Go, race detector" go golang-go go_tool test -count=1 -race .

@@ -45,7 +45,7 @@ func (s *Store) PutIn(ctx context.Context, code Code, name string,
 func (s *Store) put(ctx context.Context, op string, code Code, name string,
 	blob []byte) (uint64, error) {
 	return s.version(ctx, op, name, func(ms int64) reply {
-		return C.pool_put(s.pool, name, address(blob), C.size_t(len(blob)), C.uint32_t(code),
+		return C.store_put(s.shards, name, address(blob), C.size_t(len(blob)), C.uint32_t(code),
 			C.int64_t(ms))
 	})
 }
@@ -92,7 +92,7 @@ func (s *Store) ReadAt(ctx context.Context, name string, p []byte,
 // readAt casts a negative offset to one that no blob has.
 func (s *Store) readAt(ctx context.Context, op, name string, p []byte, off int64) (uint64, error) {
 	return s.version(ctx, op, name, func(ms int64) reply {
-		return C.pool_read(s.pool, name, C.uint64_t(off), address(p), C.size_t(len(p)), C.int64_t(ms))
+		return C.store_read(s.shards, name, C.uint64_t(off), address(p), C.size_t(len(p)), C.int64_t(ms))
 	})
 }
 
@@ -101,7 +101,7 @@ func (s *Store) readAt(ctx context.Context, op, name string, p []byte, off int64
 func (s *Store) Lose(ctx context.Context, name string, stripe,
 	fragment int) (version uint64, err error) {
 	return s.version(ctx, "Lose", name, func(ms int64) reply {
-		return C.pool_lose(s.pool, name, C.uint64_t(stripe), C.uint64_t(fragment), C.int64_t(ms))
+		return C.store_lose(s.shards, name, C.uint64_t(stripe), C.uint64_t(fragment), C.int64_t(ms))
 	})
 }
 
@@ -111,7 +111,7 @@ func (s *Store) Lose(ctx context.Context, name string, stripe,
 func (s *Store) Repair(ctx context.Context, name string, stripe,
 	fragment int) (version uint64, err error) {
 	return s.version(ctx, "Repair", name, func(ms int64) reply {
-		return C.pool_repair(s.pool, name, C.uint64_t(stripe), C.uint64_t(fragment), C.int64_t(ms))
+		return C.store_repair(s.shards, name, C.uint64_t(stripe), C.uint64_t(fragment), C.int64_t(ms))
 	})
 }
 
@@ -119,7 +119,7 @@ func (s *Store) Repair(ctx context.Context, name string, stripe,
 // or ErrJournalFull.
 func (s *Store) Delete(ctx context.Context, name string) (version uint64, err error) {
 	return s.version(ctx, "Delete", name, func(ms int64) reply {
-		return C.pool_delete(s.pool, name, C.int64_t(ms))
+		return C.store_delete(s.shards, name, C.int64_t(ms))
 	})
 }
 
@@ -130,7 +130,7 @@ func (s *Store) Stat(ctx context.Context, name string) (Shape, error) {
 
 func (s *Store) stat(ctx context.Context, op, name string) (Shape, error) {
 	r, err := s.do(ctx, op, name, func(ms int64) reply {
-		return C.pool_stat(s.pool, name, C.int64_t(ms))
+		return C.store_stat(s.shards, name, C.int64_t(ms))
 	})
 	if err != nil {
 		return Shape{}, err
@@ -147,7 +147,7 @@ func (s *Store) stat(ctx context.Context, op, name string) (Shape, error) {
 // if it returns an error.
 func (s *Store) Trim(ctx context.Context, keep uint64) (discarded uint64, err error) {
 	_, err = s.do(ctx, "Trim", "", func(ms int64) reply {
-		r := C.pool_trim(s.pool, C.uint64_t(keep), C.int64_t(ms))
+		r := C.store_trim(s.shards, C.uint64_t(keep), C.int64_t(ms))
 		discarded += uint64(r.count)
 		return r
 	})
@@ -156,8 +156,28 @@ func (s *Store) Trim(ctx context.Context, keep uint64) (discarded uint64, err er
 
 // Mend repairs all lost fragments that can be rebuilt, and returns how many it repaired, also if it
 // returns an error: of the context, ErrNoMemory or ErrJournalFull. Any number of goroutines may
-// mend at once.
+// mend at once. They begin with different shards.
 func (s *Store) Mend(ctx context.Context) (repaired uint64, err error) {
+	first := s.firstShard()
+	for i := uint32(0); i < s.count; i++ {
+		part, err := s.mendShard(ctx, (first+i)%s.count)
+		repaired += part
+		if err != nil {
+			return repaired, err
+		}
+	}
+	return repaired, nil
+}
+
+// firstShard returns the shard that a mend begins with: of two that begin one after the other, far
+// apart.
+func (s *Store) firstShard() uint32 {
+	before := s.mends.Add(1) - 1
+	return uint32(uint64(before*0x9E3779B9) * uint64(s.count) >> 32)
+}
+
+// mendShard repairs all lost fragments of a shard, and returns how many it repaired.
+func (s *Store) mendShard(ctx context.Context, shard uint32) (repaired uint64, err error) {
 	plan := C.new_slot()
 	if plan == nil {
 		return 0, &Error{Op: "Mend", Err: ErrNoMemory}
@@ -165,13 +185,13 @@ func (s *Store) Mend(ctx context.Context) (repaired uint64, err error) {
 	defer C.free_slot(plan)
 	for isLast := false; !isLast; {
 		r, err := s.do(ctx, "Mend", "", func(ms int64) reply {
-			return C.pool_plan(s.pool, plan, plannedAtOnce, C.int64_t(ms))
+			return C.store_plan(s.shards, C.uint32_t(shard), plan, plannedAtOnce, C.int64_t(ms))
 		})
 		if err != nil {
 			return repaired, err
 		}
 		isLast = r.count < plannedAtOnce
-		part, err := s.mendPart(ctx, plan)
+		part, err := s.mendPart(ctx, shard, plan)
 		repaired += part
 		if err != nil {
 			return repaired, err
@@ -181,10 +201,11 @@ func (s *Store) Mend(ctx context.Context) (repaired uint64, err error) {
 }
 
 // mendPart repairs the fragments of a plan, and returns how many it repaired.
-func (s *Store) mendPart(ctx context.Context, plan *C.lrc_slot) (repaired uint64, err error) {
+func (s *Store) mendPart(ctx context.Context, shard uint32,
+	plan *C.lrc_slot) (repaired uint64, err error) {
 	for {
 		r, err := s.do(ctx, "Mend", "", func(ms int64) reply {
-			return C.pool_mend_step(s.pool, plan, C.int64_t(ms))
+			return C.store_mend_step(s.shards, C.uint32_t(shard), plan, C.int64_t(ms))
 		})
 		switch {
 		case err == nil:

@@ -261,3 +261,13 @@ func (c *countdown) Err() error {
 	}
 	return nil
 }
+
+// Two mends that begin one after the other begin with shards that lie far apart.
+func TestFirstShard(t *testing.T) {
+	s := &Store{count: 16}
+	for i, want := range []uint32{0, 9, 3, 13} {
+		if first := s.firstShard(); first != want {
+			t.Errorf("mend %d begins with %d, want %d", i, first, want)
+		}
+	}
+}

@@ -37,7 +37,7 @@ func (s *Store) Lend(ctx context.Context, name string, off, n int64) (*Grant, er
 		return nil, &Error{Op: "Lend", Name: name, Err: ErrNoMemory}
 	}
 	version, err := s.version(ctx, "Lend", name, func(ms int64) reply {
-		return C.pool_lend(s.pool, name, C.uint64_t(off), C.uint64_t(n), slot, C.int64_t(ms))
+		return C.store_lend(s.shards, name, C.uint64_t(off), C.uint64_t(n), slot, C.int64_t(ms))
 	})
 	if err != nil {
 		C.free_slot(slot)

@@ -27,7 +27,7 @@ import (
 )
 
 const (
-	// sessions is how many a store has, and so how many calls are in C at a time.
+	// sessions is how many a shard has, and so how many calls are in C at a time.
 	sessions = 64
 	// longestWait is how long C waits at a time, if the context of the call can end.
 	longestWait = 20 * time.Millisecond
@@ -38,7 +38,9 @@ type reply = C.lrc_reply
 
 // Store is a blob store, for any number of goroutines. It must not be copied.
 type Store struct {
-	pool     *C.lrc_pool
+	shards   *C.lrc_shards
+	count    uint32        // of shards
+	mends    atomic.Uint32 // how many began
 	calls    chan struct{} // an element for each call that is in C
 	closed   chan struct{}
 	isClosed atomic.Bool
@@ -47,10 +49,16 @@ type Store struct {
 // Option is an option of Open.
 type Option func(*options)
 
-type options struct{ limit C.uint32_t }
+type options struct{ shards, limit C.uint32_t }
 
-// WithJournal lets the store keep a journal of 1 to 1,048,576 entries. A call returns
-// ErrJournalFull once it has so many, until Trim discards some.
+// WithShards makes the store one of 1 to 64 shards. Each name belongs to a shard, and calls of
+// names of different shards do not wait for each other. Without it there is one.
+func WithShards(count int) Option {
+	return func(o *options) { o.shards = narrow(count) }
+}
+
+// WithJournal lets each shard of the store keep a journal of 1 to 1,048,576 entries. A call returns
+// ErrJournalFull once its shard has so many, until Trim discards some.
 func WithJournal(limit int) Option {
 	return func(o *options) {
 		o.limit = narrow(limit)
@@ -69,17 +77,19 @@ func narrow(number int) C.uint32_t {
 }
 
 // Open opens a store whose fragments have so many bytes, 1 to 65,536. Without WithJournal it keeps
-// no journal. It returns ErrBadWidth, ErrBadArgument for a bad limit, or ErrNoMemory.
+// no journal. It returns ErrBadWidth, ErrNoMemory, or ErrBadArgument for a bad limit or number of
+// shards.
 func Open(width int, opts ...Option) (*Store, error) {
-	var o options
+	o := options{shards: 1}
 	for _, option := range opts {
 		option(&o)
 	}
 	s := &Store{calls: make(chan struct{}, sessions), closed: make(chan struct{})}
-	status := C.open_pool(narrow(width), o.limit, &s.pool)
+	status := C.store_open(narrow(width), o.shards, o.limit, &s.shards)
 	if err := failure("Open", "", reply{status: status}); err != nil {
 		return nil, err
 	}
+	s.count = uint32(o.shards)
 	return s, nil
 }
 
@@ -93,7 +103,7 @@ func (s *Store) Close() error {
 	for i := 0; i < cap(s.calls); i++ {
 		s.calls <- struct{}{} // for good, so that no call gets in
 	}
-	return failure("Close", "", reply{status: C.close_pool(s.pool)})
+	return failure("Close", "", reply{status: C.store_close(s.shards)})
 }
 
 // failure returns the error of a reply, or nil if the call was done.

@@ -50,7 +50,7 @@ func (s *Store) Hold(ctx context.Context, name string) (*Version, error) {
 		return nil, &Error{Op: "Hold", Name: name, Err: ErrNoMemory}
 	}
 	r, err := s.do(ctx, "Hold", name, func(ms int64) reply {
-		return C.pool_hold(s.pool, name, slot, C.int64_t(ms))
+		return C.store_hold(s.shards, name, slot, C.int64_t(ms))
 	})
 	if err != nil {
 		C.free_slot(slot)
@@ -73,8 +73,8 @@ func (s *Store) Install(ctx context.Context, v *Version, stripe, fragment int,
 		return 0, v.closed("Install")
 	}
 	return s.version(ctx, "Install", v.name, func(ms int64) reply {
-		return C.pool_install(s.pool, v.slot, C.uint64_t(stripe), C.uint64_t(fragment),
-			address(whole), C.size_t(len(whole)), C.int64_t(ms))
+		return C.store_install(s.shards, v.name, v.slot, C.uint64_t(stripe),
+			C.uint64_t(fragment), address(whole), C.size_t(len(whole)), C.int64_t(ms))
 	})
 }
 
@@ -82,7 +82,7 @@ func (s *Store) Install(ctx context.Context, v *Version, stripe, fragment int,
 func (s *Store) Numbers(ctx context.Context) (Numbers, error) {
 	var n C.lrc_numbers
 	_, err := s.do(ctx, "Numbers", "", func(ms int64) reply {
-		return C.pool_numbers(s.pool, &n, C.int64_t(ms))
+		return C.store_numbers(s.shards, &n, C.int64_t(ms))
 	})
 	return Numbers{
 		Blobs:         uint64(n.blobs),

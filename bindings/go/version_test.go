@@ -140,7 +140,7 @@ func TestInstall(t *testing.T) {
 }
 
 func TestNameOf(t *testing.T) {
-	if name := lrcstore.NameOf(nil); name != "4oymiquy7qobjgx36tejs35zeqt24qpe" {
+	if name := lrcstore.NameOf(nil); name != "................................" {
 		t.Error(name)
 	}
 	store, key := opened(t), []byte("Some Key/\xff")

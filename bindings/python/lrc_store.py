@@ -161,6 +161,7 @@ DECLARED = {
     "lrc_slot_lost": [_SLOT, _U64, ctypes.POINTER(ctypes.c_uint16)],
     "lrc_slot_lend": [_SLOT, _U64, _U64, _SLOT, _OUT],
     "lrc_slot_fragment": [_SLOT, _U64, _U64, ctypes.POINTER(_Slice)],
+    "lrc_store_shard": [_BYTES, _SIZE, _U32, ctypes.POINTER(_U32)],
     "lrc_store_name": [_BYTES, _SIZE, _BYTES],
     "lrc_slot_release": [_SLOT],
     "lrc_store_text": [_U32],
@@ -228,6 +229,14 @@ def name_of(key: Union[str, Buffer]) -> str:
     name = ctypes.create_string_buffer(32)
     _library.lrc_store_name(whole, len(whole), name)
     return name.raw.decode()
+
+
+def shard_of(name: str, shards: int) -> int:
+    """The shard of a name in a store of so many shards, 1 to 64."""
+    shard = _U32()
+    words = *_named(name), _number("shards", shards, 32), shard
+    _check(_library.lrc_store_shard(*words), "shard_of", name, shards)
+    return shard.value
 
 
 def _view(what: str, data: Buffer) -> memoryview:

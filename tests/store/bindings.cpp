@@ -254,7 +254,7 @@ void numbers() {
 }
 
 void names() {
-    EXPECT(lrc::name_of(""), "4oymiquy7qobjgx36tejs35zeqt24qpe");
+    EXPECT(lrc::name_of(""), "................................");
     EXPECT(lrc::name_of(std::string_view()), lrc::name_of(""));
     EXPECT(lrc::name_of("Some Key/1"), lrc::name_of("Some Key/1"));
     EXPECT(lrc::name_of("Some Key/1") != lrc::name_of("Some Key/2"), true);
@@ -463,6 +463,76 @@ void pools() {
     lrc::pool dropped(session::open(4));
 }
 
+// 8 threads by a store of 16 shards, of which two mend.
+void threads_by_shards() {
+    lrc::sharded_store store(4, 16, 1000);
+    store.set_timeout(std::chrono::seconds(10));
+    std::vector<std::thread> threads;
+    for (unsigned number = 0; number < 8; number++)
+        threads.emplace_back([&store, number] {
+            for (unsigned turn = 0; turn < 20; turn++) {
+                const std::string name = "n" + std::to_string(number * 20 + turn);
+                auto lent = store.take(name);
+                lent->put(name, name);
+                lent->lose(name, 0, 0);
+                EXPECT((*lent).get(name), name);
+            }
+        });
+    for (std::thread &thread : threads) thread.join();
+    EXPECT(store.numbers().blobs, 160u);
+    EXPECT(store.numbers().lost, 160u);
+    uint64_t there = 0;
+    std::thread other([&] { there = store.mend(); });
+    const uint64_t here = store.mend();
+    other.join();
+    EXPECT(here + there, 160u);
+    EXPECT(store.numbers().lost, 0u);
+    const uint64_t entries = store.numbers().entries, discarded = store.trim(3);
+    EXPECT(store.numbers().entries, entries - discarded);
+    EXPECT(store.numbers().entries <= 3u * 16, true);
+    const lrc::closed report = store.close();
+    EXPECT(report.entries, entries - discarded);
+    EXPECT(report.is_checked, true);
+}
+
+// What a sharded store refuses, and the timeouts of its calls.
+void shards() {
+    using lrc::sharded_store;
+    threads_by_shards();
+    EXPECT_ERROR(sharded_store(0, 2), LRC_STORE_BAD_WIDTH, "sharded_store(0, 2)");
+    EXPECT_ERROR(sharded_store(4, 65), LRC_STORE_BAD_ARGUMENT, "sharded_store(4, 65)");
+    EXPECT_ERROR(sharded_store(4, 2, 0), LRC_STORE_BAD_ARGUMENT, "sharded_store(4, 2, 0)");
+    sharded_store store(4, 2);
+    EXPECT_ERROR(store.take("A"), LRC_STORE_BAD_NAME, "take(\"A\")");
+    store.take("a")->put("a", "HELLO");
+    EXPECT(recorder::calls.back().second, -1);
+    store.set_timeout(milliseconds(20));
+    store.take("a")->lose("a", 0, 3);
+    EXPECT(recorder::calls.back().second, 20);
+    recorder::statuses = {LRC_STORE_BUSY, LRC_STORE_BUSY};
+    EXPECT_ERROR(store.numbers(), LRC_STORE_BUSY, "numbers()");
+    EXPECT(recorder::calls.back().second, 20);
+    EXPECT_ERROR(store.trim(5), LRC_STORE_BUSY, "trim(5)");
+    EXPECT(recorder::calls.back().second, 20);
+    recorder::statuses = {LRC_STORE_JOURNAL_FULL};
+    try {
+        store.mend();
+        EXPECT(true, false);
+    } catch (const lrc::mend_error &error) {
+        EXPECT(error.status, uint32_t{LRC_STORE_JOURNAL_FULL});
+        EXPECT(error.repaired, 0u);
+    }
+    EXPECT(recorder::calls.back().second, 20);
+    {
+        auto lent = store.take("a");
+        EXPECT_ERROR(store.close(), LRC_STORE_NOT_ALONE, "close()");
+    }
+    EXPECT(store.mend(), 1u);
+    EXPECT(store.take("a")->get("a"), std::string("HELLO"));
+    EXPECT(store.close().is_checked, false);
+    sharded_store dropped(4, 2);
+}
+
 struct noted {
     uint32_t who, call;
     const char *name;
@@ -585,6 +655,7 @@ int main() {
     a_call_ends_at_its_deadline();
     mends();
     pools();
+    shards();
     journals();
     no_journal();
     unchecked_journals();

@@ -57,6 +57,8 @@ class Errors(unittest.TestCase):
         refused(Status.ALREADY_LOST, "lose('a', 1, 4)", session.lose, "a", 1, 4)
         refused(Status.NOT_LOST, "repair('a', 0, 5)", session.repair, "a", 0, 5)
         refused(Status.BAD_NAME, "stat('\\udc80')", session.stat, "\udc80")
+        refused(Status.BAD_NAME, "shard_of('A', 2)", lrc_store.shard_of, "A", 2)
+        refused(Status.BAD_ARGUMENT, "shard_of('a', 65)", lrc_store.shard_of, "a", 65)
 
     def test_sessions(self):
         session, other = self.session, Session.open(1, 10)
@@ -411,6 +413,13 @@ class Journals(unittest.TestCase):
                 raise ZeroDivisionError
         self.assertEqual(session.get("a"), b"x")
         self.assertEqual(session.close(), (3, True))
+
+
+class Shards(unittest.TestCase):
+    def test_the_shard_of_a_name(self):
+        counts = 1, 2, 16, 64
+        for name, wanted in ("a", [0, 1, 14, 56]), ("greeting", [0, 0, 3, 13]):
+            self.assertEqual([lrc_store.shard_of(name, count) for count in counts], wanted)
 
 
 class Threads(unittest.TestCase):

@@ -30,7 +30,7 @@ PYTHON = {
     ctypes.c_int64: "i64",
 }
 # The functions that are plain C, beside the waiting forms.
-UNPROVED = re.compile("_pool_|_mending_|lrc_store_name")
+UNPROVED = re.compile("_pool_|_mending_|_shards_|lrc_store_name")
 CALLS = ("PUT", "READ", "LOSE", "REPAIR", "DELETE", "STAT")
 
 
@@ -49,12 +49,15 @@ class Declarations(unittest.TestCase):
         plain = {name: words for name, words in proved.items() if not name.endswith("_wait")}
         self.assertEqual(plain, exported)
         forms = {name: words for name, words in header.items() if name.endswith("_wait")}
-        self.assertEqual(len(forms), 16)
+        self.assertEqual(len(forms), 17)
         self.assertEqual(forms.pop("lrc_store_mend_wait"), ["*mut slot", "*mut u64", "i64"])
+        # of a hold, and of a range of what is held
+        hold, lend = header["lrc_store_hold"], header["lrc_slot_lend"]
+        self.assertEqual(forms.pop("lrc_store_get_wait"), [*hold, lend[-1], "i64"])
         for name, words in forms.items():
             self.assertEqual(words, [*header[name.removesuffix("_wait")], "i64"])
         rust = declared.in_rust(self.rust)
-        self.assertEqual(len(rust), 34)
+        self.assertEqual(len(rust), 40)
         self.assertEqual(rust, {name: header[name] for name in rust})
         header["lrc_store_text"] = ["u32"]
         python = {
@@ -70,6 +73,7 @@ class Declarations(unittest.TestCase):
             ("entry", "RawEntry", lrc_store._Entry),
             ("numbers", "RawNumbers", lrc_store._Numbers),
             ("shape", "RawShape", lrc_store._Shape),
+            ("options", "RawOptions", None),
         ):
             block = re.search(rf"typedef struct \{{([^}}]*)\}} lrc_{name};", self.header)[1]
             block = re.sub(r"/\*.*?\*/", "", block, flags=re.S)

@@ -7,7 +7,7 @@ cd "$(dirname "$0")/../../bindings/go"
 include=$PWD/../../include
 # The go command does not see that the header changes, but that a flag does.
 sum=$(cksum < "$include/lrc_store.h")
-export CGO_CFLAGS="-I$include -Wall -Wextra -Werror -DHEADER_SUM=${sum% *}"
-export CGO_LDFLAGS="-L$LRC_LIBRARIES -llrc_store -Wl,-rpath,$LRC_LIBRARIES"
+export CGO_CFLAGS="'-I$include' -Wall -Wextra -Werror -DHEADER_SUM=${sum% *}"
+export CGO_LDFLAGS="'-L$LRC_LIBRARIES' -llrc_store '-Wl,-rpath,$LRC_LIBRARIES'"
 export GOFLAGS="-tags=nopkgconfig -mod=mod" GOPROXY=off
 exec go "$@"

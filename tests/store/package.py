@@ -21,6 +21,17 @@ def bytes_of(length):
     return bytes((7 * i + i // 251) % 256 for i in range(length))
 
 
+def base32(data):
+    return base64.b32encode(data).decode().lower().rstrip("=")
+
+
+def wanted_name(key):
+    """The name of a key, by Python's hash and base32."""
+    if len(key) < 20:
+        return base32(key[::-1]).ljust(32, ".")
+    return base32(hashlib.blake2s(key, digest_size=20).digest())
+
+
 class Calls(unittest.TestCase):
     def setUp(self):
         self.store = Store(4)
@@ -114,6 +125,11 @@ class Calls(unittest.TestCase):
         with self.assertRaises(StoreError) as caught:
             Store(4, limit=0)
         self.assertEqual(str(caught.exception).split(": ")[0], "open(4, 0)")
+        for shards in (0, 65):
+            with self.assertRaises(StoreError) as caught:
+                Store(4, shards=shards)
+            self.assertIs(caught.exception.status, Status.BAD_ARGUMENT)
+            self.assertEqual(str(caught.exception).split(": ")[0], f"open(4, shards={shards})")
         self.refused(Status.BAD_NAME, "put('A', 3, 12)", store.put, "A", b"xyz")
         self.refused(Status.BAD_NAME, "stat('')", store.stat, "")
         self.refused(Status.BAD_NAME, "stat('\\udc80')", store.stat, "\udc80")
@@ -124,6 +140,8 @@ class Calls(unittest.TestCase):
         for call in (
             lambda: Store(2**32 + 4),
             lambda: Store(4, limit=2**32 + 9),
+            lambda: Store(4, shards=2**32 + 9),
+            lambda: Store(4, shards=-1),
             lambda: store.put("a", b"x", 2**32 + 12),
             lambda: store.get("a", -1),
             lambda: store.get("a", 0, 2**64),
@@ -177,8 +195,8 @@ class Calls(unittest.TestCase):
         self.refused(Status.EMPTY, "trim(3)", store.trim, 3)
         self.assertEqual(_store.Calls().close()[0], Status.EMPTY)
         calls = _store.Calls()
-        self.assertEqual(calls.open(4, None)[0], Status.DONE)
-        self.assertEqual(calls.open(4, None)[0], Status.OCCUPIED)
+        self.assertEqual(calls.open(4, None, 2)[0], Status.DONE)
+        self.assertEqual(calls.open(4, None, 2)[0], Status.OCCUPIED)
         with Store(4) as other:
             other.put("a", b"x")
         self.refused(Status.EMPTY, "stat('a')", other.stat, "a")
@@ -260,10 +278,10 @@ class Calls(unittest.TestCase):
         self.refused(Status.EMPTY, "numbers()", store.numbers)
 
     def test_a_key_of_any_kind_has_a_name(self):
-        for key in ("", "Some Key/\u20ac", b"\0\xff", bytearray(70), bytes_of(1000)):
+        keys = "", "Some Key/\u20ac", b"\0\xff", bytes_of(19), bytearray(70), bytes_of(1000)
+        for key in keys:
             whole = key.encode() if isinstance(key, str) else bytes(key)
-            wanted = base64.b32encode(hashlib.sha256(whole).digest()[:20]).decode().lower()
-            self.assertEqual(lrcstore.name_of(key), wanted)
+            self.assertEqual(lrcstore.name_of(key), wanted_name(whole))
             self.store.put(lrcstore.name_of(key), whole)
             self.assertEqual(self.store.get(lrcstore.name_of(key)), whole)
         self.assertRaises(TypeError, lrcstore.name_of, 3)
@@ -283,6 +301,69 @@ class Calls(unittest.TestCase):
         error = self.refused(Status.JOURNAL_FULL, "mend() after 1 repaired fragments", store.mend)
         self.assertEqual(error.repaired, 1)
         self.assertEqual(store.close(), (5, True))
+
+
+class Shards(unittest.TestCase):
+    """A store of several shards has the replies of one store."""
+
+    NAMES = [f"n{number}" for number in range(40)]
+
+    def filled(self, **options):
+        """A store with a blob of each name, of which a fragment is lost."""
+        store = Store(4, shards=16, **options)
+        for name in self.NAMES:
+            store.put(name, name.encode())
+            store.lose(name, 0, 0)
+        return store
+
+    def test_blobs_and_numbers(self):
+        store = self.filled()
+        for name in self.NAMES:
+            self.assertEqual(store.get(name), name.encode())
+        blobs = len(self.NAMES)
+        self.assertEqual(store.numbers(), (blobs, 30 * 3 + 10 * 2, blobs, 0, 4 * blobs, 0))
+        store.delete("n7")
+        with self.assertRaises(StoreError) as caught:
+            store.get("n7")
+        self.assertIs(caught.exception.status, Status.NO_NAME)
+        self.assertEqual(store.numbers().blobs, blobs - 1)
+        self.assertEqual(store.close(), (0, False))
+
+    def test_mends_share_the_work(self):
+        store, repaired = self.filled(), []
+        threads = [
+            threading.Thread(target=lambda: repaired.append(store.mend())) for _ in range(2)
+        ]
+        for thread in threads:
+            thread.start()
+        for thread in threads:
+            thread.join()
+        self.assertEqual(sum(repaired), len(self.NAMES))
+        self.assertEqual((store.mend(), store.numbers().lost), (0, 0))
+        for name in self.NAMES:  # the next mend begins with another shard
+            store.lose(name, 0, 1)
+        self.assertEqual(store.mend(), len(self.NAMES))
+
+    def test_each_shard_has_a_journal(self):
+        store = self.filled(limit=50)
+        entries = store.numbers().entries
+        self.assertEqual(entries, 2 * len(self.NAMES))
+        kept = entries - store.trim(1)
+        self.assertTrue(1 < kept <= 16)
+        self.assertEqual(store.numbers().entries, kept)
+        self.assertEqual(store.close(), (kept, True))
+
+    def test_a_fragment_is_installed_at_the_shard_of_its_name(self):
+        store = self.filled()
+        store.mend()
+        held = {name: store.hold(name) for name in self.NAMES}
+        for name, version in held.items():
+            store.lose(name, 0, 2)
+            self.assertEqual(store.install(version, 0, 2, version.fragment(0, 2)), version.number)
+        self.assertEqual(store.numbers().lost, 0)
+        with self.assertRaises(StoreError) as caught:
+            Store(4, shards=2).install(held["n1"], 0, 2, bytes(4))
+        self.assertIs(caught.exception.status, Status.BAD_ARGUMENT)
 
 
 class Threads(unittest.TestCase):
@@ -354,21 +435,24 @@ class BusyForCtypes(unittest.TestCase):
     def test_a_caller_waits_for_a_session(self):
         store = Store(4)
         store.timeout = 0.01
+        (shard,) = store._calls._shards
         for _ in range(63):
-            store._calls._places.acquire()
-        self.assertRaises(lrcstore.Busy, store.stat, "a")
-        store._calls._places.release()
+            shard._places.acquire()
+        for call in (lambda: store.stat("a"), store.numbers, store.mend, lambda: store.trim(1)):
+            self.assertRaises(lrcstore.Busy, call)
+        shard._places.release()
         self.assertRaises(lrcstore.NotFound, store.stat, "a")
 
     def test_no_store_is_closed_under_a_call(self):
         store = Store(4)
-        with store._calls._lent(0):
-            with store._calls._lent(0):
+        (shard,) = store._calls._shards
+        with shard.lent(0):
+            with shard.lent(0):
                 pass
             with self.assertRaises(StoreError) as caught:
                 store.close()
             self.assertIs(caught.exception.status, Status.NOT_ALONE)
-            self.assertEqual(len(store._calls._idle), 1)
+            self.assertEqual(len(shard._idle), 1)
         self.assertEqual(store.close(), (0, False))
 
 

@@ -23,6 +23,7 @@ CALLS = {
     "trim": lambda store: store.trim(1),
     "mend": lambda store: store.mend(),
     "hold": lambda store: store.hold("a"),
+    "install": lambda store: store.install(store.hold("held"), 0, 1, b"abcd"),
     "numbers": lambda store: store.numbers(),
 }
 
@@ -83,6 +84,34 @@ class BusyForEver(unittest.TestCase):
         thread.join()
         self.assertGreater(counted, 5)
         self.assertEqual(self.store.close(), (0, False))
+
+    def test_one_call_at_a_time_uses_a_version(self):
+        held, ended, longest = self.store.hold("held"), threading.Event(), 0.0
+        self.store.timeout = 1
+
+        def wait():
+            self.assertRaises(Busy, self.store.install, held, 0, 1, b"abcd")
+            ended.set()
+
+        thread = threading.Thread(target=wait)
+        thread.start()
+        while not ended.is_set():
+            began = time.monotonic()
+            self.assertRaises(StoreError, held.shape)  # what busy.c holds has no shape
+            longest = max(longest, time.monotonic() - began)
+        thread.join()
+        self.assertGreater(longest, 0.5)
+
+    def test_a_handler_cannot_use_the_version_of_the_call_that_it_interrupts(self):
+        held = self.store.hold("held")
+        self.store.timeout = FOREVER / 10
+        for call in (held.shape, held.read, lambda: held.lost(0), lambda: held.fragment(0, 0)):
+            signal.signal(signal.SIGALRM, lambda *_, use=call: use())
+            signal.setitimer(signal.ITIMER_REAL, 0.02)
+            with self.assertRaises(RuntimeError) as caught:
+                self.store.install(held, 0, 1, b"abcd")
+            self.assertIn("uses the version", str(caught.exception))
+            self.assertRaises(StoreError, call)
 
 
 if __name__ == "__main__":

@@ -66,4 +66,9 @@ template <class Close, class... Arguments> uint32_t closing(Close close, Argumen
 #define lrc_store_hold_wait(...) RECORDED(hold, __VA_ARGS__)
 #define lrc_store_install_wait(...) RECORDED(install, __VA_ARGS__)
 #define lrc_store_numbers_wait(...) RECORDED(numbers, __VA_ARGS__)
+#define OF_SHARDS(name, ...) recorder::recorded("shards_" #name, lrc_shards_##name, __VA_ARGS__)
+#define lrc_shards_numbers(...) OF_SHARDS(numbers, __VA_ARGS__)
+#define lrc_shards_trim(...) OF_SHARDS(trim, __VA_ARGS__)
+#define lrc_shards_mend(...) OF_SHARDS(mend, __VA_ARGS__)
+#define lrc_shards_close(...) recorder::closing(lrc_shards_close, __VA_ARGS__)
 #endif

@@ -1,9 +1,9 @@
 /* The calls of a store that all threads of Python share, as an extension module of the stable ABI.
  *
- * Each call takes a session from a pool and gives it back. Its result is a tuple: the status, and
- * what the function of include/lrc_store.h writes. A short call is tried once without letting go of
- * the GIL. A longer one, and one that waits, lets other threads of Python run, and handles signals
- * every 50 milliseconds. */
+ * Each call takes a session of the shard of its name and gives it back. Its result is a tuple: the
+ * status, and what the function of include/lrc_store.h writes. A short call is tried once without
+ * letting go of the GIL. A longer one, and one that waits, lets other threads of Python run, and
+ * handles signals every 50 milliseconds. */
 #define Py_LIMITED_API 0x030b0000
 #define PY_SSIZE_T_CLEAN
 #include <Python.h>
@@ -13,27 +13,33 @@
 #include <string.h>
 #include <time.h>
 
-enum { SHORT_BYTES = 4096, SLICE_MS = 50, MOST_NUMBERS = 6, NS_OF_MS = 1000000 };
+enum { SHORT_BYTES = 4096, SLICE_MS = 50, MOST_NUMBERS = 6, NS_OF_MS = 1000000, MOST_NAME = 32 };
 
 typedef struct {
-    PyObject_HEAD lrc_pool *pool; /* NULL once it is closed */
-    unsigned long calls_inside;   /* guarded by the GIL */
+    PyObject_HEAD lrc_shards *shards; /* NULL once it is closed */
+    unsigned long calls_inside;       /* guarded by the GIL */
 } store_calls;
 
-/* A version of a blob that is held. The GIL guards it. */
+/* A version of a blob that is held, with its name. */
 typedef struct {
     PyObject_HEAD lrc_slot slot;
+    PyThread_type_lock lock; /* of the call that uses it */
+    unsigned long user;      /* its thread, or 0; guarded by the GIL */
+    uint8_t name[MOST_NAME];
+    Py_ssize_t name_len;
 } held_version;
 
-/* A call: its arguments, and the numbers that it writes. */
+/* A call on a session of the shard of its name, or one of all shards; its arguments, and the
+ * numbers that it writes. */
 struct call {
     uint32_t (*run)(lrc_slot *session, struct call *call, int64_t timeout_ms);
+    uint32_t (*run_all)(lrc_shards *shards, struct call *call, int64_t timeout_ms);
     const uint8_t *name;
     Py_ssize_t name_len;
     uint64_t first, second;
     uint8_t *bytes;
     Py_ssize_t len;
-    lrc_slot *held;
+    held_version *held;
     uint64_t numbers[MOST_NUMBERS];
 };
 
@@ -70,27 +76,37 @@ static uint32_t repair(lrc_slot *session, struct call *call, int64_t timeout_ms)
                                  call->second, &call->numbers[0], timeout_ms);
 }
 
-static uint32_t trim(lrc_slot *session, struct call *call, int64_t timeout_ms) {
-    return lrc_store_trim_wait(session, call->first, &call->numbers[0], timeout_ms);
+/* It is made in slices, each of which may discard some. */
+static uint32_t trim(lrc_shards *shards, struct call *call, int64_t timeout_ms) {
+    uint64_t discarded = 0;
+    const uint32_t status = lrc_shards_trim(shards, call->first, &discarded, timeout_ms);
+    call->numbers[0] += discarded;
+    return status;
 }
 
-static uint32_t mend(lrc_slot *session, struct call *call, int64_t timeout_ms) {
-    return lrc_store_mend_wait(session, &call->numbers[0], timeout_ms);
+static uint32_t mend(lrc_shards *shards, struct call *call, int64_t timeout_ms) {
+    return lrc_shards_mend(shards, &call->numbers[0], timeout_ms);
 }
 
 static uint32_t hold(lrc_slot *session, struct call *call, int64_t timeout_ms) {
-    return lrc_store_hold_wait(session, call->name, (size_t)call->name_len, call->held,
-                               &call->numbers[0], &call->numbers[1], timeout_ms);
+    held_version *held = call->held;
+    const uint32_t status =
+        lrc_store_hold_wait(session, call->name, (size_t)call->name_len, &held->slot,
+                            &call->numbers[0], &call->numbers[1], timeout_ms);
+    if (status != LRC_STORE_DONE) return status;
+    memcpy(held->name, call->name, (size_t)call->name_len);
+    held->name_len = call->name_len;
+    return status;
 }
 
 static uint32_t install(lrc_slot *session, struct call *call, int64_t timeout_ms) {
-    return lrc_store_install_wait(session, call->held, call->first, call->second, call->bytes,
-                                  (size_t)call->len, &call->numbers[0], timeout_ms);
+    return lrc_store_install_wait(session, &call->held->slot, call->first, call->second,
+                                  call->bytes, (size_t)call->len, &call->numbers[0], timeout_ms);
 }
 
-static uint32_t tell_numbers(lrc_slot *session, struct call *call, int64_t timeout_ms) {
+static uint32_t tell_numbers(lrc_shards *shards, struct call *call, int64_t timeout_ms) {
     lrc_numbers found = {0};
-    const uint32_t status = lrc_store_numbers_wait(session, &found, timeout_ms);
+    const uint32_t status = lrc_shards_numbers(shards, &found, timeout_ms);
     const uint64_t numbers[] = {found.blobs,         found.bytes, found.lost,
                                 found.unrecoverable, found.calls, found.entries};
     memcpy(call->numbers, numbers, sizeof numbers);
@@ -103,9 +119,12 @@ static int64_t now_ns(void) {
     return (int64_t)now.tv_sec * 1000 * NS_OF_MS + now.tv_nsec;
 }
 
-static uint32_t on_a_session(lrc_pool *pool, struct call *call, int64_t timeout_ms) {
+static uint32_t run(lrc_shards *shards, struct call *call, int64_t timeout_ms) {
+    lrc_pool *pool = NULL;
     lrc_slot *session = NULL;
-    uint32_t status = lrc_pool_take(pool, &session, timeout_ms);
+    if (call->run_all) return call->run_all(shards, call, timeout_ms);
+    uint32_t status = lrc_shards_find(shards, call->name, (size_t)call->name_len, &pool);
+    if (status == LRC_STORE_DONE) status = lrc_pool_take(pool, &session, timeout_ms);
     if (status != LRC_STORE_DONE) return status;
     status = call->run(session, call, timeout_ms);
     lrc_pool_give(pool, session);
@@ -114,13 +133,13 @@ static uint32_t on_a_session(lrc_pool *pool, struct call *call, int64_t timeout_
 
 /* Makes the call without the GIL, in slices between which Python handles signals. The status is
  * LRC_STORE_BUSY at the deadline. Returns -1 if a handler raised an exception. */
-static int wait_for(lrc_pool *pool, struct call *call, int64_t timeout_ms, uint32_t *status) {
+static int wait_for(lrc_shards *shards, struct call *call, int64_t timeout_ms, uint32_t *status) {
     const int64_t end = timeout_ms < 0 ? INT64_MAX : now_ns() + timeout_ms * NS_OF_MS;
     for (;;) {
         const int64_t left = end - now_ns(), left_ms = left <= 0 ? 0 : left / NS_OF_MS + 1;
         const int64_t slice = left_ms < SLICE_MS ? left_ms : SLICE_MS;
         PyThreadState *thread = PyEval_SaveThread();
-        *status = on_a_session(pool, call, slice);
+        *status = run(shards, call, slice);
         PyEval_RestoreThread(thread);
         if (PyErr_CheckSignals() < 0) return -1;
         if (*status != LRC_STORE_BUSY || left <= 0) return 0;
@@ -130,14 +149,14 @@ static int wait_for(lrc_pool *pool, struct call *call, int64_t timeout_ms, uint3
 /* Makes the call. Returns -1 if there is an exception. */
 static int make(store_calls *self, struct call *call, int64_t timeout_ms, uint32_t *status) {
     int result = 0;
-    if (!self->pool) {
+    if (!self->shards) {
         *status = LRC_STORE_EMPTY;
         return 0;
     }
     self->calls_inside++;
     *status = LRC_STORE_BUSY;
-    if (call->len <= SHORT_BYTES) *status = on_a_session(self->pool, call, 0);
-    if (*status == LRC_STORE_BUSY) result = wait_for(self->pool, call, timeout_ms, status);
+    if (call->len <= SHORT_BYTES) *status = run(self->shards, call, 0);
+    if (*status == LRC_STORE_BUSY) result = wait_for(self->shards, call, timeout_ms, status);
     self->calls_inside--;
     return result;
 }
@@ -332,7 +351,7 @@ static PyObject *calls_repair(store_calls *self, PyObject *const *words, Py_ssiz
 
 /* trim(keep, timeout_ms) -> (status, discarded) */
 static PyObject *calls_trim(store_calls *self, PyObject *const *words, Py_ssize_t count) {
-    struct call call = {.run = trim};
+    struct call call = {.run_all = trim};
     int64_t timeout_ms;
     if (!count_is("trim", count, 2) || number_to(&call.first, words[0], UINT64_MAX) < 0 ||
         timeout_to(&timeout_ms, words[1]) < 0)
@@ -343,14 +362,14 @@ static PyObject *calls_trim(store_calls *self, PyObject *const *words, Py_ssize_
 /* mend(timeout_ms) -> (status, repaired). It runs without the GIL, and in one piece: the deadline
  * is for each of its steps, and a signal is handled when it returns. */
 static PyObject *calls_mend(store_calls *self, PyObject *const *words, Py_ssize_t count) {
-    struct call call = {.run = mend};
+    struct call call = {.run_all = mend};
     int64_t timeout_ms;
     uint32_t status = LRC_STORE_EMPTY;
     if (!count_is("mend", count, 1) || timeout_to(&timeout_ms, words[0]) < 0) return NULL;
-    if (self->pool) {
+    if (self->shards) {
         self->calls_inside++;
         PyThreadState *thread = PyEval_SaveThread();
-        status = on_a_session(self->pool, &call, timeout_ms);
+        status = run(self->shards, &call, timeout_ms);
         PyEval_RestoreThread(thread);
         self->calls_inside--;
     }
@@ -359,25 +378,60 @@ static PyObject *calls_mend(store_calls *self, PyObject *const *words, Py_ssize_
 
 /* numbers(timeout_ms) -> (status, blobs, bytes, lost, unrecoverable, calls, entries) */
 static PyObject *calls_numbers(store_calls *self, PyObject *const *words, Py_ssize_t count) {
-    struct call call = {.run = tell_numbers};
+    struct call call = {.run_all = tell_numbers};
     int64_t timeout_ms;
     if (!count_is("numbers", count, 1) || timeout_to(&timeout_ms, words[0]) < 0) return NULL;
     return made(self, &call, timeout_ms, 6);
 }
 
+static PyObject *held_new(PyTypeObject *type, PyObject *words, PyObject *named) {
+    (void)words;
+    (void)named;
+    held_version *made = (held_version *)((allocfunc)PyType_GetSlot(type, Py_tp_alloc))(type, 0);
+    if (!made) return NULL;
+    made->lock = PyThread_allocate_lock();
+    if (made->lock) return (PyObject *)made;
+    Py_DECREF(made);
+    return PyErr_NoMemory();
+}
+
 static void held_dealloc(PyObject *object) {
+    held_version *self = (held_version *)object;
     PyTypeObject *type = Py_TYPE(object);
-    lrc_slot_release(&((held_version *)object)->slot);
+    lrc_slot_release(&self->slot);
+    if (self->lock) PyThread_free_lock(self->lock);
     ((freefunc)PyType_GetSlot(type, Py_tp_free))(object);
     Py_DECREF(type);
 }
 
-/* The slot of a version, or NULL with an exception. */
-static lrc_slot *slot_of(PyObject *object) {
+/* An object that is to be a version, or NULL with an exception. */
+static held_version *held_of(PyObject *object) {
     if (PyType_GetSlot(Py_TYPE(object), Py_tp_dealloc) == (void *)held_dealloc)
-        return &((held_version *)object)->slot;
+        return (held_version *)object;
     PyErr_SetString(PyExc_TypeError, "the version is no Held");
     return NULL;
+}
+
+/* Waits until no other call uses the version, without the GIL. Returns -1 with an exception if that
+ * is one of this thread, which a signal handler has interrupted. */
+static int enter(held_version *held) {
+    const unsigned long thread_id = PyThread_get_thread_ident();
+    if (held->user == thread_id) {
+        PyErr_SetString(PyExc_RuntimeError, "a call of this thread uses the version");
+        return -1;
+    }
+    if (!PyThread_acquire_lock(held->lock, NOWAIT_LOCK)) {
+        PyThreadState *thread = PyEval_SaveThread();
+        PyThread_acquire_lock(held->lock, WAIT_LOCK);
+        PyEval_RestoreThread(thread);
+    }
+    held->user = thread_id;
+    return 0;
+}
+
+static void leave(held_version *held) {
+    held->user = 0;
+    PyThread_release_lock(held->lock);
 }
 
 /* hold(name, held, timeout_ms) -> (status, version, length) */
@@ -385,19 +439,31 @@ static PyObject *calls_hold(store_calls *self, PyObject *const *words, Py_ssize_
     struct call call = {.run = hold};
     int64_t timeout_ms;
     if (!count_is("hold", count, 3) || name_to(&call, words[0]) < 0 ||
-        !(call.held = slot_of(words[1])) || timeout_to(&timeout_ms, words[2]) < 0)
+        !(call.held = held_of(words[1])) || timeout_to(&timeout_ms, words[2]) < 0)
         return NULL;
-    return made(self, &call, timeout_ms, 2);
+    if (enter(call.held) < 0) return NULL;
+    PyObject *result = made(self, &call, timeout_ms, 2);
+    leave(call.held);
+    return result;
 }
 
-/* install(held, stripe, fragment, bytes, timeout_ms) -> (status, version). A version is passed to
- * one call at a time, so it keeps the GIL, and tries until the deadline. */
+/* Makes the call on the shard of the version's name. */
+static PyObject *install_with(store_calls *self, struct call *call, int64_t timeout_ms) {
+    if (enter(call->held) < 0) return NULL;
+    call->name = call->held->name;
+    call->name_len = call->held->name_len;
+    PyObject *result =
+        call->name_len ? made(self, call, timeout_ms, 1) : reply(LRC_STORE_EMPTY, call, 1);
+    leave(call->held);
+    return result;
+}
+
+/* install(held, stripe, fragment, bytes, timeout_ms) -> (status, version) */
 static PyObject *calls_install(store_calls *self, PyObject *const *words, Py_ssize_t count) {
     struct call call = {.run = install};
     int64_t timeout_ms;
-    uint32_t status = LRC_STORE_EMPTY;
     Py_buffer whole;
-    if (!count_is("install", count, 5) || !(call.held = slot_of(words[0])) ||
+    if (!count_is("install", count, 5) || !(call.held = held_of(words[0])) ||
         number_to(&call.first, words[1], UINT64_MAX) < 0 ||
         number_to(&call.second, words[2], UINT64_MAX) < 0 ||
         timeout_to(&timeout_ms, words[4]) < 0 ||
@@ -405,16 +471,18 @@ static PyObject *calls_install(store_calls *self, PyObject *const *words, Py_ssi
         return NULL;
     call.bytes = whole.len ? whole.buf : (uint8_t *)"";
     call.len = whole.len;
-    if (self->pool) status = on_a_session(self->pool, &call, timeout_ms);
+    PyObject *result = install_with(self, &call, timeout_ms);
     PyBuffer_Release(&whole);
-    return reply(status, &call, 1);
+    return result;
 }
 
 /* shape() -> (status, version, length, stripes, lost, width, data_fragments) */
 static PyObject *held_shape(held_version *self, PyObject *nothing) {
     lrc_shape found = {0};
     (void)nothing;
+    if (enter(self) < 0) return NULL;
     const uint32_t status = lrc_slot_shape(&self->slot, &found);
+    leave(self);
     const struct call call = {.numbers = {found.version, found.len, found.stripes, found.lost,
                                           found.width, found.data_fragments}};
     return reply(status, &call, 6);
@@ -424,8 +492,9 @@ static PyObject *held_shape(held_version *self, PyObject *nothing) {
 static PyObject *held_lost(held_version *self, PyObject *stripe) {
     struct call call = {.run = NULL};
     uint16_t found = 0;
-    if (number_to(&call.first, stripe, UINT64_MAX) < 0) return NULL;
+    if (number_to(&call.first, stripe, UINT64_MAX) < 0 || enter(self) < 0) return NULL;
     const uint32_t status = lrc_slot_lost(&self->slot, call.first, &found);
+    leave(self);
     call.numbers[0] = found;
     return reply(status, &call, 1);
 }
@@ -449,9 +518,10 @@ static PyObject *held_read(held_version *self, PyObject *const *words, Py_ssize_
     uint64_t start, length, pieces;
     lrc_slot range = LRC_SLOT_EMPTY;
     if (!count_is("read", count, 2) || number_to(&start, words[0], UINT64_MAX) < 0 ||
-        number_to(&length, words[1], UINT64_MAX) < 0)
+        number_to(&length, words[1], UINT64_MAX) < 0 || enter(self) < 0)
         return NULL;
     const uint32_t status = lrc_slot_lend(&self->slot, start, length, &range, &pieces);
+    leave(self);
     if (status != LRC_STORE_DONE) return Py_BuildValue("(IO)", status, Py_None);
     PyObject *bytes = copy_of_range(&range, length);
     lrc_slot_release(&range);
@@ -463,45 +533,45 @@ static PyObject *held_fragment(held_version *self, PyObject *const *words, Py_ss
     uint64_t stripe, fragment;
     lrc_slice found = {(const uint8_t *)"", 0};
     if (!count_is("fragment", count, 2) || number_to(&stripe, words[0], UINT64_MAX) < 0 ||
-        number_to(&fragment, words[1], UINT64_MAX) < 0)
+        number_to(&fragment, words[1], UINT64_MAX) < 0 || enter(self) < 0)
         return NULL;
     const uint32_t status = lrc_slot_fragment(&self->slot, stripe, fragment, &found);
-    if (status != LRC_STORE_DONE) return Py_BuildValue("(IO)", status, Py_None);
-    return Py_BuildValue("(Iy#)", status, found.at, (Py_ssize_t)found.len);
+    PyObject *result = status == LRC_STORE_DONE
+                           ? Py_BuildValue("(Iy#)", status, found.at, (Py_ssize_t)found.len)
+                           : Py_BuildValue("(IO)", status, Py_None);
+    leave(self);
+    return result;
 }
 
 /* close() -> (status, entries, lawful). No call may be inside, or the status is NOT_ALONE. */
 static PyObject *calls_close(store_calls *self, PyObject *nothing) {
     struct call call = {.run = NULL};
     uint32_t status = LRC_STORE_EMPTY, lawful = 0;
-    lrc_slot slot = LRC_SLOT_EMPTY;
     (void)nothing;
     if (self->calls_inside) {
         status = LRC_STORE_NOT_ALONE;
-    } else if (self->pool) {
-        status = lrc_pool_close(self->pool, &slot);
-        self->pool = NULL;
-        if (status == LRC_STORE_DONE) status = lrc_store_close(&slot, &call.numbers[0], &lawful);
-        lrc_slot_release(&slot);
+    } else if (self->shards) {
+        status = lrc_shards_close(self->shards, &call.numbers[0], &lawful);
+        self->shards = NULL;
     }
     call.numbers[1] = lawful;
     return reply(status, &call, 2);
 }
 
-/* open(width, limit or None) -> (status,): opens a store, and makes a pool of its sessions */
+/* open(width, limit or None, shards) -> (status,). A limit of 0 is refused. */
 static PyObject *calls_open(store_calls *self, PyObject *const *words, Py_ssize_t count) {
     struct call call = {.run = NULL};
-    uint64_t width, limit = 0;
+    uint64_t width, shards, limit = 0;
     uint32_t status = LRC_STORE_OCCUPIED;
-    lrc_slot slot = LRC_SLOT_EMPTY;
-    if (!count_is("open", count, 2) || number_to(&width, words[0], UINT32_MAX) < 0 ||
-        (words[1] != Py_None && number_to(&limit, words[1], UINT32_MAX) < 0))
+    if (!count_is("open", count, 3) || number_to(&width, words[0], UINT32_MAX) < 0 ||
+        (words[1] != Py_None && number_to(&limit, words[1], UINT32_MAX) < 0) ||
+        number_to(&shards, words[2], UINT32_MAX) < 0)
         return NULL;
-    if (!self->pool) {
-        status = words[1] == Py_None ? lrc_store_open_unjournaled((uint32_t)width, &slot)
-                                     : lrc_store_open((uint32_t)width, (uint32_t)limit, &slot);
-        if (status == LRC_STORE_DONE) status = lrc_pool_open(&slot, &self->pool);
-        lrc_slot_release(&slot);
+    if (words[1] != Py_None && limit == 0) limit = UINT32_MAX;
+    if (!self->shards) {
+        const lrc_options options = {sizeof options, (uint32_t)width, (uint32_t)shards,
+                                     (uint32_t)limit};
+        status = lrc_shards_open(&options, &self->shards);
     }
     return reply(status, &call, 0);
 }
@@ -509,11 +579,9 @@ static PyObject *calls_open(store_calls *self, PyObject *const *words, Py_ssize_
 static void calls_dealloc(PyObject *object) {
     store_calls *self = (store_calls *)object;
     PyTypeObject *type = Py_TYPE(object);
-    lrc_slot slot = LRC_SLOT_EMPTY;
-    if (self->pool) {
-        lrc_pool_close(self->pool, &slot);
-        lrc_slot_release(&slot);
-    }
+    uint64_t entries;
+    uint32_t lawful;
+    if (self->shards) lrc_shards_close(self->shards, &entries, &lawful);
     freefunc release = (freefunc)PyType_GetSlot(type, Py_tp_free);
     release(object);
     Py_DECREF(type);
@@ -555,6 +623,7 @@ static PyMethodDef held_methods[] = {
 };
 
 static PyType_Slot held_slots[] = {
+    {Py_tp_new, held_new},
     {Py_tp_dealloc, held_dealloc},
     {Py_tp_methods, held_methods},
     {Py_tp_doc, "A version of a blob, once a call has held one."},

@@ -4,16 +4,19 @@ from __future__ import annotations
 
 import contextlib
 import functools
+import itertools
 import threading
+import time
 from typing import Any, Callable, Iterator, List, Tuple, Union
 
-from lrc_store import Session, Status, StoreError, Version, _number
+from lrc_store import Closed, Session, Status, StoreError, Version, _number, shard_of
 
 _Name = Union[str, bytes]
 _Bytes = Union[bytes, bytearray, memoryview]
-# A store has 64 sessions at a time. The first one splits the others off, and lends itself to no
+# A shard has 64 sessions at a time. The first one splits the others off, and lends itself to no
 # thread.
 _LENT_AT_ONCE = 63
+_MOST = 2**64 - 1
 
 
 def _text(name: _Name) -> str:
@@ -37,6 +40,7 @@ class Held:
 
     def __init__(self) -> None:
         self.version: Version | None = None
+        self.name = ""
         self._lock = threading.Lock()
 
     def _of(self, call: Callable[[Version], Any]) -> Tuple[int, Any]:
@@ -62,11 +66,17 @@ class Held:
         return self._of(lambda version: version.fragment(stripe, fragment))
 
 
-class Calls:
-    """The calls of a store, which any thread may make. Each takes a session, and gives it back."""
+def _until(timeout_ms: int) -> Callable[[], float]:
+    """How many milliseconds are left of those that begin now."""
+    end = time.monotonic() + timeout_ms / 1000
+    return lambda: timeout_ms if timeout_ms < 0 else max(0, end - time.monotonic()) * 1000
 
-    def __init__(self) -> None:
-        self._first: Session | None = None
+
+class _Shard:
+    """The sessions of a shard, each for one thread at a time."""
+
+    def __init__(self, first: Session) -> None:
+        self._first: Session | None = first
         self._idle: List[Session] = []
         self._made = 0
         self._lock = threading.Lock()
@@ -84,7 +94,8 @@ class Calls:
             return made
 
     @contextlib.contextmanager
-    def _lent(self, timeout_ms: int) -> Iterator[Session]:
+    def lent(self, timeout_ms: float) -> Iterator[Session]:
+        """Lends a session, whose calls have this timeout."""
         seconds = None if timeout_ms < 0 else timeout_ms / 1000
         if not self._places.acquire(timeout=seconds):
             raise StoreError("call", (), Status.BUSY)
@@ -98,19 +109,64 @@ class Calls:
         finally:
             self._places.release()
 
-    def _reply(self, timeout_ms: int, call: Callable[[Session], Any]) -> Tuple[int, Any]:
-        """The status of a call, and what it returned, or 0."""
+    def is_busy(self) -> bool:
+        with self._lock:
+            return len(self._idle) < self._made
+
+    def close(self) -> Closed:
+        with self._lock:
+            first, self._first = self._first, None
+            if first is None:
+                raise StoreError("close", (), Status.EMPTY)
+            for session in self._idle:
+                first.join(session)
+            self._idle, self._made = [], 0
+            return first.close()
+
+
+class Calls:
+    """The calls of a store, which any thread may make. Each takes a session of the shard of its
+    name, and gives it back."""
+
+    def __init__(self) -> None:
+        self._shards: List[_Shard] = []
+        self._mends = itertools.count()
+
+    def _reply(
+        self, timeout_ms: int, name: str, call: Callable[[Session], Any]
+    ) -> Tuple[int, Any]:
+        """The status of a call of this name, and what it returned, or 0."""
+        shards = self._shards
+        if not shards:
+            return Status.EMPTY.value, 0
         try:
-            with self._lent(timeout_ms) as session:
+            with shards[shard_of(name, len(shards))].lent(timeout_ms) as session:
                 return 0, call(session)
         except StoreError as error:
-            return error.status.value, error.repaired or 0
+            return error.status.value, 0
 
-    def open(self, width: int, limit: int | None) -> Tuple[int]:
-        if self._first is not None:
+    def _each(
+        self, shards: List[_Shard], left_ms: Callable[[], float], call: Callable[[Session], int]
+    ) -> Tuple[int, int]:
+        """The status of a call of each shard, and the sum of what these returned."""
+        total = 0
+        if not shards:
+            return Status.EMPTY.value, 0
+        for shard in shards:
+            try:
+                with shard.lent(left_ms()) as session:
+                    total += call(session)
+            except StoreError as error:
+                return error.status.value, total + (error.repaired or 0)
+        return 0, total
+
+    def open(self, width: int, limit: int | None, shards: int) -> Tuple[int]:
+        if self._shards:
             return (Status.OCCUPIED.value,)
+        if not 1 <= _number("shards", shards, 32) <= 64:
+            return (Status.BAD_ARGUMENT.value,)
         try:
-            self._first = Session.open(width, limit)
+            self._shards = [_Shard(Session.open(width, limit)) for _ in range(shards)]
         except StoreError as error:
             return (error.status.value,)
         return (0,)
@@ -119,7 +175,9 @@ class Calls:
         self, name: _Name, blob: _Bytes, data_fragments: int, timeout_ms: int
     ) -> Tuple[int, int]:
         text = _text(name)
-        return self._reply(timeout_ms, lambda session: session.put(text, blob, data_fragments))
+        return self._reply(
+            timeout_ms, text, lambda session: session.put(text, blob, data_fragments)
+        )
 
     def get(
         self, name: _Name, start: int, length: int | None, timeout_ms: int
@@ -143,7 +201,7 @@ class Calls:
                     if not shape or version == shape.version:
                         return version, bytes(target)
 
-        status, result = self._reply(timeout_ms, copied)
+        status, result = self._reply(timeout_ms, text, copied)
         version, found = result or (0, None)
         return status, version, found
 
@@ -151,43 +209,52 @@ class Calls:
         self, name: _Name, start: int, buffer: bytearray | memoryview, timeout_ms: int
     ) -> Tuple[int, int]:
         text = _text(name)
-        return self._reply(timeout_ms, lambda session: session.read_into(text, start, buffer))
+        return self._reply(timeout_ms, text, lambda session: session.read_into(text, start, buffer))
 
     def stat(self, name: _Name, timeout_ms: int) -> Tuple[int, int, int, int, int]:
         text = _text(name)
-        status, shape = self._reply(timeout_ms, lambda session: session.stat(text))
+        status, shape = self._reply(timeout_ms, text, lambda session: session.stat(text))
         version, length, stripes, lost = shape or (0, 0, 0, 0)
         return status, version, length, stripes, lost
 
     def delete(self, name: _Name, timeout_ms: int) -> Tuple[int, int]:
         text = _text(name)
-        return self._reply(timeout_ms, lambda session: session.delete(text))
+        return self._reply(timeout_ms, text, lambda session: session.delete(text))
 
     def lose(self, name: _Name, stripe: int, fragment: int, timeout_ms: int) -> Tuple[int, int]:
         text = _text(name)
-        return self._reply(timeout_ms, lambda session: session.lose(text, stripe, fragment))
+        return self._reply(timeout_ms, text, lambda session: session.lose(text, stripe, fragment))
 
     def repair(self, name: _Name, stripe: int, fragment: int, timeout_ms: int) -> Tuple[int, int]:
         text = _text(name)
-        return self._reply(timeout_ms, lambda session: session.repair(text, stripe, fragment))
+        return self._reply(timeout_ms, text, lambda session: session.repair(text, stripe, fragment))
 
     def trim(self, keep: int, timeout_ms: int) -> Tuple[int, int]:
-        return self._reply(timeout_ms, lambda session: session.trim(keep))
+        return self._each(self._shards, _until(timeout_ms), lambda session: session.trim(keep))
 
     def mend(self, timeout_ms: int) -> Tuple[int, int]:
-        return self._reply(timeout_ms, lambda session: session.mend())
+        # of two that begin one after the other, far apart
+        first = next(self._mends) * 0x9E3779B9 % 2**32 * len(self._shards) >> 32
+        shards = self._shards[first:] + self._shards[:first]
+        return self._each(shards, lambda: timeout_ms, lambda session: session.mend())
 
     def numbers(self, timeout_ms: int) -> Tuple[int, int, int, int, int, int, int]:
-        status, numbers = self._reply(timeout_ms, lambda session: session.numbers())
-        a, b, c, d, e, f = numbers or (0,) * 6
+        totals = [0] * 6
+
+        def add(session: Session) -> int:
+            totals[:] = [min(_MOST, a + b) for a, b in zip(totals, session.numbers())]
+            return 0
+
+        status, _ = self._each(self._shards, _until(timeout_ms), add)
+        a, b, c, d, e, f = (0,) * 6 if status else totals
         return status, a, b, c, d, e, f
 
     def hold(self, name: _Name, held: Held, timeout_ms: int) -> Tuple[int, int, int]:
         text = _text(name)
         if held.version is not None:
             return Status.OCCUPIED.value, 0, 0
-        status, version = self._reply(timeout_ms, lambda session: session.hold(text))
-        held.version = version or None
+        status, version = self._reply(timeout_ms, text, lambda session: session.hold(text))
+        held.version, held.name = version or None, text
         return status, version.number if version else 0, version.size if version else 0
 
     def install(
@@ -200,18 +267,18 @@ class Calls:
                 return Status.EMPTY.value, 0
             known: Version = held.version
             return self._reply(
-                timeout_ms, lambda session: session.install(known, stripe, fragment, whole)
+                timeout_ms,
+                held.name,
+                lambda session: session.install(known, stripe, fragment, whole),
             )
 
     def close(self) -> Tuple[int, int, int]:
-        with self._lock:
-            if self._first is None:
-                return Status.EMPTY.value, 0, 0
-            if len(self._idle) < self._made:
-                return Status.NOT_ALONE.value, 0, 0
-            for session in self._idle:
-                self._first.join(session)
-            self._idle, self._made = [], 0
-            closed = self._first.close()
-            self._first = None
-        return 0, closed.entries, 1 if closed.is_checked else 2
+        shards, self._shards = self._shards, []
+        if not shards:
+            return Status.EMPTY.value, 0, 0
+        if any(shard.is_busy() for shard in shards):
+            self._shards = shards
+            return Status.NOT_ALONE.value, 0, 0
+        closed = [shard.close() for shard in shards]
+        is_checked = all(each.is_checked for each in closed)
+        return 0, sum(each.entries for each in closed), 1 if is_checked else 2

@@ -30,6 +30,12 @@ _LONGEST_SECONDS = 10**9
 Buffer = Union[bytes, bytearray, memoryview]
 
 
+class _Keyword(str):
+    """An argument that an error shows with its name."""
+
+    __repr__ = str.__str__
+
+
 def _length(buffer: Buffer) -> int:
     return memoryview(buffer).nbytes
 
@@ -81,18 +87,20 @@ class Store:
     the block raised.
     """
 
-    def __init__(self, width: int, *, limit: int | None = None) -> None:
+    def __init__(self, width: int, *, limit: int | None = None, shards: int = 1) -> None:
         """Opens a store whose fragments have `width` bytes, 1 to 65,536.
 
-        Without a limit it has no journal, as a service wants it, and with one a journal of at most
-        `limit` entries.
+        Each name belongs to one of its 1 to 64 shards. Calls of names of different shards do not
+        wait for each other. Without a limit it has no journal, as a service wants it, and with one
+        a journal of at most `limit` entries for each shard.
         """
         self._calls = Calls()
         self._timeout: float | None = None
         self._timeout_ms = -1
-        status = self._calls.open(width, limit)[0]
+        status = self._calls.open(width, limit, shards)[0]
         if status:
-            _check(status, "open", width, *([] if limit is None else [limit]))
+            of_shards = [] if shards == 1 else [_Keyword(f"shards={shards}")]
+            _check(status, "open", width, *([] if limit is None else [limit]), *of_shards)
 
     @property
     def timeout(self) -> float | None:
@@ -172,7 +180,8 @@ class Store:
     def mend(self) -> int:
         """Repairs all lost fragments that can be rebuilt, and returns their number.
 
-        If it stops before, the error has the number of those that it repaired.
+        Threads that mend at once begin with different shards. If it stops before, the error has the
+        number of those that it repaired.
         """
         status, repaired = self._calls.mend(self._timeout_ms)
         if status:
@@ -202,14 +211,15 @@ class Store:
         return version
 
     def numbers(self) -> Numbers:
-        """The numbers of the store. It takes the same time for each store."""
+        """The numbers of all shards together, each counted at a moment of its own."""
         status, *numbers = self._calls.numbers(self._timeout_ms)
         if status:
             _check(status, "numbers")
         return Numbers(*numbers)
 
     def trim(self, keep: int) -> int:
-        """Discards all journal entries but the last `keep`, and returns how many it discarded."""
+        """Discards all entries of each shard's journal but the last `keep`, and returns how many
+        these are."""
         status, discarded = self._calls.trim(keep, self._timeout_ms)
         if status:
             _check(status, "trim", keep)

@@ -40,7 +40,8 @@ pub enum Status {
     Empty = 14,
     /// The slot that the function fills is not empty.
     Occupied = 15,
-    /// The limit is not in 1 to 1,048,576, or the sessions are of two stores.
+    /// The limit is not in 1 to 1,048,576, the shards are not 1 to 64, or the sessions are of two
+    /// stores.
     BadArgument = 16,
     /// The store has other sessions.
     NotAlone = 17,
@@ -141,6 +142,15 @@ pub struct MendError {
     pub repaired: u64,
     /// The reason.
     pub error: Error,
+}
+
+/// What a mend with this status returns.
+pub(crate) fn mended(status: u32, repaired: u64) -> Result<u64, MendError> {
+    if status == DONE {
+        return Ok(repaired);
+    }
+    let error = Error::new(status, format_args!("mend()"));
+    Err(MendError { repaired, error })
 }
 
 impl fmt::Display for MendError {

@@ -11,6 +11,7 @@ mod journal;
 #[cfg_attr(test, path = "../tests/recorder/library.rs")]
 mod library;
 mod pool;
+mod sharded;
 #[cfg(test)]
 #[path = "../tests/recorder/tests.rs"]
 mod tests;
@@ -19,6 +20,7 @@ mod version;
 pub use errors::{Error, MendError, Refused, Status};
 pub use journal::{Call, Entry, Journal};
 pub use pool::{Lease, Pool};
+pub use sharded::ShardedStore;
 pub use version::{Numbers, Version, VersionShape};
 
 use errors::{check, DONE};
@@ -187,6 +189,13 @@ fn runs_of(lent: &mut Slot) -> Vec<Slice> {
     }
 }
 
+/// A timeout as the library has it, rounded up to milliseconds. Without one a call waits for ever.
+fn wait_of(timeout: Option<Duration>) -> i64 {
+    timeout.map_or(-1, |time| {
+        i64::try_from((time.as_nanos() + 999_999) / 1_000_000).unwrap_or(i64::MAX)
+    })
+}
+
 /// A session of a store, for one thread at a time. It may move to another thread.
 pub struct Session {
     slot: Slot,
@@ -219,9 +228,7 @@ impl Session {
     /// How long a call waits for the critical section at a time, rounded up to milliseconds. It
     /// then fails with [`Status::Busy`]. `None`, as at first: until it gets in.
     pub fn set_timeout(&mut self, timeout: Option<Duration>) {
-        self.wait_ms = timeout.map_or(-1, |time| {
-            i64::try_from((time.as_nanos() + 999_999) / 1_000_000).unwrap_or(i64::MAX)
-        });
+        self.wait_ms = wait_of(timeout);
     }
 
     /// Splits off a session, whose calls have the label `who` in the journal. It has this session's
@@ -494,11 +501,7 @@ impl Session {
     pub fn mend(&mut self) -> Result<u64, MendError> {
         let mut repaired = 0;
         let status = unsafe { lrc_store_mend_wait(&mut self.slot, &mut repaired, self.wait_ms) };
-        if status == DONE {
-            return Ok(repaired);
-        }
-        let error = Error::new(status, format_args!("mend()"));
-        Err(MendError { repaired, error })
+        errors::mended(status, repaired)
     }
 
     /// The address of its `lrc_slot`, for calls of `lrc_store.h` that have no other form here. The

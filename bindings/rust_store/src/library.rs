@@ -29,6 +29,21 @@ pub struct RawPool {
     _opaque: [u8; 0],
 }
 
+/// The sharded store of the library, of which only the address is known.
+#[repr(C)]
+pub struct RawShards {
+    _opaque: [u8; 0],
+}
+
+/// The layout of `lrc_options`.
+#[repr(C)]
+pub struct RawOptions {
+    pub size: usize,
+    pub width: u32,
+    pub shards: u32,
+    pub limit: u32,
+}
+
 /// Lent bytes, with the layout of `lrc_slice`.
 #[repr(C)]
 #[derive(Clone, Copy)]
@@ -127,6 +142,12 @@ extern "C" {
     pub fn lrc_pool_take(pool: *mut RawPool, session: *mut *mut Slot, timeout_ms: i64) -> u32;
     pub fn lrc_pool_give(pool: *mut RawPool, session: *mut Slot);
     pub fn lrc_pool_close(pool: *mut RawPool, slot: *mut Slot) -> u32;
+    pub fn lrc_shards_open(options: *const RawOptions, shards: *mut *mut RawShards) -> u32;
+    pub fn lrc_shards_find(shards: *mut RawShards, name: *const u8, name_len: usize, pool: *mut *mut RawPool) -> u32;
+    pub fn lrc_shards_numbers(shards: *mut RawShards, numbers: *mut RawNumbers, timeout_ms: i64) -> u32;
+    pub fn lrc_shards_trim(shards: *mut RawShards, keep: u64, discarded: *mut u64, timeout_ms: i64) -> u32;
+    pub fn lrc_shards_mend(shards: *mut RawShards, repaired: *mut u64, timeout_ms: i64) -> u32;
+    pub fn lrc_shards_close(shards: *mut RawShards, entries: *mut u64, lawful: *mut u32) -> u32;
     pub fn lrc_store_name(key: *const u8, key_len: usize, name: *mut u8);
     pub fn lrc_slot_release(slot: *mut Slot);
     pub fn lrc_store_text(status: u32) -> *const c_char;

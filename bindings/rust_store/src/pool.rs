@@ -4,6 +4,7 @@ use crate::errors::{check, Error, Refused};
 use crate::library::*;
 use crate::Session;
 use std::fmt;
+use std::marker::PhantomData;
 use std::mem;
 use std::ops::{Deref, DerefMut};
 use std::ptr;
@@ -20,15 +21,43 @@ pub struct Pool {
 unsafe impl Send for Pool {}
 unsafe impl Sync for Pool {}
 
-/// A session of a pool, which goes back to it at the end.
+/// A session that is lent by a [`Pool`] or a [`ShardedStore`](crate::ShardedStore), and goes back
+/// at the end.
 pub struct Lease<'p> {
-    pool: &'p Pool,
+    pool: *mut RawPool,
     place: *mut Slot,
     session: Session,
+    _lender: PhantomData<&'p ()>,
 }
 
 // SAFETY: a session may move between threads, and so may the address of its place.
 unsafe impl Send for Lease<'_> {}
+
+impl Lease<'_> {
+    /// Takes a session from a pool of the library, which lives as long as the lease.
+    pub(crate) fn of<'p>(
+        pool: *mut RawPool,
+        wait_ms: i64,
+        call: fmt::Arguments,
+    ) -> Result<Lease<'p>, Error> {
+        let mut place = ptr::null_mut();
+        // SAFETY: the pool is valid, and the place a variable of the call.
+        let status = unsafe { lrc_pool_take(pool, &mut place, wait_ms) };
+        check(status, call)?;
+        let mut session = Session {
+            slot: Slot::empty(),
+            wait_ms,
+        };
+        // SAFETY: the place is this thread's until it is given back.
+        mem::swap(&mut session.slot, unsafe { &mut *place });
+        Ok(Lease {
+            pool,
+            place,
+            session,
+            _lender: PhantomData,
+        })
+    }
+}
 
 impl Pool {
     /// A pool of the sessions that can be split off this one, and of this one. They have its
@@ -47,20 +76,7 @@ impl Pool {
 
     /// Lends a session. If all are lent it waits in a line for one, as long as the timeout allows.
     pub fn take(&self) -> Result<Lease<'_>, Error> {
-        let mut place = ptr::null_mut();
-        let status = unsafe { lrc_pool_take(self.raw, &mut place, self.wait_ms) };
-        check(status, format_args!("take()"))?;
-        let mut session = Session {
-            slot: Slot::empty(),
-            wait_ms: self.wait_ms,
-        };
-        // SAFETY: the place is this thread's until it is given back.
-        mem::swap(&mut session.slot, unsafe { &mut *place });
-        Ok(Lease {
-            pool: self,
-            place,
-            session,
-        })
+        Lease::of(self.raw, self.wait_ms, format_args!("take()"))
     }
 
     /// Joins all sessions into one. The error returns the pool, of which a lease was leaked.
@@ -105,8 +121,8 @@ impl DerefMut for Lease<'_> {
 
 impl Drop for Lease<'_> {
     fn drop(&mut self) {
-        // SAFETY: as in `take`.
+        // SAFETY: as in `of`.
         mem::swap(&mut self.session.slot, unsafe { &mut *self.place });
-        unsafe { lrc_pool_give(self.pool.raw, self.place) };
+        unsafe { lrc_pool_give(self.pool, self.place) };
     }
 }

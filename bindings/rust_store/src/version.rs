@@ -51,6 +51,19 @@ pub struct Numbers {
     pub entries: u64,
 }
 
+impl From<RawNumbers> for Numbers {
+    fn from(raw: RawNumbers) -> Numbers {
+        Numbers {
+            blobs: raw.blobs,
+            bytes: raw.bytes,
+            lost: raw.lost,
+            unrecoverable: raw.unrecoverable,
+            calls: raw.calls,
+            entries: raw.entries,
+        }
+    }
+}
+
 // SAFETY of all calls here: slots are valid and different ones, an address of bytes comes from a
 // slice with its length, and outputs are variables of the call.
 impl Version {
@@ -174,13 +187,6 @@ impl Session {
         let mut raw = RawNumbers::default();
         let status = unsafe { lrc_store_numbers_wait(&mut self.slot, &mut raw, self.wait_ms) };
         check(status, format_args!("numbers()"))?;
-        Ok(Numbers {
-            blobs: raw.blobs,
-            bytes: raw.bytes,
-            lost: raw.lost,
-            unrecoverable: raw.unrecoverable,
-            calls: raw.calls,
-            entries: raw.entries,
-        })
+        Ok(Numbers::from(raw))
     }
 }

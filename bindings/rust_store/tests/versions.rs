@@ -75,7 +75,7 @@ fn a_fragment_is_installed() {
 
 #[test]
 fn a_key_of_any_bytes_has_a_name() {
-    assert_eq!(name_of(b""), "4oymiquy7qobjgx36tejs35zeqt24qpe");
+    assert_eq!(name_of(b""), "................................");
     let (name, other) = (name_of(b"Some Key/\xff"), name_of(b"Some Key/\xfe"));
     assert_ne!(name, other);
     let mut session = Session::open(4, None).unwrap();

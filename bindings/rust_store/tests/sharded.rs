@@ -1,0 +1,103 @@
+//! A store of several shards.
+
+use lrc_store::{Code, ShardedStore, Status};
+use std::thread;
+use std::time::{Duration, Instant};
+
+const THREADS: usize = 8;
+const TURNS: usize = 20;
+const SESSIONS: usize = 64;
+
+/// Puts blobs of names of its own, each with a lost fragment, and reads them.
+fn work(store: &ShardedStore, number: usize) {
+    for turn in 0..TURNS {
+        let name = format!("n{}", number * TURNS + turn);
+        let mut session = store.take(&name).unwrap();
+        session.put(&name, name.as_bytes(), Code::Wide).unwrap();
+        session.lose(&name, 0, 0).unwrap();
+        assert_eq!(session.get(&name).unwrap(), name.as_bytes());
+    }
+}
+
+#[test]
+fn threads_share_it_and_two_mend() {
+    let all = (THREADS * TURNS) as u64;
+    let store = ShardedStore::open(4, 16, 1000).unwrap();
+    thread::scope(|scope| {
+        for number in 0..THREADS {
+            let store = &store;
+            scope.spawn(move || work(store, number));
+        }
+    });
+    let numbers = store.numbers().unwrap();
+    assert_eq!((numbers.blobs, numbers.lost), (all, all));
+    let repaired = thread::scope(|scope| {
+        let other = scope.spawn(|| store.mend().unwrap());
+        store.mend().unwrap() + other.join().unwrap()
+    });
+    assert_eq!(repaired, all);
+    let entries = store.numbers().unwrap().entries;
+    let discarded = store.trim(3).unwrap();
+    let numbers = store.numbers().unwrap();
+    assert_eq!((numbers.lost, numbers.entries), (0, entries - discarded));
+    assert!(numbers.entries <= 3 * 16);
+    let closed = store.close().unwrap();
+    assert_eq!((closed.entries, closed.is_checked), (numbers.entries, true));
+}
+
+#[test]
+fn it_refuses_bad_options_and_names() {
+    let refused = |width, shards, limit| {
+        let error = ShardedStore::open(width, shards, limit).err().unwrap();
+        (error.status, error.call)
+    };
+    let bad_width = (Status::BadWidth, "open(0, 2, None)".to_string());
+    assert_eq!(refused(0, 2, None), bad_width);
+    for (shards, limit) in [(0, None), (65, None), (2, Some(0)), (2, Some(1_048_577))] {
+        let call = format!("open(4, {shards}, {limit:?})");
+        assert_eq!(refused(4, shards, limit), (Status::BadArgument, call));
+    }
+    let store = ShardedStore::open(4, 2, None).unwrap();
+    let error = store.take("A").err().unwrap();
+    assert_eq!(
+        (error.status, &error.call[..]),
+        (Status::BadName, "take(\"A\")")
+    );
+    assert_eq!(format!("{store:?}"), "ShardedStore { .. }");
+    assert!(!store.close().unwrap().is_checked);
+}
+
+#[test]
+fn a_call_waits_for_the_timeout() {
+    let timeout = Duration::from_millis(20);
+    let mut store = ShardedStore::open(4, 1, None).unwrap();
+    store.set_timeout(Some(timeout));
+    let mut leases: Vec<_> = (0..SESSIONS).map(|_| store.take("a").unwrap()).collect();
+    leases[0].put("a", b"HELLO", Code::Wide).unwrap();
+    leases[0].lose("a", 0, 0).unwrap();
+    let calls: [(&str, &dyn Fn() -> Status); 4] = [
+        ("take", &|| store.take("a").err().unwrap().status),
+        ("numbers", &|| store.numbers().err().unwrap().status),
+        ("trim", &|| store.trim(1).err().unwrap().status),
+        ("mend", &|| store.mend().err().unwrap().error.status),
+    ];
+    for (name, call) in calls {
+        let start = Instant::now();
+        assert_eq!(call(), Status::Busy, "{name}");
+        assert!(start.elapsed() >= timeout, "{name}");
+    }
+    leases.pop();
+    assert_eq!(store.mend().unwrap(), 1);
+}
+
+#[test]
+fn a_leaked_lease_keeps_it_open() {
+    let store = ShardedStore::open(4, 2, None).unwrap();
+    std::mem::forget(store.take("a").unwrap());
+    let (store, error) = store.close().err().unwrap();
+    assert_eq!(
+        (error.status, &error.call[..]),
+        (Status::NotAlone, "close()")
+    );
+    store.take("a").unwrap().put("a", b"x", Code::Wide).unwrap();
+}
