@@ -4,12 +4,16 @@
  * A chunk's place in Ceph (its shard) is not its fragment's number in lrc_coder.h. The first half
  * of the places has the first group: its data, its local parity, and the first global parity. The
  * second half has the second group and the other global parity. A CRUSH rule that takes half of the
- * places from each of two racks keeps each group in one rack. This order is an on-disk format. */
+ * places from each of two racks keeps each group in one rack. By order=parities-last a place is its
+ * fragment's number. Both orders are on-disk formats. */
 #include "ceph_interface.h"
 #include "lrc_stripe.h"
 
+#include <array>
 #include <cerrno>
+#include <cstdlib>
 #include <cstring>
+#include <numeric>
 #include <optional>
 
 #ifndef CEPH_VERSION
@@ -67,13 +71,35 @@ public:
     int encode_chunks(const Places &want, Chunks *encoded) override;
     int decode(const Places &want, const Chunks &chunks, Chunks *decoded, int chunk_size) override;
     int decode_chunks(const Places &want, const Chunks &chunks, Chunks *decoded) override;
-    const std::vector<int> &get_chunk_mapping() const override { return place_of; }
+    const std::vector<ceph::Place> &get_chunk_mapping() const override { return place_of; }
     int decode_concat(const Chunks &chunks, ceph::buffer::list *decoded) override;
+#if CEPH_RELEASE >= 20
+    int minimum_to_decode(const ceph::ShardSet &want, const ceph::ShardSet &available,
+                          ceph::ShardSet &read, ceph::ShardParts *parts) override;
+    int minimum_to_decode_with_cost(const ceph::ShardSet &want, const ceph::ShardCosts &available,
+                                    ceph::ShardSet *minimum) override;
+    size_t get_minimum_granularity() override { return 1; }
+    int encode(const ceph::ShardSet &want, const ceph::buffer::list &in,
+               ceph::ShardChunks *encoded) override;
+    int encode_chunks(const ceph::ShardBuffers &data, ceph::ShardBuffers &parities) override;
+    void encode_delta(const ceph::buffer::ptr &before, const ceph::buffer::ptr &after,
+                      ceph::buffer::ptr *delta) override;
+    void apply_delta(const ceph::ShardBuffers &deltas, ceph::ShardBuffers &parities) override;
+    int decode(const ceph::ShardSet &want, const ceph::ShardChunks &chunks,
+               ceph::ShardChunks *decoded, int chunk_size) override;
+    int decode_chunks(const ceph::ShardSet &want, ceph::ShardBuffers &chunks,
+                      ceph::ShardBuffers &decoded) override;
+    int decode_concat(const Places &want, const Chunks &chunks,
+                      ceph::buffer::list *decoded) override;
+    uint64_t get_supported_optimizations() const override;
+    std::string get_optimizations_flags_string() const override;
+#endif
 
 private:
     unsigned k = 12;
+    bool parities_last = false;
     ErasureCodeProfile profile;
-    std::vector<int> place_of;                    /* of each fragment */
+    std::vector<ceph::Place> place_of;            /* of each fragment */
     uint8_t fragment_at[LRC_MOST_FRAGMENTS] = {}; /* of each place */
 
     bool is_place(int place) const { return place >= 0 && unsigned(place) < get_chunk_count(); }
@@ -84,6 +110,12 @@ private:
     int to_read(const Places &want, const Items &available, Places *read) const;
     ceph::buffer::list data_chunk(const ceph::buffer::list &in, unsigned fragment,
                                   unsigned len) const;
+#if CEPH_RELEASE >= 20
+    template <class Items>
+    int to_read_parts(const ceph::ShardSet &want, const Items &available, Places *read) const;
+    std::array<uint8_t *, LRC_PARITIES> parities_in(ceph::ShardBuffers &map, size_t len,
+                                                    std::vector<uint8_t> *unused) const;
+#endif
 };
 
 /* The fragments at the places of the items, or false if one is no place of the code. */
@@ -107,14 +139,22 @@ void AzureLrc::set_places() {
         place_of[fragment] = int(fragment < group ? fragment : half + fragment - group);
     for (unsigned parity = 0; parity < LRC_PARITIES; parity++) /* two local ones, two global ones */
         place_of[k + parity] = int(group + parity / 2 + (parity % 2 ? half : 0));
+    if (parities_last) std::iota(place_of.begin(), place_of.end(), 0);
     for (unsigned fragment = 0; fragment < get_chunk_count(); fragment++)
         fragment_at[place_of[fragment]] = uint8_t(fragment);
 }
 
 /* What a profile may have. The last two are read by Ceph alone. */
 static const std::set<std::string> PARAMETERS = {
-    "plugin",      "k",         "m", "crush-root", "crush-failure-domain", "crush-device-class",
-    "stripe_unit", "directory",
+    "plugin",
+    "k",
+    "m",
+    "order",
+    "crush-root",
+    "crush-failure-domain",
+    "crush-device-class",
+    "stripe_unit",
+    "directory",
 };
 
 int AzureLrc::init(ErasureCodeProfile &asked, std::ostream *ss) {
@@ -131,6 +171,11 @@ int AzureLrc::init(ErasureCodeProfile &asked, std::ostream *ss) {
     for (const auto &[key, value] : asked)
         if (!PARAMETERS.count(key))
             return refuse("there is no parameter " + key + "; remove it from the profile");
+    const auto order = asked.find("order");
+    parities_last = order != asked.end() && order->second == "parities-last";
+    if (order != asked.end() && order->second != "groups" && !parities_last)
+        return refuse("no order is called " + order->second +
+                      "; set order=groups or order=parities-last");
     k = data == "12" ? 12 : 6;
     set_places();
     profile = asked;
@@ -139,6 +184,9 @@ int AzureLrc::init(ErasureCodeProfile &asked, std::ostream *ss) {
 
 int AzureLrc::create_rule(const std::string &name, CrushWrapper &crush, std::ostream *ss) const {
     return crush.add_simple_rule(name, profile.at("crush-root"), profile.at("crush-failure-domain"),
+#if CEPH_RELEASE >= 20
+                                 -1, /* one failure domain for each chunk */
+#endif
                                  profile.at("crush-device-class"), "indep", POOL_TYPE_ERASURE, ss);
 }
 
@@ -280,6 +328,205 @@ int AzureLrc::decode_concat(const Chunks &chunks, ceph::buffer::list *decoded) {
         decoded->claim_append(whole[place_of[fragment]]);
     return 0;
 }
+
+#if CEPH_RELEASE >= 20
+
+/* ---- The same for Ceph's own types of sets and maps ---- */
+
+Places places_in(const ceph::ShardSet &set) {
+    Places places;
+    for (int place = 0; place < set.most(); place++)
+        if (set.contains(place)) places.insert(place);
+    return places;
+}
+
+/* The map's items, which share their bytes. */
+template <class T> std::map<int, T> items_of(const shard_id_map<T> &map) {
+    std::map<int, T> items;
+    for (int place = 0; place < map.most(); place++)
+        if (map.contains(place)) items[place] = map.at(place);
+    return items;
+}
+
+/* Adds the chunks to the map, or nothing if it has no room for one. */
+int add_all(Chunks &chunks, ceph::ShardChunks *map) {
+    if (!chunks.empty() && chunks.rbegin()->first >= map->most()) return -EINVAL;
+    for (auto &[place, chunk] : chunks) map->set(place, std::move(chunk));
+    return 0;
+}
+
+/* A pool with allow_ec_optimizations makes a lost parity by encoding: first it decodes all data. */
+template <class Items>
+int AzureLrc::to_read_parts(const ceph::ShardSet &want, const Items &available,
+                            Places *read) const {
+    Places wanted = places_in(want);
+    bool encodes = false;
+    for (int place : wanted) encodes |= place >= int(k) && !available.count(place);
+    for (int place = 0; parities_last && encodes && place < int(k); place++) wanted.insert(place);
+    return to_read(wanted, available, read);
+}
+
+int AzureLrc::minimum_to_decode(const ceph::ShardSet &want, const ceph::ShardSet &available,
+                                ceph::ShardSet &read, ceph::ShardParts *parts) {
+    Places places;
+    if (parts && parts->most() < int(get_chunk_count())) return -EINVAL;
+    if (int r = to_read_parts(want, places_in(available), &places)) return r;
+    for (int place : places) {
+        read.insert(place);
+        if (parts) parts->set(place, {{0, 1}});
+    }
+    return 0;
+}
+
+int AzureLrc::minimum_to_decode_with_cost(const ceph::ShardSet &want,
+                                          const ceph::ShardCosts &available,
+                                          ceph::ShardSet *minimum) {
+    Places places;
+    if (int r = to_read_parts(want, items_of(available), &places)) return r;
+    for (int place : places) minimum->insert(place);
+    return 0;
+}
+
+int AzureLrc::encode(const ceph::ShardSet &want, const ceph::buffer::list &in,
+                     ceph::ShardChunks *encoded) {
+    Chunks chunks;
+    if (int r = encode(places_in(want), in, &chunks)) return r;
+    return add_all(chunks, encoded);
+}
+
+int AzureLrc::decode(const ceph::ShardSet &want, const ceph::ShardChunks &chunks,
+                     ceph::ShardChunks *decoded, int chunk_size) {
+    Chunks made;
+    if (int r = decode(places_in(want), items_of(chunks), &made, chunk_size)) return r;
+    return add_all(made, decoded);
+}
+
+int AzureLrc::decode_concat(const Places &want, const Chunks &chunks, ceph::buffer::list *decoded) {
+    Chunks whole;
+    if (int r = decode(want, chunks, &whole, 0)) return r;
+    for (unsigned fragment = 0; fragment < k; fragment++)
+        if (want.count(place_of[fragment])) decoded->claim_append(whole[place_of[fragment]]);
+    return 0;
+}
+
+/* ---- Parts of chunks, for pools with allow_ec_optimizations ---- */
+
+const uint8_t *bytes_in(const ceph::ShardBuffers &map, int place) {
+    return reinterpret_cast<const uint8_t *>(map.at(place).c_str());
+}
+
+uint8_t *bytes_in(ceph::ShardBuffers &map, int place) {
+    return reinterpret_cast<uint8_t *>(map.at(place).c_str());
+}
+
+/* The length of all buffers of both maps, or nothing if two differ or there is none. */
+std::optional<size_t> length_of(const ceph::ShardBuffers &some, const ceph::ShardBuffers &others) {
+    std::optional<size_t> len;
+    for (const ceph::ShardBuffers *map : {&some, &others})
+        for (int place = 0; place < map->most(); place++) {
+            if (!map->contains(place)) continue;
+            if (len.value_or(map->at(place).length()) != map->at(place).length()) return {};
+            len = map->at(place).length();
+        }
+    return len;
+}
+
+/* A call that returns nothing ends the process if it can't be right, as in Ceph's own plugins. */
+void insist(bool is_right) {
+    if (!is_right) abort();
+}
+
+/* The addresses of the four parities. Those that the map does not have get bytes of `unused`. */
+std::array<uint8_t *, LRC_PARITIES> AzureLrc::parities_in(ceph::ShardBuffers &map, size_t len,
+                                                          std::vector<uint8_t> *unused) const {
+    std::array<uint8_t *, LRC_PARITIES> parities;
+    for (unsigned parity = 0; parity < LRC_PARITIES; parity++) {
+        const int place = place_of[k + parity];
+        if (!map.contains(place)) unused->resize(LRC_PARITIES * len);
+        parities[parity] =
+            map.contains(place) ? bytes_in(map, place) : unused->data() + parity * len;
+    }
+    return parities;
+}
+
+int AzureLrc::encode_chunks(const ceph::ShardBuffers &data, ceph::ShardBuffers &parities) {
+    const auto len = length_of(data, parities);
+    if (!len.value_or(0)) return len ? 0 : -EINVAL;
+    std::vector<uint8_t> zeros, unused;
+    const uint8_t *fragments[LRC_MOST_FRAGMENTS];
+    for (unsigned fragment = 0; fragment < k; fragment++) {
+        const int place = place_of[fragment];
+        if (!data.contains(place)) zeros.resize(*len);
+        fragments[fragment] = data.contains(place) ? bytes_in(data, place) : zeros.data();
+    }
+    return result_of(
+        lrc_encode_arrays(k, *len, fragments, parities_in(parities, *len, &unused).data()));
+}
+
+/* What is added to a chunk's bytes before a write gives those after it. */
+void AzureLrc::encode_delta(const ceph::buffer::ptr &before, const ceph::buffer::ptr &after,
+                            ceph::buffer::ptr *delta) {
+    const size_t len = delta->length();
+    insist(before.length() == len && after.length() == len);
+    if (!len) return;
+    uint8_t *const sum = reinterpret_cast<uint8_t *>(delta->c_str());
+    memcpy(sum, before.c_str(), len);
+    insist(!lrc_add(sum, len, 1, reinterpret_cast<const uint8_t *>(after.c_str()), len));
+}
+
+void AzureLrc::apply_delta(const ceph::ShardBuffers &deltas, ceph::ShardBuffers &parities) {
+    const auto len = length_of(deltas, parities);
+    insist(len.has_value());
+    if (!*len) return;
+    std::vector<uint8_t> unused;
+    const auto targets = parities_in(parities, *len, &unused);
+    for (unsigned fragment = 0; fragment < k; fragment++) {
+        const int place = place_of[fragment];
+        if (deltas.contains(place))
+            insist(!lrc_encode_add_arrays(k, *len, uint8_t(fragment), bytes_in(deltas, place),
+                                          targets.data()));
+    }
+}
+
+/* A chunk to be decoded counts as lost, also if it is among `chunks`. */
+int AzureLrc::decode_chunks(const ceph::ShardSet &, ceph::ShardBuffers &chunks,
+                            ceph::ShardBuffers &decoded) {
+    static const uint8_t nothing = 0;
+    lrc_slice fragments[LRC_MOST_FRAGMENTS];
+    uint8_t *targets[LRC_MOST_FRAGMENTS] = {};
+    unsigned lost = 0, to_write = 0;
+    const auto len = length_of(chunks, decoded);
+    if (!len.value_or(0)) return len ? 0 : -EINVAL;
+    for (unsigned fragment = 0; fragment < LRC_MOST_FRAGMENTS; fragment++) {
+        const int place = fragment < get_chunk_count() ? int(place_of[fragment]) : -1;
+        fragments[fragment] = {&nothing, 0};
+        if (is_place(place) && decoded.contains(place)) {
+            targets[fragment] = bytes_in(decoded, place);
+            to_write |= 1u << fragment;
+        } else if (is_place(place) && chunks.contains(place)) {
+            fragments[fragment] = {bytes_in(chunks, place), *len};
+            continue;
+        }
+        lost |= 1u << fragment;
+    }
+    return result_of(
+        lrc_rebuild_set(k, fragments, uint16_t(lost), uint16_t(to_write), targets, *len));
+}
+
+/* Without OPTIMIZED_SUPPORTED, Ceph refuses allow_ec_optimizations. Such a pool names a primary by
+ * its number among the places that may be one, and takes them to be 0 and the last four: in groups
+ * they are 0, 6, 7, 14 and 15. Ceph 20.2.4 then waits for ever when place 0 is lost. */
+uint64_t AzureLrc::get_supported_optimizations() const {
+    return ceph::PARTIAL_READ | ceph::PARTIAL_WRITE | ceph::ZERO_INPUT_ZERO_OUTPUT |
+           ceph::PARITY_DELTA | (parities_last ? uint64_t(ceph::OPTIMIZED_SUPPORTED) : 0);
+}
+
+std::string AzureLrc::get_optimizations_flags_string() const {
+    const char *const optimized = parities_last ? ",optimizedsupport" : "";
+    return std::string("partialread,partialwrite,zeroinout,paritydelta") + optimized;
+}
+
+#endif
 
 /* ---- The plugin ---- */
 

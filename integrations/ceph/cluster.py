@@ -18,7 +18,8 @@ import rados
 
 OSDS = 18
 STRIPE_UNIT = 4096
-SECONDS = 300  # of patience on a loaded machine
+SECONDS = 900  # of patience on a loaded machine
+NONE = 0x7FFFFFFF  # in a set of OSDs: no OSD is at this place
 
 SETTINGS = """[global]
 fsid = {fsid}
@@ -53,21 +54,24 @@ osd memory cache min = 16777216
 bluestore cache autotune = false
 bluestore cache size = 16777216
 bluestore block size = 2147483648
+osd op queue = wpq
 osd op num shards = 1
 osd op num threads per shard = 2
 ms async op threads = 1
 osd fast shutdown = true
 osd heartbeat interval = 5
-osd heartbeat grace = 60
-osd pool default read lease ratio = 0.02
+osd heartbeat min size = 0
+osd heartbeat grace = 300
+mon mgr beacon grace = 300
+mgr stats period = 1
 osd scrub load threshold = 0
 osd max backfills = 4
 osd recovery max active = 4
 osd recovery sleep hdd = 0
 osd recovery sleep ssd = 0
 bdev aio max queue depth = 128
-rados osd op timeout = 120
-rados mon op timeout = 120
+rados osd op timeout = {seconds}
+rados mon op timeout = {seconds}
 """
 
 # In an OSD's log: a read of the shard of a placement group, with its number and what is read.
@@ -132,6 +136,7 @@ class Cluster:
             port=port,
             first_port=26800,
             last_port=27300,
+            seconds=SECONDS,
         )
         for osd in range(OSDS):
             text += (
@@ -188,7 +193,10 @@ class Cluster:
         )
         self.spawn("mon.a", "ceph-mon", "-i", "a")
         self.rados = rados.Rados(conffile=self.settings)
-        self.rados.connect(timeout=60)
+        self.rados.connect(timeout=SECONDS)
+        # The balancer would move places while the test counts what is read.
+        active = {"who": "mgr", "name": "mgr/balancer/active", "value": "false"}
+        self.command("config set", **active, force=True)
         self.spawn("mgr.x", "ceph-mgr", "-i", "x")
         for osd in range(OSDS):
             self.uuids.append(str(uuid.uuid4()))
@@ -209,13 +217,16 @@ class Cluster:
         )
 
     def kill(self, osds):
-        """Ends OSDs by SIGKILL, and has the monitor mark them down."""
+        """Ends OSDs by SIGKILL, and has the monitor mark them down and dead: then no other OSD
+        waits for the end of the time in which they might have answered reads. A client that does
+        not know it yet would try to connect to them for some time."""
         for osd in osds:
             daemon = self.daemons.pop(f"osd.{osd}")
             daemon.kill()
             daemon.wait()
-        self.command("osd down", ids=[str(osd) for osd in osds])
+        self.command("osd down", ids=[str(osd) for osd in osds], definitely_dead=True)
         self.until(f"OSDs {osds} are down", lambda: not self.up() & set(osds))
+        self.rados.wait_for_latest_osdmap()
 
     def revive(self, osds):
         for osd in osds:
@@ -235,12 +246,12 @@ class Cluster:
 
     def command(self, prefix, data=b"", binary=False, **words):
         text = json.dumps({"prefix": prefix, "format": "json", **words})
-        return self.answer(prefix, self.rados.mon_command(text, data, timeout=120), binary)
+        return self.answer(prefix, self.rados.mon_command(text, data, timeout=SECONDS), binary)
 
     def osd_command(self, osd, prefix, **words):
         text = json.dumps({"prefix": prefix, "format": "json", **words})
         return self.answer(
-            f"osd.{osd} {prefix}", self.rados.osd_command(osd, text, b"", timeout=60)
+            f"osd.{osd} {prefix}", self.rados.osd_command(osd, text, b"", timeout=SECONDS)
         )
 
     def manager_command(self, prefix, **words):
@@ -283,6 +294,14 @@ class Cluster:
     def state(self, pool, group=0):
         return self.groups()[f"{self.rados.pool_lookup(pool)}.{group:x}"]["state"]
 
+    def is_serving(self, pool):
+        """Whether the pool's placement group serves although some of its OSDs are lost."""
+        return {"active", "undersized"} <= set(self.state(pool).split("+"))
+
+    def is_inactive(self, pool):
+        """Whether the pool's placement group has come to rest, and serves nothing."""
+        return bool({"down", "incomplete", "peered"} & set(self.state(pool).split("+")))
+
     def is_clean(self):
         """By the manager's statistics, which come late: ask after a loss was seen in them."""
         states = [group["state"] for group in self.groups().values()]
@@ -293,7 +312,14 @@ class Cluster:
         return self.until("all placement groups are active and clean", self.is_clean)
 
     def wait_loss(self):
-        return self.until("a placement group is not clean", lambda: not self.is_clean())
+        """Until the statistics of each placement group are younger than the loss of its OSDs."""
+        return self.until(
+            "the statistics name no OSD that is down", lambda: self.named() <= self.up()
+        )
+
+    def named(self):
+        """The OSDs at the places of all placement groups, by the manager's statistics."""
+        return {osd for group in self.groups().values() for osd in group["acting"]} - {NONE}
 
     # ---- pools and objects
 
@@ -334,15 +360,19 @@ class Cluster:
 
     def equal_objects(self, pool, count, length=None):
         """How many objects are read back as they were written."""
-        equal = 0
         with self.rados.open_ioctx(pool) as io:
-            for number in range(count):
-                wanted = content(pool, number, length)
-                try:
-                    equal += io.read(f"o{number}", len(wanted) + 1) == wanted
-                except rados.Error as error:
-                    self.report.note(f"{pool} o{number}: {error}")
-                    return equal
+            return self.equal_in(io, pool, count, length)
+
+    def equal_in(self, io, pool, count, length=None):
+        """The same by a pool that is open, for objects that were written to this one."""
+        equal = 0
+        for number in range(count):
+            wanted = content(pool, number, length)
+            try:
+                equal += io.read(f"o{number}", len(wanted) + 1) == wanted
+            except rados.Error as error:
+                self.report.note(f"o{number}: {error}")
+                return equal
         return equal
 
     def add_rule(self, name, text):
@@ -382,15 +412,21 @@ class Cluster:
                         read.length += stored_bytes(extents)
         return {pool: list(by_key.values()) for pool, by_key in reads.items()}
 
-    def bytes_read(self, osds):
-        """The bytes that each OSD's store was asked to read since it started."""
-        found = {}
+    def bytes_moved(self, osds):
+        """The bytes that the stores of these OSDs were asked to read since they started, and those
+        that the OSDs sent."""
+        read = sent = 0
         for osd in osds:
-            counters = self.osd_command(osd, "perf dump")["bluestore"]
+            counters = self.osd_command(osd, "perf dump")
             # Ceph 16.2 has these counters with the prefix `bluestore_`, and 18.2 without it
-            found[osd] = sum(
+            read += sum(
                 count
-                for name, count in counters.items()
+                for name, count in counters["bluestore"].items()
                 if re.fullmatch(r"(bluestore_)?buffer_(hit|miss)_bytes", name)
             )
-        return found
+            sent += sum(
+                counters[name]["msgr_send_bytes"]
+                for name in counters
+                if name.startswith("AsyncMessenger::Worker")
+            )
+        return read, sent

@@ -1,7 +1,11 @@
-/* Tests libec_azure_lrc.so without a cluster: plugin_test FOLDER CORPUS
+/* Tests libec_azure_lrc.so without a cluster: plugin_test FOLDER CORPUS [shards]
  *
- * FOLDER has the plugin and Ceph's own, CORPUS is tests/corpus. */
+ * FOLDER has the plugin and Ceph's own, CORPUS is tests/corpus. By the third word, only the calls
+ * that Ceph 20.2 adds are tested, and FOLDER needs no plugin of Ceph. */
 #include "plugin_loader.h"
+#if CEPH_RELEASE >= 20
+#include "shards_test.h"
+#endif
 
 #include <algorithm>
 #include <array>
@@ -58,8 +62,22 @@ public:
     int encode_chunks(const std::set<int> &, Chunks *) override;
     int decode(const std::set<int> &, const Chunks &, Chunks *, int) override;
     int decode_chunks(const std::set<int> &, const Chunks &, Chunks *) override;
-    const std::vector<int> &get_chunk_mapping() const override;
+    const std::vector<Place> &get_chunk_mapping() const override;
     int decode_concat(const Chunks &, buffer::list *) override;
+#if CEPH_RELEASE >= 20
+    int minimum_to_decode(const ShardSet &, const ShardSet &, ShardSet &, ShardParts *) override;
+    int minimum_to_decode_with_cost(const ShardSet &, const ShardCosts &, ShardSet *) override;
+    size_t get_minimum_granularity() override;
+    int encode(const ShardSet &, const buffer::list &, ShardChunks *) override;
+    int encode_chunks(const ShardBuffers &, ShardBuffers &) override;
+    void encode_delta(const buffer::ptr &, const buffer::ptr &, buffer::ptr *) override;
+    void apply_delta(const ShardBuffers &, ShardBuffers &) override;
+    int decode(const ShardSet &, const ShardChunks &, ShardChunks *, int) override;
+    int decode_chunks(const ShardSet &, ShardBuffers &, ShardBuffers &) override;
+    int decode_concat(const std::set<int> &, const Chunks &, buffer::list *) override;
+    uint64_t get_supported_optimizations() const override;
+    std::string get_optimizations_flags_string() const override;
+#endif
 };
 
 /* Each returns something of its own, so that no two become one function. */
@@ -86,8 +104,32 @@ int ErasureCodeProbe::encode(const std::set<int> &, const buffer::list &, Chunks
 int ErasureCodeProbe::encode_chunks(const std::set<int> &, Chunks *) { return 10; }
 int ErasureCodeProbe::decode(const std::set<int> &, const Chunks &, Chunks *, int) { return 11; }
 int ErasureCodeProbe::decode_chunks(const std::set<int> &, const Chunks &, Chunks *) { return 12; }
-const std::vector<int> &ErasureCodeProbe::get_chunk_mapping() const { abort(); }
+const std::vector<Place> &ErasureCodeProbe::get_chunk_mapping() const { abort(); }
 int ErasureCodeProbe::decode_concat(const Chunks &, buffer::list *) { return 13; }
+#if CEPH_RELEASE >= 20
+int ErasureCodeProbe::minimum_to_decode(const ShardSet &, const ShardSet &, ShardSet &,
+                                        ShardParts *) {
+    return 14;
+}
+int ErasureCodeProbe::minimum_to_decode_with_cost(const ShardSet &, const ShardCosts &,
+                                                  ShardSet *) {
+    return 15;
+}
+size_t ErasureCodeProbe::get_minimum_granularity() { return 16; }
+int ErasureCodeProbe::encode(const ShardSet &, const buffer::list &, ShardChunks *) { return 17; }
+int ErasureCodeProbe::encode_chunks(const ShardBuffers &, ShardBuffers &) { return 18; }
+void ErasureCodeProbe::encode_delta(const buffer::ptr &, const buffer::ptr &, buffer::ptr *) {}
+void ErasureCodeProbe::apply_delta(const ShardBuffers &, ShardBuffers &) { abort(); }
+int ErasureCodeProbe::decode(const ShardSet &, const ShardChunks &, ShardChunks *, int) {
+    return 19;
+}
+int ErasureCodeProbe::decode_chunks(const ShardSet &, ShardBuffers &, ShardBuffers &) { return 20; }
+int ErasureCodeProbe::decode_concat(const std::set<int> &, const Chunks &, buffer::list *) {
+    return 21;
+}
+uint64_t ErasureCodeProbe::get_supported_optimizations() const { return 22; }
+std::string ErasureCodeProbe::get_optimizations_flags_string() const { return "23"; }
+#endif
 
 } // namespace ceph
 
@@ -101,7 +143,7 @@ static std::string demangled(const char *name) {
 
 /* The functions in the object's table, without the names of their classes. */
 static std::vector<std::string> table_of(const ErasureCodeInterface &code) {
-    constexpr int DESTRUCTORS = 2, SLOTS = 18;
+    constexpr int DESTRUCTORS = 2, SLOTS = CEPH_RELEASE >= 20 ? 30 : 18;
     void *const *const table = *reinterpret_cast<void *const *const *>(&code);
     std::vector<std::string> names;
     for (int slot = 0; slot < SLOTS; slot++) {
@@ -314,7 +356,10 @@ static void test_shape(const std::string &name, ErasureCodeInterface &code, unsi
     check(code.get_chunk_count() == k + 4 && code.get_data_chunk_count() == k &&
               code.get_coding_chunk_count() == 4 && code.get_sub_chunk_count() == 1,
           name + ": counts");
-    check(code.get_chunk_mapping() == (k == 12 ? places_of_12 : places_of_6), name + ": places");
+    const auto &mapping = code.get_chunk_mapping();
+    check(std::vector<int>(mapping.begin(), mapping.end()) ==
+              (k == 12 ? places_of_12 : places_of_6),
+          name + ": places");
     const auto &profile = code.get_profile();
     check(profile.at("crush-failure-domain") == "host" && profile.at("crush-root") == "default" &&
               profile.at("k") == std::to_string(k) && profile.at("m") == "4",
@@ -438,6 +483,8 @@ static void test_profiles() {
          "azure_lrc: there is no parameter technique; remove it from the profile"},
         {{{"k", "6"}, {"K", "6"}},
          "azure_lrc: there is no parameter K; remove it from the profile"},
+        {{{"order", "data-first"}},
+         "azure_lrc: no order is called data-first; set order=groups or order=parities-last"},
         {{{"crush-failure-domian", "osd"}},
          "azure_lrc: there is no parameter crush-failure-domian; remove it from the profile"},
     };
@@ -458,6 +505,33 @@ static void test_profiles() {
     };
     std::string error;
     check(bool(make_code("azure_lrc", whole, &error)), "all parameters: " + error);
+}
+
+/* ---- The rule for CRUSH ---- */
+
+static std::vector<std::string> rule;
+
+/* The plugin calls this one and not Ceph's, which another test of tests/ceph.sh looks for. */
+int CrushWrapper::add_simple_rule(std::string name, std::string root, std::string failure_domain,
+#if CEPH_RELEASE >= 20
+                                  int domains,
+#endif
+                                  std::string device_class, std::string mode, int pool_type,
+                                  std::ostream *) {
+    rule = {name, root, failure_domain, device_class, mode, std::to_string(pool_type)};
+#if CEPH_RELEASE >= 20
+    rule.push_back(std::to_string(domains));
+#endif
+    return 5;
+}
+
+static void test_rule() {
+    auto code = code_of("azure_lrc", {{"crush-root", "r"}, {"crush-device-class", "ssd"}});
+    CrushWrapper crush;
+    std::vector<std::string> expected = {"name", "r", "host", "ssd", "indep", "3"};
+    if (CEPH_RELEASE >= 20) expected.push_back("-1");
+    check(code && code->create_rule("name", crush, nullptr) == 5 && rule == expected,
+          "the rule for CRUSH");
 }
 
 /* ---- Stored chunks ---- */
@@ -496,6 +570,42 @@ static void test_corpus(const std::string &corpus, ErasureCodeInterface &code, u
     check(good, name + ": decoded alike");
 }
 
+/* What Ceph 20.2 adds. Ceph's own isa passes, too: so its types are those of ceph_shards.h. */
+static void test_shards(const std::string &plugin, ErasureCodeProfile profile) {
+    auto code = code_of(plugin, profile);
+#if CEPH_RELEASE >= 20
+    if (!code) return;
+    const std::string order = profile["order"];
+    ShardsTest test(plugin + " k=" + profile["k"] + " " + order, *code, check);
+    test.test();
+    test.test_optimized(plugin == "isa" || order == "parities-last");
+    if (plugin == "azure_lrc") test.test_refused();
+#endif
+}
+
+/* In this order a place is its fragment's number, and a chunk has the same bytes. */
+static void test_parities_last(unsigned k) {
+    const std::string name = "k=" + std::to_string(k) + ", parities last";
+    const ErasureCodeProfile profile = {{"k", std::to_string(k)}, {"m", "4"}};
+    ErasureCodeProfile last = profile;
+    last["order"] = "parities-last";
+    auto groups = code_of("azure_lrc", profile), code = code_of("azure_lrc", last);
+    if (!groups || !code) return;
+    const auto &mapping = code->get_chunk_mapping(), &in_groups = groups->get_chunk_mapping();
+    const buffer::list in = random_bytes(k * 4096, k);
+    Chunks chunks, expected;
+    bool good = !code->encode(places_of(all_of(*code)), in, &chunks) &&
+                !groups->encode(places_of(all_of(*code)), in, &expected);
+    for (unsigned fragment = 0; fragment < k + 4; fragment++)
+        good = good && mapping[fragment] == int(fragment) &&
+               chunks[int(fragment)].contents_equal(expected[in_groups[fragment]]);
+    check(good, name + ": the chunks");
+    check(code->get_profile().at("order") == "parities-last", name + ": the profile");
+    unsigned read = 0;
+    check(!to_read(*code, 1u << k, all_of(*code) & ~(1u << k), &read) && read == (1u << k / 2) - 1,
+          name + ": a local parity is read from its group");
+}
+
 static void test_code(unsigned k, const std::string &corpus) {
     const std::string name = "k=" + std::to_string(k);
     auto code = code_of("azure_lrc", {{"k", std::to_string(k)}, {"m", "4"}});
@@ -518,14 +628,24 @@ static void test_code(unsigned k, const std::string &corpus) {
 }
 
 int main(int argc, char **argv) {
-    if (argc != 3 || !begin(argv[1])) {
-        fprintf(stderr, "usage: plugin_test FOLDER CORPUS\n");
+    const bool whole = argc == 3;
+    if ((!whole && argc != 4) || !begin(argv[1])) {
+        fprintf(stderr, "usage: plugin_test FOLDER CORPUS [shards]\n");
         return 2;
     }
-    test_tables();
-    test_profiles();
-    test_code(12, argv[2]);
-    test_code(6, argv[2]);
+    if (whole) {
+        test_tables();
+        test_profiles();
+        test_shards("isa", {{"k", "12"}, {"m", "4"}});
+        test_code(12, argv[2]);
+        test_code(6, argv[2]);
+        test_parities_last(12);
+        test_parities_last(6);
+    }
+    test_rule();
+    for (const char *k : {"12", "6"})
+        for (const char *order : {"groups", "parities-last"})
+            test_shards("azure_lrc", {{"k", k}, {"m", "4"}, {"order", order}});
     printf("Ceph: %d checks of the plugin passed, %d failed\n", passed, failed);
     fflush(stdout);
     _exit(failed ? 1 : 0); /* a plugin is never unloaded */

@@ -13,8 +13,11 @@ plugins() {
 }
 
 # program NAME FLAG..: compiles NAME.cc, as $work/NAME. Plugins look for Ceph's registry in it.
+# CEPH_VERSION is as for build.sh.
 program() {
+    local version
+    version=${CEPH_VERSION:-$(ceph-osd --version | awk '{ print $3 }')}
     g++ -std=c++17 -O2 -Wall -Wextra -Wshadow -Werror -rdynamic "${@:2}" \
-        -DCEPH_VERSION="\"$(ceph-osd --version | awk '{ print $3 }')\"" "$here/$1.cc" \
+        -DCEPH_VERSION="\"$version\"" -DCEPH_RELEASE="${version%%.*}" "$here/$1.cc" \
         -o "$work/$1" -lrados -L "$ceph" -l:libceph-common.so.2 -Wl,-rpath,"$ceph" -ldl
 }

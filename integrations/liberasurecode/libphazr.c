@@ -4,9 +4,23 @@
  */
 #include "lrc_backend.h"
 
+#include <stdio.h>
+
+/* The table and its order are not part of liberasurecode's API. */
+enum { TESTED_MAJOR = 1, TESTED_MINOR = 6 };
+
 extern struct ec_backend_op_stubs
     libphazr_op_stubs; /* exported by liberasurecode.so.1, and in no header */
 
+/* Under another release the table stays as it is, and no instance can be made. */
 __attribute__((constructor)) static void fill_table(void) {
-    libphazr_op_stubs = lrc_backend_functions;
+    const uint32_t version = liberasurecode_get_version();
+    if (version >> 8 == (TESTED_MAJOR << 8 | TESTED_MINOR))
+        libphazr_op_stubs = lrc_backend_functions;
+    else
+        fprintf(stderr,
+                "libphazr of lrcstore is tested with liberasurecode %d.%d, and this is %u.%u: "
+                "install %d.%d\n",
+                TESTED_MAJOR, TESTED_MINOR, version >> 16, version >> 8 & 255, TESTED_MAJOR,
+                TESTED_MINOR);
 }

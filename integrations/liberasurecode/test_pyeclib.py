@@ -4,6 +4,9 @@ fragments, and other codes' fragments."""
 import itertools
 import os
 import struct
+import subprocess
+import sys
+import tempfile
 import zlib
 
 from pyeclib.ec_iface import (
@@ -18,7 +21,7 @@ VERSION_AT, VERSION, VERSION_OF_SIX = (
     0x4C520C01,
     0x4C520601,
 )  # of the backend, in a fragment's header
-CHECKSUM_AT, METADATA_LEN, HEADER_LEN = 67, 59, 80
+LIBRARY_AT, CHECKSUM_AT, METADATA_LEN = 63, 67, 59
 CORPUS = os.path.join(os.path.dirname(__file__), "../../tests/corpus")
 
 driver = ECDriver(k=12, m=4, ec_type="libphazr", chksum_type="inline_crc32")
@@ -45,6 +48,11 @@ def with_version(fragment, version):
     struct.pack_into("<I", fragment, VERSION_AT, version)
     struct.pack_into("<I", fragment, CHECKSUM_AT, zlib.crc32(fragment[:METADATA_LEN]))
     return bytes(fragment)
+
+
+def without_library(fragment):
+    """The fragment less the version of liberasurecode that wrote it, which its header has."""
+    return fragment[:LIBRARY_AT] + fragment[CHECKSUM_AT:]
 
 
 def test_sets():
@@ -127,12 +135,29 @@ def test_corpus(k):
     stored = [stored[i * size : (i + 1) * size] for i in range(k + 4)]
     mine = ECDriver(k=k, m=4, ec_type="libphazr")
     for old, new in zip(stored, mine.encode(stored_object)):
-        # between metadata and payload stands liberasurecode's own version
-        assert old[:METADATA_LEN] == new[:METADATA_LEN] and old[HEADER_LEN:] == new[HEADER_LEN:]
+        assert without_library(old) == without_library(new)
     for lost in itertools.combinations(range(k + 4), 3):
         assert mine.decode(others(stored, *lost)) == stored_object, lost
-        assert mine.reconstruct(others(stored, *lost), [lost[0]]) == [stored[lost[0]]], lost
+        (new,) = mine.reconstruct(others(stored, *lost), [lost[0]])
+        assert without_library(new) == without_library(stored[lost[0]]), lost
     print(f"PyECLib: stored fragments of {k}+4 are written alike, and read")
+
+
+OTHER_RELEASE = "unsigned liberasurecode_get_version(void) { return 0x010700; }"
+NEW_DRIVER = "from pyeclib.ec_iface import *; ECDriver(k=12, m=4, ec_type='libphazr')"
+
+
+def test_other_release():
+    """The library refuses another release of liberasurecode than it was tested with."""
+    with tempfile.TemporaryDirectory() as folder:
+        words = ["gcc", "-shared", "-fPIC", "-x", "c", "-", "-o", f"{folder}/other.so"]
+        subprocess.run(words, input=OTHER_RELEASE, text=True, check=True)
+        environment = dict(os.environ, LD_PRELOAD=f"{folder}/other.so")
+        words = [sys.executable, "-c", NEW_DRIVER]
+        done = subprocess.run(words, env=environment, stderr=subprocess.PIPE, text=True)
+    assert done.returncode != 0, done.stderr
+    assert "tested with liberasurecode 1.6, and this is 1.7" in done.stderr, done.stderr
+    print("PyECLib: another release of liberasurecode is refused")
 
 
 test_sets()
@@ -141,3 +166,4 @@ test_other_codes()
 test_parameters()
 test_corpus(12)
 test_corpus(6)
+test_other_release()

@@ -6,10 +6,12 @@ import hashlib
 import http.client
 import os
 import pwd
+import queue
 import re
 import signal
 import socket
 import subprocess
+import threading
 import time
 
 PYTHON = "/usr/bin/python3"  # Debian's, for which Debian's Swift is installed
@@ -17,14 +19,25 @@ DATA, PARITIES = 12, 4
 FRAGMENTS = DATA + PARITIES
 DEVICES, SERVERS = 20, 5
 PART_POWER = 7
-SECONDS = 120  # of patience with a process on a loaded machine
+SECONDS = 900  # of patience with a process on a loaded machine
+LOGS = ("proxy", "account", "container", "object", "reconstructor", "auditor")
 
 # Swift reads /etc/swift/swift.conf when it is imported. This takes another folder's, and then runs
-# the program.
+# the program. LRC_CLUSTER_HIDES begins the names of modules that it is not to find, although they
+# are installed: it looks into links to all others.
 LAUNCH = """
-import runpy, sys
-from swift.common import utils
+import os, runpy, sys
 folder, sys.argv = sys.argv[1], sys.argv[2:]
+hidden = os.environ.get("LRC_CLUSTER_HIDES")
+for number, place in enumerate(sys.path):
+    names = os.listdir(place) if hidden and os.path.isdir(place) else []
+    if any(name.startswith(hidden) for name in names):
+        sys.path[number] = folder + "/path" + str(number)
+        os.mkdir(sys.path[number])
+        for name in names:
+            if not name.startswith(hidden):
+                os.symlink(os.path.join(place, name), os.path.join(sys.path[number], name))
+from swift.common import utils
 utils.set_swift_dir(folder)
 runpy.run_path(sys.argv[0], run_name="__main__")
 """
@@ -52,8 +65,8 @@ pipeline = catch_errors gatekeeper proxy-logging cache tempauth {filters} copy d
 [app:proxy-server]
 use = egg:swift#proxy
 account_autocreate = true
-node_timeout = 60
-conn_timeout = 30
+{patience}client_timeout = {seconds}
+post_quorum_timeout = {seconds}
 error_suppression_interval = 0
 [filter:tempauth]
 use = egg:swift#tempauth
@@ -61,10 +74,14 @@ user_test_tester = testing .admin
 [filter:cache]
 use = egg:swift#memcache
 memcache_servers = 127.0.0.1:{memcached}
+connect_timeout = {seconds}
+pool_timeout = {seconds}
+io_timeout = {seconds}
 [filter:catch_errors]
 use = egg:swift#catch_errors
 [filter:gatekeeper]
 use = egg:swift#gatekeeper
+shunt_inbound_x_timestamp = false
 [filter:proxy-logging]
 use = egg:swift#proxy_logging
 [filter:copy]
@@ -87,8 +104,10 @@ use = egg:swift#{kind}
 auto_create_account_prefix = .
 """
 
+# A server has the devices of its port. The reconstructor and the auditor have those of all ports.
 OBJECT = """[DEFAULT]
-{common}servers_per_port = 1
+{common}{server}
+workers = 0
 devices = {folder}/devices
 mount_check = false
 [pipeline:main]
@@ -96,15 +115,12 @@ pipeline = object-server
 [app:object-server]
 use = egg:swift#object
 set log_level = DEBUG
-node_timeout = 60
-conn_timeout = 30
-[object-reconstructor]
-log_level = DEBUG
+{patience}[object-reconstructor]
+log_address = {folder}/reconstructor.log
 recon_cache_path = {folder}/cache
-node_timeout = 60
-conn_timeout = 30
-http_timeout = 60
+{patience}http_timeout = {seconds}
 [object-auditor]
+log_address = {folder}/auditor.log
 recon_cache_path = {folder}/cache
 files_per_second = 0
 bytes_per_second = 0
@@ -121,6 +137,46 @@ def free_ports(count):
     for each in sockets:
         each.close()
     return ports
+
+
+class Logs:
+    """Writes into `folder`/logs what Swift's programs log. They send it to sockets, as to syslog:
+    if a native thread logs, the lock of Swift's handler for consoles (`-v`) blocks for ever."""
+
+    MARK, END = b"\0mark", b"\0end"
+
+    def __init__(self, folder):
+        self.folder, self.marks, self.sockets, self.threads = folder, {}, {}, []
+        for name in LOGS:
+            self.marks[name] = queue.Queue()
+            self.sockets[name] = socket.socket(socket.AF_UNIX, socket.SOCK_DGRAM)
+            self.sockets[name].bind(f"{folder}/{name}.log")
+            self.threads.append(threading.Thread(target=self.receive, args=(name,), daemon=True))
+            self.threads[-1].start()
+
+    def receive(self, name):
+        with open(f"{self.folder}/logs/{name}", "ab", buffering=0) as file:
+            while (line := self.sockets[name].recv(1 << 20)) != self.END:
+                if line == self.MARK:
+                    self.marks[name].put(line)
+                else:
+                    file.write(line.rstrip(b"\0\n") + b"\n")
+
+    def send(self, name, line):
+        with socket.socket(socket.AF_UNIX, socket.SOCK_DGRAM) as sender:
+            sender.sendto(line, f"{self.folder}/{name}.log")
+
+    def settle(self, name):
+        """Waits until all that was sent before is written."""
+        self.send(name, self.MARK)
+        self.marks[name].get(timeout=SECONDS)
+
+    def close(self):
+        for name, thread in zip(LOGS, self.threads):
+            self.send(name, self.END)
+            thread.join()
+            self.sockets[name].close()
+            os.unlink(f"{self.folder}/{name}.log")
 
 
 class Policy:
@@ -152,7 +208,7 @@ class Cluster:
     def __init__(self, folder, policies, environment, filters=()):
         self.folder, self.policies, self.filters = folder, policies, filters
         self.environment = dict(os.environ, **environment)
-        self.processes = {}
+        self.processes, self.logs = {}, None
         (
             self.proxy_port,
             self.account_port,
@@ -180,14 +236,21 @@ class Cluster:
             "folder": self.folder,
             "filters": " ".join(self.filters),
             "memcached": self.memcached_port,
-            "common": f"bind_ip = 127.0.0.1\nuser = {user}\nswift_dir = {self.folder}\n",
+            "seconds": SECONDS,
+            "patience": f"node_timeout = {SECONDS}\nconn_timeout = {SECONDS}\n",
         }
-        self.write("proxy.conf", PROXY.format(port=self.proxy_port, **words))
-        self.write("account.conf", LISTING.format(port=self.account_port, kind="account", **words))
-        self.write(
-            "container.conf", LISTING.format(port=self.container_port, kind="container", **words)
-        )
-        self.write("object.conf", OBJECT.format(**words))
+        common = f"bind_ip = 127.0.0.1\nuser = {user}\nswift_dir = {self.folder}\n"
+        common += f"log_address = {self.folder}/{{}}.log\n"
+        ports = {"proxy": self.proxy_port, "account": self.account_port}
+        ports["container"] = self.container_port
+        for kind, port in ports.items():
+            words.update(kind=kind, port=port, common=common.format(kind))
+            self.write(f"{kind}.conf", (PROXY if kind == "proxy" else LISTING).format(**words))
+        words["common"] = common.format("object")
+        self.write("object.conf", OBJECT.format(server="servers_per_port = 1", **words))
+        for i, port in enumerate(self.object_ports):
+            self.write(f"object{i}.conf", OBJECT.format(server=f"bind_port = {port}", **words))
+        self.logs = Logs(self.folder)
 
     def make_rings(self):
         places = [
@@ -212,11 +275,13 @@ class Cluster:
     def command(self, program, *words):
         return [PYTHON, "-c", LAUNCH, self.folder, f"/usr/bin/{program}", *words]
 
-    def run(self, program, *words, environment=()):
-        """What the program prints, whatever its status."""
+    def run(self, program, *words):
+        """What the program prints and logs, whatever its status."""
+        name = program.rsplit("-", 1)[-1]
+        before = len(self.log(name)) if name in LOGS else 0
         done = subprocess.run(
             self.command(program, *words),
-            env=dict(self.environment, **dict(environment)),
+            env=self.environment,
             cwd=self.folder,
             stdin=subprocess.DEVNULL,
             stdout=subprocess.PIPE,
@@ -226,45 +291,44 @@ class Cluster:
             timeout=SECONDS,
             check=False,
         )
-        return done.stdout
+        return done.stdout + (self.log(name)[before:] if name in LOGS else "")
 
-    def spawn(self, name, command):
-        with open(f"{self.folder}/logs/{name}", "ab") as log:
+    def spawn(self, name, command, log=None):
+        with open(f"{self.folder}/logs/{log or name}", "ab") as file:
             self.processes[name] = subprocess.Popen(
                 command,
                 env=self.environment,
                 cwd=self.folder,
                 stdin=subprocess.DEVNULL,
-                stdout=log,
-                stderr=log,
+                stdout=file,
+                stderr=file,
                 start_new_session=True,
             )
 
     def log(self, name):
+        """What the program has printed and logged until now."""
+        if self.logs and name in LOGS:
+            self.logs.settle(name)
         with open(f"{self.folder}/logs/{name}", errors="replace", encoding="utf-8") as file:
             return file.read()
 
+    def spawn_object_server(self, number):
+        conf = f"{self.folder}/object{number}.conf"
+        self.spawn(f"object{number}", self.command("swift-object-server", conf), "object")
+
+    def kill_object_server(self, number):
+        """Ends it without a chance to end its answers."""
+        process = self.processes.pop(f"object{number}")
+        os.killpg(process.pid, signal.SIGKILL)
+        process.wait()
+
     def start(self):
-        self.spawn(
-            "memcached",
-            [
-                "/usr/bin/memcached",
-                "-l",
-                "127.0.0.1",
-                "-p",
-                str(self.memcached_port),
-                "-U",
-                "0",
-                "-u",
-                "nobody",
-                "-m",
-                "64",
-            ],
-        )
-        for kind in ("account", "container", "object", "proxy"):
-            self.spawn(
-                kind, self.command(f"swift-{kind}-server", f"{self.folder}/{kind}.conf", "-v")
-            )
+        words = f"-l 127.0.0.1 -p {self.memcached_port} -U 0 -u nobody -m 64"
+        self.spawn("memcached", ["/usr/bin/memcached", *words.split()])
+        for kind in ("account", "container", "proxy"):
+            self.spawn(kind, self.command(f"swift-{kind}-server", f"{self.folder}/{kind}.conf"))
+        for number in range(SERVERS):
+            self.spawn_object_server(number)
         for port in (
             self.memcached_port,
             self.account_port,
@@ -285,7 +349,7 @@ class Cluster:
                     name for name, process in self.processes.items() if process.poll() is not None
                 ]
                 if ended or time.monotonic() > end:
-                    logs = "\n".join(self.log(name)[-2000:] for name in ended)
+                    logs = "\n".join(self.log(name.rstrip("0123456789"))[-2000:] for name in ended)
                     raise RuntimeError(
                         f"nothing listens on port {port}; ended: {ended}\n{logs}"
                     ) from error
@@ -303,6 +367,9 @@ class Cluster:
                 os.killpg(process.pid, signal.SIGKILL)
                 process.wait()
         self.processes.clear()
+        if self.logs:
+            self.logs.close()
+            self.logs = None
 
     # ---- fragments on disk
 
@@ -327,32 +394,32 @@ class Client:
             raise RuntimeError(f"no token from port {port}: status {status}")
         self.token = headers["x-auth-token"]
 
-    def ask(self, method, path, headers=(), body=None):
-        """Status, headers and body; the body is None if the connection ended before its end."""
+    def ask(self, method, path, headers=(), body=None, midway=None):
+        """Status, headers and body; the body is None if the connection ended before its end.
+        `midway` is called when some of the body has come."""
         connection = http.client.HTTPConnection("127.0.0.1", self.port, timeout=SECONDS)
         try:
             connection.request(method, path, body, dict(headers))
             answer = connection.getresponse()
             found = {key.lower(): value for key, value in answer.getheaders()}
             try:
-                return answer.status, found, answer.read()
+                first = answer.read(1 << 20) if midway else b""
+                if midway:
+                    midway()
+                return answer.status, found, first + answer.read()
             except (http.client.IncompleteRead, ConnectionError):
                 return answer.status, found, None
         finally:
             connection.close()
 
-    def call(self, method, path, headers=(), body=None):
-        return self.ask(
-            method,
-            f"/v1/{self.account}/{path}",
-            {"X-Auth-Token": self.token, **dict(headers)},
-            body,
-        )
+    def call(self, method, path, headers=(), body=None, midway=None):
+        headers = {"X-Auth-Token": self.token, **dict(headers)}
+        return self.ask(method, f"/v1/{self.account}/{path}", headers, body, midway)
 
     def put(self, path, body):
         status, _, answer = self.call("PUT", path, {"Content-Length": str(len(body))}, body)
         if status != 201:
             raise RuntimeError(f"PUT {path}: status {status} {answer[:200]!r}")
 
-    def get(self, path, headers=()):
-        return self.call("GET", path, headers)
+    def get(self, path, headers=(), midway=None):
+        return self.call("GET", path, headers, midway=midway)

@@ -5,7 +5,8 @@
 
 It installs Debian's packages where they are missing (as root), works in a temporary folder, ends
 every process that it started, and prints `N passed, M failed`. It needs the coder for C, in the
-folder that LRC_LIBRARIES names, or the Rattle kit's `rt`, which builds it."""
+folder that LRC_LIBRARIES names, or the Rattle kit's `rt`, which builds it. What is installed of
+lrcstore is neither used nor changed."""
 
 import argparse
 import collections
@@ -26,7 +27,16 @@ HERE = os.path.dirname(os.path.abspath(__file__))
 TOP = os.path.dirname(os.path.dirname(HERE))
 sys.path[:0] = [HERE, os.path.dirname(HERE), f"{TOP}/bindings/python"]
 import harness  # noqa: E402
-from cluster import DATA, FRAGMENTS, PYTHON, SECONDS, Client, Cluster, Policy  # noqa: E402
+from cluster import (  # noqa: E402
+    DATA,
+    FRAGMENTS,
+    PYTHON,
+    SECONDS,
+    SERVERS,
+    Client,
+    Cluster,
+    Policy,
+)
 
 PACKAGES = (
     "gcc",
@@ -72,16 +82,56 @@ def contents(path):
 
 # ---- installation
 
+REFUSED = """
+from lrcstore_swift import refuse_other_releases
+try:
+    refuse_other_releases()
+except RuntimeError as error:
+    print(error)
+"""
+
 
 def build(folder):
     """What an administrator installs: the library, and the Python modules. Besides, the coder for
-    Python, to compare with."""
+    Python, to compare with, and a library that can't be loaded, for none."""
     os.environ["LRC_CODER_SO"] = f"{harness.coder_folder()}/liblrc_coder.so"
     os.mkdir(f"{folder}/lib")
     subprocess.run([f"{TOP}/integrations/liberasurecode/build.sh", f"{folder}/lib"], check=True)
+    os.mkdir(f"{folder}/none")
+    open(f"{folder}/none/libphazr.so.1", "wb").close()
     for name in os.listdir(HERE):
         if name.startswith("lrcstore_swift"):
             shutil.copytree(f"{HERE}/{name}", f"{folder}/python/{name}")
+
+
+def python(folder, program):
+    """What a program in Python prints, with the modules as they are installed for the test."""
+    return subprocess.run(
+        [PYTHON, "-c", program],
+        env=dict(os.environ, **installed(folder)),
+        cwd=folder,
+        stdout=subprocess.PIPE,
+        text=True,
+        check=True,
+    ).stdout
+
+
+def check_versions(report, folder, is_untested):
+    """Says what is installed. A release of Swift that the modules refuse ends the test, unless it
+    is added to those that they take, in the copy of the test."""
+    words = ["dpkg-query", "-W", "-f", "${Package} ${Version}, "]
+    names = ("python3-swift", "python3-pyeclib", "liberasurecode1", "python3")
+    done = subprocess.run([*words, *names], stdout=subprocess.PIPE, text=True, check=True)
+    report.note(done.stdout.strip(", "))
+    if is_untested:
+        release = python(folder, "import swift; print(*swift.__version__.split('.')[:2], sep='.')")
+        path = f"{folder}/python/lrcstore_swift/__init__.py"
+        text = contents(path).decode().replace("TESTED = (", f'TESTED = ("{release.strip()}", ')
+        with open(path, "w", encoding="utf-8") as file:
+            file.write(text)
+    refused = python(folder, REFUSED)
+    if refused:
+        raise RuntimeError(refused.strip())
 
 
 def installed(folder):
@@ -183,10 +233,10 @@ class Away:
             os.rename(aside, place)
 
 
-def get(client, path, body):
+def get(client, path, body, midway=None):
     """`right`, `refused` (a status from 500 on, or a body that ends early) or `wrong`, and the
     status."""
-    status, _, answer = client.get(path)
+    status, _, answer = client.get(path, midway=midway)
     if status == 200 and answer == body:
         return "right", status
     if status >= 500 or (status == 200 and (answer is None or len(answer) < len(body))):
@@ -248,6 +298,7 @@ def swift_with_module(report, folder, options):
         check_small(report, cluster, client)
         check_auditor(report, cluster, f"{client.account}/lrc/o{SIZES[-1]}")
         check_command_line(report, client, folder)
+        check_migration(report, client, folder)
         check_large(report, client, options.large * MIB)
 
     with_cluster(cluster, work)
@@ -371,7 +422,7 @@ def check_total(report, gets):
 
 def reconstruct(cluster, *words):
     return cluster.run(
-        "swift-object-reconstructor", f"{cluster.folder}/object.conf", "-o", "-v", *words
+        "swift-object-reconstructor", f"{cluster.folder}/object.conf", "-o", *words
     )
 
 
@@ -421,10 +472,24 @@ def check_rebuilds(report, cluster, client):
             equal == list(lost) and gets <= most,
             f"{gets} GETs",
         )
+    check_moved(report, cluster, client)
     client.put("isa/o", payload(SIZES[-1]))
     equal, gets = rebuild(cluster, ISA, f"{client.account}/isa/o", (3,))
     report.check(
         "isa_l_rs_vand, as without the module: [3] is rebuilt", equal == [3], f"{gets} GETs"
+    )
+
+
+def check_moved(report, cluster, client):
+    """An object whose time has an offset, as if Swift had moved it from another policy."""
+    body, moved = payload(MIB, 7), {"X-Timestamp": f"{time.time():.5f}_{1:016x}"}
+    status, _, _ = client.call("PUT", "lrc/moved", moved, body)
+    answer = client.get("lrc/moved")[::2]
+    equal, gets = rebuild(cluster, LRC, f"{client.account}/lrc/moved", (3,))
+    report.check(
+        "an object that was moved to the policy comes back, and is rebuilt by at most 6 GETs",
+        status == 201 and answer == (200, body) and equal == [3] and gets <= 6,
+        f"{gets} GETs",
     )
 
 
@@ -448,7 +513,7 @@ def check_small(report, cluster, client):
 
 def check_auditor(report, cluster, path):
     """Swift's auditor and swift-object-info, over the code's fragments and over a changed one."""
-    log = cluster.run("swift-object-auditor", f"{cluster.folder}/object.conf", "-o", "-v")
+    log = cluster.run("swift-object-auditor", f"{cluster.folder}/object.conf", "-o")
     aside = [
         name
         for name in os.listdir(f"{cluster.folder}/devices")
@@ -471,7 +536,6 @@ def check_auditor(report, cluster, path):
         "swift-object-auditor",
         f"{cluster.folder}/object.conf",
         "-o",
-        "-v",
         "-d",
         re.search(r"/devices/(d\d+)/", file).group(1),
     )
@@ -519,6 +583,30 @@ def check_command_line(report, client, folder):
     )
 
 
+def check_migration(report, client, folder):
+    """Objects are copied into a container of the policy, as README.md says."""
+    bodies, mark = {f"o{n}": payload(size, 5) for n, size in enumerate(SIZES)}, "x-object-meta-mark"
+    client.call("PUT", "old", {"X-Storage-Policy": ISA.name})
+    for name, body in bodies.items():
+        client.call("PUT", f"old/{name}", {"Content-Length": str(len(body)), mark: name}, body)
+    made, printed = swift_command(
+        client, folder, "post", "new", "-H", f"X-Storage-Policy: {LRC.name}"
+    )
+    copied, more = swift_command(client, folder, "copy", "-d", "/new", "old", *bodies)
+    policy = client.call("HEAD", "new")[1].get("x-storage-policy")
+    same = [name for name, body in bodies.items() if is_object(client, f"new/{name}", body, name)]
+    report.check(
+        "swift copy takes a container from isa_l_rs_vand to libphazr, with metadata",
+        not made and not copied and policy == LRC.name and same == list(bodies),
+        "" if same == list(bodies) else (printed + more)[-500:],
+    )
+
+
+def is_object(client, path, body, mark):
+    status, headers, answer = client.get(path)
+    return (status, answer, headers.get("x-object-meta-mark")) == (200, body, mark)
+
+
 def check_large(report, client, size):
     body = payload(size)
     for policy in (LRC, ISA):
@@ -533,6 +621,50 @@ def check_large(report, client, size):
             f"PUT {size / MIB / (written - started):.0f} MiB/s, "
             f"GET {size / MIB / (read - written):.0f} MiB/s",
         )
+
+
+# ---- object servers that end while they send
+
+CRASH_SIZE = 240 * MIB  # more than the sockets hold
+
+
+def crashes(report, folder, options):
+    """One object server after another is killed while a GET is answered."""
+    cluster = Cluster(f"{folder}/crashes", [REPLICATED, LRC, ISA], installed(folder), ("lrcstore",))
+
+    def work(client):
+        body = payload(CRASH_SIZE)
+        for policy in (LRC, ISA):
+            client.put(f"{policy.name}/large", body)
+            check_crashes(report, cluster, client, policy, body, options.crashes)
+
+    with_cluster(cluster, work)
+
+
+def fragments_of_server(cluster, policy, path, number):
+    """The fragments of an object on the devices of an object server."""
+    files = cluster.fragments(policy, path)
+    devices = {i: int(re.search(r"/devices/d(\d+)/", file).group(1)) for i, file in files.items()}
+    return tuple(sorted(i for i, device in devices.items() if device % SERVERS == number))
+
+
+def check_crashes(report, cluster, client, policy, body, times):
+    path, found = f"{policy.name}/large", collections.Counter()
+    for number in itertools.islice(itertools.cycle(range(SERVERS)), times):
+        lost = fragments_of_server(cluster, policy, f"{client.account}/{path}", number)
+        is_served = policy is ISA or is_recoverable(lost)
+        outcome, _ = get(client, path, body, lambda: cluster.kill_object_server(number))
+        found[lost, is_served, outcome] += 1
+        cluster.spawn_object_server(number)
+        cluster.wait_for(cluster.object_ports[number])
+    served = {outcome for _, is_served, outcome in found if is_served}
+    others = {outcome for _, is_served, outcome in found if not is_served}
+    texts = [f"{count} {each[2]} without {list(each[0])}" for each, count in found.items()]
+    report.check(
+        f"{policy.ec_type}: bodies are whole if a server is killed whose fragments can be spared",
+        served <= {"right"} and others <= {"right", "refused"},
+        ", ".join(texts),
+    )
 
 
 # ---- wrong installations
@@ -563,7 +695,7 @@ def other_code(report, folder, options):
         for policy in (LRC, ISA):
             client.put(f"{policy.name}/object", body)
         try:
-            words = other.command("swift-proxy-server", f"{other.folder}/proxy.conf", "-v")
+            words = other.command("swift-proxy-server", f"{other.folder}/proxy.conf")
             other.spawn("proxy", words)
             other.wait_for(other.proxy_port)
             reader = Client(other.proxy_port)
@@ -605,24 +737,23 @@ def start(folder, name, program, policy=LRC, **environment):
     os.mkdir(cluster.folder)
     cluster.configure()
     cluster.make_rings()
+    kind = program.split("-")[1]
     try:
-        settings = f"{cluster.folder}/{program.split('-')[1]}.conf"
-        cluster.spawn("service", cluster.command(program, settings, "-v"))
-        status = cluster.processes["service"].wait(SECONDS)
+        cluster.spawn(kind, cluster.command(program, f"{cluster.folder}/{kind}.conf"))
+        status = cluster.processes[kind].wait(SECONDS)
     except subprocess.TimeoutExpired:
         status = 0
     finally:
         cluster.stop()
-    return status, cluster.log("service")
+    return status, cluster.log(kind)
 
 
 OTHER_RELEASE = """
 import swift
 swift.__version__ = "2.31.0"
-from lrcstore_swift import proxy
-for load in (lambda: proxy.filter_factory({}), lambda: __import__("lrcstore_swift.reconstructor")):
+for name in ("proxy", "reconstructor"):
     try:
-        load()
+        __import__("lrcstore_swift." + name)
     except RuntimeError as error:
         print(error)
 """
@@ -634,12 +765,11 @@ def wrong_installations(report, folder, options):
     ten = Policy(1, "lrc", LRC.ec_type, 10)
     wrong_type = f"Wrong ec_type {LRC.ec_type} for policy {LRC.name}"
     mistakes = [
-        ("no library", each, wrong_type, LRC, {"LD_LIBRARY_PATH": ""})
+        ("no library", each, wrong_type, LRC, {"LD_LIBRARY_PATH": f"{folder}/none"})
         for each in (proxy, server, *others)
     ]
-    mistakes += [
-        ("no module", each, "lrcstore_swift", LRC, {"PYTHONPATH": ""}) for each in (proxy, server)
-    ]
+    hidden = {"PYTHONPATH": "", "LRC_CLUSTER_HIDES": "lrcstore_swift"}
+    mistakes += [("no module", each, "lrcstore_swift", LRC, hidden) for each in (proxy, server)]
     mistakes += [("10 data fragments", proxy, "pyeclib_c_init ERROR", ten, {})]
     with concurrent.futures.ThreadPoolExecutor(CLIENTS) as pool:
         tasks = [
@@ -658,24 +788,23 @@ def wrong_installations(report, folder, options):
 
 
 def check_other_release(report, folder):
-    text = subprocess.run(
-        [PYTHON, "-c", OTHER_RELEASE],
-        env=dict(os.environ, **installed(folder)),
-        cwd=folder,
-        stdout=subprocess.PIPE,
-        text=True,
-        check=True,
-    ).stdout
+    text = python(folder, OTHER_RELEASE)
     report.check(
         "another release of Swift is refused",
-        text.count("tested with Swift 2.30, and this is 2.31.0") == 2,
+        text.count("and this is 2.31.0") == 2,
         text.splitlines()[0] if text else "",
     )
 
 
 PARTS = {
     part.__name__: part
-    for part in (swift_without_module, swift_with_module, other_code, wrong_installations)
+    for part in (
+        swift_without_module,
+        swift_with_module,
+        crashes,
+        other_code,
+        wrong_installations,
+    )
 }
 
 
@@ -683,6 +812,7 @@ def work(report, folder, options):
     # An OSError here: set TMPDIR to a file system that keeps extended attributes.
     os.setxattr(folder, "user.swift.metadata", bytes(3000))
     build(folder)
+    check_versions(report, folder, options.untested)
     for name in options.only or PARTS:
         PARTS[name](report, folder, options)
 
@@ -695,6 +825,8 @@ def main():
     parser.add_argument("--only", choices=PARTS, action="append", help="run this part")
     parser.add_argument("--large", type=int, default=100, help="the largest object, in MiB")
     parser.add_argument("--times", type=int, default=30, help="GETs for each set of fragments")
+    parser.add_argument("--crashes", type=int, default=10, help="GETs while a server is killed")
+    parser.add_argument("--untested", action="store_true", help="take the release of Swift here")
     return harness.run(parser.parse_args(), PACKAGES, work)
 
 

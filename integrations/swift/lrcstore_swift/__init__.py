@@ -11,15 +11,16 @@ import swift
 from pyeclib.ec_iface import ECDriverError
 
 EC_TYPE = "libphazr"
-RELEASE = "2.30"
+TESTED = ("2.30", "2.35", "2.38")  # the releases of Swift with which cluster_test.py has passed
 
 
 def refuse_other_releases():
     """The modules replace private methods of Swift, which another release may call otherwise."""
-    if not swift.__version__.startswith(RELEASE + "."):
+    if ".".join(swift.__version__.split(".")[:2]) not in TESTED:
+        tested = f"{', '.join(TESTED[:-1])} and {TESTED[-1]}"
         raise RuntimeError(
-            f"lrcstore_swift is tested with Swift {RELEASE}, and this is {swift.__version__}: "
-            f"install Swift {RELEASE}, or a version of lrcstore_swift for {swift.__version__}"
+            f"lrcstore_swift is tested with Swift {tested}, and this is {swift.__version__}: "
+            "install one of these, or try yours by integrations/swift/cluster_test.py --untested"
         )
 
 
@@ -53,3 +54,12 @@ def determines(policy, fragments, wanted):
     missing = set(wanted).difference(fragments)
     unavailable = set(range(policy.ec_n_unique_fragments)).difference(fragments, missing)
     return not missing or fragments_needed(policy, missing, unavailable) is not None
+
+
+def rank(policy, fragments):
+    """How many of the fragments determine all of them: none that the ones before it determine."""
+    kept = []
+    for each in fragments:
+        if not determines(policy, kept, [each]):
+            kept.append(each)
+    return len(kept)

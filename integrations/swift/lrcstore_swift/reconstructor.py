@@ -7,12 +7,6 @@ import json
 import struct
 import zlib
 
-from pyeclib.ec_iface import ECDriverError
-from swift.common.exceptions import DiskFileError
-from swift.common.utils import GreenAsyncPile, Timestamp
-from swift.obj.diskfile import ECDiskFileManager
-from swift.obj.reconstructor import ObjectReconstructor
-
 from lrcstore_swift import (
     determines,
     fragments_needed,
@@ -20,6 +14,14 @@ from lrcstore_swift import (
     refuse_other_releases,
     wrong_scheme,
 )
+
+refuse_other_releases()  # before another release lacks what is imported here
+
+from pyeclib.ec_iface import ECDriverError  # noqa: E402
+from swift.common.exceptions import DiskFileError  # noqa: E402
+from swift.common.utils import GreenAsyncPile, Timestamp  # noqa: E402
+from swift.obj.diskfile import ECDiskFileManager  # noqa: E402
+from swift.obj.reconstructor import ObjectReconstructor  # noqa: E402
 
 # A fragment's header: metadata, which begin with the number; magic; version; CRC32 of the metadata.
 HEADER = struct.Struct("<59sIII9x")
@@ -37,7 +39,8 @@ class FragmentReader:
         self.policy, self.partition = job["policy"], job["partition"]
         metadata = df.get_datafile_metadata()
         self.path, self.timestamp = metadata["name"], Timestamp(metadata["X-Timestamp"])
-        preferences = [{"timestamp": self.timestamp.normal, "exclude": []}]
+        # with the offset that an object has if Swift moved it to this policy
+        preferences = [{"timestamp": self.timestamp.internal, "exclude": []}]
         self.headers = dict(
             reconstructor.headers,
             **{
@@ -146,6 +149,5 @@ class DiskFileManager(ECDiskFileManager):
     """Swift's own."""
 
 
-refuse_other_releases()
 ObjectReconstructor._make_fragment_requests = make_fragment_requests
 ObjectReconstructor._reconstruct = reconstruct

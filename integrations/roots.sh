@@ -1,0 +1,118 @@
+#!/usr/bin/env bash
+# The tests of one integration in fresh roots of Debian 12, 13 and unstable, made by mmdebstrap, as
+# root. CI does not run it: each root takes some twenty minutes.
+#
+#     integrations/roots.sh ceph|swift [SUITE..] [-- WORD..]
+#
+# Of the suites bookworm, trixie and sid it takes those that are named, or all. Words after -- are
+# for cluster_test.py. LRC_LIBRARIES names the folder of the libraries. LRC_ROOTS names a folder
+# that keeps the roots; MMDEBSTRAP has options for mmdebstrap. The last line counts.
+set -u
+cd "$(dirname "$0")/.." || exit
+# The mounts are in a namespace, and end with it.
+if [ -z "${ROOTS_MOUNTS:-}" ]; then
+    ROOTS_MOUNTS=yes exec unshare --mount --propagation private integrations/roots.sh "$@"
+fi
+: "${LRC_LIBRARIES:?has to name a folder that tools/libraries.py lrc_coder has filled}"
+libraries=$(realpath "$LRC_LIBRARIES")
+integration=${1:-}
+case $integration in
+ceph | swift) shift ;;
+*)
+    echo "roots.sh: unknown integration '$integration'; name ceph or swift" >&2
+    exit 2
+    ;;
+esac
+# shellcheck source=tests/runner.sh
+. tests/runner.sh
+trap 'end_mounts; rm -rf --one-file-system "$work"' EXIT
+roots=${LRC_ROOTS:-$work}
+root=
+suites=()
+while [ $# != 0 ] && [ "$1" != -- ]; do
+    suites+=("$1")
+    shift
+done
+words="${*:2}"
+[ ${#suites[@]} != 0 ] || suites=(bookworm trixie sid)
+
+end_mounts() { [ -z "$root" ] || umount "$root/proc" "$root/dev" 2> /dev/null; }
+
+# in_root COMMAND: runs it in the clone there, with no variable of this system but the folder of the
+# libraries
+in_root() {
+    chroot "$root" env -i PATH=/usr/local/sbin:/usr/local/bin:/usr/sbin:/usr/bin:/sbin:/bin \
+        HOME=/root LANG=C.UTF-8 DEBIAN_FRONTEND=noninteractive LRC_LIBRARIES=/libraries \
+        sh -ec "cd /src && $1" < /dev/null
+}
+
+# Makes the root of a suite, unless it was kept, and puts the clone and the libraries there.
+make_root() {
+    root=$roots/$integration-$1
+    if [ ! -e "$root/made" ]; then
+        # shellcheck disable=SC2086 # words
+        mmdebstrap --mode=root --variant=apt --include=ca-certificates,gcc,libc6-dev,python3 \
+            ${MMDEBSTRAP:-} "$1" "$root" > "$work/log" 2>&1 || { cat "$work/log"; return 1; }
+        cp /etc/resolv.conf "$root/etc/resolv.conf"
+        echo "127.0.0.1 localhost" > "$root/etc/hosts"
+        printf '#!/bin/sh\nexit 101\n' > "$root/usr/sbin/policy-rc.d" # no service is started
+        chmod +x "$root/usr/sbin/policy-rc.d"
+        touch "$root/made"
+    fi
+    mount -t proc proc "$root/proc" && mount --bind /dev "$root/dev" || return
+    rm -rf "$root/src" "$root/libraries"
+    mkdir "$root/src" && cp -r "$libraries" "$root/libraries" || return
+    git ls-files -z --cached --others --exclude-standard include integrations bindings/python \
+        tests packaging docs tools | xargs -0 cp -P --parents -t "$root/src"
+}
+
+# cluster WORD..: the cluster test. It installs the packages that the other tests use.
+cluster() { in_root "python3 integrations/$integration/cluster_test.py $*"; }
+
+plugin() { in_root "tests/ceph.sh"; }
+
+modules() { in_root "python3 integrations/swift/test_module.py"; }
+
+backend() {
+    in_root "gcc -std=c11 -O1 -Wall -Wextra -Werror -I include -I integrations \
+        integrations/liberasurecode/lrc_backend.c integrations/liberasurecode/test_backend.c \
+        /libraries/liblrc_coder.a -lerasurecode -o /tmp/backend && /tmp/backend"
+}
+
+pyeclib() {
+    in_root "integrations/liberasurecode/build.sh /tmp
+        LD_LIBRARY_PATH=/tmp python3 integrations/liberasurecode/test_pyeclib.py"
+}
+
+# The steps of README.md, and then the parts of the cluster test for which it matters that the
+# library and the modules are there.
+installed() {
+    local steps status
+    steps=$(sed -nE 's#^    ((integrations/lib|to=|cp -r integrations/).*)#\1#p' \
+        integrations/swift/README.md)
+    [ "$(wc -l <<< "$steps")" = 3 ] || return
+    in_root "$steps
+        cd / && python3 -c 'import lrcstore_swift.proxy, lrcstore_swift.reconstructor'" || return
+    cluster --only swift_without_module --only wrong_installations
+    status=$?
+    in_root "cd /usr/local/lib && rm -r libphazr.so.1 python3*/dist-packages/lrcstore_swift*
+        ldconfig"
+    return $status
+}
+
+tests=(plugin)
+[ "$integration" = ceph ] || tests=(modules backend pyeclib installed)
+for each in "${suites[@]}"; do
+    echo "== $each"
+    if ! make_root "$each"; then
+        failed=$((failed + 1))
+        continue
+    fi
+    test_of "$each: cluster" python3 python3 cluster "$words"
+    for name in "${tests[@]}"; do
+        test_of "$each: $name" python3 python3 "$name"
+    done
+    end_mounts
+    root=
+done
+summary roots
