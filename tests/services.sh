@@ -15,9 +15,30 @@ resp() { # FLAG..
         -o "$work/resp" && python3 tests/services/resp_server.py "$work/resp"
 }
 
-http() {
+# over PACKAGES WORD..: Python over the libraries, with these packages
+over() {
     LRC_STORE_SO="$LRC_LIBRARIES/liblrc_store.so" LRC_CODER_SO="$LRC_LIBRARIES/liblrc_coder.so" \
-        PYTHONDONTWRITEBYTECODE=1 PYTHONPATH=$1 python3 tests/services/http_server.py
+        PYTHONDONTWRITEBYTECODE=1 PYTHONPATH=$1 python3 "${@:2}"
+}
+http() { over "$1" tests/services/http_server.py; }
+nodes() { over "$PWD/bindings/python" tests/services/nodes.py; }
+# By the Python of the system, which has fusepy.
+mounted() {
+    LRC_STORE_SO="$LRC_LIBRARIES/liblrc_store.so" LRC_CODER_SO="$LRC_LIBRARIES/liblrc_coder.so" \
+        PYTHONDONTWRITEBYTECODE=1 PYTHONPATH=bindings/python /usr/bin/python3 \
+        tests/services/mount.py "$@"
+}
+# What a test of it needs: a file if this system mounts one.
+fuse() { mounted --can > /dev/null 2>&1 && echo /dev/fuse; }
+
+# The tests of the cache, and its program, which prints what its page shows.
+cache() {
+    export CARGO_TARGET_DIR=$work/cargo CARGO_TERM_COLOR=never
+    local words=(--quiet --offline --manifest-path examples/cache/Cargo.toml)
+    cargo test "${words[@]}" > "$work/cache" 2>&1 || { cat "$work/cache"; return 1; }
+    # a block of the page, between fences
+    diff <(cargo run "${words[@]}") \
+        <(awk '/^\140\140\140/ { inside = !inside; next } inside' examples/cache/README.md)
 }
 
 # The package with its extension module.
@@ -28,12 +49,18 @@ with_extension() {
 }
 
 types() {
-    MYPYPATH=bindings/python mypy --strict --cache-dir "$work/mypy" examples/server_http/server.py
+    local each
+    for each in server_http/server nodes/nodes mount/mount; do
+        MYPYPATH=bindings/python mypy --strict --cache-dir "$work/mypy" "examples/$each.py" || return
+    done
 }
 
 test_of "Redis's protocol" gcc gcc resp
 test_of "Redis's protocol, sanitizers of gcc" gcc gcc resp "${sanitizers[@]}"
 test_of "HTTP by ctypes" python3 python3 http bindings/python
 test_of "HTTP" "$(tools/python_extension.py --header)" python3-dev with_extension
-test_of "types of the HTTP server" mypy mypy types
+test_of "objects over nodes" python3 python3 nodes
+test_of "cache" cargo cargo cache
+test_of "file system" "$(fuse)" "FUSE or python3-fusepy" mounted
+test_of "types of the servers" mypy mypy types
 summary services

@@ -165,7 +165,7 @@ def main() -> None:
     parser.add_argument("--width", type=int, default=4096, help="bytes of a fragment")
     parser.add_argument("--scrub", type=float, default=1.0, help="seconds between repairs")
     given = parser.parse_args()
-    Handler.store, Handler.counters = Store(given.width), Counters()
+    Handler.store, Handler.counters = Store(given.width, shards=16), Counters()
     ends = threading.Event()
     words = Handler.store, Handler.counters, given.scrub, ends
     scrubber = threading.Thread(target=scrub, args=words)

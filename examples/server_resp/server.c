@@ -1,11 +1,12 @@
 /* A server that speaks Redis's protocol and keeps its values in a store, which serves them while
  * fragments are lost:
  *
- *     server PORT WIDTH
+ *     server PORT WIDTH [THREADS]
  *
- * Port 0 stands for any. It prints its port once it serves. Each connection has a thread, which
- * takes a session from a pool for each command. It knows PING, ECHO, SET, GET, STRLEN, EXISTS, DEL,
- * DBSIZE, INFO, COMMAND, CONFIG and QUIT; and of its own LOSE key stripe fragment, and MEND. */
+ * Port 0 stands for any. It prints its port once it serves. Each of its threads, as many as
+ * processors if that is left out, serves many connections by a session of each shard. It knows
+ * PING, ECHO, SET, GET, STRLEN, EXISTS, DEL, DBSIZE, INFO, COMMAND, CONFIG and QUIT; and of its own
+ * LOSE key stripe fragment, and MEND. */
 #define _GNU_SOURCE
 #include "lrc_store.h"
 
@@ -18,10 +19,15 @@
 #include <stdlib.h>
 #include <string.h>
 #include <strings.h>
+#include <sys/epoll.h>
 #include <sys/socket.h>
 #include <unistd.h>
 
-enum { MOST_WORDS = 8, READ_AT_ONCE = 65536, MOST_BYTES = 64 << 20, RUNS = 16 };
+enum { MOST_WORDS = 8, READ_AT_ONCE = 65536, MOST_BYTES = 64 << 20, RUNS = 16, SHARDS = 16 };
+/* Of the 64 sessions of a shard, half are left for MEND, INFO and DBSIZE. */
+enum { MOST_THREADS = 32, EVENTS_AT_ONCE = 64 };
+/* From how many bytes on a value is received into memory of the store. */
+enum { LARGE = 65536 };
 
 struct bytes {
     char *at;
@@ -33,10 +39,38 @@ struct word {
     size_t len;
 };
 
+/* A thread: its epoll instance, and its session of each shard, once it had to do with the shard. */
+struct worker {
+    int events;
+    lrc_shards *shards;
+    lrc_slot *sessions[SHARDS];
+};
+
+/* The name of a key, and the session of its shard. */
+struct key {
+    uint8_t name[LRC_STORE_NAME_LEN];
+    lrc_slot *session;
+};
+
+/* A large value that is on its way. If there is none, the slot is empty and the buffer has no
+ * bytes. */
+struct value {
+    struct key key;
+    lrc_slot slot;
+    lrc_buffer buffer;
+    size_t filled;
+};
+
+static const lrc_buffer NO_BUFFER = {(uint8_t *)"", 0};
+
 struct client {
     int socket;
-    lrc_pool *pool;
+    struct worker *worker;
     struct bytes in, out;
+    struct value value;
+    size_t passed;  /* bytes of the input to leave out: the line end of a large value */
+    size_t sent;    /* of `out` */
+    int is_sending; /* whether it waits until more of `out` can be sent */
     int is_over;
 };
 
@@ -65,8 +99,13 @@ static void append(struct client *client, const void *at, size_t len) {
 static void say(struct client *client, const char *text) { append(client, text, strlen(text)); }
 
 static void say_number(struct client *client, char kind, uint64_t number) {
-    char text[32];
-    append(client, text, (size_t)snprintf(text, sizeof text, "%c%" PRIu64 "\r\n", kind, number));
+    char text[24], *at = text + sizeof text;
+    *--at = '\n';
+    *--at = '\r';
+    do *--at = (char)('0' + number % 10);
+    while (number /= 10);
+    *--at = kind;
+    append(client, at, (size_t)(text + sizeof text - at));
 }
 
 static void say_bulk(struct client *client, const void *at, size_t len) {
@@ -81,102 +120,85 @@ static void say_error(struct client *client, uint32_t status) {
     say(client, "\r\n");
 }
 
-/* ---- commands */
-
-/* The name of a key in the store. */
-struct name {
-    uint8_t text[LRC_STORE_NAME_LEN];
-};
-
-static struct name name_of(struct word key) {
-    struct name name;
-    lrc_store_name((const uint8_t *)key.at, key.len, name.text);
-    return name;
-}
-
-static void set(struct client *client, lrc_slot *session, const struct word *words) {
-    const struct name name = name_of(words[1]);
-    uint64_t version;
-    const uint32_t status =
-        lrc_store_put_wait(session, name.text, sizeof name.text, (const uint8_t *)words[2].at,
-                           words[2].len, 12, &version, -1);
+static void say_status(struct client *client, uint32_t status) {
     if (status)
         say_error(client, status);
     else
         say(client, "+OK\r\n");
 }
 
-/* Sends the bytes of a version, which are lent. */
-static void say_version(struct client *client, lrc_slot *version, uint64_t len) {
-    lrc_slot range = LRC_SLOT_EMPTY;
+/* ---- commands */
+
+static void set(struct client *client, const struct key *key, const struct word *words) {
+    uint64_t version;
+    say_status(client,
+               lrc_store_put_wait(key->session, key->name, sizeof key->name,
+                                  (const uint8_t *)words[2].at, words[2].len, 12, &version, -1));
+}
+
+/* Sends a value that is lent. */
+static void say_lent(struct client *client, lrc_slot *whole, uint64_t len) {
     lrc_slice runs[RUNS];
-    uint64_t pieces, count = RUNS, at = 0;
-    const uint32_t status = lrc_slot_lend(version, 0, len, &range, &pieces);
-    if (status) {
-        say_error(client, status);
-        return;
-    }
+    uint64_t count = RUNS, at = 0;
     say_number(client, '$', len);
     while (count == RUNS) {
         for (int i = 0; i < RUNS; i++) runs[i] = (lrc_slice){(const uint8_t *)"", 0};
-        lrc_slot_runs(&range, at, runs, RUNS, &count);
+        lrc_slot_runs(whole, at, runs, RUNS, &count);
         for (uint64_t i = 0; i < count; i++, at += runs[i - 1].len)
             append(client, runs[i].at, runs[i].len);
     }
     say(client, "\r\n");
-    lrc_slot_release(&range);
 }
 
-static void get(struct client *client, lrc_slot *session, const struct word *words) {
-    const struct name name = name_of(words[1]);
-    lrc_slot version = LRC_SLOT_EMPTY;
-    uint64_t number, len;
-    const uint32_t status =
-        lrc_store_hold_wait(session, name.text, sizeof name.text, &version, &number, &len, -1);
+static void get(struct client *client, const struct key *key, const struct word *words) {
+    lrc_slot whole = LRC_SLOT_EMPTY;
+    uint64_t version, len, pieces;
+    const uint32_t status = lrc_store_get_wait(key->session, key->name, sizeof key->name, &whole,
+                                               &version, &len, &pieces, -1);
     if (status == LRC_STORE_DONE)
-        say_version(client, &version, len);
+        say_lent(client, &whole, len);
     else if (status == LRC_STORE_NO_NAME)
         say(client, "$-1\r\n");
     else
         say_error(client, status);
-    lrc_slot_release(&version);
+    lrc_slot_release(&whole);
+    (void)words;
 }
 
 /* The length of a key's value, and whether it has one. Says an error itself. */
-static int measured(struct client *client, lrc_slot *session, struct word key, uint64_t *len,
-                    int *exists) {
-    const struct name name = name_of(key);
+static int measured(struct client *client, const struct key *key, uint64_t *len, int *exists) {
     uint64_t version, stripes, lost;
-    const uint32_t status = lrc_store_stat_wait(session, name.text, sizeof name.text, &version, len,
-                                                &stripes, &lost, -1);
+    const uint32_t status = lrc_store_stat_wait(key->session, key->name, sizeof key->name, &version,
+                                                len, &stripes, &lost, -1);
     *exists = status == LRC_STORE_DONE;
     if (*exists || status == LRC_STORE_NO_NAME) return 1;
     say_error(client, status);
     return 0;
 }
 
-static void tell_length(struct client *client, lrc_slot *session, const struct word *words) {
+static void tell_length(struct client *client, const struct key *key, const struct word *words) {
     uint64_t len = 0;
     int exists;
-    if (measured(client, session, words[1], &len, &exists)) say_number(client, ':', len);
+    if (measured(client, key, &len, &exists)) say_number(client, ':', len);
+    (void)words;
 }
 
-static void tell_presence(struct client *client, lrc_slot *session, const struct word *words) {
+static void tell_presence(struct client *client, const struct key *key, const struct word *words) {
     uint64_t len;
     int exists;
-    if (measured(client, session, words[1], &len, &exists))
-        say_number(client, ':', (uint64_t)exists);
+    if (measured(client, key, &len, &exists)) say_number(client, ':', (uint64_t)exists);
+    (void)words;
 }
 
-static void delete (struct client *client, lrc_slot *session, const struct word *words) {
-    const struct name name = name_of(words[1]);
+static void delete (struct client *client, const struct key *key, const struct word *words) {
     uint64_t version;
     const uint32_t status =
-        lrc_store_delete_wait(session, name.text, sizeof name.text, &version, -1);
+        lrc_store_delete_wait(key->session, key->name, sizeof key->name, &version, -1);
     if (status == LRC_STORE_DONE || status == LRC_STORE_NO_NAME)
         say_number(client, ':', status == LRC_STORE_DONE);
     else
         say_error(client, status);
+    (void)words;
 }
 
 static uint64_t number_in(struct word word) {
@@ -185,21 +207,15 @@ static uint64_t number_in(struct word word) {
     return strtoull(text, NULL, 10);
 }
 
-static void lose(struct client *client, lrc_slot *session, const struct word *words) {
-    const struct name name = name_of(words[1]);
+static void lose(struct client *client, const struct key *key, const struct word *words) {
     uint64_t version;
-    const uint32_t status =
-        lrc_store_lose_wait(session, name.text, sizeof name.text, number_in(words[2]),
-                            number_in(words[3]), &version, -1);
-    if (status)
-        say_error(client, status);
-    else
-        say(client, "+OK\r\n");
+    say_status(client, lrc_store_lose_wait(key->session, key->name, sizeof key->name,
+                                           number_in(words[2]), number_in(words[3]), &version, -1));
 }
 
-static void mend(struct client *client, lrc_slot *session, const struct word *words) {
+static void mend(struct client *client, const struct word *words) {
     uint64_t repaired = 0;
-    const uint32_t status = lrc_store_mend_wait(session, &repaired, -1);
+    const uint32_t status = lrc_shards_mend(client->worker->shards, &repaired, -1);
     (void)words;
     if (status)
         say_error(client, status);
@@ -207,21 +223,21 @@ static void mend(struct client *client, lrc_slot *session, const struct word *wo
         say_number(client, ':', repaired);
 }
 
-static void count_keys(struct client *client, lrc_slot *session, const struct word *words) {
+static void count_keys(struct client *client, const struct word *words) {
     lrc_numbers numbers;
     (void)words;
-    const uint32_t status = lrc_store_numbers_wait(session, &numbers, -1);
+    const uint32_t status = lrc_shards_numbers(client->worker->shards, &numbers, -1);
     if (status)
         say_error(client, status);
     else
         say_number(client, ':', numbers.blobs);
 }
 
-static void inform(struct client *client, lrc_slot *session, const struct word *words) {
+static void inform(struct client *client, const struct word *words) {
     lrc_numbers numbers;
     char text[256];
     (void)words;
-    const uint32_t status = lrc_store_numbers_wait(session, &numbers, -1);
+    const uint32_t status = lrc_shards_numbers(client->worker->shards, &numbers, -1);
     if (status) {
         say_error(client, status);
         return;
@@ -234,66 +250,80 @@ static void inform(struct client *client, lrc_slot *session, const struct word *
     say_bulk(client, text, (size_t)len);
 }
 
-static void pong(struct client *client, lrc_slot *session, const struct word *words) {
-    (void)session;
+static void pong(struct client *client, const struct word *words) {
     (void)words;
     say(client, "+PONG\r\n");
 }
 
-static void echo(struct client *client, lrc_slot *session, const struct word *words) {
-    (void)session;
+static void echo(struct client *client, const struct word *words) {
     say_bulk(client, words[1].at, words[1].len);
 }
 
 /* What clients ask for when they connect, and can do without. */
-static void list_nothing(struct client *client, lrc_slot *session, const struct word *words) {
-    (void)session;
+static void list_nothing(struct client *client, const struct word *words) {
     (void)words;
     say(client, "*0\r\n");
 }
 
-static void quit(struct client *client, lrc_slot *session, const struct word *words) {
-    (void)session;
+static void quit(struct client *client, const struct word *words) {
     (void)words;
     say(client, "+OK\r\n");
     client->is_over = 1;
 }
 
+/* A command of a key has the second function, which gets a session of the key's shard. */
 static const struct command {
     const char *word;
     size_t words; /* with its own, at least */
-    void (*run)(struct client *client, lrc_slot *session, const struct word *words);
+    void (*run)(struct client *client, const struct word *words);
+    void (*run_at)(struct client *client, const struct key *key, const struct word *words);
 } commands[] = {
-    {"GET", 2, get},
-    {"SET", 3, set},
-    {"DEL", 2, delete},
-    {"STRLEN", 2, tell_length},
-    {"EXISTS", 2, tell_presence},
-    {"LOSE", 4, lose},
-    {"MEND", 1, mend},
-    {"DBSIZE", 1, count_keys},
-    {"INFO", 1, inform},
-    {"PING", 1, pong},
-    {"ECHO", 2, echo},
-    {"COMMAND", 1, list_nothing},
-    {"CONFIG", 1, list_nothing},
-    {"QUIT", 1, quit},
+    {"GET", 2, NULL, get},
+    {"SET", 3, NULL, set},
+    {"DEL", 2, NULL, delete},
+    {"STRLEN", 2, NULL, tell_length},
+    {"EXISTS", 2, NULL, tell_presence},
+    {"LOSE", 4, NULL, lose},
+    {"MEND", 1, mend, NULL},
+    {"DBSIZE", 1, count_keys, NULL},
+    {"INFO", 1, inform, NULL},
+    {"PING", 1, pong, NULL},
+    {"ECHO", 2, echo, NULL},
+    {"COMMAND", 1, list_nothing, NULL},
+    {"CONFIG", 1, list_nothing, NULL},
+    {"QUIT", 1, quit, NULL},
 };
+
+/* The name of a key, and the worker's session of its shard, which it takes once and keeps. */
+static uint32_t find_key(struct worker *worker, struct word word, struct key *key) {
+    uint32_t shard = 0, status;
+    lrc_pool *pool;
+    lrc_store_name((const uint8_t *)word.at, word.len, key->name);
+    status = lrc_store_shard(key->name, sizeof key->name, SHARDS, &shard);
+    if (status) return status;
+    lrc_slot **session = &worker->sessions[shard];
+    if (!*session) status = lrc_shards_at(worker->shards, shard, &pool);
+    if (!*session && !status) status = lrc_pool_take(pool, session, -1);
+    key->session = *session;
+    return status;
+}
+
+static int is_word(struct word word, const char *text) {
+    return strlen(text) == word.len && !strncasecmp(text, word.at, word.len);
+}
 
 static void run(struct client *client, const struct word *words, size_t count) {
     for (size_t i = 0; i < sizeof commands / sizeof *commands; i++) {
         const struct command *command = &commands[i];
-        if (strlen(command->word) != words[0].len ||
-            strncasecmp(command->word, words[0].at, words[0].len) || count < command->words)
-            continue;
-        lrc_slot *session;
-        const uint32_t status = lrc_pool_take(client->pool, &session, -1);
-        if (status) {
+        if (!is_word(words[0], command->word) || count < command->words) continue;
+        struct key key;
+        const uint32_t status = command->run ? 0 : find_key(client->worker, words[1], &key);
+        if (status)
             say_error(client, status);
-            return;
-        }
-        command->run(client, session, words);
-        lrc_pool_give(client->pool, session);
+        else if (command->run)
+            command->run(client, words);
+        else
+            command->run_at(client, &key, words);
         return;
     }
     say(client, "-ERR unknown command, or too few words\r\n");
@@ -316,84 +346,177 @@ static int64_t number_line(char kind, const char **at, const char *end) {
     return number;
 }
 
+/* A command: how many words it has, and those that are there. Of the next one, if its length is
+ * there, the length and the address. */
+struct text {
+    size_t number, count;
+    struct word words[MOST_WORDS];
+};
+
 /* Reads a command. Returns how many bytes it has, 0 if it is not all there, and -1 if it is none.
  */
-static int64_t command_in(const char *from, const char *end, struct word *words, size_t *count) {
+static int64_t command_in(const char *from, const char *end, struct text *text) {
     const char *at = from;
     const int64_t number = number_line('*', &at, end);
+    *text = (struct text){.number = number < 0 ? 0 : (size_t)number};
     if (number == -1) return 0;
     if (number < 1 || number > MOST_WORDS) return -1;
-    for (*count = 0; *count < (size_t)number; ++*count) {
+    for (; text->count < text->number; text->count++) {
         const int64_t len = number_line('$', &at, end);
         if (len == -1) return 0;
         if (len < 0 || len > MOST_BYTES) return -1;
+        text->words[text->count] = (struct word){at, (size_t)len};
         if (end - at < len + 2) return 0;
-        words[*count] = (struct word){at, (size_t)len};
         at += len + 2;
     }
     return at - from;
 }
 
+/* Whether the value of a SET is large and on its way. Then what there is of it moves into memory of
+ * the store, unless there is none. */
+static int is_begun(struct client *client, const struct text *text, const char *end) {
+    const struct word *word = &text->words[2];
+    struct value *value = &client->value;
+    if (text->number != 3 || text->count != 2 || !word->at || !is_word(text->words[0], "SET"))
+        return 0;
+    if (word->len < LARGE || (size_t)(end - word->at) >= word->len) return 0;
+    if (find_key(client->worker, text->words[1], &value->key)) return 0;
+    if (lrc_slot_reserve(word->len, &value->slot)) return 0;
+    lrc_slot_buffer(&value->slot, &value->buffer);
+    value->filled = (size_t)(end - word->at);
+    memcpy(value->buffer.at, word->at, value->filled);
+    return 1;
+}
+
+/* Stores a value that is all there, with its line end. */
+static void store(struct client *client, struct value *value) {
+    uint64_t version;
+    say_status(client,
+               lrc_store_put_from_wait(value->key.session, value->key.name, sizeof value->key.name,
+                                       &value->slot, 12, &version, -1));
+    lrc_slot_release(&value->slot);
+    value->buffer = NO_BUFFER;
+    value->filled = 0;
+}
+
 /* Runs all whole commands of the input, and keeps the rest. */
 static void run_all(struct client *client) {
-    const char *at = client->in.at, *end = client->in.at + client->in.len;
-    struct word words[MOST_WORDS];
-    size_t count;
+    const size_t passed = client->passed < client->in.len ? client->passed : client->in.len;
+    const char *at = client->in.at + passed, *end = client->in.at + client->in.len;
+    struct text text;
     int64_t len = 1;
+    client->passed -= passed;
+    if (client->value.buffer.len && !client->passed) store(client, &client->value);
     while (at < end && len > 0 && !client->is_over) {
-        len = command_in(at, end, words, &count);
-        if (len > 0) run(client, words, count);
+        len = command_in(at, end, &text);
+        if (len > 0) run(client, text.words, text.count);
         if (len < 0) say(client, "-ERR protocol\r\n");
         if (len < 0) client->is_over = 1;
+        if (len == 0 && is_begun(client, &text, end)) at = end;
         at += len > 0 ? len : 0;
     }
     client->in.len = (size_t)(end - at);
     memmove(client->in.at, at, client->in.len);
 }
 
-static int send_all(struct client *client) {
-    for (size_t sent = 0; sent < client->out.len;) {
-        const ssize_t count =
-            send(client->socket, client->out.at + sent, client->out.len - sent, MSG_NOSIGNAL);
+/* ---- connections */
+
+/* Sends as much as the socket takes now. Returns 0 on an error. */
+static int send_some(struct client *client) {
+    while (client->sent < client->out.len) {
+        const ssize_t count = send(client->socket, client->out.at + client->sent,
+                                   client->out.len - client->sent, MSG_NOSIGNAL | MSG_DONTWAIT);
         if (count < 0 && errno == EINTR) continue;
-        if (count < 0) return 0;
-        sent += (size_t)count;
+        if (count < 0) return errno == EAGAIN || errno == EWOULDBLOCK;
+        client->sent += (size_t)count;
     }
-    client->out.len = 0;
+    client->sent = client->out.len = 0;
     return 1;
 }
 
-static void *serve(void *argument) {
-    struct client *client = argument;
-    while (!client->is_over && reserve(&client->in, READ_AT_ONCE)) {
-        const ssize_t count = recv(client->socket, client->in.at + client->in.len, READ_AT_ONCE, 0);
-        if (count < 0 && errno == EINTR) continue;
-        if (count <= 0) break;
+/* Receives what there is, a large value into its own memory, and runs the commands in it. Returns 0
+ * at the end and on an error. */
+static int receive_some(struct client *client) {
+    struct value *value = &client->value;
+    const int is_large = value->filled < value->buffer.len;
+    if (!is_large && !reserve(&client->in, READ_AT_ONCE)) return 0;
+    uint8_t *to =
+        is_large ? value->buffer.at + value->filled : (uint8_t *)client->in.at + client->in.len;
+    const size_t room = is_large ? value->buffer.len - value->filled : READ_AT_ONCE;
+    const ssize_t count = recv(client->socket, to, room, MSG_DONTWAIT);
+    if (count < 0) return errno == EINTR || errno == EAGAIN || errno == EWOULDBLOCK;
+    if (count == 0) return 0;
+    if (is_large) {
+        value->filled += (size_t)count;
+        if (value->filled == value->buffer.len) client->passed = 2;
+    } else {
         client->in.len += (size_t)count;
         run_all(client);
-        if (!send_all(client)) break;
     }
+    return 1;
+}
+
+/* Serves a client whose socket is ready. It gets no further command before its replies are sent.
+ * Returns 0 once it is over. */
+static int serve(struct client *client) {
+    if (!client->is_sending && !receive_some(client)) return 0;
+    if (!send_some(client)) return 0;
+    const int is_sending = client->out.len > 0;
+    if (client->is_over && !is_sending) return 0;
+    if (is_sending == client->is_sending) return 1;
+    struct epoll_event event = {.events = is_sending ? EPOLLOUT : EPOLLIN, .data.ptr = client};
+    client->is_sending = is_sending;
+    return !epoll_ctl(client->worker->events, EPOLL_CTL_MOD, client->socket, &event);
+}
+
+static void end(struct client *client) {
     close(client->socket);
+    lrc_slot_release(&client->value.slot);
     free(client->in.at);
     free(client->out.at);
     free(client);
-    return NULL;
 }
 
-static void accept_one(int listener, lrc_pool *pool) {
+/* Serves the clients of a worker, in turn. */
+static void *work(void *argument) {
+    const struct worker *worker = argument;
+    struct epoll_event events[EVENTS_AT_ONCE];
+    for (;;) {
+        const int count = epoll_wait(worker->events, events, EVENTS_AT_ONCE, -1);
+        if (count < 0 && errno != EINTR) return NULL;
+        for (int i = 0; i < count; i++)
+            if (!serve(events[i].data.ptr)) end(events[i].data.ptr);
+    }
+}
+
+/* Accepts a client, for a worker. */
+static void accept_one(int listener, struct worker *worker) {
     const int one = 1, socket = accept(listener, NULL, NULL);
     struct client *client = socket < 0 ? NULL : calloc(1, sizeof *client);
-    pthread_t thread;
     if (client) {
+        struct epoll_event event = {.events = EPOLLIN, .data.ptr = client};
         setsockopt(socket, IPPROTO_TCP, TCP_NODELAY, &one, sizeof one);
-        *client = (struct client){.socket = socket, .pool = pool};
-        if (!pthread_create(&thread, NULL, serve, client)) {
-            pthread_detach(thread);
-            return;
-        }
+        *client = (struct client){.socket = socket,
+                                  .worker = worker,
+                                  .value.slot = LRC_SLOT_EMPTY,
+                                  .value.buffer = NO_BUFFER};
+        if (!epoll_ctl(worker->events, EPOLL_CTL_ADD, socket, &event)) return;
     }
     free(client);
     if (socket >= 0) close(socket);
+}
+
+/* Starts so many workers. Returns how many there are. */
+static int start(struct worker workers[MOST_THREADS], int threads, lrc_shards *shards) {
+    int count = 0;
+    for (; count < threads; count++) {
+        pthread_t thread;
+        workers[count] = (struct worker){.events = epoll_create1(EPOLL_CLOEXEC), .shards = shards};
+        if (workers[count].events < 0) return count;
+        if (pthread_create(&thread, NULL, work, &workers[count])) return count;
+        pthread_detach(thread);
+    }
+    return count;
 }
 
 /* A socket that listens on a port of the loopback address, or -1. Prints the port. */
@@ -411,23 +534,31 @@ static int listen_on(uint16_t port) {
     return listener;
 }
 
+static int usage(void) {
+    fprintf(stderr, "usage: server PORT WIDTH [THREADS], at most %d\n", MOST_THREADS);
+    return 2;
+}
+
 int main(int count, char **words) {
-    lrc_slot slot = LRC_SLOT_EMPTY;
-    lrc_pool *pool;
-    if (count != 3) {
-        fprintf(stderr, "usage: server PORT WIDTH\n");
-        return 2;
-    }
-    uint32_t status = lrc_store_open_unjournaled((uint32_t)strtoul(words[2], NULL, 10), &slot);
-    if (status == LRC_STORE_DONE) status = lrc_pool_open(&slot, &pool);
+    static struct worker workers[MOST_THREADS];
+    lrc_options options = {sizeof options, 0, SHARDS, 0};
+    lrc_shards *shards;
+    const long processors = sysconf(_SC_NPROCESSORS_ONLN);
+    long threads = processors < MOST_THREADS ? processors : MOST_THREADS;
+    if (count < 3 || count > 4) return usage();
+    if (count == 4) threads = strtol(words[3], NULL, 10);
+    if (threads < 1 || threads > MOST_THREADS) return usage();
+    options.width = (uint32_t)strtoul(words[2], NULL, 10);
+    const uint32_t status = lrc_shards_open(&options, &shards);
     if (status) {
         fprintf(stderr, "server: %s\n", lrc_store_text(status));
         return 1;
     }
     const int listener = listen_on((uint16_t)strtoul(words[1], NULL, 10));
-    if (listener < 0) {
+    const int started = listener < 0 ? 0 : start(workers, (int)threads, shards);
+    if (!started) {
         perror("server");
         return 1;
     }
-    for (;;) accept_one(listener, pool);
+    for (unsigned next = 0;; next++) accept_one(listener, &workers[next % (unsigned)started]);
 }

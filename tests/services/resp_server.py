@@ -49,8 +49,10 @@ class Client:
 
 
 class Server(unittest.TestCase):
+    WORDS = ()
+
     def setUp(self):
-        command = [PROGRAM, "0", "16"]
+        command = [PROGRAM, "0", "16", *self.WORDS]
         self.process = subprocess.Popen(command, stdout=subprocess.PIPE, text=True)
         self.port = int(self.process.stdout.readline())
         self.client = Client(self.port)
@@ -125,6 +127,26 @@ class Server(unittest.TestCase):
         found = [self.client.reply() for _ in range(300)]
         self.assertEqual(found, [bytes_of(i) for i in range(300)])
 
+    def test_large_values_on_their_way(self):
+        ask, send, other = self.client.ask, self.client.socket.sendall, Client(self.port)
+        for length in (65_535, 65_536, 65_537, 400_000):
+            command = encoded("SET", "a", bytes_of(length))
+            for cut in (10, 40, length // 2, length, -3, -2, -1):
+                ask("DEL", "a")
+                send(command[:cut])
+                self.assertEqual(other.ask("EXISTS", "a"), 0)
+                send(command[cut:] + encoded("GET", "a") + encoded("PING"))
+                replies = [self.client.reply() for _ in range(3)]
+                self.assertEqual(replies, [b"OK", bytes_of(length), b"PONG"], (length, cut))
+        send(encoded("SET", "a", bytes_of(800_000)) + encoded("PING"))
+        self.assertIn("more than 4,096 stripes", str(self.client.reply()))
+        self.assertEqual(self.client.reply(), b"PONG")
+        self.assertEqual(ask("GET", "a"), bytes_of(400_000))
+        other.socket.sendall(encoded("SET", "b", bytes_of(200_000))[:100_000])
+        other.close()
+        self.assertEqual(ask("SET", "c", bytes_of(100_000), "EX", 10), b"OK")
+        self.assertEqual((ask("EXISTS", "b"), ask("STRLEN", "c")), (0, 100_000))
+
     def test_nonsense_ends_the_connection(self):
         for text in (
             b"PING\r\n",
@@ -165,6 +187,33 @@ class Server(unittest.TestCase):
         for thread in threads:
             thread.join()
         self.assertEqual(wrong, [])
+
+
+class OneThread(Server):
+    """The same tests with one thread for all connections."""
+
+    WORDS = ("1",)
+
+    def test_a_client_that_does_not_read_holds_up_no_other(self):
+        value, replies = bytes_of(700_000), 40
+        self.assertEqual(self.client.ask("SET", "a", value), b"OK")
+        slow = Client(self.port)
+        slow.socket.sendall(encoded("GET", "a") * replies + encoded("QUIT"))
+        for _ in range(50):
+            self.assertEqual(self.client.ask("PING"), b"PONG")
+        for _ in range(replies):
+            self.assertEqual(slow.reply(), value)
+        self.assertEqual((slow.reply(), slow.file.read()), (b"OK", b""))
+        slow.close()
+
+
+class Words(unittest.TestCase):
+    def test_usage(self):
+        for words in ([], ["0"], ["0", "16", "0"], ["0", "16", "33"], ["0", "16", "1", "1"]):
+            ran = subprocess.run([PROGRAM, *words], stderr=subprocess.PIPE, text=True)
+            self.assertEqual((ran.returncode, ran.stderr[:6]), (2, "usage:"))
+        ran = subprocess.run([PROGRAM, "0", "0"], stderr=subprocess.PIPE, text=True)
+        self.assertEqual((ran.returncode, ran.stderr[:8]), (1, "server: "))
 
 
 if __name__ == "__main__":
