@@ -49,9 +49,9 @@ write_app() {
 }
 
 # A line of the page's commands, with the page's variables and no others of this script.
-command_of_page() { # NUMBER
+command_of_page() { # NUMBER [TEXT]
     { block sh 1; echo "cd '$app'"; block sh 2 | sed -n "$1p"; } > "$work/script"
-    prints "HELLO, WORLD" env -u LRC_LIBRARIES -u LD_LIBRARY_PATH CARGO_NET_OFFLINE=true \
+    prints "${2:-HELLO, WORLD}" env -u LRC_LIBRARIES -u LD_LIBRARY_PATH CARGO_NET_OFFLINE=true \
         CARGO_TERM_QUIET=true PYTHONDONTWRITEBYTECODE=1 bash -e "$work/script"
 }
 
@@ -59,6 +59,20 @@ command_of_page() { # NUMBER
 in_go() {
     prints "HELLO, WORLD" env PKG_CONFIG_PATH="$prefix/lib/pkgconfig" GOCACHE="$work/go" bash -c \
         "cd bindings/go && go run ./examples/store"
+}
+
+# The program of each language that uses shards: the page's commands, with other files.
+of_shards() {
+    local language text="HELLO, WORLD: 2000 repaired, 0 lost"
+    cp bindings/c/shards.c "$app/store.c"
+    cp bindings/cpp/shards.cpp "$app/store.cpp"
+    cp bindings/python/shards.py "$app/store.py"
+    cp bindings/rust_store/examples/shards.rs "$app/src/main.rs"
+    for language in 1 2 3 5; do
+        command_of_page $language "$text" || return
+    done
+    prints "$text" env PKG_CONFIG_PATH="$prefix/lib/pkgconfig" GOCACHE="$work/go" bash -c \
+        "cd bindings/go && go run ./examples/shards"
 }
 
 program() {
@@ -123,6 +137,7 @@ test_of "Python" python3 python3 command_of_page 3
 test_of "CMake" cmake cmake command_of_page 4
 test_of "Rust" cargo cargo command_of_page 5
 test_of "Go" go golang-go in_go
+test_of "shards in each language" go golang-go of_shards
 test_of "both kinds of each library" cmake cmake with_cmake
 test_of "versions that CMake accepts" cmake cmake cmake_versions
 test_of "package" pkg-config pkg-config package

@@ -181,6 +181,7 @@ test_of "examples" cargo cargo examples
 header=/usr/include/liberasurecode/erasurecode_backend.h
 test_of "liberasurecode" "$header" liberasurecode-dev liberasurecode
 test_of "liberasurecode, sanitizers of gcc" "$header" liberasurecode-dev liberasurecode_sanitized
+test_of "Swift's modules" python3 python3 python3 integrations/swift/test_module.py
 test_of "PyECLib" /usr/lib/python3/dist-packages/pyeclib python3-pyeclib pyeclib
 ceph
 summary library

@@ -96,7 +96,7 @@ def build_all(program, cpu="v2"):
             if file.read() == wanted:
                 print(f"{program} is as it was built before")
                 return built
-    print(f"{len(names)} crates. From nothing they take 25 to 30 minutes on 4 cores.", flush=True)
+    print(f"{len(names)} crates. From nothing they take 35 to 45 minutes on 4 cores.", flush=True)
     with subprocess.Popen(
         [sys.executable, RT, "program", program, cpu],
         env={**os.environ, "PYTHONUNBUFFERED": "1"},

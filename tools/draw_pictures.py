@@ -13,6 +13,7 @@ import sys
 import lrc
 from draw_layers import layers
 from draw_planner import planner
+from draw_repair import repair
 from svg import (
     FIRST,
     GREY,
@@ -35,6 +36,9 @@ HALF = DATA // 2
 GLOBALS = (
     f"{DATA + 2} and {DATA + 3} sum both groups, each fragment times its weight, "
     "or its weight squared."
+)
+FILLING = (
+    "Dashed: the last stripe is filled up with zero bytes, which are stored and can be lost."
 )
 UNRECOVERABLE = (
     "unrecoverable: two stripes agree on all remaining fragments and differ in these."
@@ -65,60 +69,68 @@ def weighted_sum(f):
     return {DATA: "sum of X", DATA + 1: "sum of Y", DATA + 2: "Σ w·d", DATA + 3: "Σ w²·d"}[f]
 
 
+def blob_row(blob, stripe, width, left):
+    """The blob's bytes, with a cut where a stripe ends."""
+    for i, letter in enumerate(blob):
+        x = left + i * 29
+        yield box(x, 64, 26, 30, fill(i % stripe // width))
+        yield middle(x + 13, 85, letter.replace(" ", "␣"), 15)
+    for cut in range(stripe, len(blob), stripe):
+        yield line(left + cut * 29 - 1.5, 58, left + cut * 29 - 1.5, 100, INK, 2)
+
+
+def stripe_of(blob, stripe, width, left, j):
+    """The fragments of stripe j, with the names of their groups below."""
+    y = 140 + j * 124
+    yield text(left, y - 10, f"stripe {j}", bold=True)
+    for f in range(ALL):
+        x = place(f, left, 52)
+        part = blob[j * stripe + f * width :][:width].replace(" ", "␣") if f < DATA else ""
+        words = " ".join(part.ljust(width, "0")) if f < DATA else weighted_sum(f)
+        is_filling = f < DATA and not part
+        yield middle(x + 23, y + 8, f, 12, GREY)
+        yield box(x, y + 14, 46, 40, fill(f), dashed=is_filling)
+        size, ink = 14 if f < DATA else 9.5, GREY if is_filling else INK
+        yield middle(x + 23, y + 39, words, size, ink)
+    names = ("group X", "group Y", "local parities", "global parities")
+    borders = (0, HALF, DATA, DATA + 2, ALL)
+    for name, first, end in zip(names, borders, borders[1:]):
+        x1, x2 = place(first, left, 52), place(end - 1, left, 52) + 46
+        yield line(x1, y + 62, x2, y + 62, INK)
+        yield middle((x1 + x2) / 2, y + 80, name, 12)
+
+
 def blob_in_stripes():
     blob, width, left = "THE QUICK BROWN FOX RUNS AWAY", 2, 24
     stripe = DATA * width
+    title = (
+        f"A blob of {len(blob)} bytes, fragments of {width}:"
+        f" stripes of {DATA} data fragments and four parities"
+    )
     shapes = [
-        text(
-            left,
-            30,
-            f"A blob of {len(blob)} bytes, fragments of {width}:"
-            f" stripes of {DATA} data fragments and four parities",
-            16,
-            bold=True,
-        ),
+        text(left, 30, title, 16, bold=True),
         text(left, 56, f"the blob, cut every {stripe} bytes", 12, fill=GREY),
+        *blob_row(blob, stripe, width, left),
     ]
-    for i, letter in enumerate(blob):
-        x = left + i * 29
-        shapes += [
-            box(x, 64, 26, 30, fill(i % stripe // width)),
-            middle(x + 13, 85, letter.replace(" ", "␣"), 15),
-        ]
-    for cut in range(stripe, len(blob), stripe):
-        shapes.append(line(left + cut * 29 - 1.5, 58, left + cut * 29 - 1.5, 100, INK, 2))
     for j in range(-(-len(blob) // stripe)):
-        y = 140 + j * 124
-        shapes.append(text(left, y - 10, f"stripe {j}", bold=True))
-        for f in range(ALL):
-            x = place(f, left, 52)
-            part = blob[j * stripe + f * width :][:width].replace(" ", "␣") if f < DATA else ""
-            words = " ".join(part.ljust(width, "0")) if f < DATA else weighted_sum(f)
-            is_filling = f < DATA and not part
-            shapes += [
-                middle(x + 23, y + 8, f, 12, GREY),
-                box(x, y + 14, 46, 40, fill(f), dashed=is_filling),
-                middle(x + 23, y + 39, words, 14 if f < DATA else 9.5, GREY if is_filling else INK),
-            ]
-        names = ("group X", "group Y", "local parities", "global parities")
-        for name, first, last in zip(
-            names, (0, HALF, DATA, DATA + 2), (HALF - 1, DATA - 1, DATA + 1, ALL - 1)
-        ):
-            x1, x2 = place(first, left, 52), place(last, left, 52) + 46
-            shapes += [line(x1, y + 62, x2, y + 62, INK), middle((x1 + x2) / 2, y + 80, name, 12)]
-    shapes += [
-        text(
-            left, 380, f"Parity {DATA} is the sum of group X, {DATA + 1} that of Y. {GLOBALS}", 12
-        ),
-        text(
-            left,
-            399,
-            "Dashed: the last stripe is filled up with zero bytes, "
-            "which are stored and can be lost.",
-            12,
-        ),
-    ]
+        shapes += stripe_of(blob, stripe, width, left, j)
+    sums = f"Parity {DATA} is the sum of group X, {DATA + 1} that of Y. {GLOBALS}"
+    shapes += [text(left, 380, sums, 12), text(left, 399, FILLING, 12)]
     return drawing(930, 416, "A blob in its stripes", shapes)
+
+
+def groups_legend(y):
+    """What the colours of a stripe's fragments mean."""
+    named = [
+        (24, 0, "data of a group"),
+        (160, HALF, "data of the other"),
+        (310, DATA, ""),
+        (332, DATA + 1, "local parity of each group"),
+        (540, DATA + 2, "global parities"),
+    ]
+    for x, f, name in named:
+        yield box(x, y - 12, 16, 14, fill(f))
+        yield text(x + 22, y, name, 12, fill=GREY)
 
 
 def stripe_row(y, title, below, lost, built_from):
@@ -192,65 +204,59 @@ def degraded_read():
             fill=GREY,
         ),
     ]
+    shapes += groups_legend(74)
     for place_of_row, (lost, title, below) in enumerate(rows):
-        shapes += stripe_row(88 + place_of_row * 148, title, below, lost, built[lost])
-    return drawing(880, 622, "Reading lost fragments", shapes)
+        shapes += stripe_row(112 + place_of_row * 148, title, below, lost, built[lost])
+    return drawing(880, 646, "Reading lost fragments", shapes)
 
 
-def passes_and_history():
+def steps_of_a_call():
+    """What a thread does in the critical section."""
     steps = [
         ("1  enter", "word 0 to 1"),
         ("2  the value out", "slot emptied"),
         ("3  the value in", "slot filled"),
         ("4  leave", "word 1 to 0"),
     ]
-    shapes = [text(24, 30, "Threads, their passes, and the one history", 16, bold=True)]
     for i, (step, what) in enumerate(steps):
         x = 24 + i * 218
-        shapes += [
-            box(x, 48, 176, 50, "#eef2f7"),
-            middle(x + 88, 69, step, 13, bold=True),
-            middle(x + 88, 88, what, 12, GREY),
-        ]
+        yield box(x, 48, 176, 50, "#eef2f7")
+        yield middle(x + 88, 69, step, 13, bold=True)
+        yield middle(x + 88, 88, what, 12, GREY)
         if i < 3:
-            shapes.append(line(x + 178, 73, x + 215, 73, arrow=True))
-    shapes.append(
-        middle(
-            439,
-            118,
-            "between 2 and 3 the call is made on the book, and its note becomes the next entry",
-            12,
-            GREY,
-        )
-    )
-    colour = {"p": FIRST, "q": SECOND}
-    shapes.append(text(24, 156, "the history, in the order in which p and q entered", bold=True))
+            yield line(x + 178, 73, x + 215, 73, arrow=True)
+    below = "between 2 and 3 the call is made on the book, and its note becomes the next entry"
+    yield middle(439, 118, below, 12, GREY)
+
+
+def history_row(colour):
+    """The calls in the order in which they entered."""
+    yield text(24, 156, "the history, in the order in which p and q entered", bold=True)
     for i, (who, call) in enumerate(CALLS):
         x = 24 + i * 174
-        shapes += [
-            box(x, 168, 168, 44, colour[who]),
-            middle(x + 84, 187, f"{i}: {who}", 12, bold=True),
-            middle(x + 84, 204, call, 12),
-        ]
-    shapes.append(
-        text(
-            24,
-            250,
-            "what each pass shows after its call; coloured: the places of its own calls",
-            bold=True,
-        )
-    )
+        yield box(x, 168, 168, 44, colour[who])
+        yield middle(x + 84, 187, f"{i}: {who}", 12, bold=True)
+        yield middle(x + 84, 204, call, 12)
+
+
+def shown_by_passes(colour):
+    """What each pass shows after its call."""
+    title = "what each pass shows after its call; coloured: the places of its own calls"
+    yield text(24, 250, title, bold=True)
     for seen, (who, call) in enumerate(CALLS, 1):
         y = 262 + (seen - 1) * 32
-        shapes.append(text(24, y + 17, f"{who}, after its {call.split()[0]}", 12))
+        yield text(24, y + 17, f"{who}, after its {call.split()[0]}", 12)
         for i in range(len(CALLS)):
             own, is_seen = CALLS[i][0] == who, i < seen
-            stroke, paint = (
-                (INK, colour[who] if own else "#f4f6f8") if is_seen else ("#c5ccd3", WHITE)
-            )
-            shapes.append(box(170 + i * 56, y, 50, 24, paint, stroke, dashed=not is_seen))
+            paint = colour[who] if own else "#f4f6f8"
+            stroke, paint = (INK, paint) if is_seen else ("#c5ccd3", WHITE)
+            yield box(170 + i * 56, y, 50, 24, paint, stroke, dashed=not is_seen)
             if is_seen:
-                shapes.append(middle(195 + i * 56, y + 17, i, 12, bold=own))
+                yield middle(195 + i * 56, y + 17, i, 12, bold=own)
+
+
+def passes_and_history():
+    colour = {"p": FIRST, "q": SECOND}
     words = [
         "After an answered call the history begins with",
         "all that the pass had seen, and ends with this call,",
@@ -259,7 +265,13 @@ def passes_and_history():
         "No place is the own place of two passes. Once all",
         "are joined, every place is the pass's own.",
     ]
-    shapes += [text(480, 280 + 20 * i, sentence, 12) for i, sentence in enumerate(words)]
+    shapes = [
+        text(24, 30, "Threads, their passes, and the one history", 16, bold=True),
+        *steps_of_a_call(),
+        *history_row(colour),
+        *shown_by_passes(colour),
+        *(text(480, 280 + 20 * i, sentence, 12) for i, sentence in enumerate(words)),
+    ]
     return drawing(910, 436, "Threads, their passes, and the one history", shapes)
 
 
@@ -269,6 +281,7 @@ PICTURES = {
     "passes_and_history.svg": passes_and_history,
     "layers.svg": layers,
     "planner.svg": planner,
+    "repair.svg": repair,
 }
 
 

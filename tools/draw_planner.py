@@ -5,7 +5,10 @@ import re
 import lrc
 from svg import FIRST_PARITY, GREY, INK, RED, SECOND_PARITY, box, drawing, line, middle, text
 
-CODES = [("LRC(12,2,2)", FIRST_PARITY, 12), ("LRC(6,2,2)", SECOND_PARITY, 6)]
+CODES = [
+    ("LRC(12,2,2), 1.33 bytes a byte", FIRST_PARITY),
+    ("LRC(6,2,2), 1.67 bytes a byte", SECOND_PARITY),
+]
 LEFT, TOP_EDGE, HEIGHT, STEP, BAR, SECOND_LEFT = 64, 76, 180, 76, 26, 520
 
 
@@ -19,7 +22,16 @@ def figures():
         ]
 
 
-def panel(left, title, most, marks, values):
+def rivals(left, most, lines):
+    """Lines of Reed-Solomon behind the bars: the value, how many lost, and the words beside."""
+    for value, count, words in lines:
+        y = TOP_EDGE + HEIGHT * (1 - value / most)
+        yield line(left, y, left + count * STEP, y, RED, 1.2)
+        for number, part in enumerate(reversed(words)):
+            yield text(left + 5 * STEP, y - 5 - 13 * number, part, 11, "end", RED)
+
+
+def panel(left, title, most, marks, values, lines):
     """Bars for both codes, by the number of lost fragments."""
 
     def height(value):
@@ -30,15 +42,16 @@ def panel(left, title, most, marks, values):
         y = TOP_EDGE + HEIGHT - height(mark)
         yield line(left, y, left + 5 * STEP, y, "#dde2e7", 1)
         yield text(left - 8, y + 4, mark, 11, "end", GREY)
+    yield from rivals(left, most, lines)
     for place, lost in enumerate(range(1, 6)):
         x = left + 10 + place * STEP
         yield middle(x + BAR + 2, TOP_EDGE + HEIGHT + 18, lost, 12)
-        for number, (value, (_, colour, _)) in enumerate(zip(values[lost], CODES)):
+        for number, (value, (_, colour)) in enumerate(zip(values[lost], CODES)):
             at = x + number * (BAR + 4)
             if value:
                 y = TOP_EDGE + HEIGHT - height(value)
                 yield box(at, y, BAR, height(value), colour)
-                yield middle(at + BAR / 2, y - 4, f"{value:.3g}", 10, GREY)
+                yield middle(at + BAR / 2, y + 13, f"{value:.3g}", 9.5)
             else:
                 yield middle(
                     at + BAR / 2, TOP_EDGE + HEIGHT - 5, "0" if value == 0 else "-", 11, GREY
@@ -51,16 +64,15 @@ def planner():
     whole = {a[0]: (a[1], b[1]) for a, b in zip(wide, small)}
     reads = {a[0]: (a[2], b[2]) for a, b in zip(wide, small)}
     shapes = [text(24, 30, "What may be lost, and what a rebuild reads", 16, bold=True)]
-    for number, (code, colour, _) in enumerate(CODES):
+    for number, (code, colour) in enumerate(CODES):
         shapes += [
-            box(640 + number * 130, 18, 16, 14, colour),
-            text(662 + number * 130, 30, code, 12, fill=GREY),
+            box(456 + number * 232, 18, 16, 14, colour),
+            text(478 + number * 232, 30, code, 12, fill=GREY),
         ]
-    shapes += panel(LEFT, "sets that are recoverable, percent", 110, (0, 50, 100), whole)
-    shapes += panel(SECOND_LEFT, "fragments read to rebuild one, mean", 13, (0, 6, 12), reads)
-    y = TOP_EDGE + HEIGHT * (1 - 12 / 13)
-    shapes += [line(SECOND_LEFT, y, SECOND_LEFT + 5 * STEP, y, RED, 1.2)]
-    shapes += [text(SECOND_LEFT + 5 * STEP - 4, y - 5, "Reed-Solomon 12+4: 12", 11, "end", RED)]
+    all_four = [(100, 4, ("Reed-Solomon:", "all, up to four"))]
+    each = [(12, 5, ("Reed-Solomon 12+4",)), (6, 5, ("Reed-Solomon", "6+4"))]
+    shapes += panel(LEFT, "sets that are recoverable, percent", 110, (0, 50, 100), whole, all_four)
+    shapes += panel(SECOND_LEFT, "fragments read to rebuild one, mean", 13, (0, 6, 12), reads, each)
     shapes += [line(LEFT, TOP_EDGE + HEIGHT, LEFT + 5 * STEP, TOP_EDGE + HEIGHT, INK, 1)]
     shapes += [
         line(SECOND_LEFT, TOP_EDGE + HEIGHT, SECOND_LEFT + 5 * STEP, TOP_EDGE + HEIGHT, INK, 1)

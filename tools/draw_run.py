@@ -2,8 +2,8 @@
 """Draws a run: tools/draw_run.py SCRIPT PICTURE [--width N] [--workers K] [--limit J]
 
 The script is run by the program with `--history`. For each blob there is a row for each of its
-calls, with the fragments as the call left them: which are stored, lost, unrecoverable and repaired,
-and which a read or a repair used.
+calls, with the fragments as the call left them: which are stored, lost and unrecoverable, and which
+a read or a repair used and rebuilt.
 """
 
 import os
@@ -22,7 +22,7 @@ LEGEND = [
     ("lost", "Struck out: lost."),
     ("unrecoverable", "Crossed out: unrecoverable."),
     ("used", "Thick: read by the call."),
-    ("repaired", "Yellow: repaired by the call."),
+    ("built", "Yellow: rebuilt by the call."),
 ]
 
 
@@ -42,13 +42,13 @@ def x_of(data, f):
     return FIRST_BOX + f * STEP + 10 * sum(f >= border for border in (data // 2, data, data + 2))
 
 
-def stripe_boxes(y, blob, stripe, used, repaired):
-    """The fragments of a stripe after a call: those that it read, and those that it repaired."""
+def stripe_boxes(y, blob, stripe, used, built):
+    """The fragments of a stripe after a call: those that it read, and those that it rebuilt."""
     data, shapes = lrc.data_fragments(blob.code), []
     for f in range(lrc.fragments(blob.code)):
         x, at = x_of(data, f), (stripe, f)
         is_lost = at in blob.lost
-        paint = MADE if at in repaired else WHITE if is_lost else group_fill(data, f)
+        paint = MADE if at in built else WHITE if is_lost else group_fill(data, f)
         shapes.append(
             box(x, y, 26, 22, paint, RED if is_lost else INK, 2.8 if at in used else 1.1, is_lost)
         )
@@ -77,6 +77,14 @@ def used_by(blob, entry):
     return set()
 
 
+def built_by(blob, entry):
+    """The fragments that a call rebuilt: a repair stores one, a read does not store those lost."""
+    if entry.note.startswith("repaired"):
+        return {tuple(entry.numbers)}
+    is_granted = entry.word == "read" and entry.note.startswith("granted")
+    return blob.lost & set(blob.covers(*entry.numbers)) if is_granted else set()
+
+
 def call_of(entry, is_mend):
     """A call in words: of a put how many bytes it has, and of a mend's repair that it is one."""
     if entry.word in CODES:
@@ -94,17 +102,14 @@ class Panel:
 
     def add(self, entry):
         """Notes a call that was made, with what is lost after it."""
-        repaired = {tuple(entry.numbers)} if entry.note.startswith("repaired") else set()
-        self.calls.append((entry, frozenset(self.blob.lost), used_by(self.blob, entry), repaired))
+        used, built = used_by(self.blob, entry), built_by(self.blob, entry)
+        self.calls.append((entry, frozenset(self.blob.lost), used, built))
 
     def shows(self):
         """What occurs in the drawing, in the legend's words."""
-        for entry, lost, used, repaired in self.calls:
-            yield from (
-                word
-                for word, those in (("lost", lost), ("used", used), ("repaired", repaired))
-                if those
-            )
+        for entry, lost, used, built in self.calls:
+            shown = (("lost", lost), ("used", used), ("built", built))
+            yield from (word for word, those in shown if those)
             if any(replace(self.blob, lost=set(lost)).is_open(*at) for at in lost):
                 yield "unrecoverable"
 
@@ -115,6 +120,14 @@ class Panel:
             else []
         )
 
+    def group_names(self, y):
+        """What the fragments of a stripe are, above their numbers."""
+        data = lrc.data_fragments(self.blob.code)
+        borders = (0, data // 2, data, data + 2, data + 4)
+        for name, first, end in zip(("data", "data", "local", "global"), borders, borders[1:]):
+            x1, x2 = x_of(data, first), x_of(data, end - 1) + 26
+            yield middle((x1 + x2) / 2, y, name, 11, GREY)
+
     def draw(self, y):
         """The panel's shapes, and where the next one begins."""
         blob, data = self.blob, lrc.data_fragments(self.blob.code)
@@ -123,6 +136,7 @@ class Panel:
         title = f"{self.name}, version {blob.version}: {blob.length} bytes in {code}, {stripes}"
         shapes = [text(LEFT, y, title, 14, bold=True)]
         y += 16
+        shapes += self.group_names(y) if self.shown() else []
         for stripe in self.shown():
             shapes.append(
                 text(LEFT, y + 16, f"stripe {stripe}" if blob.stripes() > 1 else "", 12, fill=GREY)
@@ -132,14 +146,14 @@ class Panel:
                 for f in range(lrc.fragments(blob.code))
             ]
             y += 22
-            for entry, lost, used, repaired in self.calls:
+            for entry, lost, used, built in self.calls:
                 ink = RED if "unrecoverable" in entry.note else GREY
                 shapes.append(
                     text(LEFT, y + 16, f"{entry.number}.  {call_of(entry, self.is_mend)}", 12)
                 )
                 shapes.append(text(LEFT + 150, y + 16, f"→ {entry.note}", 12, fill=ink))
                 if entry.word != "delete":
-                    shapes += stripe_boxes(y, replace(blob, lost=set(lost)), stripe, used, repaired)
+                    shapes += stripe_boxes(y, replace(blob, lost=set(lost)), stripe, used, built)
                 y += ROW
         return shapes, y + 26
 
@@ -152,7 +166,7 @@ def panels(printed, width, is_mend):
             sys.exit("the beginning of the journal was discarded")
         note = replay.note(entry)
         if note != entry.note:
-            sys.exit(f"entry {entry.number}: {entry.note}, and by the rule {note}")
+            sys.exit(f"entry {entry.number}: noted {entry.note}, and by the rule {note}")
         if entry.word in CODES:
             current[entry.name] = Panel(replay.blobs[entry.name], entry.name, is_mend)
             made.append(current[entry.name])

@@ -47,7 +47,16 @@ LIBRARIES = {
     "lrc_store": Library(
         "store_c",
         ("v2", "v3"),
-        ("store_mend", "store_name", "store_open", "store_pool", "store_text", "store_wait"),
+        (
+            "store_get",
+            "store_mend",
+            "store_name",
+            "store_open",
+            "store_pool",
+            "store_shards",
+            "store_text",
+            "store_wait",
+        ),
         {it: f"{it}_numbered" for it in ("lrc_store_open", "lrc_store_open_unjournaled")},
         ("lrc_slot_number",),
         True,

@@ -4,6 +4,7 @@
     tools/package.py build --to BUILT [--reuse FOLDER] [--verdicts LOG]
     tools/package.py pack --from BUILT --to DIST [--no-plugins] [--unlicensed]
                           [deb] [wheel] [crate] [tar] [assembly]
+    tools/package.py all --to DIST [--built BUILT] ..    both, with the words of both
 
 `build` needs the Rattle kit. It leaves the program, the archives of both libraries for each
 processor, and what they come from in BUILT. With --reuse it takes from FOLDER what is built there,
@@ -21,33 +22,53 @@ import argparse
 from packages import building, packing
 
 
-def arguments():
+def add_building(verb):
+    verb.add_argument("--reuse", metavar="FOLDER", help="take what is built there")
+    verb.add_argument("--verdicts", metavar="LOG", help="what rt ci --anew has printed")
+
+
+def add_packing(verb):
+    verb.add_argument("--no-plugins", action="store_true", help="nothing for Swift and Ceph")
+    verb.add_argument("--unlicensed", action="store_true", help="also without a file LICENSE")
+    verb.add_argument("kinds", nargs="*", help=", ".join(packing.KINDS))
+
+
+def arguments(words=None):
     parser = argparse.ArgumentParser(description=__doc__.splitlines()[0])
     verbs = parser.add_subparsers(dest="verb", required=True)
     first = verbs.add_parser("build", help="with the kit: the program and the archives")
     first.add_argument("--to", required=True, metavar="BUILT")
-    first.add_argument("--reuse", metavar="FOLDER", help="take what is built there")
-    first.add_argument("--verdicts", metavar="LOG", help="what rt ci --anew has printed")
+    add_building(first)
     second = verbs.add_parser("pack", help="without the kit: packages")
     second.add_argument("--from", dest="source", required=True, metavar="BUILT")
     second.add_argument("--to", required=True, metavar="DIST")
-    second.add_argument("--no-plugins", action="store_true", help="nothing for Swift and Ceph")
-    second.add_argument("--unlicensed", action="store_true", help="also without a file LICENSE")
-    second.add_argument("kinds", nargs="*", help=", ".join(packing.KINDS))
-    given = parser.parse_args()
+    add_packing(second)
+    both = verbs.add_parser("all", help="with the kit: packages")
+    both.add_argument("--to", required=True, metavar="DIST")
+    both.add_argument("--built", default="built", metavar="BUILT", help="built if left out")
+    add_building(both)
+    add_packing(both)
+    given = parser.parse_args(words)
     unknown = sorted(set(getattr(given, "kinds", [])) - set(packing.KINDS))
     if unknown:
         parser.error(f"there is no kind {unknown[0]}: there are {', '.join(packing.KINDS)}")
     return given
 
 
-def main():
-    given = arguments()
-    if given.verb == "build":
+def pack(given, source):
+    kinds = given.kinds or packing.KINDS
+    packing.pack(source, given.to, kinds, not given.no_plugins, given.unlicensed)
+
+
+def main(words=None):
+    given = arguments(words)
+    if given.verb == "all":
+        building.build_to(given.built, given.reuse, given.verdicts)
+        pack(given, given.built)
+    elif given.verb == "build":
         building.build_to(given.to, given.reuse, given.verdicts)
     else:
-        kinds = given.kinds or packing.KINDS
-        packing.pack(given.source, given.to, kinds, not given.no_plugins, given.unlicensed)
+        pack(given, given.source)
 
 
 if __name__ == "__main__":

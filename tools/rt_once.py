@@ -15,9 +15,9 @@ starts mutants so by itself. These two are for kit 13b alone.
 
 Archives. `ci` proves a static library and builds none. `archive` builds it over the libraries that
 `ci` has proved, with one proof more of the crate itself for both processors. If the gate has not
-run, or a file has changed since, `archive` proves all by `rt lib`. For v4 (AVX-512) it works in a
-copy of the crates, in which a block has 64 bytes in place of 32: `ci` proves them there, and the
-kit's own compiler builds, since the kit refuses LLVM for v4.
+run, or a file has changed since, `archive` first proves what `program` would. For v4 (AVX-512) it
+works in a copy of the crates, in which a block has 64 bytes in place of 32: `ci` proves them there,
+and the kit's own compiler builds, since the kit refuses LLVM for v4.
 
 Programs. `program` proves what `ci` proves of the program and the crates below it, side by side and
 from the bottom up, without their tests and mutants. Kit 13f keeps it, so that each of the two takes
@@ -197,6 +197,10 @@ def build_archive(rt, name, cpu, archive):
     if cpu == "v4":
         return build_with_wide_blocks(rt, name, cpu, archive)
     crate = crate_named(rt, name)
+    if hasattr(rt, "Kept") and not is_proved(rt, crate):
+        status = prove_narrowly(rt, crate)
+        if status:
+            return status
     if is_proved(rt, crate) and compile_over_gate(rt, crate, cpu, archive) == 0:
         return 0
     command = [sys.executable, os.path.abspath(__file__), "lib", f"--cpu=x86-64-{cpu}"]
@@ -204,6 +208,18 @@ def build_archive(rt, name, cpu, archive):
     if status == 0:
         shutil.copyfile(f"{crate.folder}/out/lib{name}.a", archive)
     return status
+
+
+def leave_out_tests(rt):
+    """Has `ci` plan no tasks for tests, where no crate has any. A task that has nothing to do would
+    halve the processors that the proof beside it gets."""
+    whole = rt.in_lanes
+
+    def in_lanes(tasks):
+        proofs = {key: task for key, task in tasks.items() if key[1] != "tests"}
+        return {**dict.fromkeys(tasks, True), **whole(proofs)}
+
+    rt.in_lanes = in_lanes
 
 
 def narrow_ci(rt, crate):
@@ -214,6 +230,14 @@ def narrow_ci(rt, crate):
     rt.Crate.has_tests = lambda self: False
     rt.ci_over = lambda aside, anew, *_: whole_ci(aside, anew, [crate.name])
     rt.set_aside = lambda root, found, aside: whole_aside(root, names.intersection(found), aside)
+    leave_out_tests(rt)
+
+
+def prove_narrowly(rt, crate):
+    """Proves this crate and those below it that were not proved before. Returns the status."""
+    narrow_ci(rt, crate)
+    os.chdir(TOP)
+    return rt.ci(False)
 
 
 def compile_for(rt, name, cpu):
@@ -236,11 +260,9 @@ def build_program(rt, name, cpu):
     if not hasattr(rt, "Kept"):
         command = [sys.executable, os.path.abspath(__file__), "run", f"--cpu=x86-64-{cpu}"]
         return subprocess.run([*command, "--", "--help"], cwd=crate.folder, check=False).returncode
-    narrow_ci(rt, crate)
     if cpu != "v2":
         compile_for(rt, name, cpu)
-    os.chdir(TOP)
-    return rt.ci(False)
+    return prove_narrowly(rt, crate)
 
 
 def main():

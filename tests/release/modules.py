@@ -18,6 +18,7 @@ TOP = os.path.dirname(os.path.dirname(os.path.dirname(os.path.abspath(__file__))
 sys.path.insert(0, os.path.join(TOP, "tools"))
 
 import libraries  # noqa: E402
+import package  # noqa: E402
 from packages import (  # noqa: E402
     assembly,
     building,
@@ -47,6 +48,35 @@ statements core: modules loaded=325 checked=0
 logic=proved functions=46 sum=1
 rt: lrc_code is kept: an earlier run on this machine proved the same files
 """
+
+
+class Words(unittest.TestCase):
+    """What tools/package.py does by its words."""
+
+    def done(self, *words):
+        with mock.patch.object(building, "build_to") as build:
+            with mock.patch.object(packing, "pack") as pack:
+                package.main(words)
+        return [each.args for each in build.mock_calls], [each.args for each in pack.mock_calls]
+
+    def test_words(self):
+        built, packed = ("b", "r", "v"), ("b", "d", ["deb"], False, True)
+        of_build = ("--reuse", "r", "--verdicts", "v")
+        of_pack = ("--no-plugins", "--unlicensed", "deb")
+        self.assertEqual(self.done("build", "--to", "b", *of_build), ([built], []))
+        words = ("pack", "--from", "b", "--to", "d", *of_pack)
+        self.assertEqual(self.done(*words), ([], [packed]))
+        words = ("all", "--to", "d", "--built", "b", *of_build, *of_pack)
+        self.assertEqual(self.done(*words), ([built], [packed]))
+        self.assertEqual(
+            self.done("all", "--to", "d"),
+            ([("built", None, None)], [("built", "d", packing.KINDS, True, False)]),
+        )
+
+    def test_refused_words(self):
+        for words in ([], ["pack", "--to", "d"], ["all"], ["all", "--to", "d", "rpm"]):
+            with self.assertRaises(SystemExit), mock.patch("sys.stderr"):
+                package.main(words)
 
 
 class Folder(unittest.TestCase):
@@ -292,7 +322,9 @@ class Crates(Folder):
                 script = tar.extractfile(f"{name}-0.1.0/build.rs").read()
             self.assertLessEqual({f"lib{name}.a", "Cargo.toml", "src/lib.rs", "build.rs"}, names)
             self.assertIn(b"fn packed(", script)
-            self.assertEqual(len({it for it in names if it.startswith("examples/")}), 1)
+            examples = {it for it in names if it.startswith("examples/")}
+            wanted = ("rebuild",) if name == "lrc_coder" else ("store", "shards")
+            self.assertEqual(examples, {f"examples/{it}.rs" for it in wanted})
 
 
 class Assembly(Folder):
@@ -330,7 +362,7 @@ class Debian(Folder):
             self.assertEqual(debian.missing_for_plugins(), ["a-package"])
 
     def test_the_plugin_is_for_the_ceph_that_is_tested(self):
-        self.assertIn(f"| Ceph | {debian.CEPH} ", libraries.read("docs", "limits.md"))
+        self.assertRegex(libraries.read("docs", "limits.md"), rf"\| Ceph \| {debian.CEPH}\b")
         *first, last = debian.CEPH.split(".")
         self.assertEqual(debian.AFTER_CEPH, ".".join([*first, f"{int(last) + 1}~"]))
 

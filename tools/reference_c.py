@@ -1,0 +1,216 @@
+"""The page of the C API, docs/c-api.md: a table of the functions, and each under its own heading.
+
+What a function does is a sentence of its comment. It waits if it takes a deadline. Whether it can
+lack memory is what its contract in crates/store_c says, or else its comment.
+"""
+
+import os
+import re
+
+import believed
+import sources
+from reference_rattle import filled
+
+HEADERS = {
+    "lrc_store.h": (
+        "Under *waits*, `_wait` means that the function does not wait, and has a form that does. "
+        "Under *out of memory*, *no* means that no call returns `LRC_STORE_NO_MEMORY` or "
+        "`LRC_STORE_NOT_REBUILT`."
+    ),
+    "lrc_coder.h": "No function waits or allocates.",
+}
+DECLARATION = re.compile(
+    r"/\*.*?\*/"
+    r"|^typedef struct (?:\{.*?^\} \w+|\w+ \w+);"
+    r"|^enum \{.*?\};"
+    r"|^#define LRC_SLOT_EMPTY(?:[^\n]*\\\n)*[^\n]*"
+    r"|^(?:static inline )?(?:uint32_t|void|const char \*) ?lrc_\w+\([^{;]*[{;]",
+    re.M | re.S,
+)
+FUNCTION = re.compile(r"^(?:static inline )?(?:uint32_t|void|const char \*) ?(lrc_\w+)\(")
+TITLE = re.compile(r"/\* -{4} ([^.]*)\.")
+# The calls of the sequential store that need memory, and what a contract says of it.
+NEEDING = {("history", "Step", one) for one in ("put", "read", "lose", "repair")}
+REFUSED = re.compile(r"\b(?:no_memory|not_rebuilt|NoMemory)\b")
+# A definition with cases by the call, which names calls that a caller does not make.
+GENERAL = {("store_c", "OnSession", "IsAfterBusy")}
+
+
+def items(header):
+    """The comments and declarations of a header, without guards and bodies."""
+    text = sources.read(os.path.join(sources.TOP, "include", header))
+    for found in DECLARATION.finditer(text):
+        said = found.group()
+        is_code = FUNCTION.match(said)
+        yield re.sub(r"\s*\{$", ";", said) if is_code else said
+
+
+def words_of(comment):
+    """The paragraphs of a comment, without its marks and its title."""
+    text = re.sub(r"^/\*|\*/$|^ \*", "", comment, flags=re.M)
+    return [" ".join(part.split()) for part in re.split(r"\n\s*\n", TITLE.sub("", text))]
+
+
+def verb_of(function):
+    return function.name.rpartition("_")[2]
+
+
+class Function:
+    """A function with the comment before it, what stands between, and others of that comment."""
+
+    def __init__(self, name, comment, before, said):
+        self.name, self.comment, self.lines, self.group = name, comment, [*before, said], [self]
+        self.waits = "timeout_ms" in said
+
+    def summary(self):
+        """One sentence of what it does: the one that names it, or its part of the first."""
+        if self.name.endswith("_arrays"):
+            return f"`{self.name[: -len('_arrays')]}` with plain arrays of addresses"
+        comment = self.first.comment
+        texts = [one for one in words_of(comment) if not one.startswith("The functions from here")]
+        sentences = [one for text in texts for one in re.split(r"(?<=[\w`)}])[.:] |\.$", text)]
+        own = [one for one in sentences if one.startswith(self.name + " ")]
+        if own and self.others_of_comment():
+            chosen = own[0][len(self.name) + 1 :]
+            return chosen[0].upper() + chosen[1:]
+        return self.part_of(sentences[0])
+
+    def others_of_comment(self):
+        return [one for one in self.first.group if one is not self]
+
+    def part_of(self, sentence):
+        """The part with its own verb, of a sentence with verbs of several functions."""
+        verbs = "|".join(map(verb_of, self.others_of_comment()))
+        found = re.search(rf"\b{verb_of(self)} .*?(?=, and (?:{verbs}) |$)", sentence, re.I)
+        chosen = found.group() if verbs and found else sentence
+        return chosen if chosen == sentence else chosen[0].upper() + chosen[1:]
+
+
+def functions_of(header):
+    """The functions of a header, and before them what belongs to none."""
+    comment, before, found, title = "", [], [], None
+    for said in items(header):
+        function = FUNCTION.match(said)
+        if function:
+            one = Function(function.group(1), comment, before, said)
+            one.title, one.first = title, one if comment or title else found[-1].first
+            if one.first is not one:
+                one.first.group.append(one)
+            found.append(one)
+            comment, before, title = "", [], None
+        elif TITLE.match(said):
+            title = said
+        elif said.startswith("/*"):
+            before += [comment] if comment else []
+            comment = said
+        else:
+            before += [*([comment] if comment else []), said]
+            comment = ""
+    return found
+
+
+class Contracts:
+    """What the contracts of crates/store_c say of memory."""
+
+    def __init__(self):
+        self.definitions = believed.Definitions()
+        text = sources.read(os.path.join(sources.CRATES, "store_c", "src", "lib.rt"))
+        self.names = believed.imports_of(text)
+        self.heads = {
+            f.name: re.split(r"\n *\{\n", text[f.start : f.end])[0]
+            for f in sources.functions_of(text)
+            if f.is_exported
+        }
+
+    def may_lack(self, name):
+        """Whether the contract of a function leaves it a status for refused memory."""
+        ahead, seen = [(self.heads[name], None, self.names)], set(GENERAL)
+        while ahead:
+            text, module, names = ahead.pop()
+            words = {names.get(word) for word in re.findall(r"\w+", text)}
+            if words & NEEDING or module and REFUSED.search(text):
+                return True
+            for key in set(self.definitions.cited(text, "store_c", module, names)) - seen:
+                seen.add(key)
+                if key[0] == "store_c" and key[1] != "Status" and key in self.definitions.bodies:
+                    inner = self.definitions.imports[key[:2]]
+                    ahead.append((self.definitions.bodies[key], key[1], inner))
+        return False
+
+
+def may_lack_memory(function, contracts):
+    base = re.sub(r"_wait$", "", function.name)
+    if base in contracts.heads:
+        return contracts.may_lack(base)
+    said = " ".join(words_of(function.comment))
+    return "NO_MEMORY" in said or "returns that status" in said
+
+
+def table(functions, contracts):
+    """A row for each function, but one for a function and its waiting form."""
+    names = {one.name for one in functions}
+    head = "| Function | What it does |"
+    yield from ("", head + (" Waits | Out of memory |" if contracts else ""))
+    yield "|---|---|---|---|" if contracts else "|---|---|"
+    for one in functions:
+        if one.name.endswith("_wait") and one.name[: -len("_wait")] in names:
+            continue
+        row = f"| [`{one.name}`](#{one.name}) | {one.summary()} |"
+        if contracts:
+            form = one.name + "_wait"
+            waits = "yes" if one.waits else f"[`_wait`](#{form})" if form in names else "no"
+            row += f" {waits} | {'yes' if may_lack_memory(one, contracts) else 'no'} |"
+        yield row
+
+
+def code_lines(said):
+    """A block of comments and declarations."""
+    yield "```c"
+    for number, one in enumerate(said):
+        is_with_last = number and said[number - 1].startswith("/*") and not one.startswith("/*")
+        if number and not is_with_last and not one.startswith("#"):
+            yield ""
+        yield from one.split("\n")
+    yield "```"
+
+
+def function_lines(one, names):
+    """The heading of a function, with its comment and its declaration."""
+    yield from ("", f"### {one.name}", "")
+    base = re.sub(r"_wait$", "", one.name)
+    if base != one.name and base in names:
+        yield from (f"The [waiting form](#waiting-forms) of [`{base}`](#{base}).", "")
+    elif one.first is not one:
+        yield from (f"Its comment is that of [`{one.first.name}`](#{one.first.name}).", "")
+    comment = [one.comment] if one.comment else []
+    yield from code_lines([*one.lines[:-1], *comment, one.lines[-1]])
+
+
+def header_lines(header, note, contracts):
+    functions = functions_of(header)
+    names = {one.name for one in functions}
+    yield from ("", f"## {header}", "", *filled(note), *table(functions, contracts))
+    first = functions[0]
+    yield from ("", f"### Rules and types of {header}", "", *code_lines(first.lines[:-1]))
+    first.lines = first.lines[-1:]
+    for one in functions:
+        if one.title:
+            title = TITLE.match(one.title).group(1).split(" of ")[0]
+            yield from ("", f"### {title.capitalize()}", "", *code_lines([one.title]))
+        yield from function_lines(one, names)
+
+
+def page():
+    yield from (
+        "# C API",
+        "",
+        *filled(
+            "For developers in C and C++: the functions of `include/lrc_store.h` and "
+            "`include/lrc_coder.h`, in a table and then with their comments. "
+            "`tools/reference.py --write` writes this page. [The tutorial](library.md) has whole "
+            "programs, and [errors](errors.md) all statuses beside those of other interfaces."
+        ),
+    )
+    for header, note in HEADERS.items():
+        contracts = Contracts() if header == "lrc_store.h" else None
+        yield from header_lines(header, note, contracts)
