@@ -175,7 +175,7 @@ def main(arguments):
     page = read(os.path.join(os.path.dirname(CRATES), "docs", "definitions.md"))
     print(*rows, sep="\n")
     if not all(one in page.split("\n") for one in rows):
-        sys.exit("docs/definitions.md has another row")
+        sys.exit("docs/definitions.md has another row: copy those above into its table")
 
 
 if __name__ == "__main__":

@@ -39,6 +39,8 @@ c_sources() {
     object wait gcc library/store_wait.c
     object pool gcc library/store_pool.c
     object mend gcc library/store_mend.c
+    object get gcc library/store_get.c
+    object of_shards gcc library/store_shards.c
     object name gcc library/store_name.c
     object store_text gcc library/store_text.c
     object coder_text gcc library/coder_text.c
@@ -50,12 +52,16 @@ c_sources() {
             -Dlrc_store_open_numbered=open_numbered \
             -Dlrc_store_open_unjournaled_numbered=unjournaled_numbered
     done
-    for each in edges/{waits,texts,numbers,choice} store/{waiting,pool,mending,names} library/{coder,texts}; do
+    for each in edges/{waits,texts,numbers,choice} library/{coder,texts} \
+        store/{waiting,pool,mending,names,shards,versions}; do
         object "${each/\//_}" gcc "tests/$each.c"
     done
     run waits "$work"/{edges_waits,wait}.o "${wrapped[@]}" "${store[@]}" --
     run waiting "$work"/{store_waiting,wait}.o --
     run pooled "$work"/{store_pool,pool}.o -Wl,--wrap=malloc,--wrap=calloc "${store[@]}" --
+    run sharded "$work"/{store_shards,of_shards,pool}.o \
+        -Wl,--wrap=malloc,--wrap=calloc,--wrap=lrc_store_numbers_wait "${store[@]}" --
+    run whole "$work"/{store_versions,get}.o "${store[@]}" --
     run named "$work"/{store_names,name}.o --
     run mended "$work"/{store_mending,mend,wait}.o \
         -Wl,--wrap=calloc,--wrap=lrc_store_plan_part_wait "${store[@]}" --

@@ -2,12 +2,12 @@
 """The documents' code is the code: tests/documents.py
 
 Each block of Rattle is part of `demo_hello` or `demo_guide`, each block of C, C++ or Python part of
-a file in bindings/, and each block `text` a clause of a function, or what a program prints. Links
-lead to files and headings, paths exist, and scripts can be executed. Pages that a script writes are
-what it writes. Each step of a walk in docs/architecture.md is a function of the named crate and
-file, which the step above calls, and each form a type. Every crate has a README.md, every page a
-line in docs/README.md, every status a place in docs/errors.md. Figures of the coder are those of
-bench/results/.
+a file in bindings/ or examples/, and each block `text` a clause of a function, or what a program
+prints. Links lead to files and headings, paths exist, and scripts can be executed. Pages that a
+script writes are what it writes. Each step of a walk in docs/architecture.md is a function of the
+named crate and file, which the step above calls, and each form a type. Every crate has a README.md,
+every page a line in docs/README.md, every status a place in docs/errors.md. Figures with
+another in brackets are those of bench/results/.
 """
 
 import glob
@@ -48,11 +48,14 @@ def documents():
     for pattern in (
         "*.md",
         "docs/*.md",
+        "docs/api/*.md",
         "integrations/*/*.md",
         "packaging/*.md",
         "tests/corpus/*.md",
         "crates/*.md",
         "crates/*/README.md",
+        "examples/*.md",
+        "examples/*/*.md",
     ):
         paths = glob.glob(os.path.join(TOP, pattern))
         found += sorted(os.path.relpath(path, TOP) for path in paths)
@@ -82,7 +85,11 @@ class Code:
             for name in PROGRAMS
             for path in sources.files_of(os.path.join(CRATES, name, "src"))
         ]
-        bound = glob.glob(os.path.join(TOP, "bindings", "**", "*.*"), recursive=True)
+        bound = [
+            path
+            for folder in ("bindings", "examples")
+            for path in glob.glob(os.path.join(TOP, folder, "**", "*.*"), recursive=True)
+        ]
         printed = [os.path.join(CRATES, name, "stdout") for name in PRINTING]
         printed += glob.glob(os.path.join(TOP, "scripts", "*.txt"))
         self.rust = [read(path) for path in rattle]
@@ -235,16 +242,16 @@ def wrong_walks(name, text, code):
 def wrong_readme(text):
     lines = text.splitlines()
     if len(lines) > MOST_LINES:
-        yield f"README.md has {len(lines)} lines"
+        yield f"README.md has {len(lines)} lines, and may have {MOST_LINES}"
     figures = FIGURE.findall(text)
-    shown, kept = read(os.path.join(TOP, "docs", "performance.md")), read(
-        os.path.join(TOP, "bench", "results", "coder.txt")
-    )
+    shown = read(os.path.join(TOP, "docs", "performance.md"))
+    results = sorted(glob.glob(os.path.join(TOP, "bench", "results", "*.txt")))
+    kept = "\n".join(map(read, results))
     yield from (
         f"README.md: docs/performance.md has no figure {f}" for f in figures if f not in shown
     )
     yield from (
-        f"docs/performance.md: bench/results/coder.txt has no figure {f}"
+        f"docs/performance.md: bench/results/ has no figure {f}"
         for f in FIGURE.findall(shown)
         if f not in kept
     )

@@ -85,6 +85,52 @@ def wrong_counts():
         yield f"docs/codes.md does not say {whole:,} and {reads:g}"
 
 
+def row_of(text, title, name):
+    """The figures of a row of a table of bench/results/coder.txt, by the bytes of a fragment."""
+    table = text.split(f"| {title} |")[1].split("\n\n")[0].splitlines()
+    (row,) = [line for line in table if line.startswith(f"| {name} |")]
+    widths = [int(width) for width in table[0].strip("| ").split(" | ")]
+    return dict(zip(widths, (float(cell.split()[0]) for cell in row.strip("| ").split(" | ")[1:])))
+
+
+def wrong_gain():
+    """How many times as fast one is made from 6 as ISA-L makes one from 12."""
+    text = page("bench", "results", "coder.txt")
+    twelve = row_of(text, "twelve to one", "ISA-L")
+    gains = [
+        row_of(text, "six to one", f"{build} lrc_rebuild")[width] / twelve[width]
+        for build in ("v3", "v4")
+        for width in (4096, 65536)
+    ]
+    said = f"{min(gains):.1f} to {max(gains):.1f} times as fast"
+    for path in (("README.md",), ("docs", "performance.md")):
+        if said not in page(*path):
+            yield f"{'/'.join(path)} does not say {said}"
+
+
+def wrong_quotes():
+    """What README.md says by figures that stand in other pages."""
+    text = page("README.md")
+    cells = [line.strip("| ").split(" | ") for line in page("docs", "codes.md").splitlines()]
+    ((recovered, readable),) = [row[2:4] for row in cells if row[1:2] == ["`lrc` k=12 m=2 l=7"]]
+    ceph = page("integrations", "ceph", "README.md")
+    reads = sorted(float(one) for one in re.findall(r"^\| the .* \| (0\.\d+) \|$", ceph, re.M))
+    shards = re.search(
+        r"^\| reads \| a name for each \| 4 \| ([\d.]+) \| [\d.]+ \| [\d.]+ \| ([\d.]+) \|",
+        page("docs", "performance.md"),
+        re.M,
+    )
+    one, sixteen = map(float, shards.groups())
+    for said in (
+        f"| {recovered} of 2,517 (the data in {readable}) |",
+        f"recovery read {reads[0]:.2f} to {reads[-1]:.2f} of what",
+        f"make {one:.1f} times the calls of one.",
+        f"they make {sixteen:.1f} times.",
+    ):
+        if said not in " ".join(text.split()):
+            yield f"README.md does not say {said}"
+
+
 def wrong_output():
     """The lines that README.md says a script prints."""
     printed = {
@@ -116,7 +162,8 @@ def wrong_words():
 
 
 def main():
-    checks = [wrong_limits, wrong_weights, wrong_counts, wrong_output, wrong_words]
+    checks = [wrong_limits, wrong_weights, wrong_counts, wrong_gain, wrong_quotes]
+    checks += [wrong_output, wrong_words]
     wrong = [complaint for check in checks for complaint in check()]
     print(*wrong, f"figures: {len(checks)} kinds, {len(wrong)} wrong", sep="\n")
     return 1 if wrong else 0

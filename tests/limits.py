@@ -103,15 +103,15 @@ class Model:
         return f"trimmed {trimmed}"
 
     def mend(self, row):
-        told = Counter()
+        counts = Counter()
         blobs = sorted(self.blobs.items())
         for name, stripe, f in [(n, *at) for n, blob in blobs for at in blob.all_lost()]:
             repair = Row(row.round, 0, "repair", name, str(stripe), str(f))
             reply = self.reply(repair)
             if reply == "full":
                 return reply
-            told[reply.split()[0]] += 1
-        return f"mended {told['repaired']} 0 0 {told['unrecoverable']}"
+            counts[reply.split()[0]] += 1
+        return f"mended {counts['repaired']} 0 0 {counts['unrecoverable']}"
 
     def step(self, row):
         """The note of a call, and what is printed behind it."""

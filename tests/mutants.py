@@ -1,7 +1,8 @@
 #!/usr/bin/env python3
 """Plants faults outside of what is proved, and sees that the tests reject them.
 
-    tests/mutants.py [--jobs N] [--only TEXT]
+    tests/mutants.py [--jobs N] [--only TEXT] [--times]
+    tests/mutants.py --applies      plants nothing, and sees that each could be planted
 
 A block of tests/mutants/*.txt is a mutant: the text `old` stands once in a file and becomes `new`.
 The mutant is built in a copy of the tree, and the named test has to fail there. It also has to pass
@@ -41,11 +42,18 @@ STORE = "-Wl,--allow-multiple-definition $LRC_LIBRARIES/liblrc_store.a -lpthread
 CODER = "$LRC_LIBRARIES/liblrc_coder.a"
 TEXTS = "library/store_text.c library/coder_text.c"
 BACKEND = "integrations/liberasurecode"
+SHARDS = (
+    "tests/store/shards.c library/store_shards.c library/store_pool.c"
+    f" -Wl,--wrap=malloc,--wrap=calloc,--wrap=lrc_store_numbers_wait {STORE} -o program"
+)
 SANITIZED = "-g -fsanitize=address,undefined"
 LIBERASURECODE = (
     "/usr/include/liberasurecode/erasurecode_backend.h",
     "liberasurecode-dev",
 )
+CEPH = ("ceph-osd", "ceph-osd", "/usr/include/rados/librados.h", "librados-dev")
+CEPH += ("/usr/include/rados/buffer.h", "libradospp-dev")
+CEPH_20 = "CEPH_VERSION=20.2.4"
 # Installing takes the program as it is: one that knows its version.
 PROGRAM = "crates/lrcstore/out/lrcstore"
 
@@ -70,12 +78,12 @@ class Test(NamedTuple):
 
 
 def store_program(file, words="", **others):
-    """A test of the store's library in C or C++, with the source of its waiting forms."""
+    """A test of the store's library in C or C++, with the sources of its waiting forms."""
     wrap = WRAP + (",--wrap=free" if file.endswith(".cpp") else "")
     compile_one = CPP if file.endswith(".cpp") else C
     return Test(
-        f"{C} -c library/store_wait.c -o wait.o"
-        f" && {compile_one} tests/{file} wait.o {wrap} {STORE} -o program",
+        f"{C} -c library/store_wait.c -o wait.o && {C} -c library/store_get.c -o get.o"
+        f" && {compile_one} tests/{file} wait.o get.o {wrap} {STORE} -o program",
         f"./program {words}",
         **others,
     )
@@ -115,6 +123,15 @@ TESTS = {
     "pool": Test(
         f"{C} tests/store/pool.c library/store_pool.c -Wl,--wrap=malloc,--wrap=calloc {STORE}"
         " -o program",
+        "./program",
+    ),
+    "shards": Test(f"{C} {SHARDS}", "./program"),
+    "shards_sanitized": Test(f"{C} {SANITIZED} {SHARDS}", "./program uncancelled"),
+    "versions": Test(
+        f"{C} tests/store/versions.c library/store_get.c {STORE} -o program", "./program"
+    ),
+    "versions_sanitized": Test(
+        f"{C} {SANITIZED} tests/store/versions.c library/store_get.c {STORE} -o program",
         "./program",
     ),
     "names": Test(f"{C} tests/store/names.c library/store_name.c -o program", "./program"),
@@ -184,12 +201,20 @@ TESTS = {
         f"LD_LIBRARY_PATH=. /usr/bin/python3 {BACKEND}/test_pyeclib.py",
         needs=(*LIBERASURECODE, "/usr/lib/python3/dist-packages/pyeclib", "python3-pyeclib"),
     ),
+    "swift": Test("true", "python3 integrations/swift/test_module.py"),
     "ceph": Test(
         "work=$PWD && . integrations/ceph/programs.sh && plugins plugins -O0",
         "./plugin_test plugins tests/corpus",
         prepare="work=$PWD && . integrations/ceph/programs.sh && program plugin_test -O0",
-        needs=("ceph-osd", "ceph-osd", "/usr/include/rados/librados.h", "librados-dev")
-        + ("/usr/include/rados/buffer.h", "libradospp-dev"),
+        needs=CEPH,
+    ),
+    # What Ceph 20.2 adds, beside any release.
+    "ceph_shards": Test(
+        f"{CEPH_20} integrations/ceph/build.sh shards -O0",
+        "./shards/plugin_test shards tests/corpus shards",
+        prepare="mkdir shards && work=$PWD/shards && . integrations/ceph/programs.sh"
+        f" && {CEPH_20} program plugin_test -O0",
+        needs=CEPH,
     ),
 }
 
@@ -217,16 +242,31 @@ def mutants_of(path):
         yield Mutant(*("\n".join(fields[name]) for name in Mutant._fields))
 
 
-def plant(mutant, tree):
-    """Makes the edit. Returns what is wrong with it, or None."""
-    path = os.path.join(tree, mutant.file)
-    with open(path, encoding="utf-8") as file:
+def planted(mutant, tree):
+    """The file's text with the edit, or None, and what is wrong with it, or None."""
+    with open(os.path.join(tree, mutant.file), encoding="utf-8") as file:
         text = file.read()
     if text.count(mutant.old) != 1:
-        return f"its text stands {text.count(mutant.old)} times"
-    with open(path, "w", encoding="utf-8") as file:
-        file.write(text.replace(mutant.old, mutant.new))
-    return None
+        return None, f"its text stands {text.count(mutant.old)} times"
+    return text.replace(mutant.old, mutant.new), None
+
+
+def plant(mutant, tree):
+    """Makes the edit. Returns what is wrong with it, or None."""
+    text, wrong = planted(mutant, tree)
+    if not wrong:
+        with open(os.path.join(tree, mutant.file), "w", encoding="utf-8") as file:
+            file.write(text)
+    return wrong
+
+
+def apply_all(mutants):
+    """Whether each mutant has a test and could be planted, and says which could not."""
+    wrong = [f"{it}: there is no test {it.test}" for it in mutants if it.test not in TESTS]
+    tried = [(it, planted(it, TOP)[1]) for it in mutants]
+    wrong += [f"{it}: {fault}" for it, fault in tried if fault]
+    print(*wrong, f"{len(mutants)} mutants, {len(wrong)} wrong", sep="\n")
+    return bool(wrong)
 
 
 def succeeds(command, tree, seconds):
@@ -324,18 +364,21 @@ def arguments():
     parser.add_argument("--jobs", type=int, default=os.cpu_count())
     parser.add_argument("--only", default="", help="those whose file, test or text has this")
     parser.add_argument("--times", action="store_true", help="the seconds of each")
+    parser.add_argument("--applies", action="store_true", help="only see that they apply")
     return parser.parse_args()
 
 
 def main():
     given = arguments()
+    paths = sorted(glob.glob(os.path.join(HERE, "mutants", "*.txt")))
+    mutants = [it for path in paths for it in mutants_of(path) if given.only in str(it)]
+    if given.applies:
+        return apply_all(mutants)
     if "LRC_LIBRARIES" not in os.environ:
         sys.exit(
             "LRC_LIBRARIES has to name a folder that tools/libraries.py --to FOLDER has filled"
         )
     os.environ["LRC_LIBRARIES"] = os.path.abspath(os.environ["LRC_LIBRARIES"])
-    paths = sorted(glob.glob(os.path.join(HERE, "mutants", "*.txt")))
-    mutants = [it for path in paths for it in mutants_of(path) if given.only in str(it)]
     lacks = {it.test: TESTS[it.test].missing() for it in mutants}
     left = [it for it in mutants if not lacks[it.test]]
     rejected, wrong = try_all(left, given.jobs, given.times)

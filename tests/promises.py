@@ -35,10 +35,10 @@ class Row:
     def __init__(self, number, crate, line):
         self.number, self.crate = number, crate
         self.cells = [cell.strip() for cell in line.strip().strip("|").split(" | ")]
-        named, _, told = self.cells[0].partition(": ")
+        named, _, said = self.cells[0].partition(": ")
         self.is_inner = named.startswith("inside")
-        self.names, self.told = words(named), told
-        self.clauses = words(told) + ([RESULT] if re.match(RESULT + r"\b", told) else [])
+        self.names, self.said = words(named), said
+        self.clauses = words(said) + ([RESULT] if re.match(RESULT + r"\b", said) else [])
 
     def take_out(self, cell, name):
         """Takes a name that is gone out of a list of names."""
@@ -157,6 +157,14 @@ class Check:
                 if word not in known and not re.fullmatch(r"[A-Z]\w+|serial", word):
                     self.complain(number, f"`{word}` is no edit, test, function or crate")
 
+    def check_contents(self):
+        """Whether the line of crates at the top has a link to each crate's section."""
+        head = "\n".join(self.lines).partition("\n## ")[0]
+        for number, line in enumerate(self.lines):
+            name = line[3:].strip() if line.startswith("## ") else ""
+            if name in self.crates and f"](#{name})" not in head:
+                self.complain(number, f"the top of the page has no link to {name}")
+
     def check_whole(self):
         """Whether all clauses, edits and tests are named."""
         named_tests = {
@@ -184,12 +192,23 @@ class Check:
             self.misnamed += [(name, file, wanted) for file, wanted in crate.misnamed]
             self.unnamed_tests += [(name, test) for test in crate.tests if test not in named_tests]
 
+    def without_mutant(self):
+        """The public functions with clauses of which no row names a mutant."""
+        for name, crate in self.crates.items():
+            named = set()
+            for row in self.rows:
+                if row.crate == name and words(row.cells[2]) and not row.is_inner:
+                    is_own = not row.cells[2].startswith("none")
+                    named |= {f.path() for f in self.quiet_functions(row) if is_own}
+            yield from (f.path() for f in crate.public() if f.path() not in named)
+
     def quiet_functions(self, row):
         return [f for name in row.names for f in self.crates[row.crate].named(name) if f.is_public]
 
     def check(self):
         for row in self.rows:
             self.check_row(row)
+        self.check_contents()
         self.check_index()
         self.check_whole()
 
@@ -230,13 +249,13 @@ class Stubs:
         for function, clauses, edits, tests in self.rows[crate]:
             inside = "" if clauses else "inside, "
             first = f"{inside}`{function.path()}`" if function else "inside"
-            told = (
+            said = (
                 ": "
                 + ", ".join(clause if clause == RESULT else f"`{clause}`" for clause in clauses)
                 if clauses
                 else ""
             )
-            yield f"| {first}{told} |  | {listed(edits)} | {listed(tests)} |"
+            yield f"| {first}{said} |  | {listed(edits)} | {listed(tests)} |"
 
 
 def listed(names):
@@ -328,6 +347,8 @@ def main(arguments):
     crates = check.crates.values()
     clauses = sum(len(f.clauses) for c in crates for f in c.public())
     edits, tests = sum(len(c.edits) for c in crates), sum(len(c.tests) for c in crates)
+    functions = sum(len(c.public()) for c in crates)
+    print(len(list(check.without_mutant())), "of", functions, "public functions have no mutant")
     print(clauses, "public clauses,", edits, "mutants and", tests, "tests,", count, "wrong")
     return 1 if count else 0
 

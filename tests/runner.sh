@@ -1,7 +1,7 @@
 # shellcheck shell=bash
 # What the test scripts share: `test_of` runs a test, or skips it and names what it lacks; `summary`
 # is the last line. The script that sources this file stands at the top of the repository. No test
-# installs anything: tests/setup.sh does.
+# installs anything: tests/setup.sh does. LRC_TEST names one test, and the others are left out.
 work=$(mktemp -d)
 trap 'rm -rf "$work"' EXIT
 passed=0
@@ -18,6 +18,7 @@ has() {
 test_of() {
     local name=$1 need=$2 package=$3
     shift 3
+    [ "${LRC_TEST:-$name}" = "$name" ] || return 0
     if ! has "$need"; then
         skipped+=("$name: no $package")
     elif "$@"; then
@@ -28,9 +29,14 @@ test_of() {
     fi
 }
 
-# summary WHAT: how many tests of it passed, failed and were skipped. It fails if one failed.
+# summary WHAT: how many tests of it passed, failed and were skipped. It fails if one failed, and if
+# there was none.
 summary() {
     printf '%d tests of the %s passed, %d failed, %d skipped%s\n' "$passed" "$1" "$failed" \
         "${#skipped[@]}" "${skipped[*]:+ (${skipped[*]})}"
+    [ $((passed + failed + ${#skipped[@]})) != 0 ] || {
+        echo "no test of the $1 has the name ${LRC_TEST:-}" >&2
+        return 1
+    }
     [ "$failed" = 0 ]
 }

@@ -18,6 +18,7 @@ needs=(
     "shellcheck shellcheck"
     "go golang-go"
     "pkg-config pkg-config"
+    "pytest python3-pytest"
     "python3 python3"
     "python3-coverage python3-coverage"
     "/usr/include/python3*/Python.h python3-dev"
@@ -29,8 +30,10 @@ needs=(
     "/usr/lib/python3/dist-packages/pyeclib python3-pyeclib"
 )
 
-# What tests/release.sh needs. If it can't be had, its tests are skipped by name.
+# What tests/release.sh and the example of FUSE need. If it can't be had, tests are skipped by name.
 wishes=(
+    "/usr/lib/python3/dist-packages/fusepy.py python3-fusepy"
+    "fusermount fuse3"
     "mmdebstrap mmdebstrap"
     "dh debhelper"
     "dh_python3 dh-python"
@@ -72,5 +75,5 @@ if [ ${#missing[@]} != 0 ] && ! install "${missing[@]}" > "$log" 2>&1; then
     exit 1
 fi
 if [ ${#wished[@]} != 0 ] && ! install "${wished[@]}" > "$log" 2>&1; then
-    echo "setup: can't install ${wished[*]}, so tests of packages are skipped"
+    echo "setup: can't install ${wished[*]}, so their tests are skipped"
 fi
