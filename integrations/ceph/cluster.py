@@ -387,6 +387,34 @@ class Cluster:
         with open(f"{path}.new", "rb") as file:
             self.command("osd setcrushmap", file.read())
 
+    # ---- scrubs
+
+    def deep_scrub(self, pool):
+        """Scrubs each placement group of the pool deeply; whether it came to its end."""
+        number = self.rados.pool_lookup(pool)
+
+        def stamps():
+            return {
+                name: group["last_deep_scrub_stamp"]
+                for name, group in self.groups().items()
+                if name.startswith(f"{number}.")
+            }
+
+        before = stamps()
+        for name in before:
+            self.manager_command("pg deep-scrub", pgid=name)
+        return self.until(
+            "a deep scrub", lambda: all(before[name] != now for name, now in stamps().items())
+        )
+
+    def scrub(self, report, pool):
+        done = self.deep_scrub(pool)
+        states = [group["state"] for group in self.groups().values()]
+        report.check(
+            f"{pool}: a deep scrub finds nothing",
+            done and not any("inconsistent" in state for state in states),
+        )
+
     # ---- what recovery reads
 
     def log_reads(self, osds, on):

@@ -25,6 +25,7 @@ sys.dont_write_bytecode = True
 HERE = os.path.dirname(os.path.abspath(__file__))
 sys.path[:0] = [HERE, os.path.dirname(HERE)]
 import harness  # noqa: E402
+from codes import OSD_EACH, SMALL, WIDE  # noqa: E402
 
 PACKAGES = (
     "g++",
@@ -34,6 +35,7 @@ PACKAGES = (
     "ceph-mon",
     "ceph-mgr",
     "python3-rados",
+    "python3-rbd",
 )
 CEPH_PLUGINS = "/usr/lib/x86_64-linux-gnu/ceph/erasure-code"
 LAYERS = '[["DDDDDDDDDDDD__cc",""],["DDDDDD______c___",""],["______DDDDDD_c__",""]]'
@@ -43,26 +45,8 @@ POOLS = {
     "lrc_kml": ["plugin=lrc", "k=12", "m=2", "l=7"],
     "lrc_layers": ["plugin=lrc", "mapping=DDDDDDDDDDDD____", f"layers={LAYERS}"],
 }
-OSD_EACH = "crush-failure-domain=osd"
 HEAD = (1 << 64) - 2  # the number of the snapshot that is none
-GLOBAL_PARITIES = (7, 15)  # their places; 0 to 5 and 8 to 13 are data, 6 and 14 local parities
-RECOVERABLE = (
-    [0],
-    [6],
-    [15],
-    [0, 6],
-    [0, 8],
-    [0, 1],
-    [7, 15],
-    [0, 1, 8],
-    [0, 6, 7],
-    [0, 1, 2, 8],
-    [0, 1, 8, 9],
-    [0, 8, 7, 15],
-    [0, 1, 6, 14],
-    [6, 14, 7, 15],
-)
-GROUPS = ({0, 1, 2, 3, 4, 5, 6}, {8, 9, 10, 11, 12, 13, 14})
+GLOBAL_PARITIES = (7, 15)  # their places
 LOST_OSD = 5
 RACKS = """    id 99
     type erasure
@@ -92,40 +76,56 @@ def build(folder):
 
 
 def check_profiles(cluster, report):
-    for profile, words in (
-        (
-            ["plugin=azure_lrc", "k=10", "m=4"],
-            "azure_lrc: no code has k=10 m=4; set k=12 m=4 or k=6 m=4",
-        ),
-        (
-            ["plugin=azure_lrc", "l=6"],
-            "azure_lrc: there is no parameter l; remove it from the profile",
-        ),
-        (["plugin=azure_lrc", "k=12", "m=4", "stripe_unit=100"], "stripe_unit 100 does not match"),
+    """What the monitor refuses, with words that say why."""
+    shapes = "k=10", "k=0", "k=16", "k=-6", "k=12.0", "k=012", "k=twelve", "m=3", "m=04"
+    unknown = "l=6", "kk=12", "K=6", "w=8"
+    units = "stripe_unit=100", "stripe_unit=3000", "stripe_unit=abc", "stripe_unit=-1"
+    for words, refusal in (
+        *((word, f"azure_lrc: no code has {shape_of(word)}; set k=12 m=4") for word in shapes),
+        *((word, f"azure_lrc: there is no parameter {word.split('=')[0]};") for word in unknown),
+        *((word, "stripe_unit") for word in units),
+        ("plugin=AZURE_LRC", "libec_AZURE_LRC.so"),
+        ("plugin=../azure_lrc", "azure_lrc.so"),
+        ("crush-failure-domain=nowhere", "nowhere"),
+    ):
+        profile = [words] if words.startswith("plugin") else ["plugin=azure_lrc", words]
+        printed = refusal_of(cluster, profile)
+        report.check(f"the monitor refuses {words}", printed and refusal in printed, printed)
+
+
+def shape_of(word):
+    """The parameters of a profile that has only this word, as a refusal names them."""
+    return f"{word} m=4" if word.startswith("k") else f"k=12 {word}"
+
+
+def refusal_of(cluster, profile):
+    """What the monitor says of a profile, or of a pool of it, or nothing if it takes both."""
+    try:
+        cluster.command("osd erasure-code-profile set", name="bad", profile=profile)
+        words = {"pg_num": 1, "pgp_num": 1, "pool_type": "erasure", "erasure_code_profile": "bad"}
+        cluster.command("osd pool create", pool="bad", **words)
+    except RuntimeError as error:
+        return str(error)
+    return ""
+
+
+def check_profile_in_use(cluster, report):
+    """A profile that a pool has can be neither changed nor removed."""
+    cluster.make_pool("used", [*WIDE.profile, OSD_EACH], 1)
+    for prefix, words in (
+        ("osd erasure-code-profile set", {"profile": [*SMALL.profile, OSD_EACH]}),
+        ("osd erasure-code-profile rm", {}),
     ):
         try:
-            cluster.command("osd erasure-code-profile set", name="bad", profile=profile)
-            printed = "accepted"
+            cluster.command(prefix, name="used", **words)
+            printed = ""
         except RuntimeError as error:
             printed = str(error)
-        report.check(f"the monitor refuses {' '.join(profile[1:])}", words in printed, printed)
+        report.check(f"{prefix} is refused for a profile in use", "used" in printed, printed)
+    cluster.remove_pool("used")
 
 
 # ---- lost sets, in a pool of one placement group
-
-
-def is_recoverable(lost):
-    """Whether at most two losses remain after each group has made good one of its own."""
-    return len(lost) - sum(bool(group & set(lost)) for group in GROUPS) <= 2
-
-
-def drawn_sets(count, wanted=True):
-    """Sets of four places, recoverable ones or not, drawn anew in each run."""
-    while count:
-        lost = sorted(random.sample(range(16), 4))
-        if is_recoverable(lost) == wanted:
-            count -= 1
-            yield lost
 
 
 def check_lost_sets(cluster, report, objects=24):
@@ -135,15 +135,29 @@ def check_lost_sets(cluster, report, objects=24):
     cluster.command("osd pool set", pool="one", var="min_size", val="12")
     report.check("a pool of azure_lrc is active and clean", cluster.wait_clean())
     cluster.fill("one", objects)
-    places = cluster.places("one")[0]
     report.check(f"{objects} objects read back", cluster.equal_objects("one", objects) == objects)
-    for lost in [*RECOVERABLE, *drawn_sets(3)]:
+    check_sets(cluster, report, "one", WIDE, objects)
+
+
+def check_small_sets(cluster, report, objects=12):
+    """The same with k=6."""
+    cluster.make_pool("one_small", [*SMALL.profile, OSD_EACH], 1, min_size=6)
+    cluster.wait_clean()
+    cluster.fill("one_small", objects)
+    check_sets(cluster, report, "one_small", SMALL, objects)
+    cluster.remove_pool("one_small")
+
+
+def check_sets(cluster, report, pool, code, objects):
+    """Recoverable sets of places and others: those of the code, and some that are drawn."""
+    places = cluster.places(pool)[0]
+    for lost in [*code.recoverable, *code.drawn_sets(3)]:
         osds = [places[place] for place in lost]
         cluster.kill(osds)
         began = time.monotonic()
-        equal = cluster.equal_objects("one", objects)
+        equal = cluster.equal_objects(pool, objects)
         report.check(
-            f"without places {lost}: {equal} of {objects} objects read back",
+            f"k={code.k} without places {lost}: {equal} of {objects} objects read back",
             equal == objects,
             f"{time.monotonic() - began:.1f} s",
         )
@@ -151,24 +165,23 @@ def check_lost_sets(cluster, report, objects=24):
         cluster.revive(osds)
         if not report.check("clean again", cluster.wait_clean()):
             return
-    for lost in [0, 1, 2, 3], *drawn_sets(1, False):
-        check_unrecoverable(cluster, report, places, objects, lost)
+    for lost in [*code.unrecoverable, *code.drawn_sets(1, False)]:
+        check_unrecoverable(cluster, report, pool, [places[place] for place in lost], lost, objects)
 
 
-def check_unrecoverable(cluster, report, places, objects, lost):
-    """Four chunks that no code of this shape can restore, such as four of a group's data."""
-    osds = [places[place] for place in lost]
+def check_unrecoverable(cluster, report, pool, osds, lost, objects):
+    """Chunks that no code of this shape can restore, such as four of a group's data."""
     cluster.kill(osds)
-    inactive = cluster.until("inactive", lambda: cluster.is_inactive("one"))
+    inactive = cluster.until("inactive", lambda: cluster.is_inactive(pool))
     report.check(
         f"without places {lost}, which are unrecoverable, the placement group is inactive",
         inactive,
-        cluster.state("one"),
+        cluster.state(pool),
     )
     cluster.revive(osds)
     report.check(
         "the objects are back with the OSDs",
-        cluster.wait_clean() and cluster.equal_objects("one", objects) == objects,
+        cluster.wait_clean() and cluster.equal_objects(pool, objects) == objects,
     )
 
 
@@ -490,7 +503,7 @@ def check_overwrites(cluster, report, pool, profile, lost, **settings):
             f"{pool}: read back once all are there",
             cluster.wait_clean() and io.read("o", 1 << 21) == bytes(image),
         )
-    check_scrub(cluster, report, pool)
+    cluster.scrub(report, pool)
 
 
 def check_optimized(cluster, report):
@@ -507,28 +520,6 @@ def check_optimized(cluster, report):
         profile = ["plugin=azure_lrc", f"k={k}", "m=4", "order=parities-last"]
         optimized = {"allow_ec_optimizations": "true", "min_size": k}
         check_overwrites(cluster, report, pool, profile, lost, **optimized)
-
-
-def check_scrub(cluster, report, pool):
-    number = cluster.rados.pool_lookup(pool)
-    stamps = {
-        name: group["last_deep_scrub_stamp"]
-        for name, group in cluster.groups().items()
-        if name.startswith(f"{number}.")
-    }
-    for name in stamps:
-        cluster.manager_command("pg deep-scrub", pgid=name)
-    done = cluster.until(
-        "a deep scrub",
-        lambda: all(
-            cluster.groups()[name]["last_deep_scrub_stamp"] != stamp
-            for name, stamp in stamps.items()
-        ),
-    )
-    report.check(
-        f"{pool}: a deep scrub finds nothing",
-        done and not any("inconsistent" in group["state"] for group in cluster.groups().values()),
-    )
 
 
 def check_missing_plugin(cluster, report, folder, version):
@@ -571,19 +562,24 @@ def overwritten(cluster, report):
 
 
 PARTS = {
-    "profiles": (check_profiles,),
+    "profiles": (check_profiles, check_profile_in_use),
     "lost": (check_lost_sets, check_min_size, check_min_sizes, check_beside_lrc),
     "recovery": (check_recovery, check_out),
     "counters": (check_counters,),
     "operators": (check_snapshots, check_stopped, check_migration),
     "racks": (check_racks,),
-    "small": (check_small, check_optimized),
+    "small": (check_small, check_small_sets, check_optimized),
     "overwrites": (overwritten,),
 }
 
 
+LATER = "damage", "units", "images", "storm", "benchmark"  # in modules of their own
+
+
 def work(report, folder, options):
-    """The interpreter finds python3-rados, which cluster.py wants, only after it was installed."""
+    """These modules want python3-rados, which the interpreter finds only after it was installed."""
+    import damage
+    import loads
     from cluster import OSDS, Cluster
 
     os.mkdir(f"{folder}/cluster")
@@ -593,7 +589,8 @@ def work(report, folder, options):
         cluster.command("osd set", key="noout")
         version = cluster.run("ceph-osd", "--version").split(" (")[0]
         report.check(f"{OSDS} OSDs are up", len(cluster.up()) == OSDS, version)
-        for name, checks in PARTS.items():
+        parts = {**PARTS, **damage.PARTS, **loads.PARTS}
+        for name, checks in parts.items():
             for check in checks if name in options.only else ():
                 if check is not check_optimized or is_20(version):
                     check(cluster, report)
@@ -608,7 +605,7 @@ def main():
         description=__doc__, formatter_class=argparse.RawDescriptionHelpFormatter
     )
     parser.add_argument("--keep", action="store_true", help="keep the folder, with the logs")
-    names = [*PARTS, "missing"]
+    names = [*PARTS, *LATER, "missing"]
     parser.add_argument("--only", choices=names, action="append", help="run this part")
     options = parser.parse_args()
     options.only = options.only or names

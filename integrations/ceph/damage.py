@@ -1,0 +1,204 @@
+"""What stores lose or change behind Ceph's back: bytes of shards, whole disks, and reads that fail.
+
+Each check makes a pool, damages it, and removes it. What is read may be right, an error, or late,
+and is never wrong."""
+
+import concurrent.futures
+import errno
+import json
+import os
+import threading
+
+import rados
+from cluster import content
+from codes import OSD_EACH, WIDE
+
+# Of each object, the places whose shards are changed. All of these sets are recoverable.
+CHANGED = ([0], [0, 1], [6], [7], [2, 3, 10], [0, 1, 8, 9])
+GROUP = [0, 1, 2, 3]  # data of one group: unrecoverable
+SECONDS = 10  # how long a read that Ceph may hold back is waited for
+
+
+def read_within(io, name, length):
+    """What is read of an object: its bytes, or `an error`, or `nothing` if it does not end soon."""
+    ended, answer = threading.Event(), []
+
+    def keep(completion, data):
+        answer.append(data if completion.get_return_value() >= 0 else "an error")
+        ended.set()
+
+    io.aio_read(name, length, 0, keep)
+    return answer[0] if ended.wait(SECONDS) else "nothing"
+
+
+# ---- changed shards
+
+
+def change_shard(cluster, osd, shard, name):
+    """Changes a byte in the middle of an object's shard, by Ceph's own tool for stores of OSDs."""
+    path = f"{cluster.folder}/{shard}_{name}"
+    tool = ["ceph-objectstore-tool", "--no-mon-config", "--pgid", shard]
+    tool += ["--data-path", f"{cluster.folder}/osd.{osd}", name]
+    cluster.run(*tool, "get-bytes", path)
+    with open(path, "r+b") as file:
+        data = bytearray(file.read())
+        data[len(data) // 2] ^= 0x20
+        file.seek(0)
+        file.write(data)
+    cluster.run(*tool, "set-bytes", path)
+
+
+def change_shards(cluster, pool, sets):
+    """Changes shards of the objects o0, o1, .. at these places, while their OSDs are down."""
+    changed = sorted({place for places in sets for place in places})
+    osds = {place: cluster.places(pool)[0][place] for place in changed}
+    number = cluster.rados.pool_lookup(pool)
+
+    def change_at(place):
+        for each, places in enumerate(sets):
+            if place in places:
+                change_shard(cluster, osds[place], f"{number}.0s{place}", f"o{each}")
+
+    cluster.kill(list(osds.values()))
+    cluster.wait_loss()
+    with concurrent.futures.ThreadPoolExecutor(4) as threads:
+        list(threads.map(change_at, changed))
+    cluster.revive(list(osds.values()))
+    return cluster.wait_clean()
+
+
+def inconsistent_shards(cluster, pool):
+    """The places that the last deep scrub found wrong, by the names of their objects."""
+    words = "list-inconsistent-obj", f"{cluster.rados.pool_lookup(pool)}.0", "--format=json"
+    found = json.loads(cluster.run("rados", "-c", cluster.settings, *words))
+    return {
+        item["object"]["name"]: [each["shard"] for each in item["shards"] if each["errors"]]
+        for item in found["inconsistents"]
+    }
+
+
+def check_changed(cluster, report, objects=len(CHANGED) + 2):
+    """Changed shards are found by reads and by a deep scrub, and mended by a repair."""
+    cluster.make_pool("changed", [*WIDE.profile, OSD_EACH], 1, min_size=12)
+    cluster.wait_clean()
+    cluster.fill("changed", objects, 1 << 20)
+    report.check("shards of six objects are changed", change_shards(cluster, "changed", CHANGED))
+    equal = cluster.equal_objects("changed", objects, 1 << 20)
+    report.check(f"{equal} of {objects} objects read back", equal == objects)
+    cluster.deep_scrub("changed")
+    found = inconsistent_shards(cluster, "changed")
+    wanted = {f"o{number}": places for number, places in enumerate(CHANGED)}
+    report.check("a deep scrub names these shards", found == wanted, str(found))
+    cluster.manager_command("pg repair", pgid=f"{cluster.rados.pool_lookup('changed')}.0")
+    repaired = cluster.until("a repair", lambda: not inconsistent_left(cluster, "changed"))
+    equal = cluster.equal_objects("changed", objects, 1 << 20)
+    report.check(f"after pg repair {equal} objects read back", repaired and equal == objects)
+
+
+def inconsistent_left(cluster, pool):
+    """Whether a placement group is still inconsistent, by a deep scrub of its own."""
+    return "inconsistent" in cluster.state(pool) or not cluster.is_clean()
+
+
+def check_changed_group(cluster, report):
+    """Four changed data shards of a group cannot be made good: an error, and no wrong byte."""
+    change_shards(cluster, "changed", [GROUP])
+    with cluster.rados.open_ioctx("changed") as io:
+        try:
+            io.read("o0", 1 << 20)
+            seen = "bytes"
+        except rados.Error as error:
+            seen = errno.errorcode.get(error.errno, str(error))
+    report.check("with four shards of a group changed, a read is refused", seen == "EIO", seen)
+    cluster.remove_pool("changed")
+
+
+# ---- disks
+
+
+def check_replaced(cluster, report, objects=16):
+    """Four disks of a group are replaced by empty ones, and `mark_unfound_lost` gives up what was
+    there."""
+    cluster.make_pool("replaced", [*WIDE.profile, OSD_EACH], 2, min_size=12)
+    cluster.wait_clean()
+    cluster.fill("replaced", objects)
+    places = cluster.places("replaced")
+    osds = [places[0][place] for place in GROUP]
+    cluster.kill(osds)
+    cluster.wait_loss()
+    for osd in osds:
+        cluster.make_store(osd)
+    cluster.revive(osds)
+    lost = [group for group, at in enumerate(places) if not is_left(at, osds)]
+    for group in lost:
+        seen = cluster.until("unfound", lambda at=group: "unfound" in cluster.state("replaced", at))
+        report.check(
+            f"without the disks of a group, placement group {group} is recovery_unfound", seen
+        )
+    check_unfound(cluster, report, lost, objects)
+    cluster.remove_pool("replaced")
+
+
+def is_left(places, osds):
+    return WIDE.is_recoverable([place for place, osd in enumerate(places) if osd in osds])
+
+
+def check_unfound(cluster, report, lost, objects):
+    """Objects of these placement groups are held back until they are given up, and others read."""
+    names = {f"o{number}": content("replaced", number) for number in range(objects)}
+    gone = {name for name in names if cluster.group_of("replaced", name) in lost}
+    with cluster.rados.open_ioctx("replaced") as io:
+        right = sum(io.read(name, 1 << 21) == names[name] for name in names.keys() - gone)
+        report.check("objects of the others read back", right == len(names) - len(gone), str(right))
+        seen = read_within(io, min(gone), 1 << 21)
+        report.check("a read of what is lost does not end", seen == "nothing", str(seen)[:80])
+        for group in lost:
+            pgid = f"{cluster.rados.pool_lookup('replaced')}.{group:x}"
+            words = "pg", pgid, "mark_unfound_lost", "delete"
+            cluster.run("ceph", "-c", cluster.settings, *words)
+        clean = cluster.wait_clean()
+        left = sum(is_there(io, name) for name in gone)
+        report.check("mark_unfound_lost gives them up", clean and left == 0, f"{left} are there")
+
+
+def is_there(io, name):
+    try:
+        io.stat(name)
+        return True
+    except rados.ObjectNotFound:
+        return False
+
+
+# ---- reads that fail
+
+
+def check_errors(cluster, report, objects=8):
+    """Stores that answer reads of up to four shards with errors, with and without fast_read."""
+    cluster.make_pool("errors", [*WIDE.profile, OSD_EACH], 1, min_size=12)
+    cluster.wait_clean()
+    cluster.fill("errors", objects)
+    places = cluster.places("errors")[0]
+    for osd in places:
+        cluster.osd_command(
+            osd, "config set", var="bluestore_debug_inject_read_err", val=["true"]
+        )
+    for number, lost in enumerate(([0], [0, 1], [0, 1, 8], [0, 1, 8, 9])):
+        for place in lost:
+            words = {"pool": "errors", "objname": f"o{number}", "shardid": place}
+            cluster.osd_command(places[place], "injectdataerr", **words)
+    for fast in "0", "1":
+        cluster.command("osd pool set", pool="errors", var="fast_read", val=fast)
+        equal = cluster.equal_objects("errors", objects)
+        report.check(
+            f"with read errors of up to four stores and fast_read {fast}, {equal} of {objects} "
+            "objects read back",
+            equal == objects,
+        )
+    for osd in places:
+        cluster.osd_command(
+            osd, "config set", var="bluestore_debug_inject_read_err", val=["false"]
+        )
+    cluster.remove_pool("errors")
+
+
+PARTS = {"damage": (check_changed, check_changed_group, check_errors, check_replaced)}

@@ -1,0 +1,292 @@
+"""What clients do to pools of the plugin: other stripe units, images of RBD, writers while OSDs
+come and go, and Ceph's own benchmark."""
+
+import itertools
+import random
+import re
+import shutil
+import threading
+import time
+
+import rados
+from codes import OSD_EACH, WIDE
+
+UNITS = (4096, 65536, 64, 192, 12288, 1 << 20)
+STORM_SECONDS = 60
+IMAGE_BYTES = 16 << 20
+
+
+# ---- stripe units
+
+
+def lengths_of(unit):
+    """Around what a unit and a stripe hold."""
+    stripe = 12 * unit
+    return 0, 1, 63, 64, 65, unit - 1, unit, stripe, stripe + 1, 5 * stripe + 7, 3_000_000
+
+
+class Image:
+    """An object with what it has to be: each write goes to both."""
+
+    def __init__(self, io, name, dice):
+        self.io, self.name, self.dice, self.data = io, name, dice, bytearray()
+
+    def write(self, at, data):
+        self.io.write(self.name, data, at)
+        self.data.extend(bytes(max(0, at + len(data) - len(self.data))))
+        self.data[at : at + len(data)] = data
+
+    def write_full(self, data):
+        self.io.write_full(self.name, data)
+        self.data = bytearray(data)
+
+    def append(self, data):
+        self.write(len(self.data), data)
+
+    def truncate(self, length):
+        self.io.trunc(self.name, length)
+        self.data = self.data[:length].ljust(length, b"\0")
+
+    def is_equal(self):
+        """The whole object, and a range of it."""
+        whole = self.io.read(self.name, len(self.data) + 1)
+        at = self.dice.randrange(len(self.data) + 1)
+        part = self.io.read(self.name, 100_000, at)
+        return whole == self.data and part == self.data[at : at + 100_000]
+
+
+def make_images(io, unit, dice):
+    """An object of each length; four of them are appended to, written over, cut and stretched."""
+    images = [Image(io, f"o{number}", dice) for number in range(len(lengths_of(unit)))]
+    for image, length in zip(images, lengths_of(unit)):
+        image.write_full(dice.randbytes(length))
+    images[3].append(dice.randbytes(unit + 1))
+    images[8].write(unit // 2, dice.randbytes(unit))
+    images[9].truncate(unit + 1)
+    images[2].write(3 * unit, dice.randbytes(10))
+    return images
+
+
+def find_losses(cluster, pools):
+    """Four OSDs whose places are recoverable in each pool, with most of them data in all."""
+    groups = [cluster.places(pool)[0] for pool in pools]
+
+    def lost_of(osds):
+        return [[at for at, osd in enumerate(group) if osd in osds] for group in groups]
+
+    def worth(osds):
+        sets = lost_of(osds)
+        return sum(map(len, sets)) if all(map(WIDE.is_recoverable, sets)) else -1
+
+    return list(max(itertools.combinations(sorted(cluster.up()), 4), key=worth))
+
+
+def check_units(cluster, report):
+    """Objects in pools of other stripe units, with all OSDs, without four, and afterwards."""
+    pools = {f"unit_{unit}": unit for unit in UNITS}
+    for pool, unit in pools.items():
+        profile = [*WIDE.profile, OSD_EACH, f"stripe_unit={unit}"]
+        cluster.make_pool(pool, profile, 1, allow_ec_overwrites="true", min_size=12)
+    cluster.wait_clean()
+    dice = random.Random(1)
+    opened = {pool: cluster.rados.open_ioctx(pool) for pool in pools}
+    images = {pool: make_images(io, pools[pool], dice) for pool, io in opened.items()}
+    lost = find_losses(cluster, pools)
+    cluster.kill(lost)
+    for pool, unit in pools.items():
+        report.check(
+            f"stripe_unit {unit}: objects read back without four OSDs, by ranges too",
+            all(image.is_equal() for image in images[pool]),
+        )
+        images[pool][5].append(dice.randbytes(12 * unit))
+        images[pool][10].write(unit + 3, dice.randbytes(unit))
+    cluster.wait_loss()
+    cluster.revive(lost)
+    cluster.wait_clean()
+    for pool, unit in pools.items():
+        report.check(
+            f"stripe_unit {unit}: what was written meanwhile, too",
+            all(image.is_equal() for image in images[pool]),
+        )
+        opened[pool].close()
+        cluster.remove_pool(pool)
+
+
+# ---- RBD
+
+
+def make_image(cluster, report):
+    """Makes an image whose data is in a pool of the code, or None where rbd makes none at all."""
+    import rbd
+
+    cluster.make_pool("data", [*WIDE.profile, OSD_EACH], 1, allow_ec_overwrites="true", min_size=12)
+    words = {"pool": "headers", "pg_num": 8, "pgp_num": 8, "pool_type": "replicated"}
+    cluster.command("osd pool create", **words)
+    cluster.command("osd pool set", pool="headers", var="size", val="6")
+    cluster.command("osd pool set", pool="headers", var="min_size", val="1")
+    for pool in "headers", "data":
+        cluster.command("osd pool application enable", pool=pool, app="rbd", force=True)
+    cluster.wait_clean()
+    io = cluster.rados.open_ioctx("headers")
+    try:
+        rbd.RBD().create(io, "plain", 1 << 22, old_format=False, features=1)
+    except rbd.Error as error:
+        report.note(f"skipped: rbd makes no image in a replicated pool either: {error}")
+        return None
+    rbd.RBD().create(io, "image", IMAGE_BYTES, old_format=False, features=1, data_pool="data")
+    return rbd.Image(io, "image")
+
+
+def check_images(cluster, report):
+    """An image of RBD: random writes, half of them without four OSDs, and a snapshot."""
+    image = make_image(cluster, report)
+    if image:
+        try:
+            write_image(cluster, report, image)
+        finally:
+            image.close()
+        cluster.scrub(report, "data")
+    for pool in "data", "headers":
+        cluster.remove_pool(pool)
+
+
+def write_image(cluster, report, image):
+    dice, wanted = random.Random(2), bytearray(IMAGE_BYTES)
+    lost = [cluster.places("data")[0][place] for place in (1, 2, 9, 14)]
+    kept = b""
+    for number in range(200):
+        if number == 100:
+            image.create_snap("kept")
+            kept = bytes(wanted)
+            cluster.kill(lost)
+        piece = dice.randbytes(dice.choice([1, 512, 4096, 100_000]))
+        at = dice.randrange(IMAGE_BYTES - len(piece))
+        image.write(piece, at)
+        wanted[at : at + len(piece)] = piece
+    same = image.read(0, IMAGE_BYTES) == wanted
+    report.check("an image written to at random, half of the time without four OSDs", same)
+    cluster.wait_loss()
+    cluster.revive(lost)
+    cluster.wait_clean()
+    report.check("it reads back once all are there", image.read(0, IMAGE_BYTES) == wanted)
+    image.set_snap("kept")
+    report.check("its snapshot is as it was before", image.read(0, IMAGE_BYTES) == kept)
+    image.set_snap(None)
+    image.remove_snap("kept")
+
+
+# ---- a storm
+
+
+class Writer(threading.Thread):
+    """Writes, appends, removes and reads objects of its own until it is told to stop."""
+
+    def __init__(self, cluster, pool, number):
+        super().__init__()
+        self.io = cluster.rados.open_ioctx(pool)
+        self.number, self.dice = number, random.Random(number)
+        self.objects, self.wrong, self.calls = {}, [], 0
+        self.stopped = threading.Event()
+
+    def run(self):
+        while not self.stopped.is_set():
+            try:
+                self.step(f"w{self.number}_{self.dice.randrange(30)}")
+            except rados.Error as error:
+                self.wrong.append(str(error))
+            self.calls += 1
+
+    def step(self, name):
+        there, what = self.objects.get(name), self.dice.randrange(8)
+        if there is None or what < 3:
+            data = self.dice.randbytes(self.dice.choice([0, 1, 5000, 49152, 300_000]))
+            self.io.write_full(name, data)
+            self.objects[name] = data
+        elif what == 3:
+            self.io.remove_object(name)
+            del self.objects[name]
+        else:
+            self.compare(name)
+
+    def compare(self, name):
+        if self.io.read(name, 1 << 20) != self.objects[name]:
+            self.wrong.append(f"{name} is not as it was written")
+
+    def compare_all(self):
+        for name in self.objects:
+            self.compare(name)
+
+
+def disturb(cluster, dice):
+    """Ends one or two OSDs for some seconds, or marks one out, or weighs it less."""
+    osds = dice.sample(sorted(cluster.up()), 2)
+    what = dice.randrange(4)
+    if what < 2:
+        cluster.kill(osds[what:])
+        time.sleep(3)
+        cluster.revive(osds[what:])
+    elif what == 2:
+        cluster.command("osd out", ids=[str(osds[0])])
+        time.sleep(3)
+        cluster.command("osd in", ids=[str(osds[0])])
+    else:
+        cluster.command("osd reweight", id=osds[0], weight=0.5)
+        time.sleep(3)
+        cluster.command("osd reweight", id=osds[0], weight=1.0)
+
+
+def check_storm(cluster, report):
+    """Three writers while OSDs are killed, one or two at a time, taken out and weighed less."""
+    cluster.make_pool("storm", [*WIDE.profile, OSD_EACH], 8)
+    cluster.wait_clean()
+    writers = [Writer(cluster, "storm", number) for number in range(3)]
+    for writer in writers:
+        writer.start()
+    dice, began, count = random.Random(), time.monotonic(), 0
+    while time.monotonic() - began < STORM_SECONDS:
+        disturb(cluster, dice)
+        count += 1
+    for writer in writers:
+        writer.stopped.set()
+        writer.join()
+    calls = sum(writer.calls for writer in writers)
+    clean = cluster.wait_clean()
+    for writer in writers:
+        writer.compare_all()
+    wrong = [text for writer in writers for text in writer.wrong]
+    what = f"{calls} calls of three writers while OSDs came and went {count} times"
+    report.check(f"{what}: no error, no wrong byte", clean and not wrong, "; ".join(wrong[:3]))
+    cluster.scrub(report, "storm")
+    cluster.remove_pool("storm")
+
+
+# ---- the benchmark
+
+BENCHMARK = "ceph_erasure_code_benchmark"
+
+
+def check_benchmark(cluster, report):
+    """Ceph's own benchmark of codes, where it is installed: Debian 12 has none."""
+    if not shutil.which(BENCHMARK):
+        report.note(f"skipped: there is no {BENCHMARK}")
+        return
+    for work in ["-w", "encode"], ["-w", "decode", "-e", "1"], ["-w", "decode", "-e", "2"]:
+        ours, isa = (benchmark_seconds(cluster, plugin, work) for plugin in ("azure_lrc", "isa"))
+        report.check(
+            f"{BENCHMARK} {' '.join(work)} at 1 MiB", ours > 0, f"{isa / ours:.2f} times isa"
+        )
+
+
+def benchmark_seconds(cluster, plugin, work):
+    words = ["-p", plugin, "-P", "k=12", "-P", "m=4", "-S", str(1 << 20), "-i", "300", *work]
+    printed = cluster.run("env", f"CEPH_CONF={cluster.settings}", BENCHMARK, *words)
+    found = re.search(r"^([0-9.]+)\t\d+$", printed, re.M)
+    return float(found[1]) if found else 0.0
+
+
+PARTS = {
+    "units": (check_units,),
+    "images": (check_images,),
+    "storm": (check_storm,),
+    "benchmark": (check_benchmark,),
+}
