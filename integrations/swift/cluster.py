@@ -4,6 +4,7 @@ and processes, and a client."""
 import glob
 import hashlib
 import http.client
+import json
 import os
 import pwd
 import queue
@@ -20,6 +21,8 @@ FRAGMENTS = DATA + PARITIES
 DEVICES, SERVERS = 20, 5
 PART_POWER = 7
 SECONDS = 900  # of patience with a process on a loaded machine
+# The device, time, number and mark of a fragment (`#d` if it is durable) or of a deletion.
+VERSION_FILE = re.compile(r"/devices/(d\d+)/.*/(\d+\.\d+(?:_\w+)?)(?:#(\d+))?(#d|(?=\.ts))?\.\w+$")
 LOGS = ("proxy", "account", "container", "object", "reconstructor", "auditor")
 
 # Swift reads /etc/swift/swift.conf when it is imported. This takes another folder's, and then runs
@@ -42,9 +45,10 @@ utils.set_swift_dir(folder)
 runpy.run_path(sys.argv[0], run_name="__main__")
 """
 
-# What swift-ring-builder does, for all rings at once.
+# What swift-ring-builder does, for all rings at once. Beside each ring, the devices of each
+# partition are written.
 RINGS = """
-import ast, sys
+import ast, json, sys
 from swift.common.ring import RingBuilder
 folder, power, rings = ast.literal_eval(sys.argv[1])
 for name, replicas, devices in rings:
@@ -54,6 +58,9 @@ for name, replicas, devices in rings:
                              replication_ip="127.0.0.1", replication_port=port, weight=100.0))
     builder.rebalance(seed=1)
     builder.get_ring().save(folder + "/" + name + ".ring.gz")
+    parts = [builder.get_part_devices(part) for part in range(2**power)]
+    with open(folder + "/" + name + ".json", "w") as file:
+        json.dump([[each["device"] for each in part] for part in parts], file)
 """
 
 PROXY = """[DEFAULT]
@@ -65,7 +72,7 @@ pipeline = catch_errors gatekeeper proxy-logging cache tempauth {filters} copy d
 [app:proxy-server]
 use = egg:swift#proxy
 account_autocreate = true
-{patience}client_timeout = {seconds}
+{settings}client_timeout = {seconds}
 post_quorum_timeout = {seconds}
 error_suppression_interval = 0
 [filter:tempauth]
@@ -118,6 +125,7 @@ set log_level = DEBUG
 {patience}[object-reconstructor]
 log_address = {folder}/reconstructor.log
 recon_cache_path = {folder}/cache
+interval = 1
 {patience}http_timeout = {seconds}
 [object-auditor]
 log_address = {folder}/auditor.log
@@ -179,6 +187,11 @@ class Logs:
             os.unlink(f"{self.folder}/{name}.log")
 
 
+def hash_of(path):
+    """The name that Swift gives to the folder of an object `account/container/object`."""
+    return hashlib.md5(f"lrc/{path}lrc".encode()).hexdigest()
+
+
 class Policy:
     """A storage policy: replicated if `ec_type` is None, else in `data` and four parity
     fragments."""
@@ -186,6 +199,11 @@ class Policy:
     def __init__(self, index, name, ec_type, data=DATA, **settings):
         self.index, self.name, self.ec_type, self.settings = index, name, ec_type, settings
         self.data, self.fragments = data, data + PARITIES if ec_type else 1
+        self.replicas = self.fragments * settings.get("ec_duplication_factor", 1)
+
+    @property
+    def ring(self):
+        return f"object-{self.index}" if self.index else "object"
 
     def text(self):
         if self.ec_type is None:
@@ -203,10 +221,12 @@ class Policy:
 
 
 class Cluster:
-    """`environment` is added to that of every process; `filters` stand in the proxy's pipeline."""
+    """`environment` is added to that of every process. `filters` stand in the proxy's pipeline, and
+    `settings` in the section of the proxy server."""
 
-    def __init__(self, folder, policies, environment, filters=()):
+    def __init__(self, folder, policies, environment, filters=(), **settings):
         self.folder, self.policies, self.filters = folder, policies, filters
+        self.settings = {"node_timeout": SECONDS, "conn_timeout": SECONDS, **settings}
         self.environment = dict(os.environ, **environment)
         self.processes, self.logs = {}, None
         (
@@ -238,6 +258,7 @@ class Cluster:
             "memcached": self.memcached_port,
             "seconds": SECONDS,
             "patience": f"node_timeout = {SECONDS}\nconn_timeout = {SECONDS}\n",
+            "settings": "".join(f"{key} = {value}\n" for key, value in self.settings.items()),
         }
         common = f"bind_ip = 127.0.0.1\nuser = {user}\nswift_dir = {self.folder}\n"
         common += f"log_address = {self.folder}/{{}}.log\n"
@@ -261,8 +282,7 @@ class Cluster:
             ("container", 1, [(1, self.container_port, "a0")]),
         ]
         for policy in self.policies:
-            name = f"object-{policy.index}" if policy.index else "object"
-            rings.append((name, policy.fragments, places))
+            rings.append((policy.ring, policy.replicas, places))
         subprocess.run(
             [PYTHON, "-c", RINGS, repr((self.folder, PART_POWER, rings))],
             env=self.environment,
@@ -316,11 +336,22 @@ class Cluster:
         conf = f"{self.folder}/object{number}.conf"
         self.spawn(f"object{number}", self.command("swift-object-server", conf), "object")
 
-    def kill_object_server(self, number):
-        """Ends it without a chance to end its answers."""
-        process = self.processes.pop(f"object{number}")
+    def spawn_reconstructor(self):
+        """It runs again and again."""
+        conf = f"{self.folder}/object.conf"
+        self.spawn("reconstructor", self.command("swift-object-reconstructor", conf))
+
+    def kill(self, name):
+        """Ends a process without a chance to end its answers."""
+        process = self.processes.pop(name)
         os.killpg(process.pid, signal.SIGKILL)
         process.wait()
+
+    def kill_object_server(self, number):
+        self.kill(f"object{number}")
+
+    def signal_object_server(self, number, what):
+        os.killpg(self.processes[f"object{number}"].pid, what)
 
     def start(self):
         words = f"-l 127.0.0.1 -p {self.memcached_port} -U 0 -u nobody -m 64"
@@ -375,9 +406,30 @@ class Cluster:
 
     def fragments(self, policy, path):
         """The file of each fragment of an object `account/container/object`, by its number."""
-        name = hashlib.md5(f"lrc/{path}lrc".encode()).hexdigest()
-        files = glob.glob(f"{self.folder}/devices/*/objects-{policy.index}/*/*/{name}/*#*.data")
+        files = glob.glob(f"{self.hash_folders(policy, path)}/*#*.data")
         return {int(re.search(r"#(\d+)(#d)?\.data$", file).group(1)): file for file in files}
+
+    def hash_folders(self, policy, path):
+        """A pattern of the folders of an object on all devices."""
+        return f"{self.folder}/devices/*/objects-{policy.index}/*/*/{hash_of(path)}"
+
+    def places(self, policy, path):
+        """Where the fragments of the newest version are, each as (number, device); none if the
+        object is deleted. A version counts if one of its fragments is durable."""
+        files = [
+            match.groups()
+            for file in glob.glob(f"{self.hash_folders(policy, path)}/*")
+            if (match := VERSION_FILE.search(file))
+        ]
+        stamps = [stamp for _, stamp, _, mark in files if mark is not None]
+        newest = max(stamps, default=None)
+        return {(int(i), device) for device, stamp, i, _ in files if i and stamp == newest}
+
+    def primaries(self, policy, path):
+        """Where the ring says that an object's fragments have to be, as `places` does."""
+        with open(f"{self.folder}/{policy.ring}.json", encoding="utf-8") as file:
+            devices = json.load(file)[int(hash_of(path)[:8], 16) >> 32 - PART_POWER]
+        return {(i % policy.fragments, device) for i, device in enumerate(devices)}
 
 
 class Client:
@@ -386,7 +438,7 @@ class Client:
     account = "AUTH_test"
 
     def __init__(self, port):
-        self.port = port
+        self.port, self.partial = port, b""
         status, headers, _ = self.ask(
             "GET", "/auth/v1.0", {"X-Auth-User": "test:tester", "X-Auth-Key": "testing"}
         )
@@ -395,8 +447,8 @@ class Client:
         self.token = headers["x-auth-token"]
 
     def ask(self, method, path, headers=(), body=None, midway=None):
-        """Status, headers and body; the body is None if the connection ended before its end.
-        `midway` is called when some of the body has come."""
+        """Status, headers and body; the body is None if the connection ended before its end, and
+        then `partial` is what has come of it. `midway` is called when some of it has come."""
         connection = http.client.HTTPConnection("127.0.0.1", self.port, timeout=SECONDS)
         try:
             connection.request(method, path, body, dict(headers))
@@ -407,7 +459,8 @@ class Client:
                 if midway:
                     midway()
                 return answer.status, found, first + answer.read()
-            except (http.client.IncompleteRead, ConnectionError):
+            except (http.client.IncompleteRead, ConnectionError) as error:
+                self.partial = first + getattr(error, "partial", b"")
                 return answer.status, found, None
         finally:
             connection.close()

@@ -58,6 +58,9 @@ from fragments import (  # noqa: E402
     with_cluster,
     wrong_of,
 )
+from damage import damage  # noqa: E402
+from handoffs import handoffs  # noqa: E402
+from storm import concurrent_storm, storm  # noqa: E402
 
 PACKAGES = (
     "gcc",
@@ -683,6 +686,10 @@ PARTS = {
         crashes,
         other_code,
         wrong_installations,
+        handoffs,
+        damage,
+        storm,
+        concurrent_storm,
     )
 }
 

@@ -1,6 +1,7 @@
 """What the parts of the cluster test share: policies, lost fragments, GETs and rebuilds."""
 
 import collections
+import ctypes
 import hashlib
 import os
 import random
@@ -96,6 +97,33 @@ class Away:
             os.rename(aside, place)
 
 
+def exchange(one, other):
+    """Exchanges two paths at once: a server that found neither would make a folder in its place."""
+    here, both = -100, 2  # AT_FDCWD, RENAME_EXCHANGE
+    libc = ctypes.CDLL(None, use_errno=True)
+    if libc.renameat2(here, one.encode(), here, other.encode(), both):
+        raise OSError(ctypes.get_errno(), f"{one} and {other} can't be exchanged")
+
+
+class DevicesAway:
+    """Devices are away, also while servers write to them, and back at the end."""
+
+    def __init__(self, cluster, names):
+        self.moves = [
+            (f"{cluster.folder}/devices/{name}", f"{cluster.folder}/away.{name}") for name in names
+        ]
+
+    def __enter__(self):
+        for place, aside in self.moves:
+            open(aside, "wb").close()
+            exchange(place, aside)
+
+    def __exit__(self, *_):
+        for place, aside in self.moves:
+            exchange(place, aside)
+            os.unlink(aside)
+
+
 def get(client, path, body, midway=None):
     """`right`, `refused` (a status from 500 on, or a body that ends early) or `wrong`, and the
     status."""
@@ -127,8 +155,28 @@ def reconstruct(cluster, *words):
     )
 
 
+def is_on_primaries(cluster, policy, path):
+    """Whether the newest version's fragments are on their primary devices and nowhere else."""
+    return cluster.places(policy, path) == cluster.primaries(policy, path)
+
+
+def move_to_primaries(cluster, policy, paths, most=10):
+    """Runs the reconstructor until all fragments of the objects are on their primary devices and
+    nowhere else. Returns how many are, and the number of runs."""
+    runs = 0
+    while runs < most and not all(is_on_primaries(cluster, policy, path) for path in paths):
+        runs += 1
+        reconstruct(cluster)
+    found = [cluster.places(policy, path) & cluster.primaries(policy, path) for path in paths]
+    return sum(map(len, found)), runs
+
+
 def partition_of(file):
     return re.search(r"/objects-\d+/(\d+)/", file).group(1)
+
+
+def device_of(file):
+    return re.search(r"/devices/(d\d+)/", file).group(1)
 
 
 def replace_devices(cluster, files, numbers):

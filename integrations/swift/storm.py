@@ -1,0 +1,411 @@
+"""Three clients call the proxy while devices go and come back, and object servers are killed,
+stopped and continued."""
+
+import collections
+import glob
+import hashlib
+import http.client
+import os
+import random
+import signal
+import threading
+import time
+
+from cluster import DEVICES, SERVERS, Client, Cluster, Policy
+from fragments import (
+    ISA,
+    LRC,
+    MIB,
+    REPLICATED,
+    SMALL,
+    Away,
+    DevicesAway,
+    contents,
+    count_gets,
+    installed,
+    partition_of,
+    payload,
+    reconstruct,
+    replace_devices,
+    text_of,
+    with_cluster,
+)
+
+STORM_SECONDS = 60
+CLIENTS = 3
+OBJECTS = 6  # of a client in each policy
+SIZES = (1000, 100_000, 300_000, MIB + 13, 2 * MIB + 5)
+NODE_TIMEOUT = 5  # seconds, after which the proxy does without an answer of an object server
+MARK = "x-object-meta-mark"
+DUPLICATED = Policy(
+    4, "duplicated", SMALL.ec_type, SMALL.data, **SMALL.settings, ec_duplication_factor=2
+)
+
+
+def storm(report, folder, options):
+    cluster = Cluster(
+        f"{folder}/storm",
+        [REPLICATED, LRC, ISA, SMALL],
+        installed(folder),
+        ("lrcstore",),
+        node_timeout=NODE_TIMEOUT,
+    )
+    with_cluster(cluster, lambda client: check_storm(report, cluster, client, "a storm"))
+
+
+def concurrent_storm(report, folder, options):
+    """The proxy asks for two fragments more than needed at once, and a policy stores each twice."""
+    cluster = Cluster(
+        f"{folder}/concurrent",
+        [REPLICATED, LRC, ISA, DUPLICATED],
+        installed(folder),
+        ("lrcstore",),
+        node_timeout=NODE_TIMEOUT,
+        concurrent_gets="yes",
+        concurrency_timeout=0.5,
+        concurrent_ec_extra_requests=2,
+    )
+
+    def work(client):
+        check_duplicated(report, cluster, client)
+        name = "a storm with concurrent GETs and a duplication factor"
+        check_storm(report, cluster, client, name)
+
+    with_cluster(cluster, work)
+
+
+# ---- LRC(6,2,2) with a duplication factor of two
+
+
+def check_duplicated(report, cluster, client, times=10):
+    """Groups 0 to 2 with 6, and 3 to 5 with 7; global parities 8 and 9."""
+    path, body = "duplicated/object", payload(SIZES[-1])
+    client.put(path, body)
+    whole = f"{client.account}/{path}"
+    folders = cluster.hash_folders(DUPLICATED, whole)
+    files = {
+        (i, copy): file
+        for i in range(DUPLICATED.fragments)
+        for copy, file in enumerate(glob.glob(f"{folders}/*#{i}#d.data"))
+    }
+    name = "LRC(6,2,2) with duplication factor 2"
+    report.check(f"{name}: 20 fragments are stored", len(files) == 20, str(len(files)))
+    for lost, wanted in (((0, 1, 8), ("right", 200)), ((0, 1, 2, 6), ("refused", 503))):
+        both = [each for each in files if each[0] in lost]
+        with Away(cluster, whole, both, files):
+            outcomes = count_gets(client, path, body, times)
+        report.check(
+            f"{name}, lost both of each of {list(lost)}: {wanted[0]}",
+            set(outcomes) == {wanted},
+            text_of(outcomes),
+        )
+    for lost in ([(1, 0)], [(1, 0), (1, 1)], [(9, 0), (9, 1), (3, 0)]):
+        check_rebuilt(report, cluster, files, lost, name)
+
+
+def check_rebuilt(report, cluster, files, lost, name):
+    """Fragments, each as its number and which of both it is, are rebuilt on empty devices."""
+    saved, runs = replace_devices(cluster, files, lost), 0
+    while runs < 3 and not all(os.path.exists(files[each]) for each in lost):
+        runs += 1
+        reconstruct(cluster, "-p", partition_of(files[lost[0]]))
+    there = [each for each in lost if os.path.exists(files[each])]
+    report.check(
+        f"{name}: lost {[i for i, _ in lost]} are rebuilt, byte-equal",
+        there == lost and all(contents(files[each]) == saved[each] for each in lost),
+        f"{runs} runs",
+    )
+
+
+# ---- what an object can be
+
+
+class Known:
+    """The versions of an object, each as (size, seed) of its body, or None if it is absent: those
+    that it can be now, and all that there ever were. After a call that failed it can be as before
+    the call or as after it."""
+
+    def __init__(self):
+        self.now, self.ever, self.marks = [None], {None}, set()
+
+    def change(self, versions, is_done):
+        self.now = list(dict.fromkeys(versions if is_done else [*self.now, *versions]))
+        self.ever.update(versions)
+
+    def judge(self, seen, expected):
+        """`right`; `older` if it was so before, which Swift's consistency allows; or `wrong`."""
+        if any(seen == expected(version) for version in self.now):
+            return "right"
+        return "older" if any(seen == expected(version) for version in self.ever) else "wrong"
+
+
+def body_of(version):
+    return payload(*version)
+
+
+def etag_of(version):
+    return hashlib.md5(body_of(version)).hexdigest()
+
+
+def whole_answer(_, answer):
+    return answer
+
+
+def whole_or_absent(version):
+    return body_of(version) if version else 404
+
+
+def parts_of(headers, answer):
+    """The bodies of the parts of an answer of several ranges."""
+    kind, _, boundary = headers["content-type"].partition("boundary=")
+    if not boundary:
+        return kind, answer
+    parts = answer.split(b"--" + boundary.encode())[1:-1]
+    return [part.partition(b"\r\n\r\n")[2].removesuffix(b"\r\n") for part in parts]
+
+
+# ---- clients
+
+
+class Caller(threading.Thread):
+    """Calls the proxy for objects of its own until it is told to stop."""
+
+    def __init__(self, cluster, number):
+        super().__init__()
+        self.client, self.number = Client(cluster.proxy_port), number
+        self.policies = cluster.policies[1:]
+        self.dice, self.stopped = random.Random(), threading.Event()
+        self.known = collections.defaultdict(Known)
+        self.found, self.calls, self.wrong = collections.Counter(), 0, []
+
+    def run(self):
+        changes = [self.put, self.put, self.copy, self.delete, self.post]
+        reads = [self.get, self.get, self.head, self.range, self.ranges, self.if_match]
+        while not self.stopped.is_set():
+            call = self.dice.choice(self.dice.choice([changes, reads]))
+            try:
+                call(self.draw())
+            except Exception as error:
+                self.wrong.append(f"{call.__name__}: {type(error).__name__}: {error}")
+            self.calls += 1
+
+    def draw(self):
+        policy = self.dice.choice(self.policies)
+        return f"{policy.name}/c{self.number}_{self.dice.randrange(OBJECTS)}"
+
+    def call(self, method, path, headers=(), body=None):
+        """Status, headers and body, as of Client.call; status 599 if the proxy ended the call."""
+        try:
+            return self.client.call(method, path, headers, body)
+        except (OSError, http.client.HTTPException):
+            return 599, {}, None
+
+    def count(self, what, path, outcome, seen=""):
+        self.found[outcome] += 1
+        if outcome == "wrong":
+            self.wrong.append(f"{what} {path}: {seen}")
+
+    # ---- changes
+
+    def put(self, path):
+        version = self.dice.choice(SIZES), self.dice.randrange(1 << 30)
+        mark = str(self.dice.randrange(1 << 30))
+        self.known[path].marks.add(mark)
+        body = body_of(version)
+        headers = {"Content-Length": str(len(body)), MARK: mark}
+        self.changed("PUT", path, [version], self.call("PUT", path, headers, body)[0], 201)
+
+    def delete(self, path):
+        status = self.call("DELETE", path)[0]
+        is_absent = status == 404 and self.known[path].now == [None]
+        self.changed("DELETE", path, [None], 204 if is_absent else status, 204)
+
+    def post(self, path):
+        mark = str(self.dice.randrange(1 << 30))
+        self.known[path].marks.add(mark)
+        status = self.call("POST", path, {MARK: mark})[0]
+        self.changed("POST", path, [], status, 202)
+
+    def copy(self, path):
+        """To a policy that is drawn. The new object's ETag says which version was copied."""
+        to = self.draw()
+        status, headers, _ = self.call("COPY", path, {"Destination": to, "Content-Length": "0"})
+        source, target = self.known[path], self.known[to]
+        target.marks |= source.marks
+        versions = [each for each in source.now if each]
+        if status == 201:
+            etag = headers["etag"].strip('"')
+            versions = [each for each in source.ever if each and etag_of(each) == etag]
+            if not versions:
+                self.count("COPY", path, "wrong", f"ETag {etag}")
+        self.changed("COPY", to, versions, status, 201)
+
+    def changed(self, method, path, versions, status, done):
+        """After a call that makes one of the versions of an object, if it is done. An object that
+        is absent is neither copied nor changed."""
+        if versions and (method == "DELETE" or status != 404):
+            self.known[path].change(versions, status == done)
+        outcomes = {done: "done", 404: "absent"}
+        self.count(method, path, outcomes.get(status, f"refused ({method} {status})"))
+
+    # ---- reads
+
+    def read(self, method, path, headers, look, expected):
+        """Compares what `look` makes of an answer with what is expected of each version."""
+        status, found, answer = self.call(method, path, headers)
+        known, mark = self.known[path], found.get(MARK)
+        if status >= 500:
+            outcome = f"refused ({method} {status})"
+        elif answer is None:
+            outcome = self.judge_cut(known, expected)
+        else:
+            seen = look(found, answer) if status in (200, 206) else status
+            outcome = known.judge(seen, expected)
+        if mark is not None and mark not in known.marks:
+            outcome = "wrong"
+        if outcome == "older":
+            outcome = f"older ({method} {status})"
+        self.count(method, path, outcome, f"status {status}, mark {mark}")
+
+    def judge_cut(self, known, expected):
+        """Of a body that ended early: `wrong` if no version begins so, else `cut`."""
+        wholes = [each for each in map(expected, known.ever) if isinstance(each, bytes)]
+        is_prefix = any(each.startswith(self.client.partial) for each in wholes)
+        return "wrong" if wholes and not is_prefix else "cut"
+
+    def get(self, path):
+        self.read("GET", path, {}, whole_answer, whole_or_absent)
+
+    def head(self, path):
+        def look(found, _):
+            return found["content-length"], found["etag"].strip('"')
+
+        def expected(version):
+            return (str(version[0]), etag_of(version)) if version else 404
+
+        self.read("HEAD", path, {}, look, expected)
+
+    def range(self, path):
+        """A range that begins in every version, and ends in it or after it."""
+        first = self.dice.randrange(SIZES[0])
+        last = self.dice.randrange(first, SIZES[-1])
+
+        def expected(version):
+            return body_of(version)[first : last + 1] if version else 404
+
+        self.read("GET", path, {"Range": f"bytes={first}-{last}"}, whole_answer, expected)
+
+    def ranges(self, path):
+        """Two ranges that every version has."""
+        middle = self.dice.randrange(2, SIZES[0] - 2)
+
+        def expected(version):
+            body = version and body_of(version)
+            return [body[1:middle], body[middle + 1 :]] if version else 404
+
+        header = {"Range": f"bytes=1-{middle - 1},{middle + 1}-"}
+        self.read("GET", path, header, parts_of, expected)
+
+    def if_match(self, path):
+        """With the ETag of the newest version, or of none."""
+        newest = self.known[path].now[-1]
+        etag = etag_of(newest) if newest and self.dice.randrange(3) else "0" * 32
+
+        def expected(version):
+            if version is None:
+                return 404
+            return body_of(version) if etag_of(version) == etag else 412
+
+        self.read("GET", path, {"If-Match": f'"{etag}"'}, whole_answer, expected)
+
+
+# ---- the storm
+
+
+def disturb(cluster, dice):
+    """One to three devices are away for some seconds, and an object server is killed or stopped."""
+    number, what = dice.randrange(SERVERS), dice.choice(["kill", "stop", "leave"])
+    devices = dice.sample(range(DEVICES), dice.randrange(1, 4))
+    with DevicesAway(cluster, [f"d{i}" for i in devices]):
+        if what == "kill":
+            cluster.kill_object_server(number)
+        if what == "stop":
+            cluster.signal_object_server(number, signal.SIGSTOP)
+        time.sleep(dice.uniform(0.5, 1.5 * NODE_TIMEOUT))
+        if what == "stop":
+            cluster.signal_object_server(number, signal.SIGCONT)
+        if what == "kill":
+            cluster.spawn_object_server(number)
+            cluster.wait_for(cluster.object_ports[number])
+    time.sleep(dice.uniform(0, 2))
+    return what
+
+
+def check_storm(report, cluster, client, name):
+    callers = [Caller(cluster, number) for number in range(CLIENTS)]
+    cluster.spawn_reconstructor()
+    for caller in callers:
+        caller.start()
+    dice, events, end = random.Random(), collections.Counter(), time.monotonic() + STORM_SECONDS
+    try:
+        while time.monotonic() < end:
+            events[disturb(cluster, dice)] += 1
+    finally:
+        for caller in callers:
+            caller.stopped.set()
+        for caller in callers:
+            caller.join()
+        has_run = cluster.processes["reconstructor"].poll() is None
+        cluster.kill("reconstructor")
+    report_storm(report, callers, name, events, has_run)
+    check_after_storm(report, cluster, client, callers, name)
+
+
+def report_storm(report, callers, name, events, has_run):
+    found = sum((caller.found for caller in callers), collections.Counter())
+    wrong = [text for caller in callers for text in caller.wrong]
+    report.check(
+        f"{name}: no wrong byte in {sum(caller.calls for caller in callers)} calls, "
+        f"{sum(events.values())} times devices away, {events['kill']} servers killed, "
+        f"{events['stop']} stopped",
+        not wrong and has_run and found["right"] > 0 and found["done"] > 0,
+        "; ".join(wrong[:3]) or ", ".join(f"{found[each]} {each}" for each in sorted(found)),
+    )
+
+
+def check_after_storm(report, cluster, client, callers, name, most=10):
+    """Afterwards the reconstructor runs until all fragments are on their primary devices."""
+    known = {path: each for caller in callers for path, each in caller.known.items()}
+    policies = {policy.name: policy for policy in cluster.policies}
+    lacking, runs = known, 0
+    while runs < most and lacking:
+        runs += 1
+        reconstruct(cluster)
+        lacking = [path for path in known if lacks(cluster, policies, client, path)]
+    differ = [path for path in known if not is_as_known(client, path, known[path])]
+    there = sum(each.now != [None] for each in known.values())
+    report.check(
+        f"after {name}: {there} objects are equal, those deleted absent, and all fragments on "
+        "their primary devices",
+        not lacking and not differ,
+        f"{runs} runs; lack fragments: {lacking}; differ: {differ}"
+        if lacking or differ
+        else f"{runs} runs",
+    )
+
+
+def lacks(cluster, policies, client, path):
+    """Whether fragments of the object's newest version are missing on their primary devices."""
+    policy, whole = policies[path.partition("/")[0]], f"{client.account}/{path}"
+    places = cluster.places(policy, whole)
+    return bool(places) and not places >= cluster.primaries(policy, whole)
+
+
+def is_as_known(client, path, known, most=10):
+    """Asks again after a refusal, as a loaded machine may be slower than the time-out."""
+    for _ in range(most):
+        status, _, answer = client.get(path)
+        if status < 500 and answer is not None:
+            break
+        time.sleep(NODE_TIMEOUT)
+    return known.judge(answer if status == 200 else status, whole_or_absent) == "right"
