@@ -84,6 +84,16 @@ pyeclib() {
         LD_LIBRARY_PATH=/tmp python3 integrations/liberasurecode/test_pyeclib.py"
 }
 
+# The parts of the cluster test for which it matters that the plugin is installed.
+installed_plugin() {
+    local folder=/usr/lib/x86_64-linux-gnu/ceph/erasure-code status
+    in_root "integrations/ceph/build.sh $folder" || return
+    cluster --only profiles --only racks --only missing
+    status=$?
+    in_root "rm $folder/libec_azure_lrc.so"
+    return $status
+}
+
 # The steps of README.md, and then the parts of the cluster test for which it matters that the
 # library and the modules are there.
 installed() {
@@ -100,7 +110,7 @@ installed() {
     return $status
 }
 
-tests=(plugin)
+tests=(plugin installed_plugin)
 [ "$integration" = ceph ] || tests=(modules backend pyeclib installed)
 for each in "${suites[@]}"; do
     echo "== $each"

@@ -39,6 +39,7 @@ mon cluster log file = {folder}/cluster.log
 pid file =
 crash dir = {folder}/crash
 erasure code dir = {plugins}
+osd class dir = /usr/lib/x86_64-linux-gnu/rados-classes
 osd erasure code plugins = isa lrc azure_lrc
 osd pool default pg autoscale mode = off
 osd crush chooseleaf type = 0
@@ -147,13 +148,10 @@ class Cluster:
         return port
 
     def run(self, *words):
-        done = subprocess.run(
-            words, stdout=subprocess.PIPE, stderr=subprocess.STDOUT, text=True, check=False
-        )
+        done = subprocess.run(words, capture_output=True, text=True, check=False)
         if done.returncode:
-            raise RuntimeError(
-                f"{' '.join(words)}: status {done.returncode}\n{done.stdout[-2000:]}"
-            )
+            printed = (done.stdout + done.stderr)[-2000:]
+            raise RuntimeError(f"{' '.join(words)}: status {done.returncode}\n{printed}")
         return done.stdout
 
     def spawn(self, name, *words):
@@ -216,14 +214,17 @@ class Cluster:
             "ceph-osd", "-c", self.settings, "-i", str(osd), "--mkfs", "--osd-uuid", self.uuids[osd]
         )
 
+    def end(self, name):
+        daemon = self.daemons.pop(name)
+        daemon.kill()
+        daemon.wait()
+
     def kill(self, osds):
         """Ends OSDs by SIGKILL, and has the monitor mark them down and dead: then no other OSD
         waits for the end of the time in which they might have answered reads. A client that does
         not know it yet would try to connect to them for some time."""
         for osd in osds:
-            daemon = self.daemons.pop(f"osd.{osd}")
-            daemon.kill()
-            daemon.wait()
+            self.end(f"osd.{osd}")
         self.command("osd down", ids=[str(osd) for osd in osds], definitely_dead=True)
         self.until(f"OSDs {osds} are down", lambda: not self.up() & set(osds))
         self.rados.wait_for_latest_osdmap()
@@ -248,11 +249,10 @@ class Cluster:
         text = json.dumps({"prefix": prefix, "format": "json", **words})
         return self.answer(prefix, self.rados.mon_command(text, data, timeout=SECONDS), binary)
 
-    def osd_command(self, osd, prefix, **words):
+    def osd_command(self, osd, prefix, binary=False, **words):
         text = json.dumps({"prefix": prefix, "format": "json", **words})
-        return self.answer(
-            f"osd.{osd} {prefix}", self.rados.osd_command(osd, text, b"", timeout=SECONDS)
-        )
+        answer = self.rados.osd_command(osd, text, b"", timeout=SECONDS)
+        return self.answer(f"osd.{osd} {prefix}", answer, binary)
 
     def manager_command(self, prefix, **words):
         return self.answer(
@@ -302,6 +302,13 @@ class Cluster:
         """Whether the pool's placement group has come to rest, and serves nothing."""
         return bool({"down", "incomplete", "peered"} & set(self.state(pool).split("+")))
 
+    def warns(self, *checks):
+        """Whether Ceph's health comes to have these checks."""
+        return self.until(
+            f"health warns of {', '.join(checks)}",
+            lambda: set(checks) <= set(self.command("health")["checks"]),
+        )
+
     def is_clean(self):
         """By the manager's statistics, which come late: ask after a loss was seen in them."""
         states = [group["state"] for group in self.groups().values()]
@@ -323,7 +330,7 @@ class Cluster:
 
     # ---- pools and objects
 
-    def make_pool(self, name, profile, groups, rule=None, **settings):
+    def make_pool(self, name, profile, groups, rule=None, app="rados", **settings):
         self.command("osd erasure-code-profile set", name=name, profile=profile, force=True)
         words = {
             "pool": name,
@@ -333,7 +340,7 @@ class Cluster:
             "erasure_code_profile": name,
         }
         self.command("osd pool create", **words, **({"rule": rule} if rule else {}))
-        self.command("osd pool application enable", pool=name, app="rados")
+        self.command("osd pool application enable", pool=name, app=app)
         for variable, value in settings.items():
             self.command("osd pool set", pool=name, var=variable, val=str(value))
 
@@ -427,18 +434,23 @@ class Cluster:
     def reads_since(self, sizes):
         """The reads of each pool's recovery, by the pool's number."""
         reads = collections.defaultdict(dict)
+        for path, line in self.lines_since(sizes):
+            found = READ.search(line) if "MOSDECSubOpRead(" in line else None
+            if found:
+                pool, group, place, number, extents = found.groups()
+                key = (path, group, number)
+                read = reads[int(pool)].setdefault(key, Read(int(group, 16)))
+                read.places.append(int(place))
+                read.length += stored_bytes(extents)
+        return {pool: list(by_key.values()) for pool, by_key in reads.items()}
+
+    def lines_since(self, sizes):
+        """Lines of the OSDs' logs, each with the log's path."""
         for path in glob.glob(f"{self.folder}/osd.*.log"):
             with open(path, errors="replace", encoding="utf-8") as file:
                 file.seek(sizes.get(path, 0))
                 for line in file:
-                    found = READ.search(line) if "MOSDECSubOpRead(" in line else None
-                    if found:
-                        pool, group, place, number, extents = found.groups()
-                        key = (path, group, number)
-                        read = reads[int(pool)].setdefault(key, Read(int(group, 16)))
-                        read.places.append(int(place))
-                        read.length += stored_bytes(extents)
-        return {pool: list(by_key.values()) for pool, by_key in reads.items()}
+                    yield path, line
 
     def bytes_moved(self, osds):
         """The bytes that the stores of these OSDs were asked to read since they started, and those

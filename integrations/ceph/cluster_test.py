@@ -2,14 +2,14 @@
 """LRC(12,2,2) in Ceph: a monitor, a manager and 18 OSDs on this machine's loopback address.
 
 Pools in azure_lrc and in Ceph's own codes lose OSDs, objects are read back, and what recovery reads
-is counted.
+is counted. Stores are damaged, and clients of Ceph use the pools.
 
     integrations/ceph/cluster_test.py [--only PART]..
 
-PART is one of the parts at the end of this file. It installs Debian's packages where they are
-missing (as root), works in a temporary folder, ends every process that it started, and prints
-`N passed, M failed`. It needs the coder for C, in the folder that LRC_LIBRARIES names, or the
-Rattle kit's `rt`, which builds it."""
+PART is one of NAMES below. It installs Debian's packages where they are missing (as root), works in
+a temporary folder, ends every process that it started, and prints `N passed, M failed`. It needs
+the coder for C, in the folder that LRC_LIBRARIES names, or the Rattle kit's `rt`, which builds
+it."""
 
 import argparse
 import collections
@@ -62,11 +62,13 @@ RACKS = """    id 99
 
 
 def build(folder):
-    """A folder with the plugin and links to Ceph's own: `erasure code dir` names one."""
+    """A folder with the plugin and links to Ceph's own: `erasure code dir` names one. A plugin that
+    is installed is neither used nor changed."""
     harness.coder_folder()
+    own = set(glob.glob(f"{CEPH_PLUGINS}/libec_*.so")) - {f"{CEPH_PLUGINS}/libec_azure_lrc.so"}
     for name in ("plugins", "without"):
         os.mkdir(f"{folder}/{name}")
-        for path in glob.glob(f"{CEPH_PLUGINS}/libec_*.so"):
+        for path in own:
             os.symlink(path, f"{folder}/{name}/{os.path.basename(path)}")
     subprocess.run([f"{HERE}/build.sh", f"{folder}/plugins"], check=True)
     return f"{folder}/plugins"
@@ -178,6 +180,7 @@ def check_unrecoverable(cluster, report, pool, osds, lost, objects):
         inactive,
         cluster.state(pool),
     )
+    report.check("health has PG_AVAILABILITY", cluster.warns("PG_AVAILABILITY"))
     cluster.revive(osds)
     report.check(
         "the objects are back with the OSDs",
@@ -561,6 +564,12 @@ def overwritten(cluster, report):
     check_overwrites(cluster, report, "over", POOLS["azure_lrc"], (1, 2), min_size=12, fast_read=1)
 
 
+NAMES = (
+    *("profiles", "lost", "recovery", "counters", "operators"),
+    *("damage", "units", "storm", "benchmark", "images", "files", "buckets"),
+    *("racks", "small", "overwrites"),  # these leave pools there, which `damage` would reach
+    "missing",
+)
 PARTS = {
     "profiles": (check_profiles, check_profile_in_use),
     "lost": (check_lost_sets, check_min_size, check_min_sizes, check_beside_lrc),
@@ -573,11 +582,9 @@ PARTS = {
 }
 
 
-LATER = "damage", "units", "images", "storm", "benchmark"  # in modules of their own
-
-
 def work(report, folder, options):
     """These modules want python3-rados, which the interpreter finds only after it was installed."""
+    import clients
     import damage
     import loads
     from cluster import OSDS, Cluster
@@ -589,9 +596,9 @@ def work(report, folder, options):
         cluster.command("osd set", key="noout")
         version = cluster.run("ceph-osd", "--version").split(" (")[0]
         report.check(f"{OSDS} OSDs are up", len(cluster.up()) == OSDS, version)
-        parts = {**PARTS, **damage.PARTS, **loads.PARTS}
-        for name, checks in parts.items():
-            for check in checks if name in options.only else ():
+        parts = {**PARTS, **damage.PARTS, **loads.PARTS, **clients.PARTS}
+        for name in NAMES:
+            for check in parts.get(name, ()) if name in options.only else ():
                 if check is not check_optimized or is_20(version):
                     check(cluster, report)
         if "missing" in options.only:
@@ -605,10 +612,9 @@ def main():
         description=__doc__, formatter_class=argparse.RawDescriptionHelpFormatter
     )
     parser.add_argument("--keep", action="store_true", help="keep the folder, with the logs")
-    names = [*PARTS, *LATER, "missing"]
-    parser.add_argument("--only", choices=names, action="append", help="run this part")
+    parser.add_argument("--only", choices=NAMES, action="append", help="run this part")
     options = parser.parse_args()
-    options.only = options.only or names
+    options.only = options.only or NAMES
     return harness.run(options, PACKAGES, work)
 
 

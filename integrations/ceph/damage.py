@@ -46,6 +46,7 @@ def change_shard(cluster, osd, shard, name):
         file.seek(0)
         file.write(data)
     cluster.run(*tool, "set-bytes", path)
+    os.remove(path)
 
 
 def change_shards(cluster, pool, sets):
@@ -72,7 +73,7 @@ def inconsistent_shards(cluster, pool):
     words = "list-inconsistent-obj", f"{cluster.rados.pool_lookup(pool)}.0", "--format=json"
     found = json.loads(cluster.run("rados", "-c", cluster.settings, *words))
     return {
-        item["object"]["name"]: [each["shard"] for each in item["shards"] if each["errors"]]
+        item["object"]["name"]: sorted(each["shard"] for each in item["shards"] if each["errors"])
         for item in found["inconsistents"]
     }
 
@@ -89,15 +90,16 @@ def check_changed(cluster, report, objects=len(CHANGED) + 2):
     found = inconsistent_shards(cluster, "changed")
     wanted = {f"o{number}": places for number, places in enumerate(CHANGED)}
     report.check("a deep scrub names these shards", found == wanted, str(found))
+    checks = "OSD_SCRUB_ERRORS", "PG_DAMAGED"
+    report.check(f"health has {' and '.join(checks)}", cluster.warns(*checks))
     cluster.manager_command("pg repair", pgid=f"{cluster.rados.pool_lookup('changed')}.0")
-    repaired = cluster.until("a repair", lambda: not inconsistent_left(cluster, "changed"))
+    cluster.until("a repair", lambda: "inconsistent" not in cluster.state("changed"))
+    cluster.wait_clean()
+    cluster.deep_scrub("changed")
+    found = inconsistent_shards(cluster, "changed")
     equal = cluster.equal_objects("changed", objects, 1 << 20)
-    report.check(f"after pg repair {equal} objects read back", repaired and equal == objects)
-
-
-def inconsistent_left(cluster, pool):
-    """Whether a placement group is still inconsistent, by a deep scrub of its own."""
-    return "inconsistent" in cluster.state(pool) or not cluster.is_clean()
+    report.check("after pg repair a deep scrub names none", not found, str(found))
+    report.check(f"after it {equal} of {objects} objects read back", equal == objects)
 
 
 def check_changed_group(cluster, report):
@@ -117,7 +119,7 @@ def check_changed_group(cluster, report):
 
 
 def check_replaced(cluster, report, objects=16):
-    """Four disks of a group are replaced by empty ones, and `mark_unfound_lost` gives up what was
+    """Four disks of a group are replaced by empty ones, and `mark_unfound_lost` abandons what was
     there."""
     cluster.make_pool("replaced", [*WIDE.profile, OSD_EACH], 2, min_size=12)
     cluster.wait_clean()
@@ -144,21 +146,25 @@ def is_left(places, osds):
 
 
 def check_unfound(cluster, report, lost, objects):
-    """Objects of these placement groups are held back until they are given up, and others read."""
+    """Objects of these placement groups are held back until they are abandoned, and others read."""
     names = {f"o{number}": content("replaced", number) for number in range(objects)}
     gone = {name for name in names if cluster.group_of("replaced", name) in lost}
     with cluster.rados.open_ioctx("replaced") as io:
+        report.check("health has OBJECT_UNFOUND", cluster.warns("OBJECT_UNFOUND"))
         right = sum(io.read(name, 1 << 21) == names[name] for name in names.keys() - gone)
         report.check("objects of the others read back", right == len(names) - len(gone), str(right))
         seen = read_within(io, min(gone), 1 << 21)
         report.check("a read of what is lost does not end", seen == "nothing", str(seen)[:80])
+        unfound = 0
         for group in lost:
             pgid = f"{cluster.rados.pool_lookup('replaced')}.{group:x}"
-            words = "pg", pgid, "mark_unfound_lost", "delete"
-            cluster.run("ceph", "-c", cluster.settings, *words)
+            tool = "ceph", "-c", cluster.settings, "pg", pgid
+            unfound += json.loads(cluster.run(*tool, "list_unfound"))["num_unfound"]
+            cluster.run(*tool, "mark_unfound_lost", "delete")
+        report.check("list_unfound names what is lost", unfound == len(gone), str(unfound))
         clean = cluster.wait_clean()
         left = sum(is_there(io, name) for name in gone)
-        report.check("mark_unfound_lost gives them up", clean and left == 0, f"{left} are there")
+        report.check("mark_unfound_lost abandons them", clean and left == 0, f"{left} are there")
 
 
 def is_there(io, name):
@@ -172,6 +178,11 @@ def is_there(io, name):
 # ---- reads that fail
 
 
+def inject(cluster, osd, value):
+    """Whether a store answers with the errors that `injectdataerr` names."""
+    cluster.osd_command(osd, "config set", var="bluestore_debug_inject_read_err", val=[value])
+
+
 def check_errors(cluster, report, objects=8):
     """Stores that answer reads of up to four shards with errors, with and without fast_read."""
     cluster.make_pool("errors", [*WIDE.profile, OSD_EACH], 1, min_size=12)
@@ -179,13 +190,12 @@ def check_errors(cluster, report, objects=8):
     cluster.fill("errors", objects)
     places = cluster.places("errors")[0]
     for osd in places:
-        cluster.osd_command(
-            osd, "config set", var="bluestore_debug_inject_read_err", val=["true"]
-        )
+        inject(cluster, osd, "true")
     for number, lost in enumerate(([0], [0, 1], [0, 1, 8], [0, 1, 8, 9])):
         for place in lost:
             words = {"pool": "errors", "objname": f"o{number}", "shardid": place}
-            cluster.osd_command(places[place], "injectdataerr", **words)
+            cluster.osd_command(places[place], "injectdataerr", binary=True, **words)
+    sizes = cluster.log_sizes()
     for fast in "0", "1":
         cluster.command("osd pool set", pool="errors", var="fast_read", val=fast)
         equal = cluster.equal_objects("errors", objects)
@@ -194,10 +204,10 @@ def check_errors(cluster, report, objects=8):
             "objects read back",
             equal == objects,
         )
+    count = sum("INJECT EIO" in line for _, line in cluster.lines_since(sizes))
+    report.check("the stores have answered with errors", count >= 10, str(count))
     for osd in places:
-        cluster.osd_command(
-            osd, "config set", var="bluestore_debug_inject_read_err", val=["false"]
-        )
+        inject(cluster, osd, "false")
     cluster.remove_pool("errors")
 
 

@@ -1,5 +1,5 @@
-"""What clients do to pools of the plugin: other stripe units, images of RBD, writers while OSDs
-come and go, and Ceph's own benchmark."""
+"""What is done to pools of the plugin: other stripe units, writers while OSDs come and go, and
+Ceph's own benchmark."""
 
 import itertools
 import random
@@ -8,12 +8,12 @@ import shutil
 import threading
 import time
 
+import harness
 import rados
 from codes import OSD_EACH, WIDE
 
 UNITS = (4096, 65536, 64, 192, 12288, 1 << 20)
 STORM_SECONDS = 60
-IMAGE_BYTES = 16 << 20
 
 
 # ---- stripe units
@@ -112,69 +112,6 @@ def check_units(cluster, report):
         cluster.remove_pool(pool)
 
 
-# ---- RBD
-
-
-def make_image(cluster, report):
-    """Makes an image whose data is in a pool of the code, or None where rbd makes none at all."""
-    import rbd
-
-    cluster.make_pool("data", [*WIDE.profile, OSD_EACH], 1, allow_ec_overwrites="true", min_size=12)
-    words = {"pool": "headers", "pg_num": 8, "pgp_num": 8, "pool_type": "replicated"}
-    cluster.command("osd pool create", **words)
-    cluster.command("osd pool set", pool="headers", var="size", val="6")
-    cluster.command("osd pool set", pool="headers", var="min_size", val="1")
-    for pool in "headers", "data":
-        cluster.command("osd pool application enable", pool=pool, app="rbd", force=True)
-    cluster.wait_clean()
-    io = cluster.rados.open_ioctx("headers")
-    try:
-        rbd.RBD().create(io, "plain", 1 << 22, old_format=False, features=1)
-    except rbd.Error as error:
-        report.note(f"skipped: rbd makes no image in a replicated pool either: {error}")
-        return None
-    rbd.RBD().create(io, "image", IMAGE_BYTES, old_format=False, features=1, data_pool="data")
-    return rbd.Image(io, "image")
-
-
-def check_images(cluster, report):
-    """An image of RBD: random writes, half of them without four OSDs, and a snapshot."""
-    image = make_image(cluster, report)
-    if image:
-        try:
-            write_image(cluster, report, image)
-        finally:
-            image.close()
-        cluster.scrub(report, "data")
-    for pool in "data", "headers":
-        cluster.remove_pool(pool)
-
-
-def write_image(cluster, report, image):
-    dice, wanted = random.Random(2), bytearray(IMAGE_BYTES)
-    lost = [cluster.places("data")[0][place] for place in (1, 2, 9, 14)]
-    kept = b""
-    for number in range(200):
-        if number == 100:
-            image.create_snap("kept")
-            kept = bytes(wanted)
-            cluster.kill(lost)
-        piece = dice.randbytes(dice.choice([1, 512, 4096, 100_000]))
-        at = dice.randrange(IMAGE_BYTES - len(piece))
-        image.write(piece, at)
-        wanted[at : at + len(piece)] = piece
-    same = image.read(0, IMAGE_BYTES) == wanted
-    report.check("an image written to at random, half of the time without four OSDs", same)
-    cluster.wait_loss()
-    cluster.revive(lost)
-    cluster.wait_clean()
-    report.check("it reads back once all are there", image.read(0, IMAGE_BYTES) == wanted)
-    image.set_snap("kept")
-    report.check("its snapshot is as it was before", image.read(0, IMAGE_BYTES) == kept)
-    image.set_snap(None)
-    image.remove_snap("kept")
-
-
 # ---- a storm
 
 
@@ -266,7 +203,9 @@ BENCHMARK = "ceph_erasure_code_benchmark"
 
 
 def check_benchmark(cluster, report):
-    """Ceph's own benchmark of codes, where it is installed: Debian 12 has none."""
+    """Ceph's own benchmark of codes, which Debian 12 does not have."""
+    if "version 16" not in cluster.run("ceph-osd", "--version"):
+        harness.install(["ceph-test"])
     if not shutil.which(BENCHMARK):
         report.note(f"skipped: there is no {BENCHMARK}")
         return
@@ -286,7 +225,6 @@ def benchmark_seconds(cluster, plugin, work):
 
 PARTS = {
     "units": (check_units,),
-    "images": (check_images,),
     "storm": (check_storm,),
     "benchmark": (check_benchmark,),
 }

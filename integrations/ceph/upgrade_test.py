@@ -1,0 +1,132 @@
+#!/usr/bin/python3
+"""Upgrades a cluster of this system's Ceph to that of another root, daemon by daemon. A pool of the
+plugin is written and read meanwhile.
+
+    integrations/ceph/upgrade_test.py ROOT
+
+ROOT is a root that `LRC_ROOTS=FOLDER integrations/roots.sh ceph SUITE` has left in FOLDER, with a
+later release of Ceph. It runs as root after cluster_test.py, which installs what both need, and
+prints `N passed, M failed`."""
+
+import argparse
+import os
+import subprocess
+import sys
+
+sys.dont_write_bytecode = True
+HERE = os.path.dirname(os.path.abspath(__file__))
+sys.path[:0] = [HERE, os.path.dirname(HERE)]
+import cluster_test  # noqa: E402
+import harness  # noqa: E402
+from cluster import OSDS, Cluster  # noqa: E402
+from codes import OSD_EACH, WIDE  # noqa: E402
+
+OBJECTS = 24
+
+
+class Upgraded(Cluster):
+    """A cluster whose daemons are started from the other root once `later` has their names."""
+
+    def __init__(self, folder, plugins, report, root, later_plugins):
+        super().__init__(folder, plugins, report)
+        self.root, self.later_plugins, self.later = root, later_plugins, set()
+
+    def spawn(self, name, *words):
+        if name in self.later:
+            words = ("chroot", self.root, *words, f"--erasure_code_dir={self.later_plugins}")
+        super().spawn(name, *words)
+
+    def upgrade(self, name):
+        """Ends a daemon, and starts it anew from the other root."""
+        kind, number = name.split(".")
+        if kind == "osd":
+            self.kill([int(number)])
+        else:
+            self.end(name)
+        self.later.add(name)
+        if kind == "osd":
+            self.revive([int(number)])
+        else:
+            self.spawn(name, f"ceph-{kind}", "-i", number)
+
+
+def build_later(folder, root):
+    """The plugin for the other root's Ceph, built there."""
+    plugins = f"{folder}/later"
+    os.mkdir(plugins)
+    words = "env", "-i", "PATH=/usr/sbin:/usr/bin:/sbin:/bin", "LRC_LIBRARIES=/libraries"
+    steps = f"""
+        ln -s {cluster_test.CEPH_PLUGINS}/libec_*.so {plugins}
+        rm -f {plugins}/libec_azure_lrc.so
+        /src/integrations/ceph/build.sh {plugins}"""
+    subprocess.run(["chroot", root, *words, "sh", "-ec", steps], check=True)
+    return plugins
+
+
+def check_serving(cluster, report, when):
+    """All objects, with all OSDs and without three places; one more object is written."""
+    cluster.wait_clean()
+    equal = cluster.equal_objects("kept", OBJECTS)
+    report.check(f"{when}: {equal} of {OBJECTS} objects read back", equal == OBJECTS)
+    osds = [cluster.places("kept")[0][place] for place in (0, 1, 8)]
+    cluster.kill(osds)
+    equal = cluster.equal_objects("kept", OBJECTS)
+    cluster.fill("kept", OBJECTS)
+    again = cluster.equal_objects("kept", OBJECTS)
+    report.check(f"{when}: also without three OSDs, and written again", equal == again == OBJECTS)
+    cluster.wait_loss()
+    cluster.revive(osds)
+
+
+def work(report, folder, options):
+    os.mkdir(f"{folder}/cluster")
+    plugins = cluster_test.build(folder)
+    inside = f"{options.root}{folder}"
+    os.makedirs(inside, exist_ok=True)
+    subprocess.run(["mount", "--bind", folder, inside], check=True)
+    later = build_later(folder, options.root)
+    cluster = Upgraded(f"{folder}/cluster", plugins, report, options.root, later)
+    try:
+        cluster.start()
+        cluster.command("osd set", key="noout")
+        cluster.make_pool("kept", [*WIDE.profile, OSD_EACH], 1)
+        cluster.wait_clean()
+        cluster.fill("kept", OBJECTS)
+        upgrade(cluster, report)
+    finally:
+        cluster.stop()
+        subprocess.run(["umount", inside], check=True)
+
+
+def upgrade(cluster, report):
+    names = ["mon.a", "mgr.x", *(f"osd.{osd}" for osd in range(OSDS))]
+    check_serving(cluster, report, "before")
+    for number, name in enumerate(names):
+        cluster.upgrade(name)
+        if number == len(names) // 2:
+            check_serving(cluster, report, f"with {number + 1} of {len(names)} daemons upgraded")
+    versions = cluster.command("versions")["overall"]
+    report.check("all daemons have one version", len(versions) == 1, ", ".join(versions))
+    check_serving(cluster, report, "after")
+    cluster.wait_clean()
+    cluster.scrub(report, "kept")
+
+
+def main():
+    if "LRC_MOUNTS" not in os.environ:
+        os.environ["LRC_MOUNTS"] = "own"
+        os.execvp("unshare", ["unshare", "--mount", "--propagation", "private", *sys.argv])
+    parser = argparse.ArgumentParser(
+        description=__doc__, formatter_class=argparse.RawDescriptionHelpFormatter
+    )
+    parser.add_argument("root", help="a root that integrations/roots.sh has left")
+    parser.add_argument("--keep", action="store_true", help="keep the folder, with the logs")
+    options = parser.parse_args()
+    options.root = os.path.realpath(options.root)
+    for kind, at in (["-t", "proc", "proc"], "proc"), (["--bind", "/dev"], "dev"):
+        subprocess.run(["mount", *kind, f"{options.root}/{at}"], check=True)
+    return harness.run(options, cluster_test.PACKAGES, work)
+
+
+if __name__ == "__main__":
+    sys.exit(main())
