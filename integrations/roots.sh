@@ -25,18 +25,23 @@ ceph | swift) shift ;;
 esac
 # shellcheck source=tests/runner.sh
 . tests/runner.sh
-trap 'end_mounts; rm -rf --one-file-system "$work"' EXIT
 roots=${LRC_ROOTS:-$work}
 root=
+end_mounts() { [ -z "$root" ] || umount "$root/proc" "$root/dev" 2> /dev/null; }
+trap 'end_mounts; rm -rf --one-file-system "$work"' EXIT
 suites=()
 while [ $# != 0 ] && [ "$1" != -- ]; do
-    suites+=("$1")
+    case $1 in
+    bookworm | trixie | sid) suites+=("$1") ;;
+    *)
+        echo "roots.sh: unknown suite '$1'; name bookworm, trixie or sid" >&2
+        exit 2
+        ;;
+    esac
     shift
 done
 words="${*:2}"
 [ ${#suites[@]} != 0 ] || suites=(bookworm trixie sid)
-
-end_mounts() { [ -z "$root" ] || umount "$root/proc" "$root/dev" 2> /dev/null; }
 
 # in_root COMMAND: runs it in the clone there, with no variable of this system but the folder of the
 # libraries

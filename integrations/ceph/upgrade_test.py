@@ -100,13 +100,15 @@ def work(report, folder, options):
 
 def upgrade(cluster, report):
     names = ["mon.a", "mgr.x", *(f"osd.{osd}" for osd in range(OSDS))]
+    earlier = set(cluster.command("versions")["overall"])
     check_serving(cluster, report, "before")
     for number, name in enumerate(names):
         cluster.upgrade(name)
         if number == len(names) // 2:
             check_serving(cluster, report, f"with {number + 1} of {len(names)} daemons upgraded")
     versions = cluster.command("versions")["overall"]
-    report.check("all daemons have one version", len(versions) == 1, ", ".join(versions))
+    is_later = len(versions) == 1 and not earlier & set(versions)
+    report.check("all daemons have one version, and not that before", is_later, ", ".join(versions))
     check_serving(cluster, report, "after")
     cluster.wait_clean()
     cluster.scrub(report, "kept")
@@ -123,6 +125,12 @@ def main():
     parser.add_argument("--keep", action="store_true", help="keep the folder, with the logs")
     options = parser.parse_args()
     options.root = os.path.realpath(options.root)
+    for needed in "usr/bin/ceph-osd", "src/integrations", "libraries":
+        if not os.path.exists(f"{options.root}/{needed}"):
+            parser.error(
+                f"{options.root} has no {needed}; name a root that "
+                "`LRC_ROOTS=FOLDER integrations/roots.sh ceph SUITE` has left"
+            )
     for kind, at in (["-t", "proc", "proc"], "proc"), (["--bind", "/dev"], "dev"):
         subprocess.run(["mount", *kind, f"{options.root}/{at}"], check=True)
     return harness.run(options, cluster_test.PACKAGES, work)

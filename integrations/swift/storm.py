@@ -42,29 +42,23 @@ DUPLICATED = Policy(
 )
 
 
+def make_cluster(folder, name, small, **settings):
+    """One whose proxy does without a server that does not answer soon."""
+    policies = [REPLICATED, LRC, ISA, small]
+    settings["node_timeout"] = NODE_TIMEOUT
+    return Cluster(f"{folder}/{name}", policies, installed(folder), ("lrcstore",), **settings)
+
+
 def storm(report, folder, options):
-    cluster = Cluster(
-        f"{folder}/storm",
-        [REPLICATED, LRC, ISA, SMALL],
-        installed(folder),
-        ("lrcstore",),
-        node_timeout=NODE_TIMEOUT,
-    )
+    cluster = make_cluster(folder, "storm", SMALL)
     with_cluster(cluster, lambda client: check_storm(report, cluster, client, "a storm"))
 
 
 def concurrent_storm(report, folder, options):
     """The proxy asks for two fragments more than needed at once, and a policy stores each twice."""
-    cluster = Cluster(
-        f"{folder}/concurrent",
-        [REPLICATED, LRC, ISA, DUPLICATED],
-        installed(folder),
-        ("lrcstore",),
-        node_timeout=NODE_TIMEOUT,
-        concurrent_gets="yes",
-        concurrency_timeout=0.5,
-        concurrent_ec_extra_requests=2,
-    )
+    settings = {"concurrent_gets": "yes", "concurrency_timeout": 0.5}
+    settings["concurrent_ec_extra_requests"] = 2
+    cluster = make_cluster(folder, "concurrent", DUPLICATED, **settings)
 
     def work(client):
         check_duplicated(report, cluster, client)
