@@ -205,8 +205,25 @@ def swift_without_module(report, folder, options):
                 not wrong_of(outcomes),
                 text_of(outcomes),
             )
+        check_other_proxy(report, cluster, folder, path, body)
 
     with_cluster(cluster, work)
+
+
+def check_other_proxy(report, cluster, folder, path, body):
+    """A proxy with the module reads what one without it has put."""
+    other = settings_beside(f"{folder}/other_proxy", cluster, [REPLICATED, LRC])
+    try:
+        other.spawn("proxy", other.command("swift-proxy-server", f"{other.folder}/proxy.conf"))
+        other.wait_for(other.proxy_port)
+        outcomes = count_gets(Client(other.proxy_port), path, body, 20)
+    finally:
+        other.stop()
+    report.check(
+        "a proxy with the module reads what one without it has put",
+        set(outcomes) == {("right", 200)},
+        text_of(outcomes),
+    )
 
 
 # ---- Swift with the module: reads
