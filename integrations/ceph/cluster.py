@@ -111,6 +111,17 @@ def stored_bytes(extents):
     )
 
 
+class Begun:
+    """A read that was begun, and what it has to give."""
+
+    def __init__(self, io, name, wanted):
+        self.wanted, self.answers = wanted, []
+        io.aio_read(name, len(wanted) + 1, 0, lambda _, data: self.answers.append(data))
+
+    def is_right(self):
+        return self.answers == [self.wanted]
+
+
 @dataclass
 class Read:
     """What a primary reads to rebuild a chunk: of which placement group, and at which places."""
@@ -369,6 +380,10 @@ class Cluster:
         """How many objects are read back as they were written."""
         with self.rados.open_ioctx(pool) as io:
             return self.equal_in(io, pool, count, length)
+
+    @staticmethod
+    def begin_read(io, pool, number):
+        return Begun(io, f"o{number}", content(pool, number))
 
     def equal_in(self, io, pool, count, length=None):
         """The same by a pool that is open, for objects that were written to this one."""

@@ -113,18 +113,18 @@ def refusal_of(cluster, profile):
 
 def check_profile_in_use(cluster, report):
     """A profile that a pool has can be neither changed nor removed."""
-    cluster.make_pool("used", [*WIDE.profile, OSD_EACH], 1)
+    cluster.make_pool("of_a_pool", [*WIDE.profile, OSD_EACH], 1)
     for prefix, words in (
         ("osd erasure-code-profile set", {"profile": [*SMALL.profile, OSD_EACH]}),
         ("osd erasure-code-profile rm", {}),
     ):
         try:
-            cluster.command(prefix, name="used", **words)
+            cluster.command(prefix, name="of_a_pool", **words)
             printed = ""
         except RuntimeError as error:
             printed = str(error)
-        report.check(f"{prefix} is refused for a profile in use", "used" in printed, printed)
-    cluster.remove_pool("used")
+        report.check(f"{prefix} is refused for a profile in use", "of_a_pool" in printed, printed)
+    cluster.remove_pool("of_a_pool")
 
 
 # ---- lost sets, in a pool of one placement group
@@ -168,11 +168,14 @@ def check_sets(cluster, report, pool, code, objects):
         if not report.check("clean again", cluster.wait_clean()):
             return
     for lost in [*code.unrecoverable, *code.drawn_sets(1, False)]:
-        check_unrecoverable(cluster, report, pool, [places[place] for place in lost], lost, objects)
+        check_unrecoverable(cluster, report, pool, code, lost, objects)
 
 
-def check_unrecoverable(cluster, report, pool, osds, lost, objects):
-    """Chunks that no code of this shape can restore, such as four of a group's data."""
+def check_unrecoverable(cluster, report, pool, code, lost, objects):
+    """Chunks that no code of this shape can restore, such as four of a group's data. A read that is
+    begun meanwhile ends once enough of the OSDs are back."""
+    places = cluster.places(pool)[0]
+    osds = [places[place] for place in lost]
     cluster.kill(osds)
     inactive = cluster.until("inactive", lambda: cluster.is_inactive(pool))
     report.check(
@@ -181,7 +184,14 @@ def check_unrecoverable(cluster, report, pool, osds, lost, objects):
         cluster.state(pool),
     )
     report.check("health has PG_AVAILABILITY", cluster.warns("PG_AVAILABILITY"))
-    cluster.revive(osds)
+    enough = next(n for n in range(len(lost)) if code.is_recoverable(lost[n:]))
+    with cluster.rados.open_ioctx(pool) as io:
+        begun = cluster.begin_read(io, pool, 0)
+        was_early = begun.is_right()
+        cluster.revive(osds[:enough])
+        ended = cluster.until("the read", begun.is_right)
+    report.check(f"a read waits until {enough} of the OSDs are back", ended and not was_early)
+    cluster.revive(osds[enough:])
     report.check(
         "the objects are back with the OSDs",
         cluster.wait_clean() and cluster.equal_objects(pool, objects) == objects,

@@ -25,7 +25,7 @@ def lengths_of(unit):
     return 0, 1, 63, 64, 65, unit - 1, unit, stripe, stripe + 1, 5 * stripe + 7, 3_000_000
 
 
-class Image:
+class Object:
     """An object with what it has to be: each write goes to both."""
 
     def __init__(self, io, name, dice):
@@ -55,20 +55,20 @@ class Image:
         return whole == self.data and part == self.data[at : at + 100_000]
 
 
-def make_images(io, unit, dice):
+def make_objects(io, unit, dice):
     """An object of each length; four of them are appended to, written over, cut and stretched."""
-    images = [Image(io, f"o{number}", dice) for number in range(len(lengths_of(unit)))]
-    for image, length in zip(images, lengths_of(unit)):
-        image.write_full(dice.randbytes(length))
-    images[3].append(dice.randbytes(unit + 1))
-    images[8].write(unit // 2, dice.randbytes(unit))
-    images[9].truncate(unit + 1)
-    images[2].write(3 * unit, dice.randbytes(10))
-    return images
+    objects = [Object(io, f"o{number}", dice) for number in range(len(lengths_of(unit)))]
+    for each, length in zip(objects, lengths_of(unit)):
+        each.write_full(dice.randbytes(length))
+    objects[3].append(dice.randbytes(unit + 1))
+    objects[8].write(unit // 2, dice.randbytes(unit))
+    objects[9].truncate(unit + 1)
+    objects[2].write(3 * unit, dice.randbytes(10))
+    return objects
 
 
 def find_losses(cluster, pools):
-    """Four OSDs whose places are recoverable in each pool, with most of them data in all."""
+    """Four OSDs that are recoverable in each pool, and have as many places there as can be."""
     groups = [cluster.places(pool)[0] for pool in pools]
 
     def lost_of(osds):
@@ -90,23 +90,23 @@ def check_units(cluster, report):
     cluster.wait_clean()
     dice = random.Random(1)
     opened = {pool: cluster.rados.open_ioctx(pool) for pool in pools}
-    images = {pool: make_images(io, pools[pool], dice) for pool, io in opened.items()}
+    objects = {pool: make_objects(io, pools[pool], dice) for pool, io in opened.items()}
     lost = find_losses(cluster, pools)
     cluster.kill(lost)
     for pool, unit in pools.items():
         report.check(
             f"stripe_unit {unit}: objects read back without four OSDs, by ranges too",
-            all(image.is_equal() for image in images[pool]),
+            all(each.is_equal() for each in objects[pool]),
         )
-        images[pool][5].append(dice.randbytes(12 * unit))
-        images[pool][10].write(unit + 3, dice.randbytes(unit))
+        objects[pool][5].append(dice.randbytes(12 * unit))
+        objects[pool][10].write(unit + 3, dice.randbytes(unit))
     cluster.wait_loss()
     cluster.revive(lost)
     cluster.wait_clean()
     for pool, unit in pools.items():
         report.check(
             f"stripe_unit {unit}: what was written meanwhile, too",
-            all(image.is_equal() for image in images[pool]),
+            all(each.is_equal() for each in objects[pool]),
         )
         opened[pool].close()
         cluster.remove_pool(pool)
