@@ -111,7 +111,18 @@ def stored_bytes(extents):
     )
 
 
-class Begun:
+class BegunWrite:
+    """A write that was begun."""
+
+    def __init__(self, io, name, body):
+        self.statuses = []
+        io.aio_write_full(name, body, lambda done: self.statuses.append(done.get_return_value()))
+
+    def is_right(self):
+        return self.statuses == [0]
+
+
+class BegunRead:
     """A read that was begun, and what it has to give."""
 
     def __init__(self, io, name, wanted):
@@ -383,7 +394,11 @@ class Cluster:
 
     @staticmethod
     def begin_read(io, pool, number):
-        return Begun(io, f"o{number}", content(pool, number))
+        return BegunRead(io, f"o{number}", content(pool, number))
+
+    @staticmethod
+    def begin_write(io, pool, number):
+        return BegunWrite(io, f"o{number}", content(pool, number))
 
     def equal_in(self, io, pool, count, length=None):
         """The same by a pool that is open, for objects that were written to this one."""

@@ -48,6 +48,7 @@ POOLS = {
 HEAD = (1 << 64) - 2  # the number of the snapshot that is none
 GLOBAL_PARITIES = (7, 15)  # their places
 LOST_OSD = 5
+WAITING = 2  # seconds for which a call that has to wait is watched
 RACKS = """    id 99
     type erasure
     min_size 3
@@ -172,8 +173,8 @@ def check_sets(cluster, report, pool, code, objects):
 
 
 def check_unrecoverable(cluster, report, pool, code, lost, objects):
-    """Chunks that no code of this shape can restore, such as four of a group's data. A read that is
-    begun meanwhile ends once enough of the OSDs are back."""
+    """Chunks that no code of this shape can restore, such as four of a group's data. A read and a
+    write that are begun meanwhile end once enough of the OSDs are back."""
     places = cluster.places(pool)[0]
     osds = [places[place] for place in lost]
     cluster.kill(osds)
@@ -186,14 +187,20 @@ def check_unrecoverable(cluster, report, pool, code, lost, objects):
     report.check("health has PG_AVAILABILITY", cluster.warns("PG_AVAILABILITY"))
     enough = next(n for n in range(len(lost)) if code.is_recoverable(lost[n:]))
     with cluster.rados.open_ioctx(pool) as io:
-        begun = cluster.begin_read(io, pool, 0)
-        was_early = begun.is_right()
+        calls = cluster.begin_read(io, pool, 0), cluster.begin_write(io, pool, objects)
+        time.sleep(WAITING)
+        early = [call.is_right() for call in calls]
         cluster.revive(osds[:enough])
-        ended = cluster.until("the read", begun.is_right)
-    report.check(f"a read waits until {enough} of the OSDs are back", ended and not was_early)
-    cluster.revive(osds[enough:])
+        late = [cluster.until("a call", call.is_right) for call in calls]
     report.check(
-        "the objects are back with the OSDs",
+        f"a read and a write wait until {enough} of the OSDs are back",
+        not any(early) and all(late),
+        f"{early}, then {late}",
+    )
+    cluster.revive(osds[enough:])
+    objects += 1  # with the one that was written
+    report.check(
+        "the objects are back with the OSDs, and the one that was written",
         cluster.wait_clean() and cluster.equal_objects(pool, objects) == objects,
     )
 
