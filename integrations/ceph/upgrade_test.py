@@ -8,16 +8,14 @@ ROOT is a root that `LRC_ROOTS=FOLDER integrations/roots.sh ceph SUITE` has left
 later release of Ceph. It runs as root after cluster_test.py, which installs what both need, and
 prints `N passed, M failed`."""
 
-import argparse
 import os
-import subprocess
 import sys
 
 sys.dont_write_bytecode = True
 HERE = os.path.dirname(os.path.abspath(__file__))
 sys.path[:0] = [HERE, os.path.dirname(HERE)]
 import cluster_test  # noqa: E402
-import harness  # noqa: E402
+import other_root  # noqa: E402
 from cluster import OSDS, Cluster  # noqa: E402
 from codes import OSD_EACH, WIDE  # noqa: E402
 
@@ -54,12 +52,11 @@ def build_later(folder, root):
     """The plugin for the other root's Ceph, built there."""
     plugins = f"{folder}/later"
     os.mkdir(plugins)
-    words = "env", "-i", "PATH=/usr/sbin:/usr/bin:/sbin:/bin", "LRC_LIBRARIES=/libraries"
     steps = f"""
         ln -s {cluster_test.CEPH_PLUGINS}/libec_*.so {plugins}
         rm -f {plugins}/libec_azure_lrc.so
         /src/integrations/ceph/build.sh {plugins}"""
-    subprocess.run(["chroot", root, *words, "sh", "-ec", steps], check=True)
+    other_root.shell(root, steps)
     return plugins
 
 
@@ -81,21 +78,18 @@ def check_serving(cluster, report, when):
 def work(report, folder, options):
     os.mkdir(f"{folder}/cluster")
     plugins = cluster_test.build(folder)
-    inside = f"{options.root}{folder}"
-    os.makedirs(inside, exist_ok=True)
-    subprocess.run(["mount", "--bind", folder, inside], check=True)
-    later = build_later(folder, options.root)
-    cluster = Upgraded(f"{folder}/cluster", plugins, report, options.root, later)
-    try:
-        cluster.start()
-        cluster.command("osd set", key="noout")
-        cluster.make_pool("kept", [*WIDE.profile, OSD_EACH], 1)
-        cluster.wait_clean()
-        cluster.fill("kept", OBJECTS)
-        upgrade(cluster, report)
-    finally:
-        cluster.stop()
-        subprocess.run(["umount", inside], check=True)
+    with other_root.seen_from(options.root, folder):
+        later = build_later(folder, options.root)
+        cluster = Upgraded(f"{folder}/cluster", plugins, report, options.root, later)
+        try:
+            cluster.start()
+            cluster.command("osd set", key="noout")
+            cluster.make_pool("kept", [*WIDE.profile, OSD_EACH], 1)
+            cluster.wait_clean()
+            cluster.fill("kept", OBJECTS)
+            upgrade(cluster, report)
+        finally:
+            cluster.stop()
 
 
 def upgrade(cluster, report):
@@ -114,27 +108,5 @@ def upgrade(cluster, report):
     cluster.scrub(report, "kept")
 
 
-def main():
-    if "LRC_MOUNTS" not in os.environ:
-        os.environ["LRC_MOUNTS"] = "own"
-        os.execvp("unshare", ["unshare", "--mount", "--propagation", "private", *sys.argv])
-    parser = argparse.ArgumentParser(
-        description=__doc__, formatter_class=argparse.RawDescriptionHelpFormatter
-    )
-    parser.add_argument("root", help="a root that integrations/roots.sh has left")
-    parser.add_argument("--keep", action="store_true", help="keep the folder, with the logs")
-    options = parser.parse_args()
-    options.root = os.path.realpath(options.root)
-    for needed in "usr/bin/ceph-osd", "src/integrations", "libraries":
-        if not os.path.exists(f"{options.root}/{needed}"):
-            parser.error(
-                f"{options.root} has no {needed}; name a root that "
-                "`LRC_ROOTS=FOLDER integrations/roots.sh ceph SUITE` has left"
-            )
-    for kind, at in (["-t", "proc", "proc"], "proc"), (["--bind", "/dev"], "dev"):
-        subprocess.run(["mount", *kind, f"{options.root}/{at}"], check=True)
-    return harness.run(options, cluster_test.PACKAGES, work)
-
-
 if __name__ == "__main__":
-    sys.exit(main())
+    sys.exit(other_root.run(__doc__, cluster_test.PACKAGES, work, "usr/bin/ceph-osd"))

@@ -67,14 +67,13 @@ PROXY = """[DEFAULT]
 {common}bind_port = {port}
 workers = 0
 [pipeline:main]
-pipeline = catch_errors gatekeeper proxy-logging cache tempauth {filters} copy dlo
-    proxy-logging proxy-server
+pipeline = catch_errors gatekeeper proxy-logging cache tempauth {filters} copy slo
+    dlo proxy-logging proxy-server
 [app:proxy-server]
 use = egg:swift#proxy
 account_autocreate = true
 {settings}client_timeout = {seconds}
 post_quorum_timeout = {seconds}
-error_suppression_interval = 0
 [filter:tempauth]
 use = egg:swift#tempauth
 user_test_tester = testing .admin
@@ -93,6 +92,8 @@ shunt_inbound_x_timestamp = false
 use = egg:swift#proxy_logging
 [filter:copy]
 use = egg:swift#copy
+[filter:slo]
+use = egg:swift#slo
 [filter:dlo]
 use = egg:swift#dlo
 [filter:lrcstore]
@@ -226,7 +227,8 @@ class Cluster:
 
     def __init__(self, folder, policies, environment, filters=(), **settings):
         self.folder, self.policies, self.filters = folder, policies, filters
-        self.settings = {"node_timeout": SECONDS, "conn_timeout": SECONDS, **settings}
+        self.settings = {"node_timeout": SECONDS, "conn_timeout": SECONDS}
+        self.settings |= {"error_suppression_interval": 0, **settings}
         self.environment = dict(os.environ, **environment)
         self.processes, self.logs = {}, None
         (

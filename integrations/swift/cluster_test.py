@@ -30,8 +30,6 @@ from cluster import (  # noqa: E402
     DATA,
     FRAGMENTS,
     PYTHON,
-    SECONDS,
-    SERVERS,
     Client,
     Cluster,
     Policy,
@@ -50,17 +48,20 @@ from fragments import (  # noqa: E402
     is_recoverable,
     partition_of,
     payload,
+    proxy_beside,
+    python,
     rebuild,
     reconstruct,
-    replace_devices,
-    settings_beside,
     text_of,
     with_cluster,
     wrong_of,
 )
+from crashes import crashes  # noqa: E402
 from damage import damage  # noqa: E402
 from handoffs import handoffs  # noqa: E402
+from installations import other_code, wrong_installations  # noqa: E402
 from storm import concurrent_storm, storm  # noqa: E402
+from suppression import suppression  # noqa: E402
 
 PACKAGES = (
     "gcc",
@@ -104,18 +105,6 @@ def build(folder):
             shutil.copytree(f"{HERE}/{name}", f"{folder}/python/{name}")
 
 
-def python(folder, program):
-    """What a program in Python prints, with the modules as they are installed for the test."""
-    return subprocess.run(
-        [PYTHON, "-c", program],
-        env=dict(os.environ, **installed(folder)),
-        cwd=folder,
-        stdout=subprocess.PIPE,
-        text=True,
-        check=True,
-    ).stdout
-
-
 def check_versions(report, folder, is_untested):
     """Says what is installed. A release of Swift that the modules refuse ends the test, unless it
     is added to those that they take, in the copy of the test."""
@@ -137,10 +126,10 @@ def check_versions(report, folder, is_untested):
 # ---- fragments
 
 
-def segments(file):
-    """The fragments of a fragment archive on disk, each as (number, version, size of the object's
-    segment, payload)."""
-    archive, at, found = contents(file), 0, []
+def segments(archive):
+    """The fragments of a fragment archive, each as (number, version, size of the object's segment,
+    payload)."""
+    at, found = 0, []
     while at < len(archive):
         number, size, extra, original = struct.unpack_from("<IIIQ", archive, at)
         (version,) = struct.unpack_from("<I", archive, at + 55)
@@ -162,7 +151,7 @@ def check_fragments(report, cluster, path, body):
     import lrc_coder
 
     files = cluster.fragments(LRC, path)
-    stripes = list(zip(*(segments(files[i]) for i in range(FRAGMENTS))))
+    stripes = list(zip(*(segments(contents(files[i])) for i in range(FRAGMENTS))))
     bodies = [[fragment[3] for fragment in stripe] for stripe in stripes]
     facts = {
         "data": b"".join(
@@ -212,13 +201,8 @@ def swift_without_module(report, folder, options):
 
 def check_other_proxy(report, cluster, folder, path, body):
     """A proxy with the module reads what one without it has put."""
-    other = settings_beside(f"{folder}/other_proxy", cluster, [REPLICATED, LRC])
-    try:
-        other.spawn("proxy", other.command("swift-proxy-server", f"{other.folder}/proxy.conf"))
-        other.wait_for(other.proxy_port)
-        outcomes = count_gets(Client(other.proxy_port), path, body, 20)
-    finally:
-        other.stop()
+    with proxy_beside(f"{folder}/other_proxy", cluster, [REPLICATED, LRC]) as (_, reader):
+        outcomes = count_gets(reader, path, body, 20)
     report.check(
         "a proxy with the module reads what one without it has put",
         set(outcomes) == {("right", 200)},
@@ -530,171 +514,6 @@ def check_large(report, client, size):
         )
 
 
-# ---- object servers that end while they send
-
-CRASH_SIZE = 240 * MIB  # more than the sockets hold
-
-
-def crashes(report, folder, options):
-    """One object server after another is killed while a GET is answered."""
-    cluster = Cluster(f"{folder}/crashes", [REPLICATED, LRC, ISA], installed(folder), ("lrcstore",))
-
-    def work(client):
-        body = payload(CRASH_SIZE)
-        for policy in (LRC, ISA):
-            client.put(f"{policy.name}/large", body)
-            check_crashes(report, cluster, client, policy, body, options.crashes)
-
-    with_cluster(cluster, work)
-
-
-def fragments_of_server(cluster, policy, path, number):
-    """The fragments of an object on the devices of an object server."""
-    files = cluster.fragments(policy, path)
-    devices = {i: int(re.search(r"/devices/d(\d+)/", file).group(1)) for i, file in files.items()}
-    return tuple(sorted(i for i, device in devices.items() if device % SERVERS == number))
-
-
-def check_crashes(report, cluster, client, policy, body, times):
-    path, found = f"{policy.name}/large", collections.Counter()
-    for number in itertools.islice(itertools.cycle(range(SERVERS)), times):
-        lost = fragments_of_server(cluster, policy, f"{client.account}/{path}", number)
-        is_served = policy is ISA or is_recoverable(lost)
-        outcome, _ = get(client, path, body, lambda: cluster.kill_object_server(number))
-        found[lost, is_served, outcome] += 1
-        cluster.spawn_object_server(number)
-        cluster.wait_for(cluster.object_ports[number])
-    served = {outcome for _, is_served, outcome in found if is_served}
-    others = {outcome for _, is_served, outcome in found if not is_served}
-    texts = [f"{count} {each[2]} without {list(each[0])}" for each, count in found.items()]
-    report.check(
-        f"{policy.ec_type}: bodies are whole if a server is killed whose fragments can be spared",
-        served <= {"right"} and others <= {"right", "refused"},
-        ", ".join(texts),
-    )
-
-
-# ---- wrong installations
-
-
-def mistaken(folder, cluster):
-    """The settings of another proxy and reconstructor in the cluster, whose swift.conf has
-    exchanged the codes of the two policies."""
-    module = LRC.settings
-    exchanged = [Policy(LRC.index, LRC.name, ISA.ec_type, **module)]
-    exchanged += [Policy(ISA.index, ISA.name, LRC.ec_type, **module)]
-    return settings_beside(folder, cluster, [REPLICATED, *exchanged])
-
-
-def other_code(report, folder, options):
-    cluster = Cluster(f"{folder}/right", [REPLICATED, LRC, ISA], installed(folder), ("lrcstore",))
-
-    def work(client):
-        other, body = mistaken(f"{folder}/mistaken", cluster), payload(5 * MIB + 13)
-        for policy in (LRC, ISA):
-            client.put(f"{policy.name}/object", body)
-        try:
-            words = other.command("swift-proxy-server", f"{other.folder}/proxy.conf")
-            other.spawn("proxy", words)
-            other.wait_for(other.proxy_port)
-            reader = Client(other.proxy_port)
-            for policy in (LRC, ISA):
-                outcomes = count_gets(reader, f"{policy.name}/object", body, 20)
-                check_exchanged(report, cluster, other, policy, outcomes)
-        finally:
-            other.stop()
-
-    with_cluster(cluster, work)
-
-
-def check_exchanged(report, cluster, other, policy, outcomes):
-    report.check(
-        f"objects in {policy.ec_type} are refused by a policy of another code",
-        set(outcomes) == {("refused", 503)},
-        text_of(outcomes),
-    )
-    path = f"{Client.account}/{policy.name}/object"
-    files = cluster.fragments(policy, path)
-    lost = min(files)  # the other policy's object has lost what was on the device, too
-    replace_devices(cluster, files, (lost,))
-    log = reconstruct(other, "-p", partition_of(files[lost]))
-    printed = f"the object is in {policy.ec_type} 12+4" in log
-    report.check(
-        f"a fragment of {policy.ec_type} is not rebuilt by another code",
-        printed and lost not in cluster.fragments(policy, path),
-    )
-
-
-def start(folder, name, program, policy=LRC, **environment):
-    """Starts a service that ought to end at once: its status, and what it printed."""
-    cluster = Cluster(
-        f"{folder}/{name} {program}".replace(" ", "_"),
-        [REPLICATED, policy],
-        dict(installed(folder), **environment),
-        ("lrcstore",),
-    )
-    os.mkdir(cluster.folder)
-    cluster.configure()
-    cluster.make_rings()
-    kind = program.split("-")[1]
-    try:
-        cluster.spawn(kind, cluster.command(program, f"{cluster.folder}/{kind}.conf"))
-        status = cluster.processes[kind].wait(SECONDS)
-    except subprocess.TimeoutExpired:
-        status = 0
-    finally:
-        cluster.stop()
-    return status, cluster.log(kind)
-
-
-OTHER_RELEASE = """
-import swift
-swift.__version__ = "2.31.0"
-for name in ("proxy", "reconstructor"):
-    try:
-        __import__("lrcstore_swift." + name)
-    except RuntimeError as error:
-        print(error)
-"""
-
-
-def wrong_installations(report, folder, options):
-    proxy, server = "swift-proxy-server", "swift-object-server"
-    others = ("swift-account-server", "swift-container-server")
-    ten = Policy(1, "lrc", LRC.ec_type, 10)
-    wrong_type = f"Wrong ec_type {LRC.ec_type} for policy {LRC.name}"
-    mistakes = [
-        ("no library", each, wrong_type, LRC, {"LD_LIBRARY_PATH": f"{folder}/none"})
-        for each in (proxy, server, *others)
-    ]
-    hidden = {"PYTHONPATH": "", "LRC_CLUSTER_HIDES": "lrcstore_swift"}
-    mistakes += [("no module", each, "lrcstore_swift", LRC, hidden) for each in (proxy, server)]
-    mistakes += [("10 data fragments", proxy, "pyeclib_c_init ERROR", ten, {})]
-    with concurrent.futures.ThreadPoolExecutor(CLIENTS) as pool:
-        tasks = [
-            pool.submit(start, folder, name, program, policy, **environment)
-            for name, program, _, policy, environment in mistakes
-        ]
-    for (name, program, words, _, _), task in zip(mistakes, tasks):
-        status, text = task.result()
-        good = status != 0 and words in text
-        report.check(
-            f"{name}: {program} does not start",
-            good,
-            "" if good else f"status {status}: {text[-500:]}",
-        )
-    check_other_release(report, folder)
-
-
-def check_other_release(report, folder):
-    text = python(folder, OTHER_RELEASE)
-    report.check(
-        "another release of Swift is refused",
-        text.count("and this is 2.31.0") == 2,
-        text.splitlines()[0] if text else "",
-    )
-
-
 PARTS = {
     part.__name__: part
     for part in (
@@ -707,6 +526,7 @@ PARTS = {
         damage,
         storm,
         concurrent_storm,
+        suppression,
     )
 }
 

@@ -1,14 +1,16 @@
 """What the parts of the cluster test share: policies, lost fragments, GETs and rebuilds."""
 
 import collections
+import contextlib
 import ctypes
 import hashlib
 import os
 import random
 import re
 import shutil
+import subprocess
 
-from cluster import Client, Cluster, Policy
+from cluster import PYTHON, SERVERS, Client, Cluster, Policy
 
 MIB = 1 << 20
 GROUPS = ((0, 1, 2, 3, 4, 5, 12), (6, 7, 8, 9, 10, 11, 13))
@@ -45,6 +47,18 @@ def installed(folder):
     }
 
 
+def python(folder, program):
+    """What a program in Python prints, with the modules as they are installed for the test."""
+    return subprocess.run(
+        [PYTHON, "-c", program],
+        env=dict(os.environ, **installed(folder)),
+        cwd=folder,
+        stdout=subprocess.PIPE,
+        text=True,
+        check=True,
+    ).stdout
+
+
 def with_cluster(cluster, work):
     os.mkdir(cluster.folder)
     cluster.configure()
@@ -60,10 +74,10 @@ def with_cluster(cluster, work):
         cluster.stop()
 
 
-def settings_beside(folder, cluster, policies):
+def settings_beside(folder, cluster, policies, kind=Cluster, **environment):
     """The settings of another proxy and reconstructor in the cluster, with policies of their own.
     Only their logs are to be ended, by `stop`."""
-    other = Cluster(folder, policies, cluster.environment, ("lrcstore",))
+    other = kind(folder, policies, {**cluster.environment, **environment}, ("lrcstore",))
     other.account_port, other.container_port = cluster.account_port, cluster.container_port
     other.memcached_port, other.object_ports = cluster.memcached_port, cluster.object_ports
     os.mkdir(folder)
@@ -72,6 +86,18 @@ def settings_beside(folder, cluster, policies):
     shutil.rmtree(f"{folder}/devices")
     os.symlink(f"{cluster.folder}/devices", f"{folder}/devices")
     return other
+
+
+@contextlib.contextmanager
+def proxy_beside(folder, cluster, policies, kind=Cluster, **environment):
+    """Another proxy of the cluster, with such settings. Gives these and a client of it."""
+    other = settings_beside(folder, cluster, policies, kind, **environment)
+    try:
+        other.spawn("proxy", other.command("swift-proxy-server", f"{folder}/proxy.conf"))
+        other.wait_for(other.proxy_port)
+        yield other, Client(other.proxy_port)
+    finally:
+        other.stop()
 
 
 class Away:
@@ -150,9 +176,7 @@ def wrong_of(outcomes):
 
 
 def reconstruct(cluster, *words):
-    return cluster.run(
-        "swift-object-reconstructor", f"{cluster.folder}/object.conf", "-o", *words
-    )
+    return cluster.run("swift-object-reconstructor", f"{cluster.folder}/object.conf", "-o", *words)
 
 
 def is_on_primaries(cluster, policy, path):
@@ -173,6 +197,12 @@ def move_to_primaries(cluster, policy, paths, most=10):
 
 def partition_of(file):
     return re.search(r"/objects-\d+/(\d+)/", file).group(1)
+
+
+def fragments_of_server(cluster, policy, path, number):
+    """The fragments of an object on the devices of an object server."""
+    files = cluster.fragments(policy, path)
+    return tuple(sorted(i for i in files if int(device_of(files[i])[1:]) % SERVERS == number))
 
 
 def device_of(file):

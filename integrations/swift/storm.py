@@ -1,10 +1,11 @@
-"""Three clients call the proxy while devices go and come back, and object servers are killed,
-stopped and continued."""
+"""Four clients call the proxy while devices go and come back, and object servers are killed,
+stopped and continued. The objects of one are in segments."""
 
 import collections
 import glob
 import hashlib
 import http.client
+import json
 import os
 import random
 import signal
@@ -32,7 +33,8 @@ from fragments import (
 )
 
 STORM_SECONDS = 60
-CLIENTS = 3
+CLIENTS = 3  # and one with objects in segments
+SEGMENTS = 3  # of an object
 OBJECTS = 6  # of a client in each policy
 SIZES = (1000, 100_000, 300_000, MIB + 13, 2 * MIB + 5)
 NODE_TIMEOUT = 5  # seconds, after which the proxy does without an answer of an object server
@@ -134,6 +136,9 @@ class Known:
 
 
 def body_of(version):
+    """Of an object in segments, a version has those of its segments."""
+    if isinstance(version[0], tuple):
+        return b"".join(map(body_of, version))
     return payload(*version)
 
 
@@ -164,6 +169,8 @@ def parts_of(headers, answer):
 class Caller(threading.Thread):
     """Calls the proxy for objects of its own until it is told to stop."""
 
+    REFUSALS = ()  # of a read, besides the statuses from 500 on
+
     def __init__(self, cluster, number):
         super().__init__()
         self.client, self.number = Client(cluster.proxy_port), number
@@ -172,11 +179,15 @@ class Caller(threading.Thread):
         self.known = collections.defaultdict(Known)
         self.found, self.calls, self.wrong = collections.Counter(), 0, []
 
-    def run(self):
+    def kinds_of_calls(self):
         changes = [self.put, self.put, self.copy, self.delete, self.post]
         reads = [self.get, self.get, self.head, self.range, self.ranges, self.if_match]
+        return changes, reads
+
+    def run(self):
+        kinds = self.kinds_of_calls()
         while not self.stopped.is_set():
-            call = self.dice.choice(self.dice.choice([changes, reads]))
+            call = self.dice.choice(self.dice.choice(kinds))
             try:
                 call(self.draw())
             except Exception as error:
@@ -201,13 +212,21 @@ class Caller(threading.Thread):
 
     # ---- changes
 
+    def draw_version(self):
+        return self.dice.choice(SIZES), self.dice.randrange(1 << 30)
+
     def put(self, path):
-        version = self.dice.choice(SIZES), self.dice.randrange(1 << 30)
+        version = self.draw_version()
+        self.send(path, version, body_of(version))
+
+    def send(self, path, version, body=b"", query="", **headers):
+        """Puts what makes this version of the object. Whether it is done."""
         mark = str(self.dice.randrange(1 << 30))
         self.known[path].marks.add(mark)
-        body = body_of(version)
-        headers = {"Content-Length": str(len(body)), MARK: mark}
-        self.changed("PUT", path, [version], self.call("PUT", path, headers, body)[0], 201)
+        headers |= {"Content-Length": str(len(body)), MARK: mark}
+        status = self.call("PUT", path + query, headers, body)[0]
+        self.changed("PUT", path, [version], status, 201)
+        return status == 201
 
     def delete(self, path):
         status = self.call("DELETE", path)[0]
@@ -248,7 +267,7 @@ class Caller(threading.Thread):
         """Compares what `look` makes of an answer with what is expected of each version."""
         status, found, answer = self.call(method, path, headers)
         known, mark = self.known[path], found.get(MARK)
-        if status >= 500:
+        if status >= 500 or status in self.REFUSALS:
             outcome = f"refused ({method} {status})"
         elif answer is None:
             outcome = self.judge_cut(known, expected)
@@ -259,7 +278,8 @@ class Caller(threading.Thread):
             outcome = "wrong"
         if outcome == "older":
             outcome = f"older ({method} {status})"
-        self.count(method, path, outcome, f"status {status}, mark {mark}")
+        seen = f"{len(answer or b'')} bytes, status {status}, mark {mark}, asked {dict(headers)}"
+        self.count(method, path, outcome, seen)
 
     def judge_cut(self, known, expected):
         """Of a body that ended early: `wrong` if no version begins so, else `cut`."""
@@ -313,6 +333,47 @@ class Caller(threading.Thread):
         self.read("GET", path, {"If-Match": f'"{etag}"'}, whole_answer, expected)
 
 
+class LargeCaller(Caller):
+    """Its objects are manifests of segments, static or dynamic."""
+
+    REFUSALS = (409,)  # a segment can't be read
+
+    def kinds_of_calls(self):
+        changes = [self.put_static, self.put_dynamic, self.delete]
+        return changes, [self.get, self.get, self.range]
+
+    def put_segments(self, path):
+        """New segments, each as its path and version. None if one of them is refused."""
+        prefix = f"{path}_{self.dice.randrange(1 << 30)}/"
+        segments = {f"{prefix}{number}": self.draw_version() for number in range(SEGMENTS)}
+        for segment, version in segments.items():
+            if not self.send(segment, version, body_of(version)):
+                return prefix, None
+        return prefix, segments
+
+    def put_static(self, path):
+        _, segments = self.put_segments(path)
+        if segments:
+            manifest = [
+                {"path": f"/{segment}", "etag": etag_of(version), "size_bytes": version[0]}
+                for segment, version in segments.items()
+            ]
+            body = json.dumps(manifest).encode()
+            self.send(path, tuple(segments.values()), body, "?multipart-manifest=put")
+
+    def put_dynamic(self, path):
+        """Once the segments are listed, since the object is what the listing says."""
+        prefix, segments = self.put_segments(path)
+        if segments and self.is_listed(prefix, segments):
+            self.send(path, tuple(segments.values()), **{"X-Object-Manifest": prefix})
+
+    def is_listed(self, prefix, segments):
+        container, _, name = prefix.partition("/")
+        status, _, listing = self.call("GET", f"{container}?prefix={name}")
+        names = (listing or b"").decode().split()
+        return status == 200 and [f"{container}/{each}" for each in names] == list(segments)
+
+
 # ---- the storm
 
 
@@ -337,6 +398,7 @@ def disturb(cluster, dice):
 
 def check_storm(report, cluster, client, name):
     callers = [Caller(cluster, number) for number in range(CLIENTS)]
+    callers.append(LargeCaller(cluster, CLIENTS))
     cluster.spawn_reconstructor()
     for caller in callers:
         caller.start()
