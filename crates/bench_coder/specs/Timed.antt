@@ -8,7 +8,7 @@ use Rattle.lrc_code.specs.Code.{fragment_count, is_lost, Open}
 use Rattle.lrc_code.specs.Stripe.{IsStripe, list_at, slot, is_absent, Reaches, Rebuilds}
 
 -- twelve data fragments, and four lists as long as each
-pub record HaveRoom (sources : List (Bor (List ℕ))) (p q g h : List ℕ) : Type 0 where
+pub record HaveTargets (sources : List (Bor (List ℕ))) (p q g h : List ℕ) : Type 0 where
   pub count : length sources ≡ 12
   pub same : All (λ s. length s.now ≡ length p) sources
   pub second : length q ≡ length p
@@ -37,6 +37,6 @@ pub record IsRebuildRequest (left : Left) (f w : ℕ) : Type 0 where
 -- its first w bytes are built if and only if it is asked for and recoverable; otherwise nothing
 -- changes
 pub record ComesOf (left : Left) (f w : ℕ) (done : Bool) (old new : List ℕ) : Type 0 where
-  pub told : (done ≡ true) ↔ (IsRebuildRequest left f w × (Open left.code (is_absent left.fragments) f → ⊥))
+  pub decides : (done ≡ true) ↔ (IsRebuildRequest left f w × (Open left.code (is_absent left.fragments) f → ⊥))
   pub built : done ≡ true → Rebuilds left.code left.fragments f 0 w new
-  pub kept : done ≡ false → new ≡ old
+  pub unchanged : done ≡ false → new ≡ old

@@ -12,7 +12,7 @@ ghost use Rattle.lrc_code.specs.Stripe.{Rebuilds, is_absent};
 ghost use Rattle.sealed.specs.Blob.{fragment, nothing};
 ghost use Rattle.sealed.specs.Layout.{HasFragment};
 ghost use Rattle.sealed.specs.Sealed.{StandsFor};
-ghost use Rattle.bench_coder.specs.Timed.{HaveRoom, AreStripe, fragment_left, IsLeft};
+ghost use Rattle.bench_coder.specs.Timed.{HaveTargets, AreStripe, fragment_left, IsLeft};
 ghost use Rattle.bench_coder.specs.Timed.{IsRebuildRequest};
 ghost use Rattle.bench_coder.specs.Timed.{ComesOf};
 
@@ -34,7 +34,7 @@ pub extern "C" fn timed_encode_to(
     fourth: &mut [u8],
     reps: u32,
 )
-    requires { HaveRoom sources.now first.old second.old third.old fourth.old }
+    requires { HaveTargets sources.now first.old second.old third.old fourth.old }
     ensures { AreStripe sources.now first.new second.new third.new fourth.new }
 {
     for _ in 1..reps {
@@ -56,10 +56,10 @@ pub extern "C" fn timed_encode(
     fourth: &mut [u8],
     reps: u32,
 ) -> bool
-    requires { HaveRoom sources.now first.old second.old third.old fourth.old }
+    requires { HaveTargets sources.now first.old second.old third.old fourth.old }
     ensures stripe { result ≡ true → AreStripe sources.now first.new second.new third.new
         fourth.new }
-    ensures kept { result ≡ false → (first.new ≡ first.old) × (second.new ≡ second.old)
+    ensures unchanged { result ≡ false → (first.new ≡ first.old) × (second.new ≡ second.old)
         × (third.new ≡ third.old) × (fourth.new ≡ fourth.old) }
 {
     let w = first.len();
@@ -90,10 +90,10 @@ pub extern "C" fn timed_encode_joined(
     fourth: &mut [u8],
     reps: u32,
 ) -> bool
-    requires { HaveRoom sources.now first.old second.old third.old fourth.old }
+    requires { HaveTargets sources.now first.old second.old third.old fourth.old }
     ensures stripe { result ≡ true → AreStripe sources.now first.new second.new third.new
         fourth.new }
-    ensures kept { result ≡ false → (first.new ≡ first.old) × (second.new ≡ second.old)
+    ensures unchanged { result ≡ false → (first.new ≡ first.old) × (second.new ≡ second.old)
         × (third.new ≡ third.old) × (fourth.new ≡ fourth.old) }
 {
     let w = first.len();
@@ -210,7 +210,7 @@ pub extern "C" fn timed_rebuild(
     ensures long { length bytes.new ≡ length bytes.old }
     ensures rebuilt { result ≡ true → (left : Left) × IsLeft fragments.now lost left
         × ComesOf left f (length bytes.old) true bytes.old bytes.new }
-    ensures kept { result ≡ false → bytes.new ≡ bytes.old }
+    ensures unchanged { result ≡ false → bytes.new ≡ bytes.old }
 {
     let left = left_of(fragments, LostSet::of_bits(lost));
     let w = bytes.len();
@@ -287,7 +287,7 @@ pub extern "C" fn timed_seal(
     ensures long { length bytes.new ≡ length bytes.old }
     ensures sealed { result ≡ true → HasFragment Code.Wide (length bytes.old) (length blob.now)
         stripe f × (bytes.new ≡ fragment Code.Wide (length bytes.old) blob.now stripe f) }
-    ensures kept { result ≡ false → bytes.new ≡ bytes.old }
+    ensures unchanged { result ≡ false → bytes.new ≡ bytes.old }
 {
     let Some(width) = width_of(bytes.len()) else {
         return false;

@@ -21,7 +21,7 @@ use Rattle.history.specs.State.{State, Blob, IsLostInside}
 use Rattle.history.specs.Step.{Operation, delete, stat, IsReply, after}
 use Rattle.history.specs.History.{History, state_of, call_of}
 use Rattle.book.specs.Contents.{Contents, sealed_at}
-use Rattle.book.specs.Tells.{HoldsHistory, Correspond, CarriesOn}
+use Rattle.book.specs.Holds.{HoldsHistory, Correspond, CarriesOn}
 use Rattle.history.specs.Views.{View, view_of, delete_reply, stat_reply}
 use Rattle.book.proofs.Carrying.{carried}
 use Rattle.history.proofs.Inside.{lost_inside}

@@ -11,7 +11,7 @@ use Rattle.history.specs.Step.{IsReply, after}
 use Rattle.history.specs.History.{Event, History, after_all, IsLegalFrom, IsLegal, state_of, entry_of}
 use Rattle.history.specs.Base.{Outlines, empty_base}
 use Rattle.book.specs.Contents.{Contents, sealed_at}
-use Rattle.book.specs.Tells.{HoldsHistory, Correspond}
+use Rattle.book.specs.Holds.{HoldsHistory, Correspond}
 use Rattle.history.specs.Lawful.{IsLawfulFrom}
 use Rattle.history.proofs.Beginnings.{after_all-append, legal_rest, empty_outlined}
 

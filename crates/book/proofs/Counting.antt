@@ -21,7 +21,7 @@ use Rattle.book.specs.Lacking.{lacks, lacked_count, lacked_below}
 use Rattle.book.specs.Losing.{Catalogue}
 use Rattle.book.specs.Numbers.{open_stripes, sum_of}
 use Rattle.book.specs.Plan.{items_lacked, plan_of}
-use Rattle.book.specs.Tells.{HoldsHistory, Represents}
+use Rattle.book.specs.Holds.{HoldsHistory, Represents}
 use Rattle.book.specs.Totals.{has_open, open_count, total}
 use Rattle.book.specs.declared.plan.Item.{Item}
 use Rattle.book.proofs.Lacking.{open_alike}

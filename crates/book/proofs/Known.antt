@@ -27,17 +27,17 @@ use Rattle.history.proofs.Keeping.{by_fragment}
 use Rattle.history.proofs.Replies.{below_of}
 use Rattle.book.specs.Contents.{Contents, sealed_at}
 use Rattle.book.specs.Known.{IsFragmentIn, IsRepairFor}
-use Rattle.book.specs.Lacking.{lacks, seen_of}
-use Rattle.book.specs.Tells.{HoldsHistory, Represents, Correspond}
+use Rattle.book.specs.Lacking.{lacks, view_in}
+use Rattle.book.specs.Holds.{HoldsHistory, Represents, Correspond}
 use Rattle.book.proofs.Mending.{lacks_here}
 use Rattle.book.proofs.Versions.{was_put, put_later, only_put}
 
 -- ---- what can be rebuilt
 -- the value has the fragment, lacks it, and the test for unrecoverable ones is false
-rebuildable_so : (s : Sealed) (j f : ℕ) → IsRebuildable s j f → (no_such s.width (seen_of s) j f ≡ false) × (lacks s j f ≡ true) × (open_test s.code (lacks s j) f ≡ false)
+rebuildable_so : (s : Sealed) (j f : ℕ) → IsRebuildable s j f → (no_such s.width (view_in s) j f ≡ false) × (lacks s j f ≡ true) × (open_test s.code (lacks s j) f ≡ false)
 rebuildable_so s j f can = (there, lacks_here s j f can.has.0 can.has.1 ∙ can.lost, closed)
   where
-    there : no_such s.width (seen_of s) j f ≡ false
+    there : no_such s.width (view_in s) j f ≡ false
     there = sym (by_fragment s.code s.width s.len j f true ((λ _. can.has), (λ _. refl)))
 
     closed : open_test s.code (lacks s j) f ≡ false
@@ -49,7 +49,7 @@ rebuildable_so s j f can = (there, lacks_here s j f can.has.0 can.has.1 ∙ can.
         ]
 
 -- if it lacks the fragment and can't rebuild it, the test is true
-open_so : (s : Sealed) (j f : ℕ) → no_such s.width (seen_of s) j f ≡ false → lacks s j f ≡ true → (IsRebuildable s j f → ⊥) → open_test s.code (lacks s j) f ≡ true
+open_so : (s : Sealed) (j f : ℕ) → no_such s.width (view_in s) j f ≡ false → lacks s j f ≡ true → (IsRebuildable s j f → ⊥) → open_test s.code (lacks s j) f ≡ true
 open_so s j f there gone not_so =
     let parts = or_parts (nat_le (stripe_count s.code s.width s.len) j) _ there in
     let below : j < stripe_count s.code s.width s.len = below_of _ j parts.0 in
@@ -65,13 +65,13 @@ open_so s j f there gone not_so =
     ]
 
 -- the replies to a repair
-pub replies_repaired : (s : Sealed) (j f v : ℕ) → IsRebuildable s j f → v ≡ s.version → note.Repaired v ≡ repair_reply s.width (Some (seen_of s)) j f
+pub replies_repaired : (s : Sealed) (j f v : ℕ) → IsRebuildable s j f → v ≡ s.version → note.Repaired v ≡ repair_reply s.width (Some (view_in s)) j f
 replies_repaired s j f v can same =
     let so = rebuildable_so s j f can in
     ap note.Repaired same ∙ (λ i. cond (sym so.0 i) note.NoFragment (cond (sym so.1 i) (cond (sym so.2 i) (note.Unrecoverable s.version) (note.Repaired s.version)) note.NotLost))
 
-pub replies_open : (s : Sealed) (j f v : ℕ) → no_such s.width (seen_of s) j f ≡ false → lacks s j f ≡ true → (IsRebuildable s j f → ⊥) → v ≡ s.version
-    → note.Unrecoverable v ≡ repair_reply s.width (Some (seen_of s)) j f
+pub replies_open : (s : Sealed) (j f v : ℕ) → no_such s.width (view_in s) j f ≡ false → lacks s j f ≡ true → (IsRebuildable s j f → ⊥) → v ≡ s.version
+    → note.Unrecoverable v ≡ repair_reply s.width (Some (view_in s)) j f
 replies_open s j f v there gone not_so same =
     let opened = open_so s j f there gone not_so in
     ap note.Unrecoverable same ∙ (λ i. cond (sym there i) note.NoFragment (cond (sym gone i) (cond (sym opened i) (note.Unrecoverable s.version) (note.Repaired s.version)) note.NotLost))

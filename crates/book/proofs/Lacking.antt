@@ -15,11 +15,11 @@ use Rattle.sealed.specs.declared.value.Sealed.{Sealed}
 use Rattle.sealed.specs.Layout.{stripe_count}
 use Rattle.sealed.specs.Blob.{Lost, nothing, lost_in, pair_cmp}
 use Rattle.sealed.specs.Sealed.{StandsFor, absent_in}
-use Rattle.book.specs.Lacking.{lacks, lacked_count, seen_of}
+use Rattle.book.specs.Lacking.{lacks, lacked_count, view_in}
 use Rattle.book.specs.Numbers.{open_stripes}
 use Rattle.book.specs.Totals.{has_open, open_count}
 use Rattle.history.specs.State.{Blob, IsLostInside}
-use Rattle.book.specs.Tells.{Represents}
+use Rattle.book.specs.Holds.{Represents}
 use Rattle.history.specs.Views.{view_of}
 use Rattle.history.proofs.Keeping.{same_truth, lt_of, is_lt, both}
 use Rattle.sealed.proofs.Changing.{pairs_total}
@@ -185,7 +185,7 @@ module _ (w : ℕ) (s : Sealed) (blob : Blob) (is : Represents w s blob) (inside
       sym (counted (16 * length s.stripes) blob.lost inside_count)
       ∙ count_same _ _ (16 * length s.stripes) (λ i l. lacks_alike (i / 16) (i % 16))
 
-  pub view_alike : view_of blob ≡ seen_of s
+  pub view_alike : view_of blob ≡ view_in s
   view_alike =
       λ i. record {
         version = sym is.version i;

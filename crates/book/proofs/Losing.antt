@@ -20,7 +20,7 @@ use Rattle.history.specs.State.{State, Blob}
 use Rattle.history.specs.Step.{Operation, lose, repair, IsReply, after, with_lost}
 use Rattle.history.specs.History.{History, state_of, call_of}
 use Rattle.book.specs.Contents.{Contents, sealed_at}
-use Rattle.book.specs.Tells.{HoldsHistory, Represents, Correspond, CarriesOn}
+use Rattle.book.specs.Holds.{HoldsHistory, Represents, Correspond, CarriesOn}
 use Rattle.history.specs.Views.{View, lose_reply, repair_reply}
 use Rattle.book.proofs.Answering.{replied}
 use Rattle.book.proofs.Carrying.{carried}

@@ -15,7 +15,7 @@ use Rattle.sealed.proofs.Counting.{few_fragments}
 use Rattle.sealed.proofs.Changing.{without_stands, with_stands}
 use Rattle.lrc_code.specs.Count.{count_below}
 use Rattle.history.specs.Views.{no_such}
-use Rattle.book.specs.Lacking.{lacks, lacked_count, seen_of}
+use Rattle.book.specs.Lacking.{lacks, lacked_count, view_in}
 use Rattle.book.specs.Losing.{IsWith}
 use Rattle.book.specs.Totals.{has_open, open_at, open_count}
 use Rattle.history.proofs.Keeping.{is_lt}
@@ -132,7 +132,7 @@ is_with s t j f x changed own =
     record { version = changed.version; len = changed.len; width = changed.width; code = changed.code; stands = λ b lost stands. with_stands s t b lost j f x changed stands (own b lost stands) }
 
 -- ---- what is there, and what is absent
-pub fragment_there : (s : Sealed) (j f : ℕ) → no_such s.width (seen_of s) j f ≡ false → (j < stripe_count s.code s.width s.len) × (f < fragment_count s.code)
+pub fragment_there : (s : Sealed) (j f : ℕ) → no_such s.width (view_in s) j f ≡ false → (j < stripe_count s.code s.width s.len) × (f < fragment_count s.code)
 fragment_there s j f there =
     let none = or_false (nat_le (stripe_count s.code s.width s.len) j) (nat_le (fragment_count s.code) f) there in
     (below_if (stripe_count s.code s.width s.len) j none.0, below_if (fragment_count s.code) f none.1)

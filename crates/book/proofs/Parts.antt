@@ -21,7 +21,7 @@ use Rattle.sealed.specs.declared.value.Sealed.{Sealed}
 use Rattle.sealed.specs.Blob.{pair_cmp}
 use Rattle.history.specs.Names.{name_cmp}
 use Rattle.history.specs.History.{History}
-use Rattle.book.specs.Catalogue.{lacks_at, items_from, first_of}
+use Rattle.book.specs.Catalogue.{lacks_at, items_from, bound_from}
 use Rattle.book.specs.Lacking.{lacks, lacked_below}
 use Rattle.book.specs.Losing.{Catalogue, value_at}
 use Rattle.book.specs.Plan.{items_for, items_lacked, is_behind, items_after}
@@ -153,7 +153,7 @@ left p g none (x ∷ xs) = one_left (p x) g x (filter p xs) xs (none x) (left p 
 
 -- nothing is listed of the names before the item's
 abbrev in_part : Option Item → List ℕ → Bool
-in_part a n = range_contains name_cmp (first_of a) Unbounded n
+in_part a n = range_contains name_cmp (bound_from a) Unbounded n
 
 above_none : (o p : Ordering) → (is_le o && true) ≡ false → is_lt (ordering_then o p) ≡ false
 above_none o p above = grind (arith, common_steps)
@@ -179,7 +179,7 @@ abbrev pub behind_at : Option Item → Catalogue → List ℕ → List Item
 behind_at a es n = items_after a (items_from (n, value_at es n))
 
 pub part_listed : (a : Option Item) (es : Catalogue) (names part : List (List ℕ)) → IsStrictlySortedBy name_cmp (keys_of es) → IsStrictlySortedBy name_cmp names
-    → ((q : List ℕ) → list_any (is_at (name_cmp q)) names ≡ lacks_at es q) → part ≡ filter (range_contains name_cmp (first_of a) Unbounded) names
+    → ((q : List ℕ) → list_any (is_at (name_cmp q)) names ≡ lacks_at es q) → part ≡ filter (range_contains name_cmp (bound_from a) Unbounded) names
     → flat_map (behind_at a es) part ≡ items_after a (flat_map items_lacked es)
 part_listed a es names part rises rising agree is =
     ap (flat_map (behind_at a es)) is

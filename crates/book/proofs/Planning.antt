@@ -29,7 +29,7 @@ use Rattle.lrc_code.specs.Count.{count_below}
 use Rattle.book.specs.Lacking.{lacks, lacked_below}
 use Rattle.history.specs.Base.{pairs_of}
 use Rattle.book.specs.Plan.{items_for, plan_of, items_lacked}
-use Rattle.book.specs.Tells.{HoldsHistory, Represents, Correspond}
+use Rattle.book.specs.Holds.{HoldsHistory, Represents, Correspond}
 use Rattle.book.specs.declared.plan.Item.{Item}
 use Rattle.book.proofs.Lacking.{lacks_alike}
 use Rattle.history.proofs.Rising.{keys_rise, same_found, pairs_of-has, pairs_rise, same_pairs}

@@ -17,7 +17,7 @@ use Rattle.history.specs.State.{Blob}
 use Rattle.history.specs.Step.{read, IsReply, IsReadReply}
 use Rattle.history.specs.History.{state_of}
 use Rattle.book.specs.Contents.{Contents, sealed_at}
-use Rattle.book.specs.Tells.{Represents, Correspond, CarriesOn}
+use Rattle.book.specs.Holds.{Represents, Correspond, CarriesOn}
 use Rattle.book.proofs.Carrying.{carried}
 use Rattle.book.proofs.Same.{unreadable_alike}
 

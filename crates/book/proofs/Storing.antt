@@ -15,7 +15,7 @@ use Rattle.history.specs.State.{State, Blob, empty_state}
 use Rattle.history.specs.Step.{put}
 use Rattle.history.specs.History.{Event, History, after_all, state_of, entry_of}
 use Rattle.book.specs.Contents.{Contents, sealed_at}
-use Rattle.book.specs.Tells.{HoldsHistory, Represents, Correspond, CarriesOn}
+use Rattle.book.specs.Holds.{HoldsHistory, Represents, Correspond, CarriesOn}
 use Rattle.history.specs.History.{is_put}
 use Rattle.history.specs.declared.note.Note.TheVariants as note
 use Rattle.history.specs.declared.note.Call.TheVariants.{Put}

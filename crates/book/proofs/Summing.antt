@@ -20,7 +20,7 @@ use Rattle.book.specs.declared.totals.Totals.{Totals}
 use Rattle.book.specs.Lacking.{lacked_count}
 use Rattle.book.specs.Losing.{Catalogue, value_at, Loses, Mends}
 use Rattle.book.specs.Notes.{note_of}
-use Rattle.book.specs.Totals.{open_count, share_of, share_at, total, AreSmall, DifferBy, DifferAt}
+use Rattle.book.specs.Totals.{open_count, totals_of_blob, share_at, total, AreSmall, DifferBy, DifferAt}
 use Rattle.book.proofs.Mending.{few_lacked, few_open}
 
 -- ---- one value is replaced
@@ -43,7 +43,7 @@ pub differ_same : (es : Catalogue) (share : Totals) → DifferBy es es share sha
 differ_same es share = record { bytes = refl; lost = refl; unrecoverable = refl; small = λ small. small }
 
 module _ (old : Catalogue) (n : List ℕ) where
-  pub differ_insert : (new : Catalogue) (s : Sealed) → IsStrictlySortedBy name_cmp (keys_of old) → s.len < 2 ^ 64 → new ≡ insert_entry name_cmp old n s → DifferBy old new (share_at (value_at old n)) (share_of s)
+  pub differ_insert : (new : Catalogue) (s : Sealed) → IsStrictlySortedBy name_cmp (keys_of old) → s.len < 2 ^ 64 → new ≡ insert_entry name_cmp old n s → DifferBy old new (share_at (value_at old n)) (totals_of_blob s)
   differ_insert new s rises few is =
       let sum : (f : Sealed → ℕ) (k : ℕ) → k ≡ weight f (value_at old n) → total f new + k ≡ total f old + f s = λ f k e.
       (λ i. total f (is i) + e i) ∙ sum_by-insert_entry f nat_list_cmp_total old n s rises in
@@ -68,7 +68,7 @@ module _ (old : Catalogue) (n : List ℕ) where
   small_at : (x : Option Sealed) (s : Sealed) → x ≡ Some s → IfSome x (λ s. s.len < 2 ^ 64) → s.len < 2 ^ 64
   small_at x s here small = subst (λ (y : Option Sealed). IfSome y (λ s. s.len < 2 ^ 64)) here small
 
-  pub differ_set : (new : Catalogue) (s t : Sealed) → value_at old n ≡ Some s → t.len ≡ s.len → new ≡ set_value (is_at (name_cmp n)) old t → DifferBy old new (share_of s) (share_of t)
+  pub differ_set : (new : Catalogue) (s t : Sealed) → value_at old n ≡ Some s → t.len ≡ s.len → new ≡ set_value (is_at (name_cmp n)) old t → DifferBy old new (totals_of_blob s) (totals_of_blob t)
   differ_set new s t here long is =
       let sum : (f : Sealed → ℕ) → total f new + f s ≡ total f old + f t = λ f.
       ap (λ (es : Catalogue). total f es + f s) is ∙ sum_by-set_value f (is_at (name_cmp n)) old s t here in
@@ -100,7 +100,7 @@ pub differ_at : (old new : Catalogue) (n : List ℕ) (s t : Sealed) (r : Result 
     → new ≡ set_value (is_at (name_cmp n)) old t → ((m : Note) (x y : Sealed) → Becomes m x y → y.len ≡ x.len) → IfOk r (λ a. Becomes (note_of a) s t) → OnErr r (t ≡ s) → DifferAt old new n
 differ_at old new n s t r Becomes here there is long becomes same =
     subst (λ x. DifferBy old new (share_at x) (share_at (value_at new n))) here
-    (subst (λ x. DifferBy old new (share_of s) (share_at x)) there (differ_set old n new s t (sym here) (same_len r s t Becomes (λ m. long m s t) becomes same) is))
+    (subst (λ x. DifferBy old new (totals_of_blob s) (share_at x)) there (differ_set old n new s t (sym here) (same_len r s t Becomes (λ m. long m s t) becomes same) is))
 
 -- ---- no total overflows
 pub bounded : (es : Catalogue) → AreSmall es → (total (λ s. s.len) es ≤ length es * 2 ^ 64) × (total lacked_count es ≤ length es * 2 ^ 64) × (total open_count es ≤ length es * 2 ^ 64)

@@ -10,7 +10,7 @@ use Rattle.history.specs.Base.{Outlines}
 use Rattle.history.proofs.Beginnings.{after_all-append, legal_rest}
 use Rattle.book.specs.Contents.{Contents}
 use Rattle.book.specs.Losing.{Catalogue, value_at}
-use Rattle.book.specs.Tells.{HoldsHistory, Correspond}
+use Rattle.book.specs.Holds.{HoldsHistory, Correspond}
 
 legal_first : (w : ℕ) (s : State) (one two : History) → IsLegalFrom w s (one ++ two) → IsLegalFrom w s one
 legal_first w s [] two legal = tt

@@ -26,6 +26,6 @@ items_from (n, None) = []
 items_from (n, Some s) = items_lacked (n, s)
 
 -- the names from that of the item on, or all
-abbrev pub first_of : Option Item → Bound (List ℕ)
-first_of None = Unbounded
-first_of (Some a) = Included a.name
+abbrev pub bound_from : Option Item → Bound (List ℕ)
+bound_from None = Unbounded
+bound_from (Some a) = Included a.name

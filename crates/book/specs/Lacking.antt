@@ -21,10 +21,10 @@ abbrev pub lacked_below : Sealed → ℕ → List (ℕ × ℕ)
 lacked_below s zero = []
 lacked_below s (suc n) = cond (lacks s (n / 16) (n % 16)) (lacked_below s n ++ (n / 16, n % 16) ∷ []) (lacked_below s n)
 
-abbrev pub seen_of : Sealed → View
-seen_of s = record { version = s.version; len = s.len; code = s.code; lost = lacks s; count = lacked_count s }
+abbrev pub view_in : Sealed → View
+view_in s = record { version = s.version; len = s.len; code = s.code; lost = lacks s; count = lacked_count s }
 
 -- a reply by the sealed value of the name, at its own width
 abbrev pub reply_for : (ℕ → Option View → Note) → Option Sealed → Note
 reply_for reply None = NoName
-reply_for reply (Some s) = reply s.width (Some (seen_of s))
+reply_for reply (Some s) = reply s.width (Some (view_in s))

@@ -24,12 +24,12 @@ abbrev pub open_count : Sealed → ℕ
 open_count s = count_below (λ j. has_open s.code (lacks s j)) (length s.stripes)
 
 -- what a value adds to the totals, and what a name adds
-abbrev pub share_of : Sealed → Totals
-share_of s = record { bytes = s.len; lost = lacked_count s; unrecoverable = open_count s }
+abbrev pub totals_of_blob : Sealed → Totals
+totals_of_blob s = record { bytes = s.len; lost = lacked_count s; unrecoverable = open_count s }
 
 abbrev pub share_at : Option Sealed → Totals
 share_at None = record { bytes = 0; lost = 0; unrecoverable = 0 }
-share_at (Some s) = share_of s
+share_at (Some s) = totals_of_blob s
 
 -- a sum over the values
 abbrev pub total : (Sealed → ℕ) → Catalogue → ℕ

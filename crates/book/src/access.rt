@@ -5,7 +5,7 @@ ghost use Rattle.std.specs.Option.{option_map};
 ghost use Rattle.history.specs.Base.{empty_base};
 ghost use Rattle.history.specs.Log.{call_limit};
 ghost use Rattle.book.specs.Contents.{journal_of, sealed_at};
-ghost use Rattle.book.specs.Tells.{HoldsHistory};
+ghost use Rattle.book.specs.Holds.{HoldsHistory};
 
 use crate::book::Book;
 use crate::catalogue::Catalogue;
@@ -28,7 +28,7 @@ impl Book {
           entries = [];
           catalogue = [];
         }) }
-        ensures told { IfOk result (λ b. HoldsHistory b []) }
+        ensures holds { IfOk result (λ b. HoldsHistory b []) }
         ensures err { IfErr result (λ e. e ≡ Fault.NoMemory) }
     {
         Book::with_limit(alloc, width, Some(limit))
@@ -44,7 +44,7 @@ impl Book {
           entries = [];
           catalogue = [];
         }) }
-        ensures told { IfOk result (λ b. HoldsHistory b []) }
+        ensures holds { IfOk result (λ b. HoldsHistory b []) }
         ensures err { IfErr result (λ e. e ≡ Fault.NoMemory) }
     {
         Ok(Book {

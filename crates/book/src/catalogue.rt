@@ -11,7 +11,7 @@ ghost use Rattle.sealed.specs.Blob.{nothing};
 ghost use Rattle.sealed.specs.Sealed.{StandsFor};
 ghost use Rattle.history.specs.Names.{name_cmp};
 ghost use Rattle.history.specs.Views.{lose_reply, repair_reply};
-ghost use Rattle.book.specs.Catalogue.{lacks_at, first_of};
+ghost use Rattle.book.specs.Catalogue.{lacks_at, bound_from};
 ghost use Rattle.book.specs.Known.{IsRepairFor};
 ghost use Rattle.book.specs.Losing.{Loses, Mends, Replaces, value_at};
 ghost use Rattle.book.specs.Notes.{note_of};
@@ -218,7 +218,7 @@ fn list_lacking(
 
 /// The names from that of the item on, or all.
 fn first_name(after: Option<&Item>) -> Bound<Name>
-    ensures { result ≡ first_of (option_map (λ i. i.now) after.entry) }
+    ensures { result ≡ bound_from (option_map (λ i. i.now) after.entry) }
 {
     match after {
         Some(item) => Bound::Included(item.name.duplicate()),

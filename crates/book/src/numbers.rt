@@ -3,7 +3,7 @@ ghost use Rattle.std.specs.Prelude.{◌≡◌, length};
 ghost use Rattle.history.specs.History.{History};
 ghost use Rattle.book.specs.Contents.{journal_of};
 ghost use Rattle.book.specs.Numbers.{AreNumbersOf, capped};
-ghost use Rattle.book.specs.Tells.{HoldsHistory};
+ghost use Rattle.book.specs.Holds.{HoldsHistory};
 
 use crate::book::Book;
 
@@ -28,7 +28,7 @@ impl Book {
     /// The numbers of the store, held beside its blobs: it takes the same time for each store. Does
     /// not allocate, and the journal gets no entry of it.
     pub fn numbers(&self) -> Numbers
-        ensures told { (h : History) → HoldsHistory self.now h
+        ensures holds { (h : History) → HoldsHistory self.now h
             → AreNumbersOf self.now.width h result }
         ensures entries { result.entries ≡ length (journal_of self.now) }
     {

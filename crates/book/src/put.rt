@@ -4,7 +4,7 @@ ghost use Rattle.sealed.specs.Blob.{nothing};
 ghost use Rattle.sealed.specs.Sealed.{StandsFor};
 ghost use Rattle.history.specs.History.{is_put};
 ghost use Rattle.history.specs.Step.{put as put_of};
-ghost use Rattle.book.specs.Tells.{CarriesOn, IsCallFault, KeepsBase};
+ghost use Rattle.book.specs.Holds.{CarriesOn, IsCallFault, KeepsBase};
 
 use crate::book::{Book, note_call};
 use crate::{Answer, Call, Fault, Name};
@@ -30,7 +30,7 @@ impl Book {
             (self.old.base.puts + count_by is_put self.old.entries + 1)) }
         ensures full { (result ≡ Err Fault.JournalFull)
             ↔ (length self.old.entries ≡ self.old.limit) }
-        ensures kept { KeepsBase self.old self.new }
+        ensures unchanged { KeepsBase self.old self.new }
         ensures faults { IfErr result IsCallFault }
         ensures err { OnErr result (self.new ≡ self.old) }
     {

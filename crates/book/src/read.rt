@@ -4,7 +4,7 @@ ghost use Rattle.std.specs.Option.{option_map};
 ghost use Rattle.book.specs.Asked.{IsReadAnswer, IsGrantable};
 ghost use Rattle.book.specs.Contents.{sealed_at};
 ghost use Rattle.history.specs.Step.{read as read_of};
-ghost use Rattle.book.specs.Tells.{CarriesOn, IsCallFault, KeepsBase};
+ghost use Rattle.book.specs.Holds.{CarriesOn, IsCallFault, KeepsBase};
 
 use crate::book::{Book, note_call};
 use crate::{Answer, Call, Fault, Name};
@@ -23,7 +23,7 @@ impl Book {
             ↔ (length self.old.entries ≡ self.old.limit) }
         ensures no_memory { result ≡ Err Fault.NoMemory
             → IsGrantable (sealed_at self.old name) start len }
-        ensures kept { KeepsBase self.old self.new }
+        ensures unchanged { KeepsBase self.old self.new }
         ensures faults { IfErr result IsCallFault }
         ensures err { OnErr result (self.new ≡ self.old) }
     {

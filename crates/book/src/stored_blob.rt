@@ -10,11 +10,11 @@ ghost use Rattle.sealed.specs.Sealed.{StandsFor, absent_in};
 ghost use Rattle.sealed.specs.Rebuilding.{IsFragmentOf, IsRebuildable};
 ghost use Rattle.book.specs.Known.{IsRepairFor};
 ghost use Rattle.book.specs.Catalogue.{lacks_some};
-ghost use Rattle.book.specs.Lacking.{reply_for, lacks, lacked_count, seen_of};
+ghost use Rattle.book.specs.Lacking.{reply_for, lacks, lacked_count, view_in};
 ghost use Rattle.book.specs.Losing.{Loses, Mends};
 ghost use Rattle.book.specs.Notes.{note_of};
 ghost use Rattle.book.specs.Plan.{items_lacked, is_behind as is_behind_in, items_after};
-ghost use Rattle.book.specs.Totals.{open_at, share_of, IsShare};
+ghost use Rattle.book.specs.Totals.{open_at, totals_of_blob, IsShare};
 ghost use Rattle.history.specs.Views.{no_such, lose_reply, repair_reply, stat_reply};
 
 use crate::plan::{Item, first_stripe, is_behind};
@@ -64,7 +64,7 @@ impl StoredBlob {
 
     /// Its share of the totals.
     pub fn share(&self) -> Totals
-        ensures value { result ≡ share_of self.now }
+        ensures value { result ≡ totals_of_blob self.now }
         ensures share { IsShare result }
     {
         Totals {
@@ -102,7 +102,7 @@ impl StoredBlob {
 
     /// Whether the blob lacks this stripe, or the stripe this fragment.
     fn is_no_fragment(&self, stripe: u64, fragment: u64) -> bool
-        ensures { result ≡ no_such self.now.width (seen_of self.now) stripe fragment }
+        ensures { result ≡ no_such self.now.width (view_in self.now) stripe fragment }
     {
         !self.sealed.has_fragment(stripe, fragment)
     }

@@ -2,7 +2,7 @@
 ghost use Rattle.std.specs.Prelude.{◌≡◌, ◌≤◌, ◌+◌, ◌-◌, drop, length, max, IsOk, IfOk, IfErr};
 ghost use Rattle.std.specs.Prelude.{OnErr};
 ghost use Rattle.history.specs.History.{History};
-ghost use Rattle.book.specs.Tells.{HoldsHistory};
+ghost use Rattle.book.specs.Holds.{HoldsHistory};
 ghost use Rattle.book.specs.Contents.{journal_of};
 ghost use Rattle.book.specs.Trimming.{given_up};
 
@@ -21,13 +21,13 @@ impl Book {
     ///
     /// `NoMemory` if memory for the new base runs out; the book is then unchanged.
     pub fn trim(&mut self, alloc: Global, keep: u64) -> Result<u64, Fault>
-        ensures told { (h : History) → HoldsHistory self.old h → HoldsHistory self.new h }
+        ensures holds { (h : History) → HoldsHistory self.old h → HoldsHistory self.new h }
         ensures answer { IfOk result (λ n. n ≡ given_up self.old.base.trimmed
             (length (journal_of self.old)) keep) }
         ensures few { IfOk result (λ n. n ≤ 1048576) }
         ensures trimmed { IfOk result (λ n. self.new.base.trimmed ≡ self.old.base.trimmed + n) }
         ensures entries { IfOk result (λ n. self.new.entries ≡ drop n self.old.entries) }
-        ensures kept { (self.new.width ≡ self.old.width) × (self.new.limit ≡ self.old.limit)
+        ensures unchanged { (self.new.width ≡ self.old.width) × (self.new.limit ≡ self.old.limit)
             × (self.new.catalogue ≡ self.old.catalogue) }
         ensures free { given_up self.old.base.trimmed (length (journal_of self.old)) keep ≡ 0
             → IsOk result }
@@ -52,13 +52,13 @@ impl Book {
     /// As `trim`, but it discards at most `most` entries: the oldest of those that `trim` would
     /// discard. So a long journal can be trimmed in steps.
     pub fn trim_part(&mut self, alloc: Global, keep: u64, most: u64) -> Result<u64, Fault>
-        ensures told { (h : History) → HoldsHistory self.old h → HoldsHistory self.new h }
+        ensures holds { (h : History) → HoldsHistory self.old h → HoldsHistory self.new h }
         ensures answer { IfOk result (λ n. n ≡ given_up self.old.base.trimmed
             (length (journal_of self.old)) (max keep (length (journal_of self.old) - most))) }
         ensures few { IfOk result (λ n. n ≤ 1048576) }
         ensures trimmed { IfOk result (λ n. self.new.base.trimmed ≡ self.old.base.trimmed + n) }
         ensures entries { IfOk result (λ n. self.new.entries ≡ drop n self.old.entries) }
-        ensures kept { (self.new.width ≡ self.old.width) × (self.new.limit ≡ self.old.limit)
+        ensures unchanged { (self.new.width ≡ self.old.width) × (self.new.limit ≡ self.old.limit)
             × (self.new.catalogue ≡ self.old.catalogue) }
         ensures faults { IfErr result (λ e. e ≡ Fault.NoMemory) }
         ensures err { OnErr result (self.new ≡ self.old) }

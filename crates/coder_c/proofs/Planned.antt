@@ -6,7 +6,7 @@ use Rattle.kernels.proofs.Sums.{xor_sum_same}
 use Rattle.lrc_code.specs.declared.Code.{Code}
 use Rattle.decode.specs.declared.plans.DecodePlan.{DecodePlan}
 use Rattle.decode.specs.Syndrome.{syndrome}
-use Rattle.decode.specs.DecodePlan.{IsPlan, IsPlanned, at_target}
+use Rattle.decode.specs.DecodePlan.{IsDecodePlan, IsPlanned, at_target}
 use Rattle.coder_c.specs.Call.{LeftReach, AreLostIn, HaveRoomFor, DecodesLost}
 use Rattle.coder_c.specs.PlanBytes.{format_in, code_in, missing_in, chosen_in, shares_in, plan_in, AreSameShares}
 use Rattle.coder_c.proofs.Asked.{at_code}
@@ -15,12 +15,12 @@ use Rattle.coder_c.proofs.Chosen.{some_and, and_some}
 module _ (bytes : List ℕ) (p : DecodePlan) (has_code : code_in bytes ≡ Some p.code) (is : p ≡ plan_in p.code bytes) (fragments : List (List ℕ)) where
   -- what was decoded by the plan was decoded by its bytes
   pub decodes_by_bytes : (i from to end : ℕ) (old new : List ℕ) → to ≡ end
-      → (IsPlan p → DecodesLost p.code fragments p.missing (slice_index_or p.chosen i None) from to old new)
-      → IfSome (code_in bytes) (λ code. IsPlan (plan_in code bytes) → DecodesLost code fragments (missing_in bytes) (slice_index_or (chosen_in bytes) i None) from end old new)
+      → (IsDecodePlan p → DecodesLost p.code fragments p.missing (slice_index_or p.chosen i None) from to old new)
+      → IfSome (code_in bytes) (λ code. IsDecodePlan (plan_in code bytes) → DecodesLost code fragments (missing_in bytes) (slice_index_or (chosen_in bytes) i None) from end old new)
   decodes_by_bytes i from to end old new e decodes =
-      at_code (code_in bytes) p.code (λ code. IsPlan (plan_in code bytes) → DecodesLost code fragments (missing_in bytes) (slice_index_or (chosen_in bytes) i None) from end old new) has_code
-      (subst (λ (q : DecodePlan). IsPlan q → DecodesLost q.code fragments q.missing (slice_index_or q.chosen i None) from end old new) is
-      (subst (λ n. IsPlan p → DecodesLost p.code fragments p.missing (slice_index_or p.chosen i None) from n old new) e decodes))
+      at_code (code_in bytes) p.code (λ code. IsDecodePlan (plan_in code bytes) → DecodesLost code fragments (missing_in bytes) (slice_index_or (chosen_in bytes) i None) from end old new) has_code
+      (subst (λ (q : DecodePlan). IsDecodePlan q → DecodesLost q.code fragments q.missing (slice_index_or q.chosen i None) from end old new) is
+      (subst (λ n. IsDecodePlan p → DecodesLost p.code fragments p.missing (slice_index_or p.chosen i None) from n old new) e decodes))
 
   -- what the call asks of a plan
   abbrev Takes : DecodePlan → ℕ → ℕ → List ℕ → List ℕ → List ℕ → List ℕ → Type 0
@@ -55,7 +55,7 @@ same_plan code missing (Some f) shares others same planned = record {
 
 -- the bytes of a plan are one
 pub is_plan_of_bytes : (code : Code) (bytes : List ℕ) (p : DecodePlan) → p.code ≡ code → missing_in bytes ≡ p.missing → chosen_in bytes ≡ p.chosen → AreSameShares (shares_in bytes) p.shares
-    → IsPlan p → IsPlan (plan_in code bytes)
+    → IsDecodePlan p → IsDecodePlan (plan_in code bytes)
 is_plan_of_bytes code bytes p code_is missing chosen shares is k l =
     subst (λ (o : List (Option ℕ)). IfSome (slice_index_or o k None) (λ f. IsPlanned code (missing_in bytes) f (at_target (shares_in bytes) k))) (sym chosen)
     (subst (λ m. IfSome (slice_index_or p.chosen k None) (λ f. IsPlanned code m f (at_target (shares_in bytes) k))) (sym missing)

@@ -23,7 +23,7 @@ ghost use Rattle.coder_c.specs.Call.{code_with, with_parities, FourHave, AddsDat
 ghost use Rattle.coder_c.specs.Call.{LeftReach, RebuildsLost, AreLostIn, HasRoomFor, HaveRoomFor};
 ghost use Rattle.coder_c.specs.Call.{DecodesLost, chosen_by, chosen_of, terms_of};
 ghost use Rattle.coder_c.specs.PlanBytes.{format_in, code_in, missing_in, chosen_in, plan_in};
-ghost use Rattle.decode.specs.DecodePlan.{IsPlan, HasAllOf, IsRest};
+ghost use Rattle.decode.specs.DecodePlan.{IsDecodePlan, HasAllOf, IsRest};
 
 use decode::plan_for;
 use gf256::add_scaled;
@@ -78,7 +78,7 @@ pub extern "C" fn lrc_encode(
         All (λ s. length s.now ≡ length first.old) sources.now
         × FourHave (length first.old) first.old second.old third.old fourth.old) }
     ensures answers { (result ≡ DONE) ⊎ (result ≡ BAD_ARGUMENT) }
-    ensures kept { result ≢ DONE → (first.new ≡ first.old) × (second.new ≡ second.old)
+    ensures unchanged { result ≢ DONE → (first.new ≡ first.old) × (second.new ≡ second.old)
         × (third.new ≡ third.old) × (fourth.new ≡ fourth.old) }
 {
     let w = first.len();
@@ -162,7 +162,7 @@ pub extern "C" fn lrc_encode_add(
         (fragment < data_count code) × FourHave (length source.now) first.old second.old third.old
         fourth.old) }
     ensures answers { (result ≡ DONE) ⊎ (result ≡ BAD_ARGUMENT) }
-    ensures kept { result ≢ DONE → (first.new ≡ first.old) × (second.new ≡ second.old)
+    ensures unchanged { result ≢ DONE → (first.new ≡ first.old) × (second.new ≡ second.old)
         × (third.new ≡ third.old) × (fourth.new ≡ fourth.old) }
 {
     let Some(code) = code_of(data_fragments) else {
@@ -255,7 +255,7 @@ pub extern "C" fn lrc_rebuild(
         × LeftReach code (map (λ f. f.now) fragments.now) lost (from + length target.old)
         × (from + length target.old < 2 ^ 64)) }
     ensures answers { (result ≡ DONE) ⊎ (result ≡ OPEN) ⊎ (result ≡ BAD_ARGUMENT) }
-    ensures kept { result ≢ DONE → target.new ≡ target.old }
+    ensures unchanged { result ≢ DONE → target.new ≡ target.old }
 {
     let Some(asked) = lost_fragment(data_fragments, lost, fragment) else {
         return BAD_ARGUMENT;
@@ -368,7 +368,7 @@ fn decode_left(
     ensures taken { (result ≢ BAD_ARGUMENT) ↔ LeftReach code (map (λ f. f.now) fragments.now) lost
         end }
     ensures answers { (result ≡ DONE) ⊎ (result ≡ OPEN) ⊎ (result ≡ BAD_ARGUMENT) }
-    ensures kept { result ≢ DONE → (first.new ≡ first.old) × (second.new ≡ second.old)
+    ensures unchanged { result ≢ DONE → (first.new ≡ first.old) × (second.new ≡ second.old)
         × (third.new ≡ third.old) × (fourth.new ≡ fourth.old) }
 {
     if !left_reach(code, fragments, lost, end) {
@@ -424,7 +424,7 @@ pub extern "C" fn lrc_decode(
         × HaveRoomFor (chosen_of numbers.now) w first.old second.old third.old fourth.old
         × LeftReach code (map (λ f. f.now) fragments.now) lost (from + w) × (from + w < 2 ^ 64)) }
     ensures answers { (result ≡ DONE) ⊎ (result ≡ OPEN) ⊎ (result ≡ BAD_ARGUMENT) }
-    ensures kept { result ≢ DONE → (first.new ≡ first.old) × (second.new ≡ second.old)
+    ensures unchanged { result ≢ DONE → (first.new ≡ first.old) × (second.new ≡ second.old)
         × (third.new ≡ third.old) × (fourth.new ≡ fourth.old) }
 {
     let Some(code) = code_of(data_fragments) else {
@@ -462,7 +462,7 @@ pub extern "C" fn lrc_plan(
     ensures code { result ≡ DONE → code_in plan.new ≡ code_with data_fragments }
     ensures chosen { result ≡ DONE → chosen_in plan.new ≡ chosen_of numbers.now }
     ensures plan { result ≡ DONE → IfSome (code_with data_fragments)
-        (λ code. IsPlan (plan_in code plan.new)) }
+        (λ code. IsDecodePlan (plan_in code plan.new)) }
     ensures lost { result ≡ DONE → IfSome (code_with data_fragments)
         (λ code. HasAllOf code lost (missing_in plan.new)) }
     ensures reads { result ≡ DONE → IfSome (code_with data_fragments)
@@ -473,7 +473,7 @@ pub extern "C" fn lrc_plan(
     ensures taken { (result ≢ BAD_ARGUMENT) ↔ IsSomeAnd (code_with data_fragments)
         (λ code. AreLostIn code lost (chosen_of numbers.now)) }
     ensures answers { (result ≡ DONE) ⊎ (result ≡ OPEN) ⊎ (result ≡ BAD_ARGUMENT) }
-    ensures kept { result ≢ DONE → (plan.new ≡ plan.old) × (reads.new ≡ reads.old) }
+    ensures unchanged { result ≢ DONE → (plan.new ≡ plan.old) × (reads.new ≡ reads.old) }
 {
     let Some(code) = code_of(data_fragments) else {
         return BAD_ARGUMENT;
@@ -511,19 +511,19 @@ pub extern "C" fn lrc_plan_decode(
     fourth: &mut [u8],
 ) -> u32
     ensures first { result ≡ DONE → IfSome (code_in plan.now) (λ code.
-        IsPlan (plan_in code plan.now) → DecodesLost code (map (λ f. f.now) fragments.now)
+        IsDecodePlan (plan_in code plan.now) → DecodesLost code (map (λ f. f.now) fragments.now)
         (missing_in plan.now) (slice_index_or (chosen_in plan.now) 0 None) from (from + w)
         first.old first.new) }
     ensures second { result ≡ DONE → IfSome (code_in plan.now) (λ code.
-        IsPlan (plan_in code plan.now) → DecodesLost code (map (λ f. f.now) fragments.now)
+        IsDecodePlan (plan_in code plan.now) → DecodesLost code (map (λ f. f.now) fragments.now)
         (missing_in plan.now) (slice_index_or (chosen_in plan.now) 1 None) from (from + w)
         second.old second.new) }
     ensures third { result ≡ DONE → IfSome (code_in plan.now) (λ code.
-        IsPlan (plan_in code plan.now) → DecodesLost code (map (λ f. f.now) fragments.now)
+        IsDecodePlan (plan_in code plan.now) → DecodesLost code (map (λ f. f.now) fragments.now)
         (missing_in plan.now) (slice_index_or (chosen_in plan.now) 2 None) from (from + w)
         third.old third.new) }
     ensures fourth { result ≡ DONE → IfSome (code_in plan.now) (λ code.
-        IsPlan (plan_in code plan.now) → DecodesLost code (map (λ f. f.now) fragments.now)
+        IsDecodePlan (plan_in code plan.now) → DecodesLost code (map (λ f. f.now) fragments.now)
         (missing_in plan.now) (slice_index_or (chosen_in plan.now) 3 None) from (from + w)
         fourth.old fourth.new) }
     ensures taken { (result ≢ BAD_ARGUMENT) ↔ IsSomeAnd (code_in plan.now) (λ code.
@@ -533,7 +533,7 @@ pub extern "C" fn lrc_plan_decode(
         × LeftReach code (map (λ f. f.now) fragments.now) (missing_in plan.now) (from + w)
         × (from + w < 2 ^ 64)) }
     ensures answers { (result ≡ DONE) ⊎ (result ≡ BAD_ARGUMENT) }
-    ensures kept { result ≢ DONE → (first.new ≡ first.old) × (second.new ≡ second.old)
+    ensures unchanged { result ≢ DONE → (first.new ≡ first.old) × (second.new ≡ second.old)
         × (third.new ≡ third.old) × (fourth.new ≡ fourth.old) }
 {
     let Some(planned) = plan_from(plan) else {
@@ -608,7 +608,7 @@ pub extern "C" fn lrc_recipe(
     ensures taken { (result ≢ BAD_ARGUMENT) ↔ IsSomeAnd (code_with data_fragments)
         (λ code. IsLostIn code lost fragment) }
     ensures answers { (result ≡ DONE) ⊎ (result ≡ OPEN) ⊎ (result ≡ BAD_ARGUMENT) }
-    ensures kept { result ≢ DONE → (fragments.new ≡ fragments.old)
+    ensures unchanged { result ≢ DONE → (fragments.new ≡ fragments.old)
         × (coefficients.new ≡ coefficients.old) × (count.new ≡ count.old) }
 {
     let Some(asked) = lost_fragment(data_fragments, lost, fragment) else {
@@ -633,7 +633,7 @@ pub extern "C" fn lrc_add(target: &mut [u8], coefficient: u8, source: &[u8]) -> 
         (product coefficient (slice_index source.now k))) }
     ensures taken { (result ≢ BAD_ARGUMENT) ↔ (length source.now ≡ length target.old) }
     ensures answers { (result ≡ DONE) ⊎ (result ≡ BAD_ARGUMENT) }
-    ensures kept { result ≢ DONE → target.new ≡ target.old }
+    ensures unchanged { result ≢ DONE → target.new ≡ target.old }
 {
     if source.len() != target.len() {
         return BAD_ARGUMENT;

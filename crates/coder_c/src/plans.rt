@@ -5,8 +5,8 @@ ghost use Rattle.std.specs.Prelude.{IfSome};
 ghost use Rattle.lrc_code.specs.declared.Code.TheVariants.{Wide};
 ghost use Rattle.lrc_code.specs.Code.{is_lost};
 ghost use Rattle.lrc_code.specs.Stripe.{list_at};
-ghost use Rattle.syndromes.specs.Syndromes.{byte_of};
-ghost use Rattle.decode.specs.DecodePlan.{IsPlan};
+ghost use Rattle.syndromes.specs.Syndromes.{list_byte};
+ghost use Rattle.decode.specs.DecodePlan.{IsDecodePlan};
 ghost use Rattle.coder_c.specs.Call.{chosen_of, AreLostIn, HaveRoomFor, LeftReach};
 ghost use Rattle.coder_c.specs.Call.{DecodesLost, HasRoomFor};
 ghost use Rattle.coder_c.specs.PlanBytes.{format_in, code_in, missing_in, chosen_in, shares_in};
@@ -97,16 +97,16 @@ fn decode_from_slots(
     requires lost { AreLostIn plan.now.code plan.now.missing plan.now.chosen }
     requires room { HaveRoomFor plan.now.chosen (to - from) first.old second.old third.old
         fourth.old }
-    ensures first { IsPlan plan.now → DecodesLost plan.now.code
+    ensures first { IsDecodePlan plan.now → DecodesLost plan.now.code
         (map (λ f. f.now) fragments.now) plan.now.missing (slice_index_or plan.now.chosen 0 None)
         from to first.old first.new }
-    ensures second { IsPlan plan.now → DecodesLost plan.now.code
+    ensures second { IsDecodePlan plan.now → DecodesLost plan.now.code
         (map (λ f. f.now) fragments.now) plan.now.missing (slice_index_or plan.now.chosen 1 None)
         from to second.old second.new }
-    ensures third { IsPlan plan.now → DecodesLost plan.now.code
+    ensures third { IsDecodePlan plan.now → DecodesLost plan.now.code
         (map (λ f. f.now) fragments.now) plan.now.missing (slice_index_or plan.now.chosen 2 None)
         from to third.old third.new }
-    ensures fourth { IsPlan plan.now → DecodesLost plan.now.code
+    ensures fourth { IsDecodePlan plan.now → DecodesLost plan.now.code
         (map (λ f. f.now) fragments.now) plan.now.missing (slice_index_or plan.now.chosen 3 None)
         from to fourth.old fourth.new }
 {
@@ -128,7 +128,7 @@ fn wide_part<'a>(
     requires range { from ≤ to }
     ensures long { IfSome result (λ part. length part.now ≡ to - from) }
     ensures lost { is_lost missing i ≡ true → result ≡ None }
-    ensures bytes { is_lost missing i ≡ false → (k : ℕ) → k < to - from → byte_of result k
+    ensures bytes { is_lost missing i ≡ false → (k : ℕ) → k < to - from → list_byte result k
         ≡ slice_index (list_at (map (λ f. f.now) fragments.now) i) (from + k) }
 {
     if missing.left(i as u8) {
@@ -171,16 +171,16 @@ fn decode_wide(
         third.old }
     requires room_fourth { HasRoomFor (slice_index_or plan.now.chosen 3 None) (to - from)
         fourth.old }
-    ensures first { IsPlan plan.now → DecodesLost plan.now.code
+    ensures first { IsDecodePlan plan.now → DecodesLost plan.now.code
         (map (λ f. f.now) fragments.now) plan.now.missing (slice_index_or plan.now.chosen 0 None)
         from to first.old first.new }
-    ensures second { IsPlan plan.now → DecodesLost plan.now.code
+    ensures second { IsDecodePlan plan.now → DecodesLost plan.now.code
         (map (λ f. f.now) fragments.now) plan.now.missing (slice_index_or plan.now.chosen 1 None)
         from to second.old second.new }
-    ensures third { IsPlan plan.now → DecodesLost plan.now.code
+    ensures third { IsDecodePlan plan.now → DecodesLost plan.now.code
         (map (λ f. f.now) fragments.now) plan.now.missing (slice_index_or plan.now.chosen 2 None)
         from to third.old third.new }
-    ensures fourth { IsPlan plan.now → DecodesLost plan.now.code
+    ensures fourth { IsDecodePlan plan.now → DecodesLost plan.now.code
         (map (λ f. f.now) fragments.now) plan.now.missing (slice_index_or plan.now.chosen 3 None)
         from to fourth.old fourth.new }
 {
@@ -212,21 +212,21 @@ pub(crate) fn decode_planned(
     requires lost { AreLostIn plan.now.code plan.now.missing plan.now.chosen }
     requires room { HaveRoomFor plan.now.chosen (to - from) first.old second.old third.old
         fourth.old }
-    ensures first { result ≡ true → IsPlan plan.now → DecodesLost plan.now.code
+    ensures first { result ≡ true → IsDecodePlan plan.now → DecodesLost plan.now.code
         (map (λ f. f.now) fragments.now) plan.now.missing (slice_index_or plan.now.chosen 0 None)
         from to first.old first.new }
-    ensures second { result ≡ true → IsPlan plan.now → DecodesLost plan.now.code
+    ensures second { result ≡ true → IsDecodePlan plan.now → DecodesLost plan.now.code
         (map (λ f. f.now) fragments.now) plan.now.missing (slice_index_or plan.now.chosen 1 None)
         from to second.old second.new }
-    ensures third { result ≡ true → IsPlan plan.now → DecodesLost plan.now.code
+    ensures third { result ≡ true → IsDecodePlan plan.now → DecodesLost plan.now.code
         (map (λ f. f.now) fragments.now) plan.now.missing (slice_index_or plan.now.chosen 2 None)
         from to third.old third.new }
-    ensures fourth { result ≡ true → IsPlan plan.now → DecodesLost plan.now.code
+    ensures fourth { result ≡ true → IsDecodePlan plan.now → DecodesLost plan.now.code
         (map (λ f. f.now) fragments.now) plan.now.missing (slice_index_or plan.now.chosen 3 None)
         from to fourth.old fourth.new }
     ensures taken { (result ≡ true) ↔ LeftReach plan.now.code (map (λ f. f.now) fragments.now)
         plan.now.missing to }
-    ensures kept { result ≡ false → (first.new ≡ first.old) × (second.new ≡ second.old)
+    ensures unchanged { result ≡ false → (first.new ≡ first.old) × (second.new ≡ second.old)
         × (third.new ≡ third.old) × (fourth.new ≡ fourth.old) }
 {
     let missing = LostSet::of_bits(plan.missing);

@@ -76,7 +76,7 @@ fn rebuild_from_slots(
     ensures rebuilt { result ≡ true → RebuildsLost code (map (λ f. f.now) fragments.now) lost f from
         to target.new }
     ensures open { (result ≡ false) ↔ Open code (is_lost lost) f }
-    ensures kept { result ≡ false → target.new ≡ target.old }
+    ensures unchanged { result ≡ false → target.new ≡ target.old }
 {
     let left = left_of(code, fragments, lost);
     rebuild_to(&left, f, from, to, target)
@@ -100,7 +100,7 @@ pub(crate) fn rebuild_lost(
     ensures rebuilt { result ≡ true → RebuildsLost code (map (λ f. f.now) fragments.now) lost f from
         to target.new }
     ensures open { (result ≡ false) ↔ Open code (is_lost lost) f }
-    ensures kept { result ≡ false → target.new ≡ target.old }
+    ensures unchanged { result ≡ false → target.new ≡ target.old }
 {
     if is_alone_in(code, lost, f) {
         rebuild_local_in(code, lost, fragments, f, from, to, target);
@@ -174,7 +174,7 @@ fn decode_from_slots(
     ensures fourth { result ≡ true → DecodesLost code (map (λ f. f.now) fragments.now) lost
         (slice_index_or chosen 3 None) from to fourth.old fourth.new }
     ensures open { (result ≡ false) ↔ HasOpen code (is_lost lost) chosen }
-    ensures kept { result ≡ false → (first.new ≡ first.old) × (second.new ≡ second.old)
+    ensures unchanged { result ≡ false → (first.new ≡ first.old) × (second.new ≡ second.old)
         × (third.new ≡ third.old) × (fourth.new ≡ fourth.old) }
 {
     let left = left_of(code, fragments, lost);
@@ -208,7 +208,7 @@ pub(crate) fn decode_lost(
     ensures fourth { result ≡ true → DecodesLost code (map (λ f. f.now) fragments.now) lost
         (slice_index_or chosen 3 None) from to fourth.old fourth.new }
     ensures open { (result ≡ false) ↔ HasOpen code (is_lost lost) chosen }
-    ensures kept { result ≡ false → (first.new ≡ first.old) × (second.new ≡ second.old)
+    ensures unchanged { result ≡ false → (first.new ≡ first.old) × (second.new ≡ second.old)
         × (third.new ≡ third.old) × (fourth.new ≡ fourth.old) }
 {
     if are_alone(code, lost, &chosen) {

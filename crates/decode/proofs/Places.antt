@@ -18,9 +18,9 @@ use Rattle.lrc_code.specs.Stripe.{slot, bytes_of, is_absent, byte_at, Rebuilds}
 use Rattle.lrc_code.proofs.Columns.{equation}
 use Rattle.lrc_code.proofs.Stripes.{same_inside}
 use Rattle.syndromes.specs.Syndromes.{column_at, HasSums}
-use Rattle.syndromes.specs.Syndromes.{syndrome as syndrome_of_lists}
+use Rattle.syndromes.specs.Syndromes.{wide_syndrome as syndrome_of_lists}
 use Rattle.decode.specs.Syndrome.{syndrome, AreShares}
-use Rattle.decode.specs.Decoding.{IsDecodable, IsDecoded, fragment_at, byte_of}
+use Rattle.decode.specs.Decoding.{IsDecodable, IsDecoded, fragment_in_place, byte_in_place}
 use Rattle.decode.proofs.Equations.{remainder_bytes}
 
 -- the parities of twelve lists are those of the wide code
@@ -60,7 +60,7 @@ six_of_twelve g h e0 e1 e2 e3 e4 e5 e6 e7 e8 e9 e10 e11 =
     three_zeros (xor_sum 9 g) (g 9) (g 10) (g 11) e9 e10 e11
     ∙ ap₂ bit_xor (ap₂ bit_xor (ap₂ bit_xor first e6) e7) e8
 
-small_parity : (w b : ℕ → ℕ) → ((p : ℕ) → p < 16 → w p ≡ byte_of (fragment_at Small p) b) → (e : ℕ) → e < 4 → parity e w ≡ parity_of Small e b
+small_parity : (w b : ℕ → ℕ) → ((p : ℕ) → p < 16 → w p ≡ byte_in_place (fragment_in_place Small p) b) → (e : ℕ) → e < 4 → parity e w ≡ parity_of Small e b
 small_parity w b at e l =
     let none : (p : ℕ) → w p ≡ 0 → product (coefficient e p) (w p) ≡ 0 = λ p z. ap (product (coefficient e p)) z ∙ product-zero_right (coefficient e p) in
     six_of_twelve (λ p. product (coefficient e p) (w p)) (λ i. product (weight Small e i) (b i))
@@ -74,7 +74,7 @@ small_parity w b at e l =
     (none 9 (at 9 (omega arith))) (none 10 (at 10 (omega arith))) (none 11 (at 11 (omega arith)))
 
 -- bytes at their places have the syndromes of the code
-pub placed_syndrome : (code : Code) (w b : ℕ → ℕ) → ((p : ℕ) → p < 16 → w p ≡ byte_of (fragment_at code p) b) → ((i : ℕ) → i < fragment_count code → b i < 256)
+pub placed_syndrome : (code : Code) (w b : ℕ → ℕ) → ((p : ℕ) → p < 16 → w p ≡ byte_in_place (fragment_in_place code p) b) → ((i : ℕ) → i < fragment_count code → b i < 256)
     → (e : ℕ) → e < 4 → syndrome_of_lists e w ≡ syndrome code e b
 placed_syndrome Wide w b at bytes e l =
     ap₂ bit_xor (xor_sum_same 12 _ _ (λ i m. ap (product (coefficient e i)) (at i (omega arith))) ∙ wide_parity b e l) (at (12 + e) (omega arith))
@@ -93,7 +93,7 @@ byte_left (Some x) xs from to k inside agrees = same_inside x.now xs from to k i
 -- sums of the syndromes by the shares of an absent fragment are its bytes
 pub rebuilt_by : (code : Code) (fragments lists : List (Option (Bor (List ℕ)))) (f from to : ℕ) (shares bytes : List ℕ) → f < fragment_count code → from ≤ to
     → AreShares code (is_absent fragments) f shares → length bytes ≡ to - from → HasSums lists (Some shares) (to - from) bytes
-    → ((p k : ℕ) → p < 16 → k < to - from → column_at lists k p ≡ byte_of (fragment_at code p) (byte_at fragments (from + k))) → Rebuilds code fragments f from to bytes
+    → ((p k : ℕ) → p < 16 → k < to - from → column_at lists k p ≡ byte_in_place (fragment_in_place code p) (byte_at fragments (from + k))) → Rebuilds code fragments f from to bytes
 rebuilt_by code fragments lists f from to shares bytes fl order are long sums at w s wide is agrees =
     let reach : to ≤ length (s f) = let e = is.width f fl in omega arith in
     same_number_lists bytes (slice_range (s f) from to)
@@ -113,7 +113,7 @@ rebuilt_by code fragments lists f from to shares bytes fl order are long sums at
 pub decoded : (code : Code) (fragments lists : List (Option (Bor (List ℕ)))) (chosen : Option ℕ) (shares : Option (List ℕ)) (from to : ℕ) (old new : List ℕ) → from ≤ to
     → IsDecodable code fragments chosen → MatchOption chosen (shares ≡ None) (λ f. IsSomeAnd shares (λ a. AreShares code (is_absent fragments) f a))
     → IfSome chosen (λ _. length old ≡ to - from) → length new ≡ length old → HasSums lists shares (to - from) new → (shares ≡ None → new ≡ old)
-    → ((p k : ℕ) → p < 16 → k < to - from → column_at lists k p ≡ byte_of (fragment_at code p) (byte_at fragments (from + k))) → IsDecoded code fragments chosen from to old new
+    → ((p k : ℕ) → p < 16 → k < to - from → column_at lists k p ≡ byte_in_place (fragment_in_place code p) (byte_at fragments (from + k))) → IsDecoded code fragments chosen from to old new
 decoded code fragments lists None shares from to old new order known are room long sums kept at = kept are
 decoded code fragments lists (Some f) None from to old new order known are room long sums kept at = absurd are
 decoded code fragments lists (Some f) (Some a) from to old new order known are room long sums kept at =

@@ -11,7 +11,7 @@ use Rattle.lrc_code.proofs.Witness.{weight-lt}
 use Rattle.syndromes.specs.Syndromes.{column_at, HasSums, sum_by}
 use Rattle.lrc_code.specs.Factors.{factored_weight}
 use Rattle.decode.specs.Syndrome.{syndrome, IsRemainderOf, AreShares}
-use Rattle.decode.specs.Decoding.{AreAbsent, IsDecodable, IsDecoded, fragment_at, byte_of}
+use Rattle.decode.specs.Decoding.{AreAbsent, IsDecodable, IsDecoded, fragment_in_place, byte_in_place}
 use Rattle.decode.specs.DecodePlan.{IsPlanned, HasAllOf, WeighsNothing, at_target}
 use Rattle.decode.proofs.Equations.{remainder_bytes}
 use Rattle.decode.proofs.Places.{rebuilt_by}
@@ -86,7 +86,7 @@ shares_same code lost missing f shares same are c b is left = are c b is (λ i l
 pub decoded_by : (code : Code) (fragments lists : List (Option (Bor (List ℕ)))) (missing : ℕ) (chosen : Option ℕ) (shares : List ℕ) (used : Option (List ℕ)) (from to : ℕ) (old new : List ℕ) → from ≤ to
     → AreAbsent code fragments missing → IfSome chosen (λ f. IsPlanned code missing f shares) → MatchOption chosen (used ≡ None) (λ f. used ≡ Some shares)
     → IfSome chosen (λ _. length old ≡ to - from) → length new ≡ length old → HasSums lists used (to - from) new → (used ≡ None → new ≡ old)
-    → ((p k : ℕ) → p < 16 → k < to - from → column_at lists k p ≡ byte_of (fragment_at code p) (byte_at fragments (from + k))) → IsDecoded code fragments chosen from to old new
+    → ((p k : ℕ) → p < 16 → k < to - from → column_at lists k p ≡ byte_in_place (fragment_in_place code p) (byte_at fragments (from + k))) → IsDecoded code fragments chosen from to old new
 decoded_by code fragments lists missing None shares used from to old new order absent known given room long sums kept at = kept given
 decoded_by code fragments lists missing (Some f) shares used from to old new order absent known given room long sums kept at =
     rebuilt_by code fragments lists f from to shares new known.inside order

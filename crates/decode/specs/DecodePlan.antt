@@ -18,8 +18,8 @@ pub record IsPlanned (code : Code) (missing f : ℕ) (shares : List ℕ) : Type 
   pub gives : AreShares code (is_lost missing) f shares
 
 -- each fragment that is chosen is given by the shares of its target
-abbrev pub IsPlan : DecodePlan → Type 0
-IsPlan p = (k : ℕ) → k < 4 → IfSome (slice_index_or p.chosen k None)
+abbrev pub IsDecodePlan : DecodePlan → Type 0
+IsDecodePlan p = (k : ℕ) → k < 4 → IfSome (slice_index_or p.chosen k None)
     (λ f. IsPlanned p.code p.missing f (at_target p.shares k))
 
 -- a set has every fragment of another

@@ -31,13 +31,13 @@ IsDecoded code fragments chosen from to old new = MatchOption chosen (new ≡ ol
 
 -- the fragment at a place: a group of LRC(6,2,2) lacks the last three data fragments of a group of
 -- LRC(12,2,2)
-abbrev pub fragment_at : Code → ℕ → Option ℕ
-fragment_at Wide place = Some place
-fragment_at Small place =
+abbrev pub fragment_in_place : Code → ℕ → Option ℕ
+fragment_in_place Wide place = Some place
+fragment_in_place Small place =
     if nat_lt place 3 then Some place else if nat_lt place 6 then None else if nat_lt place 9 then
     Some (place - 3) else if nat_lt place 12 then None else Some (place - 6)
 
 -- the byte at a place, or 0 where no fragment stands
-abbrev pub byte_of : Option ℕ → (ℕ → ℕ) → ℕ
-byte_of None b = 0
-byte_of (Some f) b = b f
+abbrev pub byte_in_place : Option ℕ → (ℕ → ℕ) → ℕ
+byte_in_place None b = 0
+byte_in_place (Some f) b = b f

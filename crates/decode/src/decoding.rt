@@ -4,10 +4,10 @@ ghost use Rattle.std.specs.Prelude.{IfSome, IsSomeAnd, MatchOption, length, slic
 ghost use Rattle.std.specs.Prelude.{slice_index_or};
 ghost use Rattle.lrc_code.specs.Code.{fragment_count, is_lost, Open};
 ghost use Rattle.lrc_code.specs.Stripe.{is_absent, byte_at, Reaches, HasRange, Rebuilds};
-ghost use Rattle.syndromes.specs.Syndromes.{column_at, HaveBytes};
+ghost use Rattle.syndromes.specs.Syndromes.{column_at, list_byte, HaveBytes};
 ghost use Rattle.decode.specs.Syndrome.{AreShares};
-ghost use Rattle.decode.specs.Decoding.{AreAbsent, HasOpen, IsDecodable, IsDecoded, fragment_at};
-ghost use Rattle.decode.specs.Decoding.{byte_of};
+ghost use Rattle.decode.specs.Decoding.{AreAbsent, HasOpen, IsDecodable, IsDecoded};
+ghost use Rattle.decode.specs.Decoding.{byte_in_place, fragment_in_place};
 
 use lrc_code::{
     Code, Left, LostSet, factors_in, is_alone_in, is_open_in, rebuild_to as rebuild_by_recipe,
@@ -39,9 +39,9 @@ fn fit(bytes: &[u8; 4])
 
 /// The fragment at one of the sixteen places: the groups of LRC(6,2,2) leave the last three of each
 /// six free.
-fn fragment_at(code: Code, place: usize) -> Option<usize>
+fn fragment_in_place(code: Code, place: usize) -> Option<usize>
     requires { place < 16 }
-    ensures value { result ≡ fragment_at code place }
+    ensures value { result ≡ fragment_in_place code place }
     ensures inside { IfSome result (λ f. f < fragment_count code) }
 {
     match code {
@@ -62,10 +62,11 @@ fn part_at<'a>(left: &Left<'a>, place: usize, from: usize, to: usize) -> Option<
         → is_absent left.now.fragments i ≡ false → Reaches left.now.fragments to i }
     requires range { from ≤ to }
     ensures long { IfSome result (λ part. length part.now ≡ to - from) }
-    ensures bytes { (k : ℕ) → k < to - from → Rattle.syndromes.specs.Syndromes.byte_of result k
-        ≡ byte_of (fragment_at left.now.code place) (byte_at left.now.fragments (from + k)) }
+    ensures bytes { (k : ℕ) → k < to - from → list_byte result k
+        ≡ byte_in_place (fragment_in_place left.now.code place)
+        (byte_at left.now.fragments (from + k)) }
 {
-    let f = fragment_at(left.code, place)?;
+    let f = fragment_in_place(left.code, place)?;
     let bytes = left.fragments[f]?;
     Some(&bytes[from..to])
 }
@@ -77,7 +78,7 @@ pub(crate) fn parts_of<'a>(left: &Left<'a>, from: usize, to: usize) -> [Option<&
     requires range { from ≤ to }
     ensures long { HaveBytes result (to - from) }
     ensures bytes { (place k : ℕ) → place < 16 → k < to - from
-        → column_at result k place ≡ byte_of (fragment_at left.now.code place)
+        → column_at result k place ≡ byte_in_place (fragment_in_place left.now.code place)
         (byte_at left.now.fragments (from + k)) }
 {
     let mut parts: [Option<&'a [u8]>; 16] = [None; 16];
@@ -275,7 +276,7 @@ pub fn decode_to(
     requires room_fourth { IfSome (slice_index_or chosen 3 None)
         (λ _. length fourth.old ≡ to - from) }
     ensures open { (result ≡ false) ↔ HasOpen left.now.code (is_absent left.now.fragments) chosen }
-    ensures kept { result ≡ false → (first.new ≡ first.old) × (second.new ≡ second.old)
+    ensures unchanged { result ≡ false → (first.new ≡ first.old) × (second.new ≡ second.old)
         × (third.new ≡ third.old) × (fourth.new ≡ fourth.old) }
     ensures first { result ≡ true → IsDecoded left.now.code left.now.fragments
         (slice_index_or chosen 0 None) from to first.old first.new }
@@ -309,7 +310,7 @@ pub fn rebuild_to(left: &Left, f: u8, from: usize, to: usize, target: &mut [u8])
     requires inside { HasRange left.now.code left.now.fragments f from to }
     requires room { length target.old ≡ to - from }
     ensures open { (result ≡ false) ↔ Open left.now.code (is_absent left.now.fragments) f }
-    ensures kept { result ≡ false → target.new ≡ target.old }
+    ensures unchanged { result ≡ false → target.new ≡ target.old }
     ensures ok { result ≡ true → Rebuilds left.now.code left.now.fragments f from to target.new }
 {
     if is_recipe_faster(left.code, left.lost(), f, target.len()) {

@@ -7,7 +7,7 @@ ghost use Rattle.lrc_code.specs.Stripe.{is_absent, Reaches};
 ghost use Rattle.lrc_code.specs.Factors.{factored_weight};
 ghost use Rattle.decode.specs.Syndrome.{AreShares};
 ghost use Rattle.decode.specs.Decoding.{AreAbsent, HasOpen, IsDecoded};
-ghost use Rattle.decode.specs.DecodePlan.{IsPlan, HasAllOf, IsRest, WeighsNothing, at_target};
+ghost use Rattle.decode.specs.DecodePlan.{IsDecodePlan, HasAllOf, IsRest, WeighsNothing, at_target};
 
 use crate::decoding::{far_count, parts_of, rebuild_chosen, shares_of};
 use lrc_code::{Code, Left, LostSet, factored_weight_of};
@@ -97,7 +97,7 @@ pub fn plan_for(code: Code, lost: LostSet, chosen: [Option<u8>; 4]) -> Option<De
     requires { (k : ℕ) → k < 4 → IfSome (slice_index_or chosen k None)
         (λ f. (f < fragment_count code) × (is_lost lost f ≡ true)) }
     ensures open { (result ≡ None) ↔ HasOpen code (is_lost lost) chosen }
-    ensures plan { IfSome result IsPlan }
+    ensures plan { IfSome result IsDecodePlan }
     ensures code { IfSome result (λ p. p.code ≡ code) }
     ensures chosen { IfSome result (λ p. p.chosen ≡ chosen) }
     ensures lost { IfSome result (λ p. HasAllOf code lost p.missing) }
@@ -151,13 +151,13 @@ fn decode_by_shares(
         (λ _. length third.old ≡ to - from) }
     requires room_fourth { IfSome (slice_index_or plan.now.chosen 3 None)
         (λ _. length fourth.old ≡ to - from) }
-    ensures first { IsPlan plan.now → IsDecoded left.now.code left.now.fragments
+    ensures first { IsDecodePlan plan.now → IsDecoded left.now.code left.now.fragments
         (slice_index_or plan.now.chosen 0 None) from to first.old first.new }
-    ensures second { IsPlan plan.now → IsDecoded left.now.code left.now.fragments
+    ensures second { IsDecodePlan plan.now → IsDecoded left.now.code left.now.fragments
         (slice_index_or plan.now.chosen 1 None) from to second.old second.new }
-    ensures third { IsPlan plan.now → IsDecoded left.now.code left.now.fragments
+    ensures third { IsDecodePlan plan.now → IsDecoded left.now.code left.now.fragments
         (slice_index_or plan.now.chosen 2 None) from to third.old third.new }
-    ensures fourth { IsPlan plan.now → IsDecoded left.now.code left.now.fragments
+    ensures fourth { IsDecodePlan plan.now → IsDecoded left.now.code left.now.fragments
         (slice_index_or plan.now.chosen 3 None) from to fourth.old fourth.new }
 {
     let a = given(plan.chosen[0], plan.shares[0]);
@@ -199,13 +199,13 @@ pub fn decode_by_plan(
         (λ _. length third.old ≡ to - from) }
     requires room_fourth { IfSome (slice_index_or plan.now.chosen 3 None)
         (λ _. length fourth.old ≡ to - from) }
-    ensures first { IsPlan plan.now → IsDecoded left.now.code left.now.fragments
+    ensures first { IsDecodePlan plan.now → IsDecoded left.now.code left.now.fragments
         (slice_index_or plan.now.chosen 0 None) from to first.old first.new }
-    ensures second { IsPlan plan.now → IsDecoded left.now.code left.now.fragments
+    ensures second { IsDecodePlan plan.now → IsDecoded left.now.code left.now.fragments
         (slice_index_or plan.now.chosen 1 None) from to second.old second.new }
-    ensures third { IsPlan plan.now → IsDecoded left.now.code left.now.fragments
+    ensures third { IsDecodePlan plan.now → IsDecoded left.now.code left.now.fragments
         (slice_index_or plan.now.chosen 2 None) from to third.old third.new }
-    ensures fourth { IsPlan plan.now → IsDecoded left.now.code left.now.fragments
+    ensures fourth { IsDecodePlan plan.now → IsDecoded left.now.code left.now.fragments
         (slice_index_or plan.now.chosen 3 None) from to fourth.old fourth.new }
 {
     let missing = LostSet::of_bits(plan.missing);

@@ -18,6 +18,6 @@ thousandths_text (Some n) = right 3 (n / 1000) ++ (codes "." ++ thousandth_digit
 
 -- how many are lost, in how many sets, how many of these can be rebuilt whole, their share in percent, how many fragments are read for one on average and at
 -- most, and how many sets Reed-Solomon rebuilds
-abbrev pub row_text : Row → List ℕ
-row_text row = right 4 row.size ++ (codes " " ++ (right 6 row.sets ++ (codes " " ++ (right 6 row.whole ++ (codes " " ++ (thousandths_text row.share ++ (codes " "
+abbrev pub table_row : Row → List ℕ
+table_row row = right 4 row.size ++ (codes " " ++ (right 6 row.sets ++ (codes " " ++ (right 6 row.whole ++ (codes " " ++ (thousandths_text row.share ++ (codes " "
     ++ (thousandths_text row.mean ++ (codes " " ++ (right 5 row.reads.most ++ (codes " " ++ right 9 row.whole_by_any_four)))))))))))

@@ -47,7 +47,7 @@ fn has_size(size: u32, set: u32) -> bool
 fn is_counted(code: Code, size: u32, set: u32) -> bool
     requires { set < 65536 }
     ensures value { result ≡ is_counted code size set }
-    ensures told { IsTrue result → (f : ℕ) → f < fragment_count code → Open code (is_lost set) f
+    ensures holds { IsTrue result → (f : ℕ) → f < fragment_count code → Open code (is_lost set) f
         → ⊥ }
 {
     has_size(size, set) && is_whole(code, set as u16)
@@ -105,7 +105,7 @@ struct ReadCount {
 fn read_for(code: Code, set: u16, f: u8) -> u32
     requires inside { f < fragment_count code }
     requires is_lost { is_lost set f ≡ true }
-    requires told { Open code (is_lost set) f → ⊥ }
+    requires holds { Open code (is_lost set) f → ⊥ }
     ensures read { (terms : List Term) × IsRead code (is_lost set) f terms
         × (result ≡ length terms) }
     ensures few { result ≤ 15 }
@@ -219,9 +219,9 @@ impl fmt::Display for Decimal {
 
 impl fmt::Display for Row {
     ghost use Rattle.std.specs.Prelude.{Some};
-    ghost use Rattle.demo_survey.specs.Text.{row_text};
+    ghost use Rattle.demo_survey.specs.Text.{table_row};
 
-    ghost output = { λ row. Some (row_text row) };
+    ghost output = { λ row. Some (table_row row) };
 
     fn fmt<W: fmt::Write>(&self, f: &mut fmt::Formatter<W>) -> fmt::Result {
         write!(

@@ -32,9 +32,9 @@ pub struct View<T> {
 pub struct GateRule;
 
 impl<T: Follows> TableRule<Option<T>, View<T>, Snapshot<T>> for GateRule {
-    ghost use Rattle.gate.specs.Rule.{Kept, opening};
+    ghost use Rattle.gate.specs.Rule.{Invariant, opening};
 
-    ghost holds = { λ _. Kept T.follows };
+    ghost holds = { λ _. Invariant T.follows };
 
     ghost first = { λ key. opening key.value };
 }

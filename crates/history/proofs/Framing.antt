@@ -9,7 +9,7 @@ use Rattle.std.proofs.lemmas.Map.Lookups.{exact_bytes}
 use Rattle.std.proofs.lemmas.Map.Views.{tells_apart, any-filter_same}
 use Rattle.history.specs.Names.{name_cmp}
 use Rattle.history.specs.Parts.{name_of, can_change, changes_of, is_changed}
-use Rattle.history.specs.Views.{View, Views, reply, read_reply, lose_reply, repair_reply, delete_reply, stat_reply, view_after, changed, added, taken, operation_of, AreNoted, next, all_next}
+use Rattle.history.specs.Views.{View, Views, reply, read_reply, lose_reply, repair_reply, delete_reply, stat_reply, view_after, changed, added, taken, call_operation, AreNoted, next_views, all_next}
 use Rattle.history.specs.declared.note.Call.{Call}
 use Rattle.history.specs.declared.note.Call.TheVariants.{Put, Read, Lose, Repair, Delete, Stat}
 use Rattle.history.specs.declared.note.Entry.{Entry}
@@ -48,7 +48,7 @@ module _ (within : List ℕ → Bool) where
       → changed (over v p) n ((over v p).names n) change ≡ over v (changed p n (p.names n) change)
   changed_within v p n change h = ap (λ view. changed (over v p) n view change) (found v p n h) ∙ changed_over v p n (p.names n) change h
 
-  next_over : (v p : Views) (c : Call) (m : Note) → within (name_of c) ≡ true → view_after (over v p) (operation_of c) m ≡ over v (view_after p (operation_of c) m)
+  next_over : (v p : Views) (c : Call) (m : Note) → within (name_of c) ≡ true → view_after (over v p) (call_operation c) m ≡ over v (view_after p (call_operation c) m)
   next_over v p (Put n code len) m h =
       λ i. record {
         names = λ q. swap (eq_by_cmp name_cmp q n) (within q)
@@ -68,10 +68,10 @@ module _ (within : List ℕ → Bool) where
   -- entries on names within change only those names
   pub all_next_over : (v p : Views) (es : List Entry) → AreWithin es → all_next (over v p) es ≡ over v (all_next p es)
   all_next_over v p [] h = refl
-  all_next_over v p (e ∷ es) h = ap (λ x. all_next x es) (next_over v p e.call e.note h.0) ∙ all_next_over v (next p e) es h.1
+  all_next_over v p (e ∷ es) h = ap (λ x. all_next x es) (next_over v p e.call e.note h.0) ∙ all_next_over v (next_views p e) es h.1
 
   module _ (w : ℕ) where
-    reply_over : (v p : Views) (c : Call) → within (name_of c) ≡ true → reply w (over v p) (operation_of c) ≡ reply w p (operation_of c)
+    reply_over : (v p : Views) (c : Call) → within (name_of c) ≡ true → reply w (over v p) (call_operation c) ≡ reply w p (call_operation c)
     reply_over v p (Put n code len) h = refl
     reply_over v p (Read n start len) h = ap (λ view. read_reply w view start len) (found v p n h)
     reply_over v p (Lose n j f) h = ap (λ view. lose_reply w view j f) (found v p n h)
@@ -84,11 +84,11 @@ module _ (within : List ℕ → Bool) where
     noted_within v p [] h noted = tt
     noted_within v p (e ∷ es) h noted = (
       (noted.0.0, noted.0.1 ∙ reply_over v p e.call h.0),
-      noted_within v (next p e) es h.1 (subst (λ x. AreNoted w x es) (next_over v p e.call e.note h.0) noted.1),
+      noted_within v (next_views p e) es h.1 (subst (λ x. AreNoted w x es) (next_over v p e.call e.note h.0) noted.1),
     )
 
 -- ---- entries that can change nothing change nothing
-idle : (v : Views) (c : Call) (m : Note) → can_change c ≡ false → view_after v (operation_of c) m ≡ v
+idle : (v : Views) (c : Call) (m : Note) → can_change c ≡ false → view_after v (call_operation c) m ≡ v
 idle v (Put n code len) m h = absurd (false≢true (sym h))
 idle v (Read n start len) m h = refl
 idle v (Lose n j f) m h = absurd (false≢true (sym h))
@@ -98,10 +98,10 @@ idle v (Stat n) m h = refl
 
 pub all_next-changes : (v : Views) (es : List Entry) → all_next v es ≡ all_next v (changes_of es)
 all_next-changes v [] = refl
-all_next-changes v (e ∷ es) = by (can_change e.call) refl (all_next-changes (next v e) es) (all_next-changes v es)
+all_next-changes v (e ∷ es) = by (can_change e.call) refl (all_next-changes (next_views v e) es) (all_next-changes v es)
   where
-    by : (b : Bool) → can_change e.call ≡ b → all_next (next v e) es ≡ all_next (next v e) (changes_of es) → all_next v es ≡ all_next v (changes_of es)
-        → all_next (next v e) es ≡ all_next v (cond b (e ∷ changes_of es) (changes_of es))
+    by : (b : Bool) → can_change e.call ≡ b → all_next (next_views v e) es ≡ all_next (next_views v e) (changes_of es) → all_next v es ≡ all_next v (changes_of es)
+        → all_next (next_views v e) es ≡ all_next v (cond b (e ∷ changes_of es) (changes_of es))
     by true t after same = after
     by false t after same = ap (λ x. all_next x es) (idle v e.call e.note t) ∙ same
 
@@ -113,9 +113,9 @@ changes_at es i e l is b t =
 
 pub noted-changes : (w : ℕ) (v : Views) (es : List Entry) → AreNoted w v es → AreNoted w v (changes_of es)
 noted-changes w v [] noted = tt
-noted-changes w v (e ∷ es) noted = by (can_change e.call) refl (noted-changes w (next v e) es noted.1)
+noted-changes w v (e ∷ es) noted = by (can_change e.call) refl (noted-changes w (next_views v e) es noted.1)
   where
-    by : (b : Bool) → can_change e.call ≡ b → AreNoted w (next v e) (changes_of es) → AreNoted w v (cond b (e ∷ changes_of es) (changes_of es))
+    by : (b : Bool) → can_change e.call ≡ b → AreNoted w (next_views v e) (changes_of es) → AreNoted w v (cond b (e ∷ changes_of es) (changes_of es))
     by true t rest = (noted.0, rest)
     by false t rest = subst (λ x. AreNoted w x (changes_of es)) (idle v e.call e.note t) rest
 

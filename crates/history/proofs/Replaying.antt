@@ -12,7 +12,7 @@ use Rattle.std.proofs.lemmas.Cmp.{eq_by_cmp_equiv}
 use Rattle.std.proofs.lemmas.List.{length-replicate}
 use Rattle.sealed.specs.Blob.{pair_cmp}
 use Rattle.history.specs.Names.{name_cmp}
-use Rattle.history.specs.Views.{View, Views, added, taken, changed, view_after, operation_of, next}
+use Rattle.history.specs.Views.{View, Views, added, taken, changed, view_after, call_operation, next_views}
 use Rattle.history.specs.Metadata.{lost_of, seen_as, PairsRise}
 use Rattle.history.specs.Step.{Operation}
 use Rattle.history.specs.declared.note.Call.{Call}
@@ -123,10 +123,10 @@ changed_at old new puts n k t change here updates same =
 
 -- the views after a name is gone
 pub deleted_at : (e : Entry) (v : Views) (n : List ℕ) (y : ℕ) (names : List ℕ → Option View) → e.call ≡ Delete n → e.note ≡ note.Deleted y
-    → ((q : List ℕ) → names q ≡ cond (eq_by_cmp name_cmp q n) None (v.names q)) → record { names = names; puts = v.puts } ≡ next v e
+    → ((q : List ℕ) → names q ≡ cond (eq_by_cmp name_cmp q n) None (v.names q)) → record { names = names; puts = v.puts } ≡ next_views v e
 deleted_at e v n y names call is gone =
     let P : Operation → Note → Type 0 = λ o m. record { names = names; puts = v.puts } ≡ view_after v o m in
-    subst (λ (m : Note). P (operation_of e.call) m) (sym is) (subst (λ (k : Call). P (operation_of k) (note.Deleted y)) (sym call) (λ i. record { names = λ q. gone q i; puts = v.puts }))
+    subst (λ (m : Note). P (call_operation e.call) m) (sym is) (subst (λ (k : Call). P (call_operation k) (note.Deleted y)) (sym call) (λ i. record { names = λ q. gone q i; puts = v.puts }))
 
 -- ---- the lost pairs of each name's blob still rise
 abbrev PairsOfRise : BlobMetadata → Type 0

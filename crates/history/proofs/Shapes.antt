@@ -13,7 +13,7 @@ use Rattle.history.specs.History.{Event, History, IsLegalFrom, after_all, call_o
 use Rattle.history.specs.Base.{Checkpoint, Outlines, IsRising}
 use Rattle.history.specs.Metadata.{outlines_of, views_of}
 use Rattle.history.specs.Lawful.{IsLawfulFrom}
-use Rattle.history.specs.Views.{Views, view, reply, CanPut, view_after, operation_of, IsNoted, AreNoted, next, all_next}
+use Rattle.history.specs.Views.{Views, view, reply, CanPut, view_after, call_operation, IsNoted, AreNoted, next_views, all_next}
 use Rattle.history.specs.declared.replay.Replay.{Replay}
 use Rattle.history.specs.declared.note.Note.{Note}
 use Rattle.history.specs.declared.note.Entry.{Entry}
@@ -26,7 +26,7 @@ zero_bytes : (n : ℕ) → All (λ x. x < 256) (replicate n 0)
 zero_bytes n k d l = grind (arith, common_steps)
 
 module _ (w : ℕ) where
-  can_zero : (o : Operation) → CanPut w o → CanPut w (operation_of (call_of o))
+  can_zero : (o : Operation) → CanPut w o → CanPut w (call_operation (call_of o))
   can_zero (put n code b) can = record { bytes = zero_bytes (length b); few = subst (λ (l : ℕ). stripe_count code w l ≤ 4096) (sym (length-replicate {A = ℕ} (length b) 0)) can.few }
   can_zero (read n start len) can = tt
   can_zero (lose n j f) can = tt
@@ -34,7 +34,7 @@ module _ (w : ℕ) where
   can_zero (delete n) can = tt
   can_zero (stat n) can = tt
 
-  reply_zero : (v : Views) (o : Operation) → reply w v o ≡ reply w v (operation_of (call_of o))
+  reply_zero : (v : Views) (o : Operation) → reply w v o ≡ reply w v (call_operation (call_of o))
   reply_zero v (put n code b) = refl
   reply_zero v (read n start len) = refl
   reply_zero v (lose n j f) = refl
@@ -42,7 +42,7 @@ module _ (w : ℕ) where
   reply_zero v (delete n) = refl
   reply_zero v (stat n) = refl
 
-after_zero : (v : Views) (o : Operation) (m : Note) → view_after v o m ≡ view_after v (operation_of (call_of o)) m
+after_zero : (v : Views) (o : Operation) (m : Note) → view_after v o m ≡ view_after v (call_operation (call_of o)) m
 after_zero v (put n code b) m = λ i. record {
   names = λ q. cond (eq_by_cmp name_cmp q n) (Some (record { version = v.puts + 1; len = sym (length-replicate {A = ℕ} (length b) 0) i; code = code; lost = λ j f. false; count = 0 })) (v.names q);
   puts = v.puts + 1;
@@ -57,18 +57,18 @@ noted : (w : ℕ) (v : Views) (h : History) → Follows w v h → AreNoted w v (
 noted w v [] follows = tt
 noted w v (e ∷ h) follows = (
   (can_zero w e.operation follows.0.0, follows.0.1 ∙ reply_zero w v e.operation),
-  noted w (next v (entry_of e)) h (subst (λ (x : Views). Follows w x h) (after_zero v e.operation e.note) follows.1),
+  noted w (next_views v (entry_of e)) h (subst (λ (x : Views). Follows w x h) (after_zero v e.operation e.note) follows.1),
 )
 
 -- and back: the entries are those of the history with zero bytes
 abbrev pub event_of : Entry → Event
-event_of e = record { who = e.who; operation = operation_of e.call; note = e.note }
+event_of e = record { who = e.who; operation = call_operation e.call; note = e.note }
 
 follows_zeros : (w : ℕ) (v : Views) (es : List Entry) → AreNoted w v es → Follows w v (map event_of es)
 follows_zeros w v [] noted = tt
-follows_zeros w v (e ∷ es) noted = (noted.0, follows_zeros w (next v e) es noted.1)
+follows_zeros w v (e ∷ es) noted = (noted.0, follows_zeros w (next_views v e) es noted.1)
 
-call_back : (c : Call) → call_of (operation_of c) ≡ c
+call_back : (c : Call) → call_of (call_operation c) ≡ c
 call_back (Put n code len) = ap (Put n code) (length-replicate {A = ℕ} len 0)
 call_back (Read n start len) = refl
 call_back (Lose n j f) = refl
@@ -113,10 +113,10 @@ view_all s (e ∷ h) =
 pub split_at : (es : List Entry) (i : ℕ) (e : Entry) → i < length es → e ≡ get_or es i e → drop i es ≡ e ∷ drop (i + 1) es
 split_at es i e l is = rw (add-one, drop-cons es i e) (ap (λ (x : Entry). x ∷ drop (suc i) es) (sym is))
 
-pub noted_at : (w : ℕ) (v : Views) (es : List Entry) (i : ℕ) (e : Entry) → i < length es → e ≡ get_or es i e → AreNoted w v (drop i es) ↔ (IsNoted w v e × AreNoted w (next v e) (drop (i + 1) es))
+pub noted_at : (w : ℕ) (v : Views) (es : List Entry) (i : ℕ) (e : Entry) → i < length es → e ≡ get_or es i e → AreNoted w v (drop i es) ↔ (IsNoted w v e × AreNoted w (next_views v e) (drop (i + 1) es))
 noted_at w v es i e l is = let split = split_at es i e l is in (subst (AreNoted w v) split, subst (AreNoted w v) (sym split))
 
-pub next_at : (v : Views) (es : List Entry) (i : ℕ) (e : Entry) → i < length es → e ≡ get_or es i e → all_next v (drop i es) ≡ all_next (next v e) (drop (i + 1) es)
+pub next_at : (v : Views) (es : List Entry) (i : ℕ) (e : Entry) → i < length es → e ≡ get_or es i e → all_next v (drop i es) ≡ all_next (next_views v e) (drop (i + 1) es)
 next_at v es i e l is = ap (all_next v) (split_at es i e l is)
 
 -- ---- entries by reference

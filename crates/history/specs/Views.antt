@@ -114,26 +114,26 @@ empty_views = record { names = λ n. None; puts = 0 }
 
 -- ---- entries
 -- the operation of a call: a put has zero bytes, since no reply depends on bytes
-abbrev pub operation_of : Call → Operation
-operation_of (Put n code len) = put n code (replicate len 0)
-operation_of (Read n start len) = read n start len
-operation_of (Lose n j f) = lose n j f
-operation_of (Repair n j f) = repair n j f
-operation_of (Delete n) = delete n
-operation_of (Stat n) = stat n
+abbrev pub call_operation : Call → Operation
+call_operation (Put n code len) = put n code (replicate len 0)
+call_operation (Read n start len) = read n start len
+call_operation (Lose n j f) = lose n j f
+call_operation (Repair n j f) = repair n j f
+call_operation (Delete n) = delete n
+call_operation (Stat n) = stat n
 
 -- the entry's note is the reply to its call
 abbrev pub IsNoted : ℕ → Views → Entry → Type 0
-IsNoted w v e = CanPut w (operation_of e.call) × (e.note ≡ reply w v (operation_of e.call))
+IsNoted w v e = CanPut w (call_operation e.call) × (e.note ≡ reply w v (call_operation e.call))
 
-abbrev pub next : Views → Entry → Views
-next v e = view_after v (operation_of e.call) e.note
+abbrev pub next_views : Views → Entry → Views
+next_views v e = view_after v (call_operation e.call) e.note
 
 abbrev pub all_next : Views → List Entry → Views
 all_next v [] = v
-all_next v (e ∷ es) = all_next (next v e) es
+all_next v (e ∷ es) = all_next (next_views v e) es
 
 -- the same for entries in order
 abbrev pub AreNoted : ℕ → Views → List Entry → Type 0
 AreNoted w v [] = Unit {0}
-AreNoted w v (e ∷ es) = IsNoted w v e × AreNoted w (next v e) es
+AreNoted w v (e ∷ es) = IsNoted w v e × AreNoted w (next_views v e) es

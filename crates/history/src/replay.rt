@@ -12,7 +12,7 @@ ghost use Rattle.history.specs.Names.{name_cmp};
 ghost use Rattle.history.specs.Parts.{changes_of, is_changed};
 ghost use Rattle.history.specs.Views.{read_reply, lose_reply, repair_reply, delete_reply};
 ghost use Rattle.history.specs.Views.{stat_reply, view_after, added, taken, changed, IsNoted};
-ghost use Rattle.history.specs.Views.{AreNoted, next, all_next};
+ghost use Rattle.history.specs.Views.{AreNoted, next_views, all_next};
 ghost use Rattle.history.specs.Step.{put};
 
 use crate::metadata::BlobMetadata;
@@ -222,7 +222,7 @@ impl Replay {
     /// Applies an entry whose note is the reply to its call. `AllocError` if memory runs out.
     pub fn apply(&mut self, alloc: Global, entry: &Entry) -> Result<(), AllocError>
         requires { IsNoted self.old.width (views_of self.old) entry.now }
-        ensures views { OnOk result (views_of self.new ≡ next (views_of self.old) entry.now) }
+        ensures views { OnOk result (views_of self.new ≡ next_views (views_of self.old) entry.now) }
         ensures rising { OnOk result (PairsRise self.old.names → PairsRise self.new.names) }
         ensures width { self.new.width ≡ self.old.width }
     {

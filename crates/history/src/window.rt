@@ -116,7 +116,7 @@ fn copy_before(slots: &mut Vec<Entry>, limit: usize, at: usize, entry: &Entry)
     requires begins { 1 ≤ limit }
     ensures copied { limit ≤ at
         → slots.new.items ≡ slice_set slots.old.items (at - limit) entry.now }
-    ensures kept { at < limit → slots.new.items ≡ slots.old.items }
+    ensures unchanged { at < limit → slots.new.items ≡ slots.old.items }
     ensures capacity { vec_capacity slots.old ≤ vec_capacity slots.new }
 {
     if at >= limit {

@@ -4,7 +4,7 @@ use Rattle.std.proofs.lemmas.List.Sums.{sum_by-cons}
 use Rattle.std.proofs.lemmas.Bool.Decides.{nat_tests}
 use Rattle.ledger.specs.declared.view.ShardAct.{ShardAct}
 use Rattle.ledger.specs.declared.view.ShardActs.{ShardActs}
-use Rattle.ledger.specs.Acts.{acts_of, acts_at, times, once_below, indices}
+use Rattle.ledger.specs.Acts.{as_shard_acts, acts_at, times, once_below, indices}
 use Rattle.ledger.specs.Rule.{first_of, rest_of}
 
 module _ {A : Type 0} where
@@ -18,29 +18,29 @@ module _ {A : Type 0} where
       ap (λ (l : List A). cond (d.shard == k) (d.act ∷ l) l) (acts_at-append k ds ys)
       ∙ cond-append (d.shard == k) d.act (acts_at k ds) (acts_at k ys)
 
-  pub acts_at-here : (k : ℕ) (acts : List A) → acts_at k (acts_of k acts) ≡ acts
+  pub acts_at-here : (k : ℕ) (acts : List A) → acts_at k (as_shard_acts k acts) ≡ acts
   acts_at-here k [] = refl
   acts_at-here k (act ∷ acts) =
-      ap {B = List A} (λ (b : Bool). cond b (act ∷ acts_at k (acts_of k acts)) (acts_at k (acts_of k acts))) (eq-eqb k k refl)
+      ap {B = List A} (λ (b : Bool). cond b (act ∷ acts_at k (as_shard_acts k acts)) (acts_at k (as_shard_acts k acts))) (eq-eqb k k refl)
       ∙ ap (λ (l : List A). act ∷ l) (acts_at-here k acts)
 
-  pub acts_at-else : (j k : ℕ) (acts : List A) → j ≢ k → acts_at k (acts_of j acts) ≡ []
+  pub acts_at-else : (j k : ℕ) (acts : List A) → j ≢ k → acts_at k (as_shard_acts j acts) ≡ []
   acts_at-else j k [] apart = refl
   acts_at-else j k (act ∷ acts) apart =
-      ap {B = List A} (λ (b : Bool). cond b (act ∷ acts_at k (acts_of j acts)) (acts_at k (acts_of j acts))) (ne_eqb j k apart)
+      ap {B = List A} (λ (b : Bool). cond b (act ∷ acts_at k (as_shard_acts j acts)) (acts_at k (as_shard_acts j acts))) (ne_eqb j k apart)
       ∙ acts_at-else j k acts apart
 
   -- more acts of a shard
-  pub acts_at-more : (k : ℕ) (list : List (ShardAct A)) (acts : List A) → acts_at k (list ++ acts_of k acts) ≡ acts_at k list ++ acts
-  acts_at-more k list acts = acts_at-append k list (acts_of k acts) ∙ ap (λ (l : List A). acts_at k list ++ l) (acts_at-here k acts)
+  pub acts_at-more : (k : ℕ) (list : List (ShardAct A)) (acts : List A) → acts_at k (list ++ as_shard_acts k acts) ≡ acts_at k list ++ acts
+  acts_at-more k list acts = acts_at-append k list (as_shard_acts k acts) ∙ ap (λ (l : List A). acts_at k list ++ l) (acts_at-here k acts)
 
   -- more acts of another shard
-  pub acts_at-same : (j k : ℕ) (list : List (ShardAct A)) (acts : List A) → j ≢ k → acts_at k (list ++ acts_of j acts) ≡ acts_at k list
+  pub acts_at-same : (j k : ℕ) (list : List (ShardAct A)) (acts : List A) → j ≢ k → acts_at k (list ++ as_shard_acts j acts) ≡ acts_at k list
   acts_at-same j k list acts apart =
-      acts_at-append k list (acts_of j acts)
+      acts_at-append k list (as_shard_acts j acts)
       ∙ (ap (λ (l : List A). acts_at k list ++ l) (acts_at-else j k acts apart) ∙ append-nil (acts_at k list))
 
-  pub length-acts : (k : ℕ) (acts : List A) → length (acts_of k acts) ≡ length acts
+  pub length-acts : (k : ℕ) (acts : List A) → length (as_shard_acts k acts) ≡ length acts
   length-acts k [] = refl
   length-acts k (act ∷ acts) = ap suc (length-acts k acts)
 

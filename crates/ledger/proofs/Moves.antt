@@ -13,8 +13,8 @@ use Rattle.ledger.specs.declared.view.ShardAct.{ShardAct}
 use Rattle.ledger.specs.declared.view.ShardActs.{ShardActs}
 use Rattle.ledger.specs.declared.view.Shown.{Shown}
 use Rattle.ledger.specs.declared.view.View.{View}
-use Rattle.ledger.specs.Acts.{shard_acts, acts_of, acts_at, indices, times, once_below, HasAll}
-use Rattle.ledger.specs.Rule.{Measure, index, rooms, keeper, shown, nothing, settled, empty_from, opening, spent, IsBeginning, AreWhole, IsIdle, Fits, weigh, total, IsLedger, Kept, Recorded, Observed, Settled, kept_part, given_part, noted_part, first_of, rest_of, less_one, one_keeper, heard_by, keeps}
+use Rattle.ledger.specs.Acts.{shard_acts, as_shard_acts, acts_at, indices, times, once_below, HasAll}
+use Rattle.ledger.specs.Rule.{Measure, index, rooms, keeper, shown, nothing, settled, empty_from, opening, spent, IsBeginning, HaveAllActs, IsIdle, Fits, weigh, total_of, IsLedger, Invariant, Recorded, Observed, Settled, kept_part, given_part, noted_part, first_of, rest_of, less_one, one_keeper, heard_by, keeps}
 use Rattle.ledger.proofs.Lists.{acts_at-more, acts_at-same, length-acts, keepers-split, times-indices, once_below-le, once_below-past, once_below-here}
 
 module _ {A : Type 0} (legal : ℕ → List A → Type 0) (count : ℕ) where
@@ -50,7 +50,7 @@ module _ {A : Type 0} (legal : ℕ → List A → Type 0) (count : ℕ) where
   cuts : {S : Type 0} (id : ℕ) (v left right : View A)
       → ((all : List (ShardAct A)) → Fits all v → Fits all left × Fits all right)
       → ((m : Measure) → weigh m left + weigh m right ≡ weigh m v)
-      → Splits (Kept {A = A} {S = S} legal count) id v left right
+      → Splits (Invariant {A = A} {S = S} legal count) id v left right
   cuts id v left right fits weights s k at =
       let both = fits k.all (k.each id v at) in
       let views : List (View A) = set s.views id left in record {
@@ -69,7 +69,7 @@ module _ {A : Type 0} (legal : ℕ → List A → Type 0) (count : ℕ) where
   meets : {S : Type 0} (id : ℕ) (v : View A) (other : ℕ) (w both left : View A)
       → ((all : List (ShardAct A)) → Fits all v → Fits all w → Fits all both × Fits all left)
       → ((m : Measure) → weigh m both + weigh m left ≡ weigh m v + weigh m w)
-      → Joins (Kept {A = A} {S = S} legal count) id v other w both left
+      → Joins (Invariant {A = A} {S = S} legal count) id v other w both left
   meets id v other w both left fits weights s k at apart there =
       let views : List (View A) = set s.views id both in
       let there' : get_elem? s.views other ≡ some w = sym (set_else s.views id other both apart) ∙ there in
@@ -86,7 +86,7 @@ module _ {A : Type 0} (legal : ℕ → List A → Type 0) (count : ℕ) where
       }
 
   -- a room is given away
-  pub splits : {S : Type 0} (id : ℕ) (v : View A) → v.heard ≡ nothing → 1 < v.room → Splits (Kept {A = A} {S = S} legal count) id v (kept_part v) (given_part v)
+  pub splits : {S : Type 0} (id : ℕ) (v : View A) → v.heard ≡ nothing → 1 < v.room → Splits (Invariant {A = A} {S = S} legal count) id v (kept_part v) (given_part v)
   splits id v quiet rooms_left = cuts id v (kept_part v) (given_part v)
       (λ all f. (
         record { shows = f.shows; hears = fits_nothing all; idle = λ none_left. absurd (omega arith); whole = f.whole },
@@ -100,7 +100,7 @@ module _ {A : Type 0} (legal : ℕ → List A → Type 0) (count : ℕ) where
       weights (keeper k) = omega arith
 
   -- a receipt is made of a view, which stays
-  pub notes : {S : Type 0} (id : ℕ) (v : View A) → Splits (Kept {A = A} {S = S} legal count) id v v (noted_part v)
+  pub notes : {S : Type 0} (id : ℕ) (v : View A) → Splits (Invariant {A = A} {S = S} legal count) id v v (noted_part v)
   notes id v = cuts id v v (noted_part v)
       (λ all f. (
         f,
@@ -113,20 +113,20 @@ module _ {A : Type 0} (legal : ℕ → List A → Type 0) (count : ℕ) where
       weights rooms = omega arith
       weights (keeper k) = omega arith
 
-  whole_rest : (all : List (ShardAct A)) (kept : List (ShardActs A)) → AreWhole all kept → AreWhole all (rest_of kept)
+  whole_rest : (all : List (ShardAct A)) (kept : List (ShardActs A)) → HaveAllActs all kept → HaveAllActs all (rest_of kept)
   whole_rest all [] w = tt
   whole_rest all (d ∷ ds) w = w.1
 
-  whole_first : (all : List (ShardAct A)) (kept : List (ShardActs A)) → AreWhole all kept → AreWhole all (first_of kept)
+  whole_first : (all : List (ShardAct A)) (kept : List (ShardActs A)) → HaveAllActs all kept → HaveAllActs all (first_of kept)
   whole_first all [] w = tt
   whole_first all (d ∷ ds) w = (w.0, tt)
 
-  whole_both : (all : List (ShardAct A)) (one other : List (ShardActs A)) → AreWhole all one → AreWhole all other → AreWhole all (one ++ other)
+  whole_both : (all : List (ShardAct A)) (one other : List (ShardActs A)) → HaveAllActs all one → HaveAllActs all other → HaveAllActs all (one ++ other)
   whole_both all [] other w x = x
   whole_both all (d ∷ ds) other w x = (w.0, whole_both all ds other w.1 x)
 
   -- a keeper is split off
-  pub parts : {S : Type 0} (id : ℕ) (v : View A) → v.heard ≡ nothing → 0 < v.room → Splits (Kept {A = A} {S = S} legal count) id v (less_one v) (one_keeper v)
+  pub parts : {S : Type 0} (id : ℕ) (v : View A) → v.heard ≡ nothing → 0 < v.room → Splits (Invariant {A = A} {S = S} legal count) id v (less_one v) (one_keeper v)
   parts id v quiet some_room = cuts id v (less_one v) (one_keeper v)
       (λ all f. (
         record { shows = f.shows; hears = fits_nothing all; idle = λ none_left. absurd (omega arith); whole = whole_rest all v.kept f.whole },
@@ -140,7 +140,7 @@ module _ {A : Type 0} (legal : ℕ → List A → Type 0) (count : ℕ) where
       weights (keeper k) = keepers-split k v.kept
 
   -- a seat takes in another one: a seat, a receipt or a keeper
-  pub joins : {S : Type 0} (id : ℕ) (v : View A) (other : ℕ) (w : View A) → v.heard ≡ nothing → 0 < v.room → w.heard ≡ nothing → Joins (Kept {A = A} {S = S} legal count) id v other w (heard_by v w) spent
+  pub joins : {S : Type 0} (id : ℕ) (v : View A) (other : ℕ) (w : View A) → v.heard ≡ nothing → 0 < v.room → w.heard ≡ nothing → Joins (Invariant {A = A} {S = S} legal count) id v other w (heard_by v w) spent
   joins id v other w quiet some_room quiet' = meets id v other w (heard_by v w) spent
       (λ all f g. (
         record { shows = f.shows; hears = g.shows; idle = λ none_left. absurd (omega arith); whole = whole_both all v.kept w.kept f.whole g.whole },
@@ -200,13 +200,13 @@ module _ {A : Type 0} (legal : ℕ → List A → Type 0) (count : ℕ) where
 
   -- a step that changes a view and nothing else
   steps : {S : Type 0} (s : State S (View A)) (id : ℕ) (me : Me S (View A)) (w : View A) → IsLedger legal count (set s.views id w) → (then : ℕ → Me S (View A) → Type 0) → then (get_or s.words 0 0) (w, me.1)
-      → (w : View A) × (a : Act S) × Valid s.homes me.1 a × Kept {A = A} {S = S} legal count (stepped s 0 (get_or s.words 0 0) id me.1 w a) × then (get_or s.words 0 0) (w, carried_after me.1 a)
+      → (w : View A) × (a : Act S) × Valid s.homes me.1 a × Invariant {A = A} {S = S} legal count (stepped s 0 (get_or s.words 0 0) id me.1 w a) × then (get_or s.words 0 0) (w, carried_after me.1 a)
   steps s id me w now then told = (w, keeps_all, tt, now, told)
 
   -- a seat puts together what it heard and what it shows
   settles_at : {S : Type 0} (s : State S (View A)) (k : IsLedger legal count s.views) (id : ℕ) (me : Me S (View A)) (list : List (ShardAct A)) → get_elem? s.views id ≡ some me.0 → 0 < me.0.room
       → (list ≡ me.0.shown.list) ⊎ (list ≡ me.0.heard.list) → IsPrefix me.0.shown.list list → IsPrefix me.0.heard.list list → IsPrefix list k.all
-      → (w : View A) × (a : Act S) × Valid s.homes me.1 a × Kept {A = A} {S = S} legal count (stepped s 0 (get_or s.words 0 0) id me.1 w a) × Settled {A = A} {S = S} (step 0 0 0 0 none) me (get_or s.words 0 0) (w, carried_after me.1 a)
+      → (w : View A) × (a : Act S) × Valid s.homes me.1 a × Invariant {A = A} {S = S} legal count (stepped s 0 (get_or s.words 0 0) id me.1 w a) × Settled {A = A} {S = S} (step 0 0 0 0 none) me (get_or s.words 0 0) (w, carried_after me.1 a)
   settles_at {S} s k id me list at some_room one shows hears below =
       let v : View A = me.0 in
       let w : View A = settled (shown list (v.shown.own ++ v.heard.own)) v.room v.kept in
@@ -246,7 +246,7 @@ module _ {A : Type 0} (legal : ℕ → List A → Type 0) (count : ℕ) where
       weights v list rooms = refl
       weights v list (keeper k) = refl
 
-  pub settles : {S : Type 0} (slots id : ℕ) (me : Me S (View A)) → 0 < me.0.room → Allows (Kept {A = A} {S = S} legal count) slots id me 0 (λ n. n) (Settled {A = A} {S = S} (step slots 0 0 0 none) me)
+  pub settles : {S : Type 0} (slots id : ℕ) (me : Me S (View A)) → 0 < me.0.room → Allows (Invariant {A = A} {S = S} legal count) slots id me 0 (λ n. n) (Settled {A = A} {S = S} (step slots 0 0 0 none) me)
   settles slots id me some_room s k long at small =
       let v : View A = me.0 in
       let mine = k.each id v at in dite (dec_le (length v.shown.list) (length v.heard.list))
@@ -254,12 +254,12 @@ module _ {A : Type 0} (legal : ℕ → List A → Type 0) (count : ℕ) where
       (λ longer. settles_at s k id me v.shown.list at some_room (inl refl) (prefix_self v.shown.list) (prefix_shorter v.heard.list v.shown.list k.all mine.hears.0 mine.shows.0 (omega arith)) mine.shows.0)
 
   -- a seat sees the list whole
-  pub observes : {S : Type 0} (slots id : ℕ) (me : Me S (View A)) (part : ShardActs A) → me.0.heard ≡ nothing → me.0.kept ≡ part ∷ [] → 0 < me.0.room → Allows (Kept {A = A} {S = S} legal count) slots id me 0 (λ n. n) (Observed {A = A} {S = S} legal (step slots 0 0 0 none) me)
+  pub observes : {S : Type 0} (slots id : ℕ) (me : Me S (View A)) (part : ShardActs A) → me.0.heard ≡ nothing → me.0.kept ≡ part ∷ [] → 0 < me.0.room → Allows (Invariant {A = A} {S = S} legal count) slots id me 0 (λ n. n) (Observed {A = A} {S = S} legal (step slots 0 0 0 none) me)
   observes {S} slots id me part quiet keeps_it some_room s k long at small =
       let v : View A = me.0 in
       let w : View A = settled (shown k.all v.shown.own) v.room (part ∷ []) in
       let mine = k.each id v at in
-      let whole = subst (AreWhole k.all) keeps_it mine.whole in
+      let whole = subst (HaveAllActs k.all) keeps_it mine.whole in
       let now : IsLedger legal count (set s.views id w) = changes s.views k id v w at
       record {
         shows = (prefix_self k.all, λ p le. mine.shows.1 p (let l = prefix_length v.shown.list k.all mine.shows.0 in omega arith));
@@ -285,7 +285,7 @@ module _ {A : Type 0} (legal : ℕ → List A → Type 0) (count : ℕ) where
       weights all v e h (keeper j) = sym (ap (λ (l : List (ShardActs A)). count_by (λ (x : ShardActs A). x.shard == j) l) e)
 
   -- acts of another shard leave those whole that were
-  whole_more : (all : List (ShardAct A)) (k : ℕ) (acts : List A) (kept : List (ShardActs A)) → weigh (keeper k) (settled nothing 0 kept) ≡ 0 → AreWhole all kept → AreWhole (all ++ acts_of k acts) kept
+  whole_more : (all : List (ShardAct A)) (k : ℕ) (acts : List A) (kept : List (ShardActs A)) → weigh (keeper k) (settled nothing 0 kept) ≡ 0 → HaveAllActs all kept → HaveAllActs (all ++ as_shard_acts k acts) kept
   whole_more all k acts [] none_here w = tt
   whole_more all k acts (d ∷ ds) none_here w =
       let f : ShardActs A → ℕ = λ x. cond {A = ℕ} (x.shard == k) 1 0 in
@@ -298,26 +298,26 @@ module _ {A : Type 0} (legal : ℕ → List A → Type 0) (count : ℕ) where
   longer : (list all more : List (ShardAct A)) → IsPrefix list all → IsPrefix list (all ++ more)
   longer list all more p = prefix_trans list all (all ++ more) p (more, refl)
 
-  fits_more : (all : List (ShardAct A)) (k : ℕ) (acts : List A) (v : View A) → weigh (keeper k) v ≡ 0 → Fits all v → Fits (all ++ acts_of k acts) v
+  fits_more : (all : List (ShardAct A)) (k : ℕ) (acts : List A) (v : View A) → weigh (keeper k) v ≡ 0 → Fits all v → Fits (all ++ as_shard_acts k acts) v
   fits_more all k acts v none_here f = record {
-    shows = (longer v.shown.list all (acts_of k acts) f.shows.0, f.shows.1);
-    hears = (longer v.heard.list all (acts_of k acts) f.hears.0, f.hears.1);
+    shows = (longer v.shown.list all (as_shard_acts k acts) f.shows.0, f.shows.1);
+    hears = (longer v.heard.list all (as_shard_acts k acts) f.hears.0, f.hears.1);
     idle = f.idle;
     whole = whole_more all k acts v.kept none_here f.whole;
   }
 
   -- what a seat is once it recorded acts
   abbrev recorded : View A → List (ShardAct A) → ShardActs A → List A → View A
-  recorded v all part acts = settled (shown (all ++ acts_of part.shard acts) (v.shown.own ++ indices (length all) (length acts))) v.room (shard_acts part.shard (part.acts ++ acts) ∷ [])
+  recorded v all part acts = settled (shown (all ++ as_shard_acts part.shard acts) (v.shown.own ++ indices (length all) (length acts))) v.room (shard_acts part.shard (part.acts ++ acts) ∷ [])
 
   records_at : (views : List (View A)) (k : IsLedger legal count views) (id : ℕ) (v : View A) (part : ShardActs A) (acts : List A) → get_elem? views id ≡ some v → v.heard ≡ nothing → v.kept ≡ part ∷ [] → 0 < v.room → (legal part.shard part.acts → legal part.shard (part.acts ++ acts))
       → IsLedger legal count (set views id (recorded v k.all part acts))
   records_at views k id v part acts at quiet keeps_it some_room may =
       let all : List (ShardAct A) = k.all in
-      let more : List (ShardAct A) = acts_of part.shard acts in
+      let more : List (ShardAct A) = as_shard_acts part.shard acts in
       let w : View A = recorded v all part acts in
       let mine = k.each id v at in
-      let whole : acts_at part.shard all ≡ part.acts = (subst (AreWhole all) keeps_it mine.whole).0 in
+      let whole : acts_at part.shard all ≡ part.acts = (subst (HaveAllActs all) keeps_it mine.whole).0 in
       let f : ShardActs A → ℕ = λ x. cond {A = ℕ} (x.shard == part.shard) 1 0 in
       let counted : weigh (keeper part.shard) v ≡ sum_by f (part ∷ []) = ap (λ (l : List (ShardActs A)). sum_by f l) keeps_it in
       let here : cond {A = ℕ} (part.shard == part.shard) 1 0 ≡ 1 = ap {B = ℕ} (λ (b : Bool). cond b 1 0) (eq-eqb part.shard part.shard refl) in
@@ -345,7 +345,7 @@ module _ {A : Type 0} (legal : ℕ → List A → Type 0) (count : ℕ) where
         sums = sums;
       }
     where
-      sums : (m : Measure) → sum_by (weigh m) (set views id (recorded v k.all part acts)) ≡ total count (k.all ++ acts_of part.shard acts) m
+      sums : (m : Measure) → sum_by (weigh m) (set views id (recorded v k.all part acts)) ≡ total_of count (k.all ++ as_shard_acts part.shard acts) m
       sums (index p) =
           let n : ℕ = length k.all in
           let a = sum_at (weigh (index p)) views id v (recorded v k.all part acts) at in
@@ -353,7 +353,7 @@ module _ {A : Type 0} (legal : ℕ → List A → Type 0) (count : ℕ) where
           let unheard : times p v.heard.own ≡ 0 = ap (λ (h : Shown A). times p h.own) quiet in
           let both = times-append p v.shown.own (indices n (length acts)) in
           let more = times-indices n (length acts) p in
-          let long : once_below (length (k.all ++ acts_of part.shard acts)) p ≡ once_below (n + length acts) p = ap (λ (x : ℕ). once_below x p) (length-append k.all (acts_of part.shard acts) ∙ ap (λ (x : ℕ). n + x) (length-acts part.shard acts)) in
+          let long : once_below (length (k.all ++ as_shard_acts part.shard acts)) p ≡ once_below (n + length acts) p = ap (λ (x : ℕ). once_below x p) (length-append k.all (as_shard_acts part.shard acts) ∙ ap (λ (x : ℕ). n + x) (length-acts part.shard acts)) in
           omega arith
       sums rooms = sum_same (weigh rooms) views id v (recorded v k.all part acts) at refl ∙ k.sums rooms
       sums (keeper j) =
@@ -361,7 +361,7 @@ module _ {A : Type 0} (legal : ℕ → List A → Type 0) (count : ℕ) where
           ∙ k.sums (keeper j)
 
   pub records : {S : Type 0} (slots id : ℕ) (me : Me S (View A)) (part : ShardActs A) (acts : List A) → me.0.heard ≡ nothing → me.0.kept ≡ part ∷ [] → 0 < me.0.room → (legal part.shard part.acts → legal part.shard (part.acts ++ acts))
-      → Allows (Kept {A = A} {S = S} legal count) slots id me 0 (λ n. n) (Recorded {A = A} {S = S} legal acts (step slots 0 0 0 none) me)
+      → Allows (Invariant {A = A} {S = S} legal count) slots id me 0 (λ n. n) (Recorded {A = A} {S = S} legal acts (step slots 0 0 0 none) me)
   unfolding records_at
   records {S} slots id me part acts quiet keeps_it some_room may s k long at small =
       let w : View A = recorded me.0 k.all part acts in
@@ -371,7 +371,7 @@ module _ {A : Type 0} (legal : ℕ → List A → Type 0) (count : ℕ) where
         k.all,
         keeps_it,
         (k.each id me.0 at).shows.0,
-        (subst (AreWhole k.all) keeps_it (k.each id me.0 at).whole).0,
+        (subst (HaveAllActs k.all) keeps_it (k.each id me.0 at).whole).0,
         now.lawful,
         (λ full. all_rooms (set s.views id w) now id w (set_here s.views id w (at_inside s.views id me.0 at)) refl full),
         refl,
@@ -379,7 +379,7 @@ module _ {A : Type 0} (legal : ℕ → List A → Type 0) (count : ℕ) where
       )
 
   -- the table at the start
-  whole_empty : (k n : ℕ) → AreWhole [] (empty_from {A = A} k n)
+  whole_empty : (k n : ℕ) → HaveAllActs [] (empty_from {A = A} k n)
   whole_empty k zero = tt
   whole_empty k (suc n) = (refl, whole_empty (suc k) n)
 
@@ -406,7 +406,7 @@ module _ {A : Type 0} (legal : ℕ → List A → Type 0) (count : ℕ) where
       let up : once_below (suc k + n) j ≡ once_below (k + suc n) j = ap (λ (m : ℕ). once_below m j) (omega arith) in
       omega arith)
 
-  pub begins : {S : Type 0} (words : List ℕ) (homes : List (mathlib.Core.Option.Option S)) → ((k : ℕ) → legal k []) → Kept {A = A} {S = S} legal count record { words = words; homes = homes; views = opening count ∷ [] }
+  pub begins : {S : Type 0} (words : List ℕ) (homes : List (mathlib.Core.Option.Option S)) → ((k : ℕ) → legal k []) → Invariant {A = A} {S = S} legal count record { words = words; homes = homes; views = opening count ∷ [] }
   begins words homes may = record {
     all = [];
     lawful = λ k. may k;
@@ -423,19 +423,19 @@ module _ {A : Type 0} (legal : ℕ → List A → Type 0) (count : ℕ) where
       }
       first (suc j) v e = absurd (some-ne-none v (sym e))
 
-      sums : (m : Measure) → sum_by (weigh {A = A} m) (opening count ∷ []) ≡ total {A = A} count [] m
+      sums : (m : Measure) → sum_by (weigh {A = A} m) (opening count ∷ []) ≡ total_of {A = A} count [] m
       sums (index p) = sym (once_below-past 0 p (omega arith))
       sums rooms = refl
       sums (keeper j) = let is = each_once 0 count j (omega arith) in let up : once_below (0 + count) j ≡ once_below count j = ap (λ (m : ℕ). once_below m j) (omega arith) in omega arith
 
   -- after a join, whose seat the prover knows by an equation
-  pub settles_as : {S : Type 0} (slots id : ℕ) (me : Me S (View A)) (v w : View A) (l : List (ℕ × S)) → me ≡ (heard_by v w, l) → 0 < v.room → Allows (Kept {A = A} {S = S} legal count) slots id me 0 (λ n. n) (Settled {A = A} {S = S} (step slots 0 0 0 none) me)
+  pub settles_as : {S : Type 0} (slots id : ℕ) (me : Me S (View A)) (v w : View A) (l : List (ℕ × S)) → me ≡ (heard_by v w, l) → 0 < v.room → Allows (Invariant {A = A} {S = S} legal count) slots id me 0 (λ n. n) (Settled {A = A} {S = S} (step slots 0 0 0 none) me)
   settles_as {S} slots id me v w l is some_room = settles slots id me (let room : me.0.room ≡ v.room + w.room = ap (λ (m : Me S (View A)). m.0.room) is in omega arith)
 
   pub records_as : {S : Type 0} (slots id : ℕ) (me : Me S (View A)) (v w : View A) (l : List (ℕ × S)) (part : ShardActs A) (acts : List A) (told : ℕ → List A → Type 0) → legal ≡ told → me ≡ (heard_by v w, l) → v.kept ≡ [] → w ≡ keeps part → 0 < v.room → (legal part.shard part.acts → legal part.shard (part.acts ++ acts))
-      → Allows (Kept {A = A} {S = S} legal count) slots id me 0 (λ n. n) (Recorded {A = A} {S = S} told acts (step slots 0 0 0 none) me)
+      → Allows (Invariant {A = A} {S = S} legal count) slots id me 0 (λ n. n) (Recorded {A = A} {S = S} told acts (step slots 0 0 0 none) me)
   records_as {S} slots id me v w l part acts told same is none_kept keeper_is some_room may =
-      subst (λ (t : ℕ → List A → Type 0). Allows (Kept {A = A} {S = S} legal count) slots id me 0 (λ n. n) (Recorded {A = A} {S = S} t acts (step slots 0 0 0 none) me)) same
+      subst (λ (t : ℕ → List A → Type 0). Allows (Invariant {A = A} {S = S} legal count) slots id me 0 (λ n. n) (Recorded {A = A} {S = S} t acts (step slots 0 0 0 none) me)) same
       (records slots id me part acts
       (ap (λ (m : Me S (View A)). m.0.heard) is ∙ ap (λ (u : View A). u.shown) keeper_is)
       (ap (λ (m : Me S (View A)). m.0.kept) is ∙ (λ i. none_kept i ++ (keeper_is i).kept))
@@ -443,9 +443,9 @@ module _ {A : Type 0} (legal : ℕ → List A → Type 0) (count : ℕ) where
       may)
 
   pub observes_as : {S : Type 0} (slots id : ℕ) (me : Me S (View A)) (v w : View A) (l : List (ℕ × S)) (part : ShardActs A) (told : ℕ → List A → Type 0) → legal ≡ told → me ≡ (heard_by v w, l) → v.kept ≡ [] → w ≡ keeps part → 0 < v.room
-      → Allows (Kept {A = A} {S = S} legal count) slots id me 0 (λ n. n) (Observed {A = A} {S = S} told (step slots 0 0 0 none) me)
+      → Allows (Invariant {A = A} {S = S} legal count) slots id me 0 (λ n. n) (Observed {A = A} {S = S} told (step slots 0 0 0 none) me)
   observes_as {S} slots id me v w l part told same is none_kept keeper_is some_room =
-      subst (λ (t : ℕ → List A → Type 0). Allows (Kept {A = A} {S = S} legal count) slots id me 0 (λ n. n) (Observed {A = A} {S = S} t (step slots 0 0 0 none) me)) same
+      subst (λ (t : ℕ → List A → Type 0). Allows (Invariant {A = A} {S = S} legal count) slots id me 0 (λ n. n) (Observed {A = A} {S = S} t (step slots 0 0 0 none) me)) same
       (observes slots id me part
       (ap (λ (m : Me S (View A)). m.0.heard) is ∙ ap (λ (u : View A). u.shown) keeper_is)
       (ap (λ (m : Me S (View A)). m.0.kept) is ∙ (λ i. none_kept i ++ (keeper_is i).kept))

@@ -6,7 +6,7 @@ use Rattle.gate.proofs.Lists.{last_of-snoc}
 use Rattle.gate.proofs.Events.{chain_from, history-append}
 use Rattle.ledger.specs.declared.held.Held.{Held}
 use Rattle.ledger.specs.Acts.{TableId, KeeperState}
-use Rattle.ledger.specs.Values.{grown, between_held, acts_in, acts_since, acts_to, MayFollowHeld, KeepsAll}
+use Rattle.ledger.specs.Values.{grown, between_held, acts_left, acts_since, acts_to, MayFollowHeld, KeepsAll}
 
 module _ {T A : Type 0} (between : T → T → List A) where
   last_from : (xs rest : List (Held T A)) (x : Held T A) → last_of xs ≡ Some x → last_of (x ∷ rest) ≡ last_of (xs ++ rest)
@@ -15,14 +15,14 @@ module _ {T A : Type 0} (between : T → T → List A) where
   last_from (y ∷ z ∷ zs) rest x e = last_from (z ∷ zs) rest x e
 
   module _ (follows : T → T → Type 0) where
-    grown_from : (x : Held T A) (zs : List (Held T A)) (y : Held T A) → IsChain (MayFollowHeld between follows) (x ∷ zs) → last_of (x ∷ zs) ≡ Some y → y.keeper ≡ grown x.keeper (acts_in between (x ∷ zs))
+    grown_from : (x : Held T A) (zs : List (Held T A)) (y : Held T A) → IsChain (MayFollowHeld between follows) (x ∷ zs) → last_of (x ∷ zs) ≡ Some y → y.keeper ≡ grown x.keeper (acts_left between (x ∷ zs))
     grown_from x [] y c e =
         let same : y ≡ x = cc in
         ap (λ (h : Held T A). h.keeper) same ∙ ap (λ (l : List A). record { ledger = x.keeper.ledger; shard = x.keeper.shard; acts = l }) (sym (append-nil x.keeper.acts))
     grown_from x (z ∷ zs) y c e =
         grown_from z zs y c.1 e
-        ∙ (ap (λ (q : KeeperState A). grown q (acts_in between (z ∷ zs))) c.0.1
-        ∙ ap (λ (l : List A). record { ledger = x.keeper.ledger; shard = x.keeper.shard; acts = l }) (append_assoc x.keeper.acts (between x.value z.value) (acts_in between (z ∷ zs))))
+        ∙ (ap (λ (q : KeeperState A). grown q (acts_left between (z ∷ zs))) c.0.1
+        ∙ ap (λ (l : List A). record { ledger = x.keeper.ledger; shard = x.keeper.shard; acts = l }) (append_assoc x.keeper.acts (between x.value z.value) (acts_left between (z ∷ zs))))
 
     -- a longer list of values that were left
     pub keeps_longer : (id : TableId) (k : ℕ) (xs ys : List (Held T A)) (y : Held T A) → KeepsAll between id k xs → IsPrefix xs ys → IsChain (MayFollowHeld between follows) ys → last_of ys ≡ Some y → KeepsAll between id k ys
@@ -34,13 +34,13 @@ module _ {T A : Type 0} (between : T → T → List A) where
           y,
           e,
           grown_from x rest y chain last
-              ∙ (ap (λ (q : KeeperState A). grown q (acts_in between (x ∷ rest))) has.2
-              ∙ ap (λ (l : List A). record { ledger = id; shard = k; acts = l }) (sym (history-append (between_held between) xs rest x has.1) ∙ ap (acts_in between) p.1)),
+              ∙ (ap (λ (q : KeeperState A). grown q (acts_left between (x ∷ rest))) has.2
+              ∙ ap (λ (l : List A). record { ledger = id; shard = k; acts = l }) (sym (history-append (between_held between) xs rest x has.1) ∙ ap (acts_left between) p.1)),
         )
 
   -- one value more
-  pub acts-snoc : (xs : List (Held T A)) (x h : Held T A) → last_of xs ≡ Some x → acts_in between (xs ++ h ∷ []) ≡ acts_in between xs ++ between x.value h.value
-  acts-snoc xs x h e = history-append (between_held between) xs (h ∷ []) x e ∙ ap (λ (l : List A). acts_in between xs ++ l) (append-nil (between x.value h.value))
+  pub acts-snoc : (xs : List (Held T A)) (x h : Held T A) → last_of xs ≡ Some x → acts_left between (xs ++ h ∷ []) ≡ acts_left between xs ++ between x.value h.value
+  acts-snoc xs x h e = history-append (between_held between) xs (h ∷ []) x e ∙ ap (λ (l : List A). acts_left between xs ++ l) (append-nil (between x.value h.value))
 
   pub acts_to-last : (xs : List (Held T A)) (x : Held T A) (y : T) → last_of xs ≡ Some x → acts_to between xs y ≡ between x.value y
   acts_to-last xs x y e = ap (λ o. acts_since between o y) e
@@ -52,5 +52,5 @@ module _ {T A : Type 0} (between : T → T → List A) where
         last_of-snoc xs h,
         is
             ∙ (ap (λ (r : KeeperState A). grown r (acts_to between xs h.value)) (found has.0 has.1 ∙ has.2)
-            ∙ ap (λ (l : List A). record { ledger = id; shard = k; acts = l }) (ap (λ (l : List A). acts_in between xs ++ l) (acts_to-last xs has.0 h.value has.1) ∙ sym (acts-snoc xs has.0 h has.1))),
+            ∙ ap (λ (l : List A). record { ledger = id; shard = k; acts = l }) (ap (λ (l : List A). acts_left between xs ++ l) (acts_to-last xs has.0 h.value has.1) ∙ sym (acts-snoc xs has.0 h has.1))),
       )

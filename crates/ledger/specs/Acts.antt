@@ -7,7 +7,7 @@ use Rattle.ledger.specs.declared.view.Setup.{Setup}
 use Rattle.ledger.specs.declared.view.ShardAct.{ShardAct}
 use Rattle.ledger.specs.declared.view.ShardActs.{ShardActs}
 
--- Which ledger it is, and what it was told
+-- Which ledger it is, and what it was opened with
 pub record LedgerState : Type 0 where
   pub table : TableId
   pub setup : Setup
@@ -38,8 +38,8 @@ module _ {A : Type 0} where
   shard_acts k acts = record { shard = k; acts = acts }
 
   -- these acts, as acts of one shard
-  abbrev pub acts_of : ℕ → List A → List (ShardAct A)
-  acts_of k acts = map (λ act. shard_act k act) acts
+  abbrev pub as_shard_acts : ℕ → List A → List (ShardAct A)
+  as_shard_acts k acts = map (λ act. shard_act k act) acts
 
   -- the acts of one shard, in their order
   abbrev pub acts_at : ℕ → List (ShardAct A) → List A
@@ -80,7 +80,7 @@ module _ {A : Type 0} where
   pub record IsRecorded (v : FollowerState A) (keeper : KeeperState A) (acts : List A)
       (w : FollowerState A) : Type 0 where
     pub before : List (ShardAct A)
-    pub list : w.list ≡ before ++ acts_of keeper.shard acts
+    pub list : w.list ≡ before ++ as_shard_acts keeper.shard acts
     pub own : w.own ≡ v.own ++ indices (length before) (length acts)
     pub seen : IsPrefix v.list before
     pub whole : acts_at keeper.shard before ≡ keeper.acts

@@ -11,7 +11,7 @@ use Rattle.ledger.specs.declared.view.ShardActs.{ShardActs}
 use Rattle.ledger.specs.declared.view.Shown.{Shown}
 use Rattle.ledger.specs.declared.view.View.{View}
 use Rattle.ledger.specs.Acts.{TableId, FollowerState, ReceiptState, KeeperState, shard_acts}
-use Rattle.ledger.specs.Acts.{acts_of, acts_at, indices, AreLegal, times, once_below, IsWithin}
+use Rattle.ledger.specs.Acts.{as_shard_acts, acts_at, indices, AreLegal, times, once_below, IsWithin}
 use Rattle.ledger.specs.Acts.{HasAll, AreApart}
 
 -- What is counted over all views: who has an index, who has rooms, who keeps a shard
@@ -55,9 +55,9 @@ module _ {A : Type 0} where
   IsBeginning all s = IsPrefix s.list all × IsWithin s.list s.own
 
   -- each of these has all acts of its shard
-  abbrev pub AreWhole : List (ShardAct A) → List (ShardActs A) → Type 0
-  AreWhole all [] = Unit {0}
-  AreWhole all (d ∷ ds) = (acts_at d.shard all ≡ d.acts) × AreWhole all ds
+  abbrev pub HaveAllActs : List (ShardAct A) → List (ShardActs A) → Type 0
+  HaveAllActs all [] = Unit {0}
+  HaveAllActs all (d ∷ ds) = (acts_at d.shard all ≡ d.acts) × HaveAllActs all ds
 
   pub record IsIdle (v : View A) : Type 0 where
     pub shown : v.shown.own ≡ []
@@ -67,7 +67,7 @@ module _ {A : Type 0} where
     pub shows : IsBeginning all v.shown
     pub hears : IsBeginning all v.heard
     pub idle : v.room ≡ 0 → IsIdle v
-    pub whole : AreWhole all v.kept
+    pub whole : HaveAllActs all v.kept
 
   abbrev pub weigh : Measure → View A → ℕ
   weigh (index p) v = times p v.shown.own + times p v.heard.own
@@ -75,20 +75,20 @@ module _ {A : Type 0} where
   weigh (keeper k) v = count_by (λ d. d.shard == k) v.kept
 
   -- each index of the list once, 64 rooms, and one keeper for each shard
-  abbrev pub total : ℕ → List (ShardAct A) → Measure → ℕ
-  total count all (index p) = once_below (length all) p
-  total count all rooms = 64
-  total count all (keeper k) = once_below count k
+  abbrev pub total_of : ℕ → List (ShardAct A) → Measure → ℕ
+  total_of count all (index p) = once_below (length all) p
+  total_of count all rooms = 64
+  total_of count all (keeper k) = once_below count k
 
   pub record IsLedger (legal : ℕ → List A → Type 0) (count : ℕ) (views : List (View A))
       : Type 0 where
     pub all : List (ShardAct A)
     pub lawful : AreLegal legal all
     pub each : (j : ℕ) (v : View A) → get_elem? views j ≡ some v → Fits all v
-    pub sums : (m : Measure) → sum_by (weigh m) views ≡ total count all m
+    pub sums : (m : Measure) → sum_by (weigh m) views ≡ total_of count all m
 
-  abbrev pub Kept : {S : Type 0} → (ℕ → List A → Type 0) → ℕ → State S (View A) → Type 0
-  Kept legal count s = IsLedger legal count s.views
+  abbrev pub Invariant : {S : Type 0} → (ℕ → List A → Type 0) → ℕ → State S (View A) → Type 0
+  Invariant legal count s = IsLedger legal count s.views
 
   -- the list grew by these acts of the one shard that the seat keeps, at indices of the seat.
   -- The seat has seen the whole list
@@ -98,12 +98,12 @@ module _ {A : Type 0} where
       (part : ShardActs A) × (before : List (ShardAct A))
       × (m.0.kept ≡ part ∷ [])
       × IsPrefix m.0.shown.list before × (acts_at part.shard before ≡ part.acts)
-      × AreLegal legal (before ++ acts_of part.shard acts)
-      × (m.0.room ≡ 64 → HasAll (before ++ acts_of part.shard acts)
+      × AreLegal legal (before ++ as_shard_acts part.shard acts)
+      × (m.0.room ≡ 64 → HasAll (before ++ as_shard_acts part.shard acts)
       (m.0.shown.own ++ indices (length before) (length acts)))
       × (m' ≡ (
         settled
-            (shown (before ++ acts_of part.shard acts)
+            (shown (before ++ as_shard_acts part.shard acts)
             (m.0.shown.own ++ indices (length before) (length acts)))
             m.0.room (shard_acts part.shard (part.acts ++ acts) ∷ []),
         m.1,
@@ -195,9 +195,9 @@ module _ {A : Type 0} where
   first_kept [] = shard_acts 0 []
   first_kept (d ∷ ds) = d
 
-  abbrev pub part_of : List (View A) → ShardActs A
-  part_of [] = shard_acts 0 []
-  part_of (v ∷ vs) = first_kept v.kept
+  abbrev pub keeper_part : List (View A) → ShardActs A
+  keeper_part [] = shard_acts 0 []
+  keeper_part (v ∷ vs) = first_kept v.kept
 
   abbrev pub follower_state : {S : Type 0} → TableId → Setup → Me S (View A) → FollowerState A
   follower_state id setup me = record {
@@ -213,4 +213,4 @@ module _ {A : Type 0} where
 
   abbrev pub keeper_state : TableId → List (View A) → KeeperState A
   keeper_state id views =
-      record { ledger = id; shard = (part_of views).shard; acts = (part_of views).acts }
+      record { ledger = id; shard = (keeper_part views).shard; acts = (keeper_part views).acts }

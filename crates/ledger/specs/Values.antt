@@ -18,8 +18,8 @@ module _ {T A : Type 0} (between : T → T → List A) where
   between_held a b = between a.value b.value
 
   -- all acts between the values that were left
-  abbrev pub acts_in : List (Held T A) → List A
-  acts_in list = history_of between_held list
+  abbrev pub acts_left : List (Held T A) → List A
+  acts_left list = history_of between_held list
 
   abbrev pub acts_since : Option (Held T A) → T → List A
   acts_since None y = []
@@ -38,4 +38,4 @@ module _ {T A : Type 0} (between : T → T → List A) where
   abbrev pub KeepsAll : TableId → ℕ → List (Held T A) → Type 0
   KeepsAll id k list =
       (x : Held T A) × (last_of list ≡ Some x)
-      × (x.keeper ≡ record { ledger = id; shard = k; acts = acts_in list })
+      × (x.keeper ≡ record { ledger = id; shard = k; acts = acts_left list })

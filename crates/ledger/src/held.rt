@@ -5,7 +5,7 @@ ghost use Rattle.std.specs.Prelude.{IfOk, IfSome, IfNone};
 ghost use mathlib.Core.List.{IsPrefix};
 ghost use Rattle.gate.specs.Places.{last_of, IsChain, HasAll as HasAllPlaces};
 ghost use Rattle.ledger.specs.Acts.{IsRecorded, acts_at, AreLegal, IsWithin, HasAll};
-ghost use Rattle.ledger.specs.Values.{MayFollowHeld, KeepsAll, acts_in, acts_to, left_beside};
+ghost use Rattle.ledger.specs.Values.{MayFollowHeld, KeepsAll, acts_left, acts_to, left_beside};
 
 use crate::ledger::{Follower, Keeper, Ledger};
 use crate::steps::ActChoice;
@@ -72,7 +72,7 @@ impl<A: Lawful> Ledger<A> {
     ) -> Inside<Held<T, A>>
         requires gate { seat.old.gate ≡ gate.now }
         requires outside { seat.old.inside ≡ false }
-        ensures kept { (seat.new.gate ≡ seat.old.gate) × (seat.new.room ≡ seat.old.room)
+        ensures unchanged { (seat.new.gate ≡ seat.old.gate) × (seat.new.room ≡ seat.old.room)
             × (seat.new.own ≡ seat.old.own) × (seat.new.inside ≡ true) }
         ensures seen { IsPrefix seat.old.list seat.new.list
             × IsChain (MayFollowHeld T.between T.follows) seat.new.list }
@@ -103,7 +103,7 @@ impl<A: Lawful> Ledger<A> {
         requires legal { A.legal self.now.setup inside.value.keeper.shard inside.value.keeper.acts
             → A.legal self.now.setup inside.value.keeper.shard (inside.value.keeper.acts
             ++ acts_to T.between seat.old.list inside.value.value) }
-        ensures kept { (seat.new.gate ≡ seat.old.gate) × (seat.new.room ≡ seat.old.room)
+        ensures unchanged { (seat.new.gate ≡ seat.old.gate) × (seat.new.room ≡ seat.old.room)
             × (seat.new.inside ≡ false) }
         ensures list { seat.new.list ≡ seat.old.list ++ left_beside inside.value
             (acts_to T.between seat.old.list inside.value.value) ∷ [] }
@@ -139,7 +139,7 @@ impl<A: Lawful> Ledger<A> {
             (inside.value.keeper.acts ++ W.acts) }
         requires setup { W.setup ≡ self.now.setup }
         requires acts { W.acts ≡ acts_to T.between seat.old.list inside.value.value }
-        ensures kept { (seat.new.gate ≡ seat.old.gate) × (seat.new.room ≡ seat.old.room)
+        ensures unchanged { (seat.new.gate ≡ seat.old.gate) × (seat.new.room ≡ seat.old.room)
             × (seat.new.inside ≡ false) }
         ensures list { seat.new.list
             ≡ seat.old.list ++ left_beside inside.value W.acts ∷ [] }
@@ -176,8 +176,8 @@ impl<A: Lawful> Ledger<A> {
         ensures last { IfSome (last_of seat.list) (λ x. x.value ≡ result) }
         ensures own { HasAllPlaces seat.list seat.own }
         ensures acts { (k : ℕ) → KeepsAll T.between self.now.table k seat.list
-            → acts_at k follower.new.list ≡ acts_in T.between seat.list }
-        ensures kept { follower.new ≡ record follower.old { list = follower.new.list } }
+            → acts_at k follower.new.list ≡ acts_left T.between seat.list }
+        ensures unchanged { follower.new ≡ record follower.old { list = follower.new.list } }
         ensures seen { IsPrefix follower.old.list follower.new.list }
         ensures legal { AreLegal (A.legal self.now.setup) follower.new.list }
         ensures all { follower.old.room ≡ 64

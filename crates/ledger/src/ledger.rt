@@ -135,7 +135,7 @@ impl<A: Lawful> Follower<A> {
     pub fn split(&mut self, ledger: &Ledger<A>) -> Follower<A>
         requires ledger { self.old.ledger ≡ ledger.now }
         requires room { 1 < self.old.room }
-        ensures kept { self.new ≡ record self.old { room = self.old.room - 1 } }
+        ensures unchanged { self.new ≡ record self.old { room = self.old.room - 1 } }
         ensures given { result ≡ record self.old { own = []; room = 1 } }
     {
         let shared = &ledger.table.shared;
@@ -151,7 +151,7 @@ impl<A: Lawful> Follower<A> {
     /// both.
     pub fn join(&mut self, ledger: &Ledger<A>, other: Follower<A>)
         requires ledger { (self.old.ledger ≡ ledger.now) × (other.ledger ≡ ledger.now) }
-        ensures kept { (self.new.ledger ≡ self.old.ledger)
+        ensures unchanged { (self.new.ledger ≡ self.old.ledger)
             × (self.new.room ≡ self.old.room + other.room) }
         ensures one { (self.new.list ≡ self.old.list) ⊎ (self.new.list ≡ other.list) }
         ensures seen { IsPrefix self.old.list self.new.list × IsPrefix other.list self.new.list }
@@ -178,7 +178,7 @@ impl<A: Lawful> Follower<A> {
         requires setup { W.setup ≡ ledger.now.setup }
         requires legal { A.legal ledger.now.setup keeper.old.shard keeper.old.acts
             → A.legal ledger.now.setup keeper.old.shard (keeper.old.acts ++ W.acts) }
-        ensures kept { (self.new.ledger ≡ self.old.ledger) × (self.new.room ≡ self.old.room) }
+        ensures unchanged { (self.new.ledger ≡ self.old.ledger) × (self.new.room ≡ self.old.room) }
         ensures keeper { keeper.new
             ≡ record keeper.old { acts = keeper.old.acts ++ W.acts } }
         ensures recorded { IsRecorded self.old keeper.old W.acts self.new }
@@ -199,7 +199,7 @@ impl<A: Lawful> Follower<A> {
     pub fn observe(&mut self, ledger: &Ledger<A>, keeper: &mut Keeper<A>)
         requires ledger { (self.old.ledger ≡ ledger.now)
             × (keeper.old.ledger ≡ ledger.now.table) }
-        ensures kept { self.new ≡ record self.old { list = self.new.list } }
+        ensures unchanged { self.new ≡ record self.old { list = self.new.list } }
         ensures keeper { keeper.new ≡ keeper.old }
         ensures seen { IsPrefix self.old.list self.new.list }
         ensures acts { acts_at keeper.old.shard self.new.list ≡ keeper.old.acts }
@@ -214,7 +214,7 @@ impl<A: Lawful> Follower<A> {
         requires ledger { (self.old.ledger ≡ ledger.now)
             × (keeper.old.ledger ≡ ledger.now.table) }
         requires setup { W.setup ≡ ledger.now.setup }
-        ensures kept { self.new ≡ record self.old { list = self.new.list } }
+        ensures unchanged { self.new ≡ record self.old { list = self.new.list } }
         ensures keeper { keeper.new ≡ keeper.old }
         ensures seen { IsPrefix self.old.list self.new.list }
         ensures acts { acts_at keeper.old.shard self.new.list ≡ keeper.old.acts }
@@ -247,7 +247,7 @@ impl<A: Lawful> Follower<A> {
     /// Takes in a receipt. Of the two lists the follower shows the one that begins with both.
     pub fn accept(&mut self, ledger: &Ledger<A>, receipt: Receipt<A>)
         requires ledger { (self.old.ledger ≡ ledger.now) × (receipt.ledger ≡ ledger.now) }
-        ensures kept { self.new ≡ record self.old { list = self.new.list } }
+        ensures unchanged { self.new ≡ record self.old { list = self.new.list } }
         ensures one { (self.new.list ≡ self.old.list) ⊎ (self.new.list ≡ receipt.list) }
         ensures seen { IsPrefix self.old.list self.new.list
             × IsPrefix receipt.list self.new.list }

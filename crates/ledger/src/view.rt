@@ -50,9 +50,9 @@ pub struct View<A> {
 pub struct LedgerRule;
 
 impl<A: Lawful> TableRule<(), View<A>, Snapshot<Setup>> for LedgerRule {
-    ghost use Rattle.ledger.specs.Rule.{Kept, opening};
+    ghost use Rattle.ledger.specs.Rule.{Invariant, opening};
 
-    ghost holds = { λ key. Kept (A.legal key.value) key.value.count };
+    ghost holds = { λ key. Invariant (A.legal key.value) key.value.count };
 
     ghost first = { λ key. opening key.value.count };
 }

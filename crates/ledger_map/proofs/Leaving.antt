@@ -3,7 +3,7 @@ use Rattle.std.proofs.Common.{◌≡◌, ℕ, ◌<◌, List, [], ◌∷◌, ◌+
 use Rattle.gate.specs.Places.{last_of}
 use Rattle.history.specs.History.{Event, History, IsLegal}
 use Rattle.book.specs.Serial.{Act, events_in}
-use Rattle.requests.specs.Between.{TellsActs}
+use Rattle.requests.specs.Between.{RecordsActs}
 use Rattle.requests.proofs.Between.{events-append}
 use Rattle.ledger.specs.declared.view.Setup.{Setup}
 use Rattle.ledger.specs.declared.view.ShardAct.{ShardAct}
@@ -23,14 +23,14 @@ calls-append shard k [] g a b = b
 calls-append shard k (e ∷ es) g a b = (a.0, calls-append shard k es g a.1 b)
 
 module _ (setup : Setup) (list : List (Held ShardBook Act)) (x y : Held ShardBook Act) (last : last_of list ≡ Some x) (may : MayLeave setup x y) where
-  pub left_told : TellsActs (book_of y.value) (y.keeper.acts ++ acts_to between_books list y.value)
+  pub left_told : RecordsActs (book_of y.value) (y.keeper.acts ++ acts_to between_books list y.value)
   left_told =
-      let told = may.1.told x.keeper.acts may.0.told in
-      subst (λ (acts : List Act). TellsActs (book_of y.value) acts) (λ i. (sym may.2 i).acts ++ sym (acts_to-last between_books list x y.value last) i) told
+      let told = may.1.holds x.keeper.acts may.0.holds in
+      subst (λ (acts : List Act). RecordsActs (book_of y.value) acts) (λ i. (sym may.2 i).acts ++ sym (acts_to-last between_books list x y.value last) i) told
 
   pub left_legal : AreActsOfShard setup y.keeper.shard y.keeper.acts → AreActsOfShard setup y.keeper.shard (y.keeper.acts ++ acts_to between_books list y.value)
   left_legal before = (
-    subst (λ w. IsLegal w (events_in (y.keeper.acts ++ acts_to between_books list y.value))) (may.1.width ∙ may.0.width) left_told.tells.legal,
+    subst (λ w. IsLegal w (events_in (y.keeper.acts ++ acts_to between_books list y.value))) (may.1.width ∙ may.0.width) left_told.holds.legal,
     subst (AreCallsAt (event_shard setup.count) y.keeper.shard) (sym (events-append y.keeper.acts (acts_to between_books list y.value)))
         (calls-append (event_shard setup.count) y.keeper.shard (events_in y.keeper.acts) (events_in (acts_to between_books list y.value))
         before.1

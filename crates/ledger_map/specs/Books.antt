@@ -2,7 +2,7 @@
 use Rattle.std.specs.Prelude.{◌≡◌, List}
 use Rattle.book.specs.Contents.{Contents}
 use Rattle.book.specs.Serial.{Act, events_in}
-use Rattle.requests.specs.Between.{acts_between, MayFollow, TellsActs}
+use Rattle.requests.specs.Between.{acts_between, MayFollow, RecordsActs}
 use Rattle.ledger.specs.declared.view.Setup.{Setup}
 use Rattle.ledger.specs.declared.held.Held.{Held}
 use Rattle.ledger_map.specs.Legal.{AreCallsAt, event_shard}
@@ -17,7 +17,7 @@ between_books a b = acts_between (book_of a) (book_of b)
 -- the keeper beside a book has the acts that the book represents, and the width is the ledger's
 pub record IsShard (setup : Setup) (h : Held ShardBook Act) : Type 0 where
   pub width : (book_of h.value).width ≡ setup.about
-  pub told : TellsActs (book_of h.value) h.keeper.acts
+  pub holds : RecordsActs (book_of h.value) h.keeper.acts
 
 -- a book may follow the one that was found, beside the keeper that was found. The calls between
 -- them are of the keeper's shard

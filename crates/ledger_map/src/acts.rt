@@ -1,7 +1,7 @@
 //! The acts of a store, as a ledger has them.
 use gate::Follows;
 use ledger::{Changes, Lawful};
-use requests::Kept;
+use requests::BoxedBook;
 use std::marker::Model;
 
 /// A call or a trim, as a clause sees it. No code makes a value of this type.
@@ -25,7 +25,7 @@ impl Lawful for StoreAct {
 
 /// A book under a shard's lock.
 #[derive(Drop)]
-pub struct ShardBook(pub Kept);
+pub struct ShardBook(pub BoxedBook);
 
 impl Follows for ShardBook {
     ghost use Rattle.requests.specs.Between.{MayFollow};

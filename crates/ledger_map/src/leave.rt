@@ -4,7 +4,7 @@ ghost use Rattle.gate.specs.Places.{last_of};
 ghost use Rattle.book.specs.Serial.{Act};
 ghost use Rattle.ledger.specs.declared.held.Held.{Held};
 ghost use Rattle.ledger_map.specs.declared.acts.ShardBook.{ShardBook};
-ghost use Rattle.requests.specs.Between.{TellsActs};
+ghost use Rattle.requests.specs.Between.{RecordsActs};
 ghost use Rattle.ledger.specs.Acts.{IsRecorded, IsWithin, HasAll};
 ghost use Rattle.ledger.specs.Values.{KeepsAll, acts_to, left_beside};
 ghost use Rattle.one_map.specs.OneMap.{IsLegalOneMap};
@@ -32,12 +32,12 @@ pub fn leave_book(
     requires some { 0 < ledger.now.setup.count }
     requires found { (x : Held ShardBook Act) × (last_of seat.old.list ≡ Some x)
         × MayLeave ledger.now.setup x inside.value }
-    ensures kept { (seat.new.gate ≡ seat.old.gate) × (seat.new.room ≡ seat.old.room)
+    ensures unchanged { (seat.new.gate ≡ seat.old.gate) × (seat.new.room ≡ seat.old.room)
         × (seat.new.inside ≡ false) }
     ensures list { seat.new.list ≡ seat.old.list ++ left_beside inside.value
         (acts_to between_books seat.old.list inside.value.value) ∷ [] }
     ensures own { seat.new.own ≡ seat.old.own ++ length seat.old.list ∷ [] }
-    ensures told { TellsActs (book_of inside.value.value) (inside.value.keeper.acts
+    ensures holds { RecordsActs (book_of inside.value.value) (inside.value.keeper.acts
         ++ acts_to between_books seat.old.list inside.value.value) }
     ensures keeps { (k : ℕ) → KeepsAll between_books ledger.now.table k seat.old.list
         → KeepsAll between_books ledger.now.table k seat.new.list }

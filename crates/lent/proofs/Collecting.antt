@@ -7,7 +7,7 @@ use Rattle.sealed.specs.Sealed.{StandsFor, absent_in}
 use Rattle.lent.specs.declared.part.Part.{Part}
 use Rattle.lent.specs.declared.piece.Piece.{Piece}
 use Rattle.lent.specs.Ahead.{Ahead}
-use Rattle.lent.specs.Pieces.{IsPieceOf, bytes_of, joined}
+use Rattle.lent.specs.Pieces.{IsPieceOf, bytes_in_piece, joined}
 use Rattle.lent.specs.Walk.{Gives, IsStep, IsAbsent, HasAbsent, Joins, ArePieces, bytes_ahead}
 
 are_more : (s : Sealed) (done : List Part) (pieces : List Piece) (part : Part) (piece : Piece) → ArePieces s done pieces → IsPieceOf s part piece → ArePieces s (done ++ part ∷ []) (pieces ++ piece ∷ [])
@@ -16,9 +16,9 @@ are_more s [] (one ∷ pieces) part piece are is = absurd are
 are_more s (first ∷ done) [] part piece are is = absurd are
 are_more s (first ∷ done) (one ∷ pieces) part piece are is = (are.0, are_more s done pieces part piece are.1 is)
 
-joined_more : (pieces : List Piece) (piece : Piece) → joined (pieces ++ piece ∷ []) ≡ joined pieces ++ bytes_of piece
-joined_more [] piece = append-nil (bytes_of piece)
-joined_more (one ∷ pieces) piece = ap (λ xs. bytes_of one ++ xs) (joined_more pieces piece) ∙ sym (append_assoc (bytes_of one) (joined pieces) (bytes_of piece))
+joined_more : (pieces : List Piece) (piece : Piece) → joined (pieces ++ piece ∷ []) ≡ joined pieces ++ bytes_in_piece piece
+joined_more [] piece = append-nil (bytes_in_piece piece)
+joined_more (one ∷ pieces) piece = ap (λ xs. bytes_in_piece one ++ xs) (joined_more pieces piece) ∙ sym (append_assoc (bytes_in_piece one) (joined pieces) (bytes_in_piece piece))
 
 -- a step that gave no piece is the end
 pub at_end : (old new : Ahead) (found : Option Piece) → IsStep old new found → ((piece : Piece) → found ≡ Some piece → ⊥) → old.parts ≡ []
@@ -45,7 +45,7 @@ one_more first old new pieces piece before gives joins =
       same = gives.same ∙ before.same;
       bytes = λ b lost stands.
           ap (λ xs. xs ++ bytes_ahead new b) (joined_more pieces piece)
-          ∙ append_assoc (joined pieces) (bytes_of piece) (bytes_ahead new b)
+          ∙ append_assoc (joined pieces) (bytes_in_piece piece) (bytes_ahead new b)
           ∙ ap (λ xs. joined pieces ++ xs) (sym (joins b lost (subst (λ s. StandsFor s b lost) (sym before.same) stands)))
           ∙ before.bytes b lost stands;
     }

@@ -12,7 +12,7 @@ use Rattle.lrc_code.specs.declared.Code.TheVariants.{Wide, Small}
 use Rattle.sealed.specs.Layout.{byte_of}
 use Rattle.lent.specs.declared.part.Part.{Part}
 use Rattle.sealed.specs.Range.{cut_end}
-use Rattle.lent.specs.Cut.{IsPart, all_numbers, NeighboursDiffer, IsCut, part_of, cut}
+use Rattle.lent.specs.Cut.{IsPart, all_numbers, NeighboursDiffer, IsCut, cut_part, cut}
 
 -- ---- the worked cut: bytes 3 to 8 of a blob in fragments of four
 pub worked : cut Wide 4 3 6 ≡ (record { stripe = 0; fragment = 0; from = 3; to = 4 }) ∷ (record { stripe = 0; fragment = 1; from = 0; to = 4 }) ∷ (record { stripe = 0; fragment = 2; from = 0; to = 1 }) ∷ []
@@ -54,7 +54,7 @@ data_fragment Small k = omega arith
 -- ---- the parts of n data fragments from the k-th on, of which the last one is where the range ends
 module _ (code : Code) (w start end : ℕ) where
   abbrev pub parts : ℕ → ℕ → List Part
-  parts k n = map (part_of code w start end) (range_with_len k n)
+  parts k n = map (cut_part code w start end) (range_with_len k n)
 
   apart : (k n : ℕ) → NeighboursDiffer (parts k n)
   apart k zero = tt
@@ -69,7 +69,7 @@ module _ (code : Code) (w start end : ℕ) where
       let one = times_sum k 1 w in
       let two = times_sum (k + 1) 1 w in
       let here : k * w < end = omega arith in
-      All-cons (IsPart code w) (part_of code w start end k) (parts (k + 1) n)
+      All-cons (IsPart code w) (cut_part code w start end k) (parts (k + 1) n)
       (record { some = omega arith; inside = omega arith; holds_data = data_fragment code k })
       (each (k + 1) n wide some (omega arith) (λ m e. subst (λ x. x * w < end) (let same : k + suc m ≡ k + 1 + m = omega arith in same) (last (suc m) (ap suc e))))
 
@@ -108,7 +108,7 @@ cut_end_is w start len = grind (arith)
 pub cut_is : (code : Code) (w start len : ℕ) → 1 ≤ w → IsCut code w start len (cut code w start len)
 cut_is code w start zero some =
     let none : start / w - start / w ≡ 0 = omega arith in
-    subst (λ n. IsCut code w start 0 (map (part_of code w start (start + 0)) (range_with_len (start / w) n))) (sym none)
+    subst (λ n. IsCut code w start 0 (map (cut_part code w start (start + 0)) (range_with_len (start / w) n))) (sym none)
     (record { each = λ i d l. absurd (omega arith); covers = refl; apart = tt })
 cut_is code w start (suc len) some =
     let end = start + suc len in
@@ -129,7 +129,7 @@ cut_is code w start (suc len) some =
     let two = times_sum l 1 w in
     let top : (k + suc m) * w ≡ (l + 1) * w = ap (λ x. x * w) ends in
     let last_begins : (k + m) * w ≡ l * w = ap (λ x. x * w) (let e : k + m ≡ l = omega arith in e) in
-    subst (λ n. IsCut code w start (suc len) (map (part_of code w start end) (range_with_len k n))) (sym count)
+    subst (λ n. IsCut code w start (suc len) (map (cut_part code w start end) (range_with_len k n))) (sym count)
     (record {
       each = each code w start end k (suc m) some (omega arith) (omega arith) (λ x e. (let same : m ≡ x = omega arith in let at : (k + x) * w ≡ l * w = ap (λ y. (k + y) * w) (sym same) ∙ last_begins in omega arith));
       covers =

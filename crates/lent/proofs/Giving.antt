@@ -13,7 +13,7 @@ use Rattle.lent.specs.declared.part.Part.{Part}
 use Rattle.lent.specs.declared.piece.Piece.{Piece}
 use Rattle.lent.specs.Ahead.{Ahead}
 use Rattle.sealed.specs.Range.{cut_end}
-use Rattle.lent.specs.Cut.{part_of, cut}
+use Rattle.lent.specs.Cut.{cut_part, cut}
 use Rattle.lent.specs.Pieces.{IsPieceOf}
 use Rattle.lent.specs.Walk.{Gives, Joins}
 use Rattle.lent.proofs.Cutting.{cut_end_is}
@@ -38,8 +38,8 @@ end_of g = cut_end g.sealed.value.width g.start g.len
 parts_are : (g : Grant) (k m : ℕ) → first_of g + k ≡ m → drop k (cut g.sealed.value.code g.sealed.value.width g.start g.len) ≡ (ahead_at g.sealed.value g.start (g.start + g.len) (end_of g) m).parts
 parts_are g k m at =
     let s = g.sealed.value in
-    drop-map (part_of s.code s.width g.start (g.start + g.len)) k (range_with_len (first_of g) (end_of g - first_of g))
-    ∙ ap (map (part_of s.code s.width g.start (g.start + g.len)))
+    drop-map (cut_part s.code s.width g.start (g.start + g.len)) k (range_with_len (first_of g) (end_of g - first_of g))
+    ∙ ap (map (cut_part s.code s.width g.start (g.start + g.len)))
     (drop_range k (first_of g) (end_of g - first_of g) ∙ ap₂ range_with_len at (let e : end_of g - first_of g - k ≡ end_of g - m = omega (arith, at) in e))
 
 ahead_is : (g : Grant) (k m : ℕ) → first_of g + k ≡ m → ahead_at g.sealed.value g.start (g.start + g.len) (end_of g) m ≡ ahead_behind g k
@@ -50,9 +50,9 @@ pub nothing_ahead : (g : Grant) (k : ℕ) → end_of g ≤ first_of g + k → dr
 nothing_ahead g k past =
     let s = g.sealed.value in
     parts_are g k (first_of g + k) refl
-    ∙ ap (λ n. map (part_of s.code s.width g.start (g.start + g.len)) (range_with_len (first_of g + k) n)) (let e : end_of g - (first_of g + k) ≡ 0 = omega (arith, past) in e)
+    ∙ ap (λ n. map (cut_part s.code s.width g.start (g.start + g.len)) (range_with_len (first_of g + k) n)) (let e : end_of g - (first_of g + k) ≡ 0 = omega (arith, past) in e)
 
-module _ (g : Grant) (k m : ℕ) (at_m : first_of g + k ≡ m) (l : m < end_of g) (part : Part) (at : part ≡ part_of g.sealed.value.code g.sealed.value.width g.start (g.start + g.len) m) where
+module _ (g : Grant) (k m : ℕ) (at_m : first_of g + k ≡ m) (l : m < end_of g) (part : Part) (at : part ≡ cut_part g.sealed.value.code g.sealed.value.width g.start (g.start + g.len) m) where
   after : ahead_at g.sealed.value g.start (g.start + g.len) (end_of g) (m + 1) ≡ ahead_behind g (k + 1)
   after = ahead_is g (k + 1) (m + 1) (omega (arith, at_m))
 
@@ -60,7 +60,7 @@ module _ (g : Grant) (k m : ℕ) (at_m : first_of g + k ≡ m) (l : m < end_of g
   pub next_part : drop k (cut g.sealed.value.code g.sealed.value.width g.start g.len) ≡ part ∷ drop (k + 1) (cut g.sealed.value.code g.sealed.value.width g.start g.len)
   next_part =
       let s = g.sealed.value in
-      let f = part_of s.code s.width g.start (g.start + g.len) in
+      let f = cut_part s.code s.width g.start (g.start + g.len) in
       parts_are g k m at_m
       ∙ ap (λ n. map f (range_with_len m n)) (let e : end_of g - m ≡ suc (end_of g - (m + 1)) = omega (arith, l) in e)
       ∙ ap₂ (λ (p : Part) (ps : List Part). p ∷ ps) (sym at) (sym (parts_are g (k + 1) (m + 1) (omega (arith, at_m))))
@@ -80,10 +80,10 @@ module _ (g : Grant) (k m : ℕ) (at_m : first_of g + k ≡ m) (l : m < end_of g
 -- a cut has no more parts than its range ends at bytes
 pub few_parts : (code : Code) (w start len : ℕ) → 1 ≤ w → start + len < 2 ^ 64 → length (cut code w start len) < 2 ^ 64
 few_parts code w start zero wide few =
-    let long = length-map-range_with_len (part_of code w start (start + zero)) (start / w) (cut_end w start zero - start / w) in
+    let long = length-map-range_with_len (cut_part code w start (start + zero)) (start / w) (cut_end w start zero - start / w) in
     omega (arith, long)
 few_parts code w start (suc len) wide few =
-    let long = length-map-range_with_len (part_of code w start (start + suc len)) (start / w) (cut_end w start (suc len) - start / w) in
+    let long = length-map-range_with_len (cut_part code w start (start + suc len)) (start / w) (cut_end w start (suc len) - start / w) in
     let n = start + suc len - 1 in
     let times : (n + 1) * 1 ≤ (n + 1) * w = mul-le-mul_left (n + 1) wide in
     let under : n / w < n + 1 = div_below n w (n + 1) wide (omega (arith, times)) in

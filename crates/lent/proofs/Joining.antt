@@ -19,9 +19,9 @@ use Rattle.lent.specs.declared.part.Part.{Part}
 use Rattle.lent.specs.declared.piece.Piece.{Piece}
 use Rattle.lent.specs.declared.piece.Piece.TheVariants.{Lent, Built}
 use Rattle.lent.specs.Ahead.{Ahead}
-use Rattle.lent.specs.Cut.{IsCut, part_of, numbers_of, all_numbers, cut}
+use Rattle.lent.specs.Cut.{IsCut, cut_part, numbers_of, all_numbers, cut}
 use Rattle.lent.proofs.Cutting.{cut_is}
-use Rattle.lent.specs.Pieces.{IsPieceBy, IsPieceOf, bytes_of}
+use Rattle.lent.specs.Pieces.{IsPieceBy, IsPieceOf, bytes_in_piece}
 use Rattle.lent.specs.Walk.{Gives, IsAbsent, Joins}
 use Rattle.lent.specs.Spans.{span_of, spans_of}
 
@@ -46,7 +46,7 @@ part_bytes code w b j f from to is_data inside =
     fill_from (λ i. slice_index_or b i 0) (slice_range whole from to) (byte_of code w j f from) (to - from) (length_of_range whole from to (omega arith)) at
 
 piece_by : (s : Sealed) (part : Part) (b : List ℕ) (lost : Lost) (gone : Bool) (y : List ℕ) (piece : Piece) → StandsFor s b lost → y ≡ fragment s.code s.width b part.stripe part.fragment
-    → IsPieceBy s part (cond gone None (Some y)) piece → bytes_of piece ≡ slice_range (fragment s.code s.width b part.stripe part.fragment) part.from part.to
+    → IsPieceBy s part (cond gone None (Some y)) piece → bytes_in_piece piece ≡ slice_range (fragment s.code s.width b part.stripe part.fragment) part.from part.to
 piece_by s part b lost true y (Lent r) stands e is = absurd is
 piece_by s part b lost true y (Built v) stands e is = is b lost stands
 piece_by s part b lost false y (Lent r) stands e is = is ∙ ap (λ x. slice_range x part.from part.to) e
@@ -54,7 +54,7 @@ piece_by s part b lost false y (Built v) stands e is = absurd is
 
 -- a piece has the bytes that its part numbers
 piece_bytes : (s : Sealed) (part : Part) (b : List ℕ) (lost : Lost) (piece : Piece) → StandsFor s b lost → part.stripe < stripe_count s.code s.width s.len → part.fragment < data_count s.code
-    → part.to ≤ s.width → IsPieceOf s part piece → bytes_of piece ≡ map (λ i. slice_index_or b i 0) (numbers_of s.code s.width part)
+    → part.to ≤ s.width → IsPieceOf s part piece → bytes_in_piece piece ≡ map (λ i. slice_index_or b i 0) (numbers_of s.code s.width part)
 piece_bytes s part b lost piece stands below is_data inside is =
     let own = fragment s.code s.width b part.stripe part.fragment in
     let found : fragment_at s.stripes part.stripe part.fragment ≡ cond (lost_in lost part.stripe part.fragment) None (Some own) =
@@ -85,26 +85,26 @@ cut_bytes code w start len b wide inside =
 
 -- the parts ahead of a walk at the data fragment k, if n is behind the last one
 abbrev pub ahead_at : Sealed → ℕ → ℕ → ℕ → ℕ → Ahead
-ahead_at s start end n k = record { sealed = s; parts = map (part_of s.code s.width start end) (range_with_len k (n - k)) }
+ahead_at s start end n k = record { sealed = s; parts = map (cut_part s.code s.width start end) (range_with_len k (n - k)) }
 
 -- of the parts from the k-th data fragment on, the first is the k-th one's
-next_parts : (s : Sealed) (start end n k : ℕ) → k < n → (part : Part) → part ≡ part_of s.code s.width start end k → (ahead_at s start end n k).parts ≡ part ∷ (ahead_at s start end n (k + 1)).parts
+next_parts : (s : Sealed) (start end n k : ℕ) → k < n → (part : Part) → part ≡ cut_part s.code s.width start end k → (ahead_at s start end n k).parts ≡ part ∷ (ahead_at s start end n (k + 1)).parts
 next_parts s start end n k l part at =
-    let parts_at : ℕ → List Part = λ m. map (part_of s.code s.width start end) (range_with_len m (n - m)) in
-    ap (λ m. map (part_of s.code s.width start end) (range_with_len k m)) (let e : n - k ≡ suc (n - (k + 1)) = omega arith in e) ∙ ap (λ p. p ∷ parts_at (k + 1)) (sym at)
+    let parts_at : ℕ → List Part = λ m. map (cut_part s.code s.width start end) (range_with_len m (n - m)) in
+    ap (λ m. map (cut_part s.code s.width start end) (range_with_len k m)) (let e : n - k ≡ suc (n - (k + 1)) = omega arith in e) ∙ ap (λ p. p ∷ parts_at (k + 1)) (sym at)
 
 -- the same of the spans
-pub step_spans : (s : Sealed) (start end n k : ℕ) → k < n → (part : Part) → part ≡ part_of s.code s.width start end k → (span : Part × Option (List ℕ)) → span ≡ span_of s part
+pub step_spans : (s : Sealed) (start end n k : ℕ) → k < n → (part : Part) → part ≡ cut_part s.code s.width start end k → (span : Part × Option (List ℕ)) → span ≡ span_of s part
     → spans_of s (ahead_at s start end n k).parts ≡ span ∷ spans_of s (ahead_at s start end n (k + 1)).parts
 step_spans s start end n k l part at span is =
     ap (spans_of s) (next_parts s start end n k l part at) ∙ ap (λ x. x ∷ spans_of s (ahead_at s start end n (k + 1)).parts) (sym is)
 
 -- where the next part's fragment is absent, a walk that is seen as the value `old` has an absent part first
-pub step_absent : (s : Sealed) (start end n k : ℕ) → k < n → (part : Part) → part ≡ part_of s.code s.width start end k → (old : Ahead) → ahead_at s start end n k ≡ old
+pub step_absent : (s : Sealed) (start end n k : ℕ) → k < n → (part : Part) → part ≡ cut_part s.code s.width start end k → (old : Ahead) → ahead_at s start end n k ≡ old
     → fragment_at s.stripes part.stripe part.fragment ≡ None → IsAbsent old.sealed old.parts
 step_absent s start end n k l part at old seen gone = subst (λ (o : Ahead). IsAbsent o.sealed o.parts) seen (subst (IsAbsent s) (sym (next_parts s start end n k l part at)) gone)
 
-module _ (s : Sealed) (start end n k : ℕ) (l : k < n) (part : Part) (at : part ≡ part_of s.code s.width start end k) (piece : Piece) (is : IsPieceOf s part piece) where
+module _ (s : Sealed) (start end n k : ℕ) (l : k < n) (part : Part) (at : part ≡ cut_part s.code s.width start end k) (piece : Piece) (is : IsPieceOf s part piece) where
   gives : Gives (ahead_at s start end n k) (ahead_at s start end n (k + 1)) piece
   gives =
       record {

@@ -22,7 +22,7 @@ use Rattle.lent.specs.declared.piece.Piece.{Piece}
 use Rattle.lent.specs.declared.piece.Piece.TheVariants.{Lent, Built}
 use Rattle.lent.specs.Ahead.{Ahead}
 use Rattle.sealed.specs.Range.{cut_end}
-use Rattle.lent.specs.Cut.{part_of, all_numbers}
+use Rattle.lent.specs.Cut.{cut_part, all_numbers}
 use Rattle.lent.specs.Pieces.{IsPieceBy}
 use Rattle.lent.specs.Runs.{IsRunBy, GivesRun, IsRunStep, begin_at}
 use Rattle.lent.specs.Walk.{IsStep, Joins, bytes_ahead}
@@ -172,7 +172,7 @@ ahead_bytes s start len n k last first inside b fits =
       | inr past ↦
           (let none : n - k ≡ 0 = omega arith in
           let begins : begin_at w start end k ≡ end = behind_last w start len k wide (omega arith) in
-          ap (λ m. map g (all_numbers s.code w (map (part_of s.code w start end) (range_with_len k m)))) none
+          ap (λ m. map g (all_numbers s.code w (map (cut_part s.code w start end) (range_with_len k m)))) none
           ∙ ap (λ m. map g (range_with_len end m)) (let e : 0 ≡ end - end = omega arith in e) ∙ sym (numbered b end end fits) ∙ ap (λ x. slice_range b x end) (sym begins))
     ]
 
@@ -184,7 +184,7 @@ lent_by (Some x) more run there = tt
 module _ (s : Sealed) (start len n k m : ℕ) (more : k < m) (inside : m ≤ n) (run : Bor (List ℕ)) (old : Ahead) (seen : ahead_at s start (start + len) n k ≡ old) where
   pub run_gives : absent_in s (k / data_count s.code) (k % data_count s.code) ≡ false → GivesRun old (ahead_at s start (start + len) n m) (Lent run)
   run_gives there =
-      let f = part_of s.code s.width start (start + len) in
+      let f = cut_part s.code s.width start (start + len) in
       let rest = m - (k + 1) in
       subst (λ o. GivesRun o (ahead_at s start (start + len) n m) (Lent run)) seen
       (record {

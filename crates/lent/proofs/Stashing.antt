@@ -6,7 +6,7 @@ use Rattle.std.proofs.lemmas.Bool.{cases_eq, cases_lt}
 use Rattle.std.proofs.lemmas.List.{length-set, get_or_past, get_or-set_same, get_or-set_other}
 use Rattle.sealed.specs.declared.value.Sealed.{Sealed}
 use Rattle.sealed.specs.Rebuilding.{IsPartOf, IsChosenPart}
-use Rattle.lent.specs.Stash.{IsWhole}
+use Rattle.lent.specs.Stash.{IsWholeFragment}
 
 emptied : {A : Type 0} (parts : List (Option A)) (k : ℕ) → get_or (slice_set parts k None) k None ≡ None
 emptied parts k =
@@ -31,7 +31,7 @@ nothing_there (Some f) P = tt
 
 -- a whole fragment that was decoded
 pub whole_part : {V : Type 0} (items : V → List ℕ) (s : Sealed) (j w : ℕ) (chosen : Option ℕ) (part : Option V) → w ≡ s.width → IsChosenPart s j 0 w chosen (option_map items part)
-    → IfSome chosen (λ f. IfSome part (λ v. IsWhole s j f (items v)))
+    → IfSome chosen (λ f. IfSome part (λ v. IsWholeFragment s j f (items v)))
 whole_part items s j w None part wide is = tt
 whole_part items s j w (Some f) None wide is = absurd is
 whole_part items s j w (Some f) (Some v) wide is = (let long = is.0 in omega arith, subst (λ to. IsPartOf s j f 0 to (items v)) wide is.1)
@@ -46,5 +46,5 @@ pub at_chosen : {V : Type 0} (P : ℕ → V → Type 0) (chosen : Option ℕ) (p
 at_chosen P chosen part f is known = subst (λ (o : Option ℕ). IfSome o (λ g. IfSome part (P g))) is known
 
 -- a part that is a whole fragment
-pub part_of_whole : (s : Sealed) (j f from to : ℕ) (bytes : List ℕ) → from ≡ 0 → to ≡ s.width → IsWhole s j f bytes → IsPartOf s j f from to bytes
+pub part_of_whole : (s : Sealed) (j f from to : ℕ) (bytes : List ℕ) → from ≡ 0 → to ≡ s.width → IsWholeFragment s j f bytes → IsPartOf s j f from to bytes
 part_of_whole s j f from to bytes begins ends is = subst (λ n. IsPartOf s j f n to bytes) (sym begins) (subst (λ n. IsPartOf s j f 0 n bytes) (sym ends) is.1)

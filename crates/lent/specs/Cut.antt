@@ -36,9 +36,9 @@ pub record IsCut (code : Code) (w start len : ℕ) (parts : List Part) : Type 0 
 
 -- ---- the cut, computed: of each data fragment that the range meets, what lies between its ends
 -- the part of the blob's k-th data fragment that lies between the bytes start and end
-abbrev pub part_of : Code → ℕ → ℕ → ℕ → ℕ → Part
-part_of code w start end k =
+abbrev pub cut_part : Code → ℕ → ℕ → ℕ → ℕ → Part
+cut_part code w start end k =
     record { stripe = k / data_count code; fragment = k % data_count code; from = start - k * w; to = min w (end - k * w) }
 
 abbrev pub cut : Code → ℕ → ℕ → ℕ → List Part
-cut code w start len = map (part_of code w start (start + len)) (range_with_len (start / w) (cut_end w start len - start / w))
+cut code w start len = map (cut_part code w start (start + len)) (range_with_len (start / w) (cut_end w start len - start / w))

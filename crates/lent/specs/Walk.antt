@@ -8,7 +8,7 @@ use Rattle.sealed.specs.Sealed.{StandsFor, absent_in}
 use Rattle.lent.specs.declared.part.Part.{Part}
 use Rattle.lent.specs.declared.piece.Piece.{Piece}
 use Rattle.lent.specs.Cut.{all_numbers}
-use Rattle.lent.specs.Pieces.{IsPieceOf, bytes_of}
+use Rattle.lent.specs.Pieces.{IsPieceOf, bytes_in_piece}
 use Rattle.lent.specs.Ahead.{Ahead}
 
 -- the walk returned the piece of the first part ahead, and has the others ahead
@@ -39,7 +39,7 @@ bytes_ahead ahead b = map (λ i. slice_index_or b i 0) (all_numbers ahead.sealed
 -- in each blob that the value represents, the piece is exactly the bytes that were ahead and no
 -- longer are
 abbrev pub Joins : Ahead → Ahead → Piece → Type 0
-Joins old new piece = (b : List ℕ) (lost : Lost) → StandsFor old.sealed b lost → bytes_ahead old b ≡ bytes_of piece ++ bytes_ahead new b
+Joins old new piece = (b : List ℕ) (lost : Lost) → StandsFor old.sealed b lost → bytes_ahead old b ≡ bytes_in_piece piece ++ bytes_ahead new b
 
 -- the pieces are those of the parts, in order
 abbrev pub ArePieces : Sealed → List Part → List Piece → Type 0

@@ -5,7 +5,7 @@ ghost use Rattle.sealed.specs.Layout.{stripe_count};
 ghost use Rattle.sealed.specs.Sealed.{absent_in};
 ghost use Rattle.sealed.specs.Rebuilding.{IsPartOf, IsRebuildable};
 ghost use Rattle.sealed.specs.Range.{cut_end};
-ghost use Rattle.lent.specs.Stash.{IsStashOf, IsWhole};
+ghost use Rattle.lent.specs.Stash.{IsStashOf, IsWholeFragment};
 
 use crate::cut::part_at;
 use crate::stash::Stash;
@@ -81,8 +81,8 @@ fn decode_from(
     requires lost { IsRebuildable grant.now.sealed.value part.stripe part.fragment }
     requires next { grant.now.start / grant.now.sealed.value.width ≤ next }
     requires stash { IsStashOf grant.now.sealed.value stash.old }
-    ensures ok { IfOk result (λ bytes. IsWhole grant.now.sealed.value part.stripe part.fragment
-        bytes.items) }
+    ensures ok { IfOk result (λ bytes. IsWholeFragment grant.now.sealed.value part.stripe
+        part.fragment bytes.items) }
     ensures stash { IsStashOf grant.now.sealed.value stash.new }
 {
     let sealed: &Sealed = &grant.sealed;

@@ -4,7 +4,7 @@ ghost use Rattle.lrc_code.specs.Code.{data_count, Open};
 ghost use Rattle.sealed.specs.Layout.{stripe_count};
 ghost use Rattle.sealed.specs.Sealed.{absent_in};
 ghost use Rattle.sealed.specs.Range.{cut_end};
-ghost use Rattle.lent.specs.Cut.{part_of};
+ghost use Rattle.lent.specs.Cut.{cut_part};
 
 use crate::{Grant, Part};
 use lrc_code::Code;
@@ -42,7 +42,7 @@ pub(crate) fn place_of(code: Code, k: u64) -> (u64, u8)
 pub(crate) fn part_at(grant: &Grant, k: u64) -> Part
     requires first { grant.now.start / grant.now.sealed.value.width ≤ k }
     requires last { k < cut_end grant.now.sealed.value.width grant.now.start grant.now.len }
-    ensures value { result ≡ part_of grant.now.sealed.value.code grant.now.sealed.value.width
+    ensures value { result ≡ cut_part grant.now.sealed.value.code grant.now.sealed.value.width
         grant.now.start (grant.now.start + grant.now.len) k }
     ensures stripe { result.stripe < stripe_count grant.now.sealed.value.code
         grant.now.sealed.value.width grant.now.sealed.value.len }

@@ -4,7 +4,7 @@ ghost use Rattle.lrc_code.specs.Code.{data_count, fragment_count, Open};
 ghost use Rattle.sealed.specs.Layout.{stripe_count};
 ghost use Rattle.sealed.specs.Stripes.{fragment_at};
 ghost use Rattle.sealed.specs.Sealed.{absent_in};
-ghost use Rattle.lent.specs.Pieces.{IsPieceOf, bytes_of};
+ghost use Rattle.lent.specs.Pieces.{IsPieceOf, bytes_in_piece};
 ghost use Rattle.lent.specs.Stash.{IsStashOf};
 
 use crate::building::built;
@@ -17,7 +17,7 @@ use std::alloc::Global;
 impl Piece<'_> {
     /// The bytes, whether lent or built.
     pub fn bytes(&self) -> &[u8]
-        ensures { result.now ≡ bytes_of self.now }
+        ensures { result.now ≡ bytes_in_piece self.now }
     {
         match self {
             Piece::Lent(bytes) => bytes,
@@ -28,7 +28,7 @@ impl Piece<'_> {
 
 /// An empty piece.
 impl Default for Piece<'_> {
-    ghost is_default = { λ piece. bytes_of piece ≡ [] };
+    ghost is_default = { λ piece. bytes_in_piece piece ≡ [] };
 
     fn default() -> Self {
         Piece::Lent(&[])

@@ -23,13 +23,13 @@ impl<'a> Model for Spans<'a> {
     ghost use Rattle.std.specs.List.{range_with_len};
     ghost use Rattle.lent.specs.declared.part.Part.{Part as CutPart};
     ghost use Rattle.sealed.specs.Range.{cut_end};
-    ghost use Rattle.lent.specs.Cut.{part_of};
+    ghost use Rattle.lent.specs.Cut.{cut_part};
     ghost use Rattle.lent.specs.Spans.{spans_of};
 
     ghost Value = { List (CutPart × Option (List ℕ)) };
 
     ghost view = { λ s. spans_of s.grant.now.sealed.value
-        (map (part_of s.grant.now.sealed.value.code s.grant.now.sealed.value.width
+        (map (cut_part s.grant.now.sealed.value.code s.grant.now.sealed.value.width
         s.grant.now.start (s.grant.now.start + s.grant.now.len))
         (range_with_len s.at (s.end - s.at))) };
 

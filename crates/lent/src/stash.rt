@@ -1,7 +1,7 @@
 //! Fragments that a walk decodes before their turn.
 ghost use Rattle.std.specs.Prelude.{◌≡◌, ◌<◌, ℕ, None, Some, IfSome, slice_index_or};
 ghost use Rattle.sealed.specs.declared.value.Sealed.{Sealed as SealedBlob};
-ghost use Rattle.lent.specs.Stash.{IsStashOf, IsWhole};
+ghost use Rattle.lent.specs.Stash.{IsStashOf, IsWholeFragment};
 
 /// Up to four fragments of a stripe that were decoded together, each until it is taken out.
 #[derive(Drop)]
@@ -28,9 +28,9 @@ impl Stash {
 
     /// Takes out the bytes of a fragment, if it has them.
     pub(crate) fn take(&mut self, stripe: u64, f: u8) -> Option<Vec<u8>>
-        ensures kept { (s : SealedBlob) → IsStashOf s self.old → IsStashOf s self.new }
+        ensures unchanged { (s : SealedBlob) → IsStashOf s self.old → IsStashOf s self.new }
         ensures whole { (s : SealedBlob) → IsStashOf s self.old
-            → IfSome result (λ bytes. IsWhole s stripe f bytes.items) }
+            → IfSome result (λ bytes. IsWholeFragment s stripe f bytes.items) }
     {
         if self.stripe != stripe {
             return None;

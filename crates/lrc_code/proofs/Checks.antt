@@ -12,7 +12,7 @@ use Rattle.gf256.specs.Field.{product}
 use Rattle.gf256.proofs.Laws.{product_assoc}
 use Rattle.gf256.proofs.Linear.{product-xor_right}
 use Rattle.gf256.proofs.Ring.{Term, var, plus, times, same_by_ring}
-use Rattle.lrc_code.specs.ParityCheck.{place_of, FirstOf, other_of, reduced_weight, determinant}
+use Rattle.lrc_code.specs.ParityCheck.{found_place, FirstOf, other_of, reduced_weight, determinant}
 use Rattle.lrc_code.proofs.Witness.{weight-lt}
 use Rattle.lrc_code.proofs.Opening.{reduced_weight-lt}
 use Rattle.lrc_code.proofs.Computed.{test_below, passes_below}
@@ -51,13 +51,13 @@ all_length Small = refl
 none_at_all : (code : Code) → (t : ℕ → Bool) → All (λ i. t i ≡ false) (all_fragments code) → (i : ℕ) → i < fragment_count code → t i ≡ false
 none_at_all code t a i l = All-contains (λ i. t i ≡ false) (all_fragments code) i a (i, subst (λ n. i < n) (sym (all_length code)) l, eqb-true (slice_index_or (all_fragments code) i i) i (passes_below (λ i. eqb (slice_index_or (all_fragments code) i i) i) (fragment_count code) (all_there code) i l))
 
-pivot_first : (code : Code) → (rest : ℕ → Bool) (found_first : Option ℕ) → FirstOf rest (first_group code) found_first → Pivot code rest 0 (place_of code found_first)
+pivot_first : (code : Code) → (rest : ℕ → Bool) (found_first : Option ℕ) → FirstOf rest (first_group code) found_first → Pivot code rest 0 (found_place code found_first)
 pivot_first code rest None h = none refl (sym (first_count code rest) ∙ none_counted rest (first_group code) (recursion_from_All (λ i. rest i ≡ false) (first_group code) h))
 pivot_first code rest (Some i) h =
     let m = All-contains (λ i. (i < fragment_count code) × (weight code 0 i ≡ 1)) (first_group code) i (All-from_recursion (λ i. (i < fragment_count code) × (weight code 0 i ≡ 1)) (first_group code) (first_members code)) h.1 in
     real m.0 h.0 m.1 (some_in code rest 0 i m.0 h.0 m.1)
 
-pivot_second : (code : Code) → (rest : ℕ → Bool) (found_second : Option ℕ) → FirstOf rest (second_group code) found_second → Pivot code rest 1 (place_of code found_second)
+pivot_second : (code : Code) → (rest : ℕ → Bool) (found_second : Option ℕ) → FirstOf rest (second_group code) found_second → Pivot code rest 1 (found_place code found_second)
 pivot_second code rest None h = none refl (sym (second_count code rest) ∙ none_counted rest (second_group code) (recursion_from_All (λ i. rest i ≡ false) (second_group code) h))
 pivot_second code rest (Some i) h =
     let m = All-contains (λ i. (i < fragment_count code) × (weight code 1 i ≡ 1)) (second_group code) i (All-from_recursion (λ i. (i < fragment_count code) × (weight code 1 i ≡ 1)) (second_group code) (second_members code)) h.1 in
@@ -74,14 +74,14 @@ solving_at code lost left_over f p q (Some g) l here n few pp qq left_is other =
 -- the fragments that the code finds make the byte at f determined
 pub solving_found : (code : Code) → (lost rest left_over : ℕ → Bool) (f : ℕ) (found_first found_second found_other : Option ℕ) → f < fragment_count code → lost f ≡ true → is_alone code lost f ≡ false → excess_of code lost ≤ 2
     → ((i : ℕ) → rest i ≡ without lost f i) → FirstOf rest (first_group code) found_first → FirstOf rest (second_group code) found_second
-    → ((i : ℕ) → i < fragment_count code → left_over i ≡ others lost f (place_of code found_first) (place_of code found_second) i) → FirstOf left_over (all_fragments code) found_other
-    → Solving code lost f (place_of code found_first) (place_of code found_second) (other_of code f found_other)
+    → ((i : ℕ) → i < fragment_count code → left_over i ≡ others lost f (found_place code found_first) (found_place code found_second) i) → FirstOf left_over (all_fragments code) found_other
+    → Solving code lost f (found_place code found_first) (found_place code found_second) (other_of code f found_other)
 solving_found code lost rest left_over f found_first found_second found_other l here alone few rest_is first second left_is other =
     let n = not_alone code lost f l here alone in
     let same : rest ≡ without lost f = fun_ext rest_is in
-    let pp : Pivot code (without lost f) 0 (place_of code found_first) = subst (λ r. Pivot code r 0 (place_of code found_first)) same (pivot_first code rest found_first first) in
-    let qq : Pivot code (without lost f) 1 (place_of code found_second) = subst (λ r. Pivot code r 1 (place_of code found_second)) same (pivot_second code rest found_second second) in
-    solving_at code lost left_over f (place_of code found_first) (place_of code found_second) found_other l here n few pp qq left_is other
+    let pp : Pivot code (without lost f) 0 (found_place code found_first) = subst (λ r. Pivot code r 0 (found_place code found_first)) same (pivot_first code rest found_first first) in
+    let qq : Pivot code (without lost f) 1 (found_place code found_second) = subst (λ r. Pivot code r 1 (found_place code found_second)) same (pivot_second code rest found_second second) in
+    solving_at code lost left_over f (found_place code found_first) (found_place code found_second) found_other l here n few pp qq left_is other
 
 -- ---- alone in a group
 pub determined_first : (code : Code) → (lost : ℕ → Bool) (f : ℕ) → f < fragment_count code → is_only_lost_of lost (first_group code) f ≡ true → Determines code lost f (weight code 0)

@@ -59,7 +59,7 @@ weight code k i = slice_index (slice_index_or (weights code) k []) i
 abbrev pub IsColumn : Code → (ℕ → ℕ) → Type 0
 IsColumn code c = IsColumnOf (fragment_count code) (weight code) c
 
--- f can't be told from the fragments left
+-- the fragments left do not determine f
 abbrev pub Open : Code → (ℕ → Bool) → ℕ → Type 0
 Open code lost f = OpenBy (fragment_count code) (weight code) lost f
 

@@ -34,9 +34,9 @@ IsParityCheck code Second = Unit {0}
 IsParityCheck code (Global p q g scale) = (p ≤ fragment_count code) × (q ≤ fragment_count code) × (g < fragment_count code)
 
 -- the place of a fragment that was looked for: the one after the last where there is none
-abbrev pub place_of : Code → Option ℕ → ℕ
-place_of code (Some i) = i
-place_of code None = fragment_count code
+abbrev pub found_place : Code → Option ℕ → ℕ
+found_place code (Some i) = i
+found_place code None = fragment_count code
 
 -- the first of the fragments that t has
 abbrev pub FirstOf : (ℕ → Bool) → List ℕ → Option ℕ → Type 0

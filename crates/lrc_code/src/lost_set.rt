@@ -4,7 +4,7 @@ ghost use Rattle.std.specs.Prelude.{length, false, not, ◌&&◌, ◌||◌, ◌=
 ghost use Rattle.std.specs.List.{filter};
 ghost use Rattle.lrc_code.specs.Code.{fragment_count, all_fragments, is_lost, excess_of, Open};
 ghost use Rattle.lrc_code.specs.Form.{IsOfForm, LeavesTwo};
-ghost use Rattle.lrc_code.specs.ParityCheck.{FirstOf, place_of};
+ghost use Rattle.lrc_code.specs.ParityCheck.{FirstOf, found_place};
 
 use crate::Code;
 use arrayvec::ArrayVec;
@@ -90,7 +90,7 @@ impl LostSet {
     pub(crate) fn without_found(self, found: Option<u8>) -> LostSet
         requires { MatchOption found (Unit {0}) (λ i. i < 16) }
         ensures { (code : Code) (i : ℕ) → i < fragment_count code → is_lost result i
-            ≡ (not (i == place_of code found) && is_lost self i) }
+            ≡ (not (i == found_place code found) && is_lost self i) }
     {
         match found {
             None => self,

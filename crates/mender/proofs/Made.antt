@@ -9,7 +9,7 @@ use Rattle.shared.proofs.Serving.{serves_append, serves_nothing}
 use Rattle.mender.specs.declared.done.Done.{Done}
 use Rattle.mender.specs.declared.done.WorkFault.{WorkFault}
 use Rattle.mender.specs.Drawn.{DrawerState}
-use Rattle.mender.specs.Worked.{repair_of, replies_of, asks_of, AreMended, Stopped, StoppedFull}
+use Rattle.mender.specs.Worked.{repair_of, replies_of, asks_done, AreMended, Stopped, StoppedFull}
 use Rattle.mender.specs.Made.{Repairing, AreMade, IsHalted, IsRepaired}
 use Rattle.mender.proofs.Working.{InHand, mended_one, mended_no_more, stopped_full}
 
@@ -53,7 +53,7 @@ module _ {V : Type 0} (repaired : Repairing V) where
 -- ---- a store alone
 pub made_mended : (v w : Shows) (done : List Done) → AreMade IsRepaired v done w → AreMended v done w
 made_mended v w [] same = subst (AreMended v []) (sym same) (serves_nothing v [])
-made_mended v w (d ∷ done) (u, made, rest) = serves_append v u w (asks_of (d ∷ [])) (asks_of done) (replies_of (d ∷ [])) (replies_of done) refl (mended_one v u d made) (made_mended u w done rest)
+made_mended v w (d ∷ done) (u, made, rest) = serves_append v u w (asks_done (d ∷ [])) (asks_done done) (replies_of (d ∷ [])) (replies_of done) refl (mended_one v u d made) (made_mended u w done rest)
 
 module _ {plan : List Item} {old new : DrawerState} {v w : Shows} {stop : WorkFault} (halt : IsHalted IsRepaired plan old new v stop w) where
   pub halt_stopped : Stopped plan old new stop.done.items

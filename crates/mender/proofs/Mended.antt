@@ -12,7 +12,7 @@ use Rattle.mender.specs.declared.done.Done.{Done}
 use Rattle.mender.specs.Drawn.{DrawerState, DrewFirstNumbers}
 use Rattle.mender.specs.Gathered.{tickets_of, IsOfPlan, IsComplete}
 use Rattle.mender.specs.Worked.{Draws, Worked, Finished}
-use Rattle.mender.specs.Mended.{Left, with_hand, joined, results_of, HasFinished, HasResults}
+use Rattle.mender.specs.Mended.{EndedWorker, with_hand, joined_drawer, results_of, HasFinished, HasResults}
 use Rattle.mender.proofs.Counts.{once_below-in, once_below-out}
 use Rattle.mender.proofs.Judged.{tickets-append, none_past, here_one, else_none}
 
@@ -78,23 +78,23 @@ many_past plan hand n whole full past drawn = dite (dec_lt n (length hand.drawn)
 
 -- ---- the drawers of all workers
 -- one worker more was joined
-pub joined-snoc : (first : DrawerState) (crew : List Left) (left : Left) → joined first (crew ++ left ∷ []) ≡ with_hand (joined first crew) left.drawer
-joined-snoc first crew left = fold_push (λ (hand : DrawerState) (l : Left). with_hand hand l.drawer) first crew left
+pub joined-snoc : (first : DrawerState) (crew : List EndedWorker) (left : EndedWorker) → joined_drawer first (crew ++ left ∷ []) ≡ with_hand (joined_drawer first crew) left.drawer
+joined-snoc first crew left = fold_push (λ (hand : DrawerState) (l : EndedWorker). with_hand hand l.drawer) first crew left
 
-pub results_of-snoc : (crew : List Left) (left : Left) → results_of (crew ++ left ∷ []) ≡ results_of crew ++ left.done
-results_of-snoc crew left = sym (flat_map_more (λ (l : Left). l.done) [] crew left)
+pub results_of-snoc : (crew : List EndedWorker) (left : EndedWorker) → results_of (crew ++ left ∷ []) ≡ results_of crew ++ left.done
+results_of-snoc crew left = sym (flat_map_more (λ (l : EndedWorker). l.done) [] crew left)
 
-joined_results : (plan : List Item) (hand : DrawerState) (before : List Done) (crew : List Left) → HasResults plan hand before → All (HasFinished plan) crew
-    → HasResults plan (joined hand crew) (before ++ results_of crew)
+joined_results : (plan : List Item) (hand : DrawerState) (before : List Done) (crew : List EndedWorker) → HasResults plan hand before → All (HasFinished plan) crew
+    → HasResults plan (joined_drawer hand crew) (before ++ results_of crew)
 joined_results plan hand before [] has all = subst (HasResults plan hand) (sym (append-nil before)) has
 joined_results plan hand before (left ∷ crew) has all =
     let one = All-head (HasFinished plan) left crew all in
     let theirs : HasResults plan left.drawer left.done = finished_on plan one.old left.drawer [] left.done (no_results plan one.old one.none) one.finished in
     let both : HasResults plan (with_hand hand left.drawer) (before ++ left.done) = results_joined plan hand left.drawer (with_hand hand left.drawer) before left.done has theirs refl in
-    subst (HasResults plan (joined (with_hand hand left.drawer) crew)) (append_assoc before left.done (results_of crew))
+    subst (HasResults plan (joined_drawer (with_hand hand left.drawer) crew)) (append_assoc before left.done (results_of crew))
     (joined_results plan (with_hand hand left.drawer) (before ++ left.done) crew both (All-tail (HasFinished plan) left crew all))
 
-joined_keeps : (hand : DrawerState) (crew : List Left) (n : ℕ) → times n hand.drawn ≤ times n (joined hand crew).drawn
+joined_keeps : (hand : DrawerState) (crew : List EndedWorker) (n : ℕ) → times n hand.drawn ≤ times n (joined_drawer hand crew).drawn
 joined_keeps hand [] n = omega arith
 joined_keeps hand (left ∷ crew) n =
     let more = joined_keeps (with_hand hand left.drawer) crew n in
@@ -116,12 +116,12 @@ finished_share plan old new done finished = ⊎_elim
     finished
 
 -- the allowances at first, with what was drawn
-joined_share : (plan : List Item) (hand : DrawerState) (crew : List Left) → All (HasFinished plan) crew
-    → (joined hand crew).allowance + length (joined hand crew).drawn ≡ hand.allowance + length hand.drawn + sum_by (λ (left : Left). left.given) crew
+joined_share : (plan : List Item) (hand : DrawerState) (crew : List EndedWorker) → All (HasFinished plan) crew
+    → (joined_drawer hand crew).allowance + length (joined_drawer hand crew).drawn ≡ hand.allowance + length hand.drawn + sum_by (λ (left : EndedWorker). left.given) crew
 joined_share plan hand [] all = omega arith
 joined_share plan hand (left ∷ crew) all =
     let more = joined_share plan (with_hand hand left.drawer) crew (All-tail (HasFinished plan) left crew all) in
-    let sum = sum_by-cons (λ (l : Left). l.given) left crew in
+    let sum = sum_by-cons (λ (l : EndedWorker). l.given) left crew in
     let both = length-append hand.drawn left.drawer.drawn in
     let one = All-head (HasFinished plan) left crew all in
     let own = finished_share plan one.old left.drawer left.done one.finished in
@@ -142,7 +142,7 @@ past_drawn plan old new done n w =
     let here = times-one n n ∙ here_one n in
     omega arith
 
-crew_ends : (plan : List Item) (hand : DrawerState) (crew : List Left) → All (HasFinished plan) crew → Ends plan hand (joined hand crew)
+crew_ends : (plan : List Item) (hand : DrawerState) (crew : List EndedWorker) → All (HasFinished plan) crew → Ends plan hand (joined_drawer hand crew)
 crew_ends plan hand [] all = inr refl
 crew_ends plan hand (left ∷ crew) all =
     let one = All-head (HasFinished plan) left crew all in
@@ -160,20 +160,20 @@ crew_ends plan hand (left ∷ crew) all =
 
 -- Workers finished with drawers that were split from a first one before anything was drawn, and all are joined again. What the first one kept leaves at least as many
 -- numbers as the plan is long. Then their results are complete
-pub complete_joined : (plan : List Item) (first : DrawerState) (crew : List Left) → first.drawn ≡ [] → first.allowance + sum_by (λ (left : Left). left.given) crew ≡ 2 ^ 40
-    → first.allowance + length plan ≤ 2 ^ 40 → All (HasFinished plan) crew → DrewFirstNumbers (joined first crew) → IsComplete plan (results_of crew)
+pub complete_joined : (plan : List Item) (first : DrawerState) (crew : List EndedWorker) → first.drawn ≡ [] → first.allowance + sum_by (λ (left : EndedWorker). left.given) crew ≡ 2 ^ 40
+    → first.allowance + length plan ≤ 2 ^ 40 → All (HasFinished plan) crew → DrewFirstNumbers (joined_drawer first crew) → IsComplete plan (results_of crew)
 complete_joined plan first crew none shares room all whole =
     let has = joined_results plan first [] crew (no_results plan first none) all in
     let nothing : length first.drawn ≡ 0 = ap length none in
     let share = joined_share plan first crew all in
-    let full : (joined first crew).allowance + length (joined first crew).drawn ≡ 2 ^ 40 = omega arith in
-    complete_whole plan (joined first crew) (results_of crew) has whole full (⊎_elim
-    (λ t. many_past plan (joined first crew) t.0 whole full t.1 t.2)
+    let full : (joined_drawer first crew).allowance + length (joined_drawer first crew).drawn ≡ 2 ^ 40 = omega arith in
+    complete_whole plan (joined_drawer first crew) (results_of crew) has whole full (⊎_elim
+    (λ t. many_past plan (joined_drawer first crew) t.0 whole full t.1 t.2)
     (λ same. omega arith)
     (crew_ends plan first crew all))
 
 -- what a worker drew, the joined drawer drew
-pub drawn_joined : (hand : DrawerState) (before : List Left) (left : Left) (after : List Left) (n : ℕ) → times n left.drawer.drawn ≤ times n (joined hand (before ++ left ∷ after)).drawn
+pub drawn_joined : (hand : DrawerState) (before : List EndedWorker) (left : EndedWorker) (after : List EndedWorker) (n : ℕ) → times n left.drawer.drawn ≤ times n (joined_drawer hand (before ++ left ∷ after)).drawn
 drawn_joined hand [] left after n =
     let both = times-append n hand.drawn left.drawer.drawn in
     let kept = joined_keeps (with_hand hand left.drawer) after n in
@@ -181,11 +181,11 @@ drawn_joined hand [] left after n =
 drawn_joined hand (other ∷ before) left after n = drawn_joined (with_hand hand other.drawer) before left after n
 
 -- The same, where one of the workers met a number past the plan's end
-pub complete_past : (plan : List Item) (first : DrawerState) (crew : List Left) → first.drawn ≡ [] → first.allowance + sum_by (λ (left : Left). left.given) crew ≡ 2 ^ 40
-    → All (HasFinished plan) crew → DrewFirstNumbers (joined first crew) → (n : ℕ) → length plan ≤ n → 0 < times n (joined first crew).drawn → IsComplete plan (results_of crew)
+pub complete_past : (plan : List Item) (first : DrawerState) (crew : List EndedWorker) → first.drawn ≡ [] → first.allowance + sum_by (λ (left : EndedWorker). left.given) crew ≡ 2 ^ 40
+    → All (HasFinished plan) crew → DrewFirstNumbers (joined_drawer first crew) → (n : ℕ) → length plan ≤ n → 0 < times n (joined_drawer first crew).drawn → IsComplete plan (results_of crew)
 complete_past plan first crew none shares all whole n past drawn =
     let has = joined_results plan first [] crew (no_results plan first none) all in
     let nothing : length first.drawn ≡ 0 = ap length none in
     let share = joined_share plan first crew all in
-    let full : (joined first crew).allowance + length (joined first crew).drawn ≡ 2 ^ 40 = omega arith in
-    complete_whole plan (joined first crew) (results_of crew) has whole full (many_past plan (joined first crew) n whole full past drawn)
+    let full : (joined_drawer first crew).allowance + length (joined_drawer first crew).drawn ≡ 2 ^ 40 = omega arith in
+    complete_whole plan (joined_drawer first crew) (results_of crew) has whole full (many_past plan (joined_drawer first crew) n whole full past drawn)

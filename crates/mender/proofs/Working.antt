@@ -12,7 +12,7 @@ use Rattle.std.proofs.lemmas.Option.{slice_get-get_or, slice_get_within}
 use Rattle.std.specs.List.Sorted.{IsStrictlyIncreasing}
 use Rattle.mender.specs.Drawn.{DrawerState, IsIntact, IsSole}
 use Rattle.mender.specs.Gathered.{tickets_of, IsOfPlan}
-use Rattle.mender.specs.Worked.{repair_of, replies_of, ask_of, asks_of, AreMended, AreInOrder, Draws, Worked, Stopped, StoppedFull}
+use Rattle.mender.specs.Worked.{repair_of, replies_of, ask_of, asks_done, AreMended, AreInOrder, Draws, Worked, Stopped, StoppedFull}
 use Rattle.history.specs.Step.{Operation}
 use Rattle.sealed.specs.declared.fault.Fault.{Fault}
 use Rattle.sealed.specs.declared.fault.Fault.TheVariants.{JournalFull}
@@ -91,7 +91,7 @@ in_hand plan ys old new new' done n it w some_left is fresh above same lt here =
 pub stopped : (plan : List Item) (old new : DrawerState) (done items : List Done) (n : ℕ) (it : Item) → InHand plan old new done n it → items ≡ done → Stopped plan old new items
 stopped plan old new done items n it h kept = subst (Stopped plan old new) (sym kept) (n, slice_get_within plan n it h.there, h.none, h.after)
 
-asked_many : (done : List Done) → length (replies_of done) ≡ length (asks_of done)
+asked_many : (done : List Done) → length (replies_of done) ≡ length (asks_done done)
 asked_many done = length-map done (λ d. Made d.answer) ∙ sym (length-map done (λ d. ask_of d.item))
 
 -- one repair, answered
@@ -104,10 +104,10 @@ pub mended_more : (v u w : Shows) (done items items' : List Done) (d : Done) (o 
 mended_more v u w done items items' d o mended made same kept pushed =
     let list : done ++ d ∷ [] ≡ items' = sym (pushed ∙ ap (λ l. l ++ d ∷ []) kept) in
     let one : AreMended u (d ∷ []) w = mended_one u w d (subst (λ operation. Called u operation (Ok d.answer) w) same made) in
-    let both : Serves v (asks_of done ++ asks_of (d ∷ [])) (replies_of done ++ replies_of (d ∷ [])) w = serves_append v u w (asks_of done) _ (replies_of done) _ (asked_many done) mended one in
-    let asks : asks_of done ++ asks_of (d ∷ []) ≡ asks_of (done ++ d ∷ []) = sym (map-append (λ e. ask_of e.item) done (d ∷ [])) in
+    let both : Serves v (asks_done done ++ asks_done (d ∷ [])) (replies_of done ++ replies_of (d ∷ [])) w = serves_append v u w (asks_done done) _ (replies_of done) _ (asked_many done) mended one in
+    let asks : asks_done done ++ asks_done (d ∷ []) ≡ asks_done (done ++ d ∷ []) = sym (map-append (λ e. ask_of e.item) done (d ∷ [])) in
     let replies : replies_of done ++ replies_of (d ∷ []) ≡ replies_of (done ++ d ∷ []) = sym (map-append (λ e. Made e.answer) done (d ∷ [])) in
-    subst (λ l. AreMended v l w) list (subst (λ l. Serves v (asks_of (done ++ d ∷ [])) l w) replies (subst (λ l. Serves v l (replies_of done ++ replies_of (d ∷ [])) w) asks both))
+    subst (λ l. AreMended v l w) list (subst (λ l. Serves v (asks_done (done ++ d ∷ [])) l w) replies (subst (λ l. Serves v l (replies_of done ++ replies_of (d ∷ [])) w) asks both))
 
 -- the repair of the item in hand met a full journal
 pub stopped_full : (plan : List Item) (old new : DrawerState) (v u w : Shows) (done items : List Done) (n : ℕ) (it : Item) (o : Operation) (f : Fault) → AreMended v done u → Called u o (Err f) w → o ≡ repair_of it
@@ -120,14 +120,14 @@ stopped_full plan old new v u w done items n it o f mended made same h kept is_f
       item = it;
       there = h.there;
       worked = h.after;
-      serves = serves_append v u w (asks_of done) (ask_of it ∷ []) (replies_of done) (Refused JournalFull ∷ []) (asked_many done) mended one;
+      serves = serves_append v u w (asks_done done) (ask_of it ∷ []) (replies_of done) (Refused JournalFull ∷ []) (asked_many done) mended one;
     })
 
 -- a repair was refused
 pub mended_no_more : (v u w : Shows) (done items : List Done) (o : Operation) (f : Fault) → AreMended v done u → Called u o (Err f) w → items ≡ done → AreMended v items w
 mended_no_more v u w done items o f mended made kept =
-    let longer : Serves v (asks_of done ++ []) (replies_of done) w = serves_longer v u w (asks_of done) [] (replies_of done) (asked_many done) mended (serves_refused u w [] o f made) in
-    subst (λ l. AreMended v l w) (sym kept) (subst (λ l. Serves v l (replies_of done) w) (append-nil (asks_of done)) longer)
+    let longer : Serves v (asks_done done ++ []) (replies_of done) w = serves_longer v u w (asks_done done) [] (replies_of done) (asked_many done) mended (serves_refused u w [] o f made) in
+    subst (λ l. AreMended v l w) (sym kept) (subst (λ l. Serves v l (replies_of done) w) (append-nil (asks_done done)) longer)
 
 pub did_more : (plan : List Item) (old new : DrawerState) (done items items' : List Done) (n : ℕ) (d : Done) (it : Item) → InHand plan old new done n it
     → d.ticket ≡ n → d.item ≡ it → items ≡ done → items' ≡ items ++ d ∷ [] → Worked plan old new items' []

@@ -9,7 +9,7 @@ use Rattle.mender.specs.Gathered.{tickets_of, IsOfPlan}
 use Rattle.mender.specs.Worked.{Finished}
 
 -- a worker at its end: the allowance that its drawer had at first, the drawer, and the results
-pub record Left : Type 0 where
+pub record EndedWorker : Type 0 where
   pub given : ℕ
   pub drawer : DrawerState
   pub done : List Done
@@ -19,15 +19,15 @@ abbrev pub with_hand : DrawerState → DrawerState → DrawerState
 with_hand one other = record one { allowance = one.allowance + other.allowance; drawn = one.drawn ++ other.drawn }
 
 -- a drawer that took in the drawers of all workers, in order
-abbrev pub joined : DrawerState → List Left → DrawerState
-joined first crew = fold (λ hand left. with_hand hand left.drawer) first crew
+abbrev pub joined_drawer : DrawerState → List EndedWorker → DrawerState
+joined_drawer first crew = fold (λ hand left. with_hand hand left.drawer) first crew
 
 -- the results of all workers, in order
-abbrev pub results_of : List Left → List Done
+abbrev pub results_of : List EndedWorker → List Done
 results_of crew = flat_map (λ left. left.done) crew
 
 -- its drawer had drawn nothing at first, and it finished
-pub record HasFinished (plan : List Item) (left : Left) : Type 0 where
+pub record HasFinished (plan : List Item) (left : EndedWorker) : Type 0 where
   pub old : DrawerState
   pub given : old.allowance ≡ left.given
   pub none : old.drawn ≡ []

@@ -28,13 +28,13 @@ replies_of done = map (λ d. Made d.answer) done
 abbrev pub ask_of : Item → Ask
 ask_of item = Repair item.name item.stripe item.f
 
-abbrev pub asks_of : List Done → List Ask
-asks_of done = map (λ d. ask_of d.item) done
+abbrev pub asks_done : List Done → List Ask
+asks_done done = map (λ d. ask_of d.item) done
 
 -- the pass made just the repairs of the results' items, in order, with the results' answers, each
 -- as one thread does at its place
 abbrev pub AreMended : Shows → List Done → Shows → Type 0
-AreMended v done w = Serves v (asks_of done) (replies_of done) w
+AreMended v done w = Serves v (asks_done done) (replies_of done) w
 
 -- the drawer drew just these numbers, in this order
 pub record Draws (old : DrawerState) (numbers : List ℕ) (new : DrawerState) : Type 0 where
@@ -73,4 +73,4 @@ pub record StoppedFull (plan : List Item) (old new : DrawerState) (v : Shows) (d
   pub item : Item
   pub there : slice_get plan ticket ≡ Some item
   pub worked : Worked plan old new done (ticket ∷ [])
-  pub serves : Serves v (asks_of done ++ ask_of item ∷ []) (replies_of done ++ Refused JournalFull ∷ []) w
+  pub serves : Serves v (asks_done done ++ ask_of item ∷ []) (replies_of done ++ Refused JournalFull ∷ []) w

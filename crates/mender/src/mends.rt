@@ -3,7 +3,7 @@ ghost use Rattle.std.specs.Prelude.{Result, IfOk, IfErr};
 ghost use Rattle.sealed.specs.declared.fault.Fault.{Fault};
 ghost use Rattle.book.specs.declared.answer.Answer.{Answer};
 ghost use Rattle.book.specs.declared.plan.Item.{Item};
-ghost use Rattle.book.specs.Tells.{IsCallFault};
+ghost use Rattle.book.specs.Holds.{IsCallFault};
 ghost use Rattle.mender.specs.Answers.{IsOfRepair};
 ghost use Rattle.mender.specs.Made.{BelongsTo, IsRepaired};
 

@@ -109,7 +109,7 @@ impl Drawer {
     /// `AllocError` if out of memory. Then the drawer is unchanged.
     pub fn split(&mut self, tickets: &Tickets) -> Result<Drawer, AllocError>
         requires { self.old.tickets ≡ tickets.now }
-        ensures kept { OnOk result (self.new
+        ensures unchanged { OnOk result (self.new
             ≡ record self.old { allowance = self.old.allowance - self.old.allowance / 2 }) }
         ensures given { IfOk result (λ d. d ≡ record {
           tickets = self.old.tickets;

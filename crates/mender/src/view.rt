@@ -14,9 +14,9 @@ pub struct DrawerView {
 pub struct TicketRule;
 
 impl TableRule<(), DrawerView, ()> for TicketRule {
-    ghost use Rattle.mender.specs.Rule.{Kept, opening};
+    ghost use Rattle.mender.specs.Rule.{Invariant, opening};
 
-    ghost holds = { λ _. Kept };
+    ghost holds = { λ _. Invariant };
 
     ghost first = { λ _. opening };
 }

@@ -2,7 +2,7 @@
 use Rattle.std.proofs.Common.{ℕ, ◌*◌, ◌/◌, ◌<◌, ◌^◌, List, [], ◌∷◌, fold, subst, arith, lit<}
 use Rattle.std.proofs.Math.Nat.{mod-lt, div-lt_iff_lt-mul, mul-lt-mul_of_pos_right, mul_comm}
 use Rattle.std.specs.Int.{Width, w64, from_le_bytes}
-use Rattle.one_map.specs.Hash.{shard_of, hash_of, hash_step, hash_pieces, pieces_of, rest_of}
+use Rattle.one_map.specs.Hash.{shard_of, hash_of, hash_step, hash_pieces, chunks_of, bytes_behind}
 
 fold_below : {X : Type 0} (f : ℕ → X → ℕ) (m h : ℕ) → ((a : ℕ) (x : X) → f a x < m) → h < m → (xs : List X) → fold f h xs < m
 fold_below f m h each l [] = l
@@ -18,7 +18,7 @@ after_below w h (piece ∷ pieces) l = after_below w (hash_step h (from_le_bytes
 pub hash_below : (n : List ℕ) → hash_of n < 2 ^ 64
 unfolding hash_of
 hash_below n =
-    fold_below hash_step (2 ^ 64) (hash_pieces w64 0 (pieces_of 8 n)) next_below (after_below w64 0 (pieces_of 8 n) (lit< tt)) (rest_of 8 n)
+    fold_below hash_step (2 ^ 64) (hash_pieces w64 0 (chunks_of 8 n)) next_below (after_below w64 0 (chunks_of 8 n) (lit< tt)) (bytes_behind 8 n)
 
 scaled : (a count : ℕ) → 0 < count → a < 2 ^ 32 → a * count / 2 ^ 32 < count
 scaled a count some l =

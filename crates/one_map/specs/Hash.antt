@@ -12,16 +12,16 @@ abbrev pub hash_pieces : Width → ℕ → List (List ℕ) → ℕ
 hash_pieces w h pieces = fold (λ x piece. hash_step x (from_le_bytes w piece)) h pieces
 
 -- as many pieces of n bytes as there are
-abbrev pub pieces_of : ℕ → List ℕ → List (List ℕ)
-pieces_of n bytes = first_chunks n (length bytes / n) bytes
+abbrev pub chunks_of : ℕ → List ℕ → List (List ℕ)
+chunks_of n bytes = first_chunks n (length bytes / n) bytes
 
 -- the bytes behind these pieces
-abbrev pub rest_of : ℕ → List ℕ → List ℕ
-rest_of n bytes = drop (length bytes / n * n) bytes
+abbrev pub bytes_behind : ℕ → List ℕ → List ℕ
+bytes_behind n bytes = drop (length bytes / n * n) bytes
 
 -- the pieces of eight bytes, and then the bytes behind them, one by one
 unfoldable pub hash_of : List ℕ → ℕ
-hash_of bytes = fold hash_step (hash_pieces w64 0 (pieces_of 8 bytes)) (rest_of 8 bytes)
+hash_of bytes = fold hash_step (hash_pieces w64 0 (chunks_of 8 bytes)) (bytes_behind 8 bytes)
 
 -- the shard of a name among so many: the high half of the hash, scaled
 abbrev pub shard_of : ℕ → List ℕ → ℕ

@@ -8,7 +8,7 @@ use Rattle.kernels.proofs.GroupLemmas.{each_of_four}
 use Rattle.kernels.proofs.Sums.{xor_sum_same, xor_sum-xor}
 use Rattle.one_pass.specs.declared.weights.Weights.{Weights}
 use Rattle.one_pass.specs.Syndromes.{sum_by}
-use Rattle.one_pass.specs.Weights.{AreWeights, Takes, weighed, unit}
+use Rattle.one_pass.specs.Weights.{AreWeights, UsesOnly, weighed, unit}
 use Rattle.one_pass.specs.Patterns.{group, AreSums}
 use Rattle.one_pass.proofs.Taken.{combined_taken}
 
@@ -27,7 +27,7 @@ below_four false = omega arith
 below_four true = omega arith
 
 -- a syndrome that is taken
-pub plain_taken : (e : ℕ) (s t : ℕ → ℕ) (second third fourth : Bool) → e < 4 → AreLanes s t second third fourth → Takes (unit e) second third fourth → combined (unit e) s ≡ combined (unit e) t
+pub plain_taken : (e : ℕ) (s t : ℕ → ℕ) (second third fourth : Bool) → e < 4 → AreLanes s t second third fourth → UsesOnly (unit e) second third fourth → combined (unit e) s ≡ combined (unit e) t
 plain_taken e s t second third fourth l are takes = combined_taken (unit e) s t second third fourth (length-unit e l) are.first are.second_is are.third_is are.fourth_is takes.0 takes.1 takes.2
 
 -- a weighted sum of syndromes
@@ -36,15 +36,15 @@ weighed_taken w s t second fourth are no_second no_fourth =
     combined_taken (w.first.scale ∷ w.second.scale ∷ w.third.scale ∷ w.fourth.scale ∷ []) s t second true fourth refl are.first are.second_is are.third_is are.fourth_is no_second (λ off. absurd (true≢false off)) no_fourth
 
 -- the syndrome of a group is taken
-pub takes_group : (of_second third fourth : Bool) → Takes (unit (group of_second)) of_second third fourth
+pub takes_group : (of_second third fourth : Bool) → UsesOnly (unit (group of_second)) of_second third fourth
 takes_group false third fourth = ((λ off. refl), (λ off. refl), (λ off. refl))
 takes_group true third fourth = ((λ off. absurd (true≢false off)), (λ off. refl), (λ off. refl))
 
-pub takes_all : (factors : List ℕ) → Takes factors true true true
+pub takes_all : (factors : List ℕ) → UsesOnly factors true true true
 takes_all factors = ((λ off. absurd (true≢false off)), (λ off. absurd (true≢false off)), (λ off. absurd (true≢false off)))
 
 -- neither the third nor the fourth syndrome takes the second
-pub takes_globals : (e : ℕ) → get_or (unit e) 1 0 ≡ 0 → Takes (unit e) false true true
+pub takes_globals : (e : ℕ) → get_or (unit e) 1 0 ≡ 0 → UsesOnly (unit e) false true true
 takes_globals e none = ((λ off. none), (λ off. absurd (true≢false off)), (λ off. absurd (true≢false off)))
 
 -- the sum by the weights is that by the shares

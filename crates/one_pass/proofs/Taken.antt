@@ -7,15 +7,15 @@ use Rattle.kernels.specs.Lists.{combined, bytes_at}
 use Rattle.kernels.specs.Parities.{parity_coefficients}
 use Rattle.kernels.proofs.GroupLemmas.{each_of_four, nothing, source_is}
 use Rattle.kernels.proofs.Sums.{xor_sum_same}
-use Rattle.one_pass.specs.Syndromes.{syndrome, column_at}
+use Rattle.one_pass.specs.Syndromes.{wide_syndrome, column_at}
 
-pub syndrome_same : (e : ℕ) (c d : ℕ → ℕ) → e < 4 → ((i : ℕ) → i < 16 → c i ≡ d i) → syndrome e c ≡ syndrome e d
+pub syndrome_same : (e : ℕ) (c d : ℕ → ℕ) → e < 4 → ((i : ℕ) → i < 16 → c i ≡ d i) → wide_syndrome e c ≡ wide_syndrome e d
 syndrome_same e c d l same =
     ap₂ bit_xor (xor_sum_same 12 _ _ (λ i m. ap (product (get_or (get_or parity_coefficients e []) i 0)) (same i (omega arith)))) (same (12 + e) (omega arith))
 
 -- the bytes of the parts of the lists
 pub from_sources : (sources : List (Bor (List ℕ))) (lists : List (Option (Bor (List ℕ)))) (at n : ℕ) → ((i k : ℕ) → i < 16 → k < n → get_or (get_or sources i nothing).now k 0 ≡ column_at lists (at + k) i)
-    → (e k : ℕ) → e < 4 → k < n → syndrome e (bytes_at (map (λ s. s.now) sources) k) ≡ syndrome e (column_at lists (at + k))
+    → (e k : ℕ) → e < 4 → k < n → wide_syndrome e (bytes_at (map (λ s. s.now) sources) k) ≡ wide_syndrome e (column_at lists (at + k))
 from_sources sources lists at n bytes e k l h =
     syndrome_same e _ _ l (λ i m. ap (λ xs. get_or xs k 0) (sym (source_is sources i)) ∙ bytes i k m h)
 

@@ -1,7 +1,7 @@
 //! The places of a block, and the sixteen lists there.
 ghost use Rattle.std.specs.Prelude.{◌≡◌, ℕ, ◌+◌, ◌-◌, ◌<◌, ◌≤◌, All, EachIndex, length, map};
 ghost use Rattle.std.specs.Prelude.{slice_index};
-ghost use Rattle.one_pass.specs.Syndromes.{syndrome, syndromes_at, column_at, HaveBytes};
+ghost use Rattle.one_pass.specs.Syndromes.{wide_syndrome, syndromes_at, column_at, HaveBytes};
 
 use kernels::LANES;
 
@@ -48,7 +48,8 @@ pub fn sources_of<'a>(lists: &[Option<&'a [u8]>; 16], at: usize, end: usize) -> 
     requires few { end ≤ at + LONG_BLOCK }
     ensures same { All (λ s. length s.now ≡ end - at) result }
     ensures syndromes { (k e : ℕ) → k < end - at → e < 4
-        → syndromes_at (map (λ s. s.now) result) k e ≡ syndrome e (column_at lists.now (at + k)) }
+        → syndromes_at (map (λ s. s.now) result) k e
+        ≡ wide_syndrome e (column_at lists.now (at + k)) }
 {
     let mut sources: [&'a [u8]; 16] = [&[]; 16];
     for i in 0..16 {

@@ -3,7 +3,7 @@ ghost use Rattle.std.specs.Prelude.{◌≡◌, ◌<◌, ◌≤◌, ◌+◌, ℕ,
 ghost use Rattle.std.specs.Prelude.{All};
 ghost use Rattle.kernels.specs.Doublings.{third_apart, fourth_apart};
 ghost use Rattle.kernels.specs.Lists.{bytes_at, list_at};
-ghost use Rattle.one_pass.specs.Syndromes.{syndrome};
+ghost use Rattle.one_pass.specs.Syndromes.{wide_syndrome};
 
 use kernels::{Block, GroupSums, LANES, fourth_each, load_from, sum_2, sums_of, third_each};
 
@@ -77,13 +77,13 @@ pub fn columns_at(sources: &[&[u8]], second: bool, third: bool, fourth: bool, at
     requires count { length sources.now ≡ 16 }
     requires inside { All (λ s. at + LANES ≤ length s.now) sources.now }
     ensures first { (k : ℕ) → k < LANES → slice_index result.first k
-        ≡ syndrome 0 (bytes_at (map (λ s. s.now) sources.now) (at + k)) }
+        ≡ wide_syndrome 0 (bytes_at (map (λ s. s.now) sources.now) (at + k)) }
     ensures second { second ≡ true → (k : ℕ) → k < LANES → slice_index result.second k
-        ≡ syndrome 1 (bytes_at (map (λ s. s.now) sources.now) (at + k)) }
+        ≡ wide_syndrome 1 (bytes_at (map (λ s. s.now) sources.now) (at + k)) }
     ensures third { third ≡ true → (k : ℕ) → k < LANES → slice_index result.third k
-        ≡ syndrome 2 (bytes_at (map (λ s. s.now) sources.now) (at + k)) }
+        ≡ wide_syndrome 2 (bytes_at (map (λ s. s.now) sources.now) (at + k)) }
     ensures fourth { fourth ≡ true → (k : ℕ) → k < LANES → slice_index result.fourth k
-        ≡ syndrome 3 (bytes_at (map (λ s. s.now) sources.now) (at + k)) }
+        ≡ wide_syndrome 3 (bytes_at (map (λ s. s.now) sources.now) (at + k)) }
 {
     let s = sums_of(sources, 0, at);
     let t = sums_of(sources, 6, at);

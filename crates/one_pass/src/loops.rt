@@ -3,7 +3,7 @@ ghost use Rattle.std.specs.Prelude.{◌≡◌, ◌<◌, ◌≤◌, ℕ, false, [
 ghost use Rattle.std.specs.Prelude.{length, slice_index, bit_xor};
 ghost use Rattle.kernels.specs.Lists.{combined, bytes_at};
 ghost use Rattle.one_pass.specs.Syndromes.{syndromes_at, sum_by};
-ghost use Rattle.one_pass.specs.Weights.{AreWeights, Takes, weighed, unit};
+ghost use Rattle.one_pass.specs.Weights.{AreWeights, UsesOnly, weighed, unit};
 ghost use Rattle.one_pass.specs.Patterns.{group};
 
 use crate::blocks::next_block;
@@ -46,7 +46,7 @@ fn write_plain<const COPY: u8>(
     requires same { All (λ s. length s.now ≡ length x.old) sources.now }
     requires wide { LANES ≤ length x.old }
     requires inside { e < 4 }
-    requires takes { Takes (unit e) false third fourth }
+    requires takes { UsesOnly (unit e) false third fourth }
     ensures x { EachIndex x.new (λ k. slice_index x.new k
         ≡ combined (unit e) (syndromes_at (map (λ s. s.now) sources.now) k)) }
 {

@@ -12,7 +12,7 @@ use Rattle.mender.specs.declared.done.Done.{Done}
 use Rattle.mender.specs.Drawn.{DrawerState, DrewFirstNumbers, AreFirst}
 use Rattle.mender.specs.Gathered.{IsComplete}
 use Rattle.mender.specs.Worked.{Draws, Finished}
-use Rattle.mender.specs.Mended.{Left, HasFinished, joined, results_of, with_hand}
+use Rattle.mender.specs.Mended.{EndedWorker, HasFinished, joined_drawer, results_of, with_hand}
 use Rattle.mender.proofs.Counts.{once_below-out}
 use Rattle.mender.proofs.Mended.{complete_joined, joined-snoc, results_of-snoc}
 use Rattle.rounds.specs.Rounds.{AllBelongTo, DidAll, Effect}
@@ -120,7 +120,7 @@ menders-back plan tickets (w ∷ works) [] all did = absurd did
 menders-back plan tickets (w ∷ works) (r ∷ rans) all did =
     let one = part-back plan tickets w.pass w.errand r.outcome.drawer r.outcome.mended r.pass did.0 all.0 in
     let rest = menders-back plan tickets works rans all.1 did.1 in
-    let before = sum_by-cons (λ (left : Left). left.given) (left_of r.outcome) (all_left (outcomes_of rans)) in
+    let before = sum_by-cons (λ (left : EndedWorker). left.given) (left_of r.outcome) (all_left (outcomes_of rans)) in
     let own = one.shares in
     let others = rest.1 in
     let given = sum_by-cons (λ (x : Work Mending). x.errand.drawer.allowance) w works in
@@ -135,7 +135,7 @@ pool-more outcomes o = map-append left_of outcomes (o ∷ [])
 
 -- a drawer that took in the drawers of these outcomes, and knows of its draws
 pub record HasJoined (first : DrawerState) (outcomes : List Returned) (drawer : DrawerState) : Type 0 where
-  pub joins : drawer ≡ joined first (all_left outcomes)
+  pub joins : drawer ≡ joined_drawer first (all_left outcomes)
   pub whole : DrewFirstNumbers drawer
 
 pub joined-none : (first : DrawerState) → first.drawn ≡ [] → HasJoined first [] first
@@ -146,9 +146,9 @@ joined-none first none =
 pub joined-more : (first : DrawerState) (outcomes : List Returned) (old new other : DrawerState) (m : Mended) → HasJoined first outcomes old → new ≡ with_hand old other → DrewFirstNumbers new
     → HasJoined first (outcomes ++ back_with other m ∷ []) new
 joined-more first outcomes old new other m has is whole =
-    let left : Left = left_with other (results_in m) in
+    let left : EndedWorker = left_with other (results_in m) in
     record {
-      joins = is ∙ ap (λ (hand : DrawerState). with_hand hand other) has.joins ∙ sym (joined-snoc first (all_left outcomes) left) ∙ sym (ap (joined first) (pool-more outcomes (back_with other m)));
+      joins = is ∙ ap (λ (hand : DrawerState). with_hand hand other) has.joins ∙ sym (joined-snoc first (all_left outcomes) left) ∙ sym (ap (joined_drawer first) (pool-more outcomes (back_with other m)));
       whole = whole;
     }
 
@@ -164,7 +164,7 @@ all-none plan = record { finished = All-nil (HasFinished plan); results = refl }
 pub all-more : (plan : List Item) (outcomes : List Returned) (all more : List Done) (other : DrawerState) (m : Mended) → AreAll plan outcomes all
     → HasFinished plan (left_with other (results_in m)) → more ≡ all ++ results_in m → AreAll plan (outcomes ++ back_with other m ∷ []) more
 all-more plan outcomes all more other m are one is =
-    let left : Left = left_with other (results_in m) in
+    let left : EndedWorker = left_with other (results_in m) in
     let pool = pool-more outcomes (back_with other m) in
     record {
       finished = subst (All (HasFinished plan)) (sym pool) (All-append (HasFinished plan) (all_left outcomes) (left ∷ []) are.finished (All-cons (HasFinished plan) left [] one (All-nil (HasFinished plan))));
@@ -178,16 +178,16 @@ mend-complete plan first drawer outcomes all none shares room has are = subst (I
     (complete_joined plan first (all_left outcomes) none shares room are.finished (subst DrewFirstNumbers has.joins has.whole))
 
 -- ---- all draws
-joined-drawn : (first : DrawerState) (os : List Returned) → (joined first (all_left os)).drawn ≡ first.drawn ++ drawn_by os
+joined-drawn : (first : DrawerState) (os : List Returned) → (joined_drawer first (all_left os)).drawn ≡ first.drawn ++ drawn_by os
 joined-drawn first [] = sym (append-nil first.drawn)
 joined-drawn first (o ∷ os) = joined-drawn (with_hand first o.drawer) os ∙ append_assoc first.drawn o.drawer.drawn (drawn_by os)
 
-joined-shares : (first : DrawerState) (os : List Returned) → (joined first (all_left os)).allowance + length (joined first (all_left os)).drawn ≡ first.allowance + length first.drawn + given_before os
+joined-shares : (first : DrawerState) (os : List Returned) → (joined_drawer first (all_left os)).allowance + length (joined_drawer first (all_left os)).drawn ≡ first.allowance + length first.drawn + given_before os
 joined-shares first [] = omega arith
 joined-shares first (o ∷ os) =
     let rest = joined-shares (with_hand first o.drawer) os in
     let both = length-append first.drawn o.drawer.drawn in
-    let sum = sum_by-cons (λ (left : Left). left.given) (left_of o) (all_left os) in
+    let sum = sum_by-cons (λ (left : EndedWorker). left.given) (left_of o) (all_left os) in
     omega (arith, rest, both, sum)
 
 -- the tickets that were drawn are the first ones, each once

@@ -18,9 +18,9 @@ use Rattle.shared.specs.Deeds.{Takes}
 use Rattle.requests.specs.declared.jobs.Ask.{Ask}
 use Rattle.requests.specs.declared.jobs.Reply.{Reply}
 use Rattle.requests.specs.declared.jobs.Reply.TheVariants.{Made, Refused}
-use Rattle.mender.specs.Worked.{Finished, ask_of, asks_of, replies_of}
+use Rattle.mender.specs.Worked.{Finished, ask_of, asks_done, replies_of}
 use Rattle.mender.specs.Worked as worked
-use Rattle.shared.specs.Serving.{Turn, deed_told, AreServed, places_of, Serves}
+use Rattle.shared.specs.Serving.{Turn, deed_of_reply, AreServed, places_of, Serves}
 use Rattle.shared.proofs.Serving.{are_served-longer}
 use Rattle.rounds.specs.Rounds.{DidAll}
 use Rattle.rounds.specs.Errands.{DidMend, DidPart}
@@ -33,7 +33,7 @@ use Rattle.rounds.specs.declared.work.Work.{Work}
 use Rattle.script.specs.declared.rows.Row.{Row}
 use Rattle.script.specs.declared.rows.Task.TheVariants as task
 use Rattle.rounds.specs.Pools.{IsAllOwn, AreWorkers, AreNew, HaveSeen, did_by, passes_of, passes_back, outcomes_of}
-use Rattle.play.specs.Mends.{IsMendingPart, AreMenders, HasEnded, AreEnded, TellsMend, AreDrawnOnce}
+use Rattle.play.specs.Mends.{IsMendingPart, AreMenders, HasEnded, AreEnded, IsMendOutcome, AreDrawnOnce}
 use Rattle.play.specs.Runs.{IsMend, round_in}
 use Rattle.play.specs.Lists.{Each, Pairs}
 use Rattle.play.specs.Accounts.{Placed, act_at, Stands, own_places, Account, steps_in, found_of, Settles, IsMendOf, FindsAll, IsRound, IsOfWorker, IsBefore, IsInTurn, IsGood, IsLater}
@@ -63,7 +63,7 @@ module _ (store : Which) (rows : List Row) (round top base number : ℕ) (past :
     pub took : TookOne plan o (deeds_in part.steps)
 
   turned : (who : ℕ) (o : Returned) (v w : Shows) (asks : List Ask) (replies : List Reply) → v.store ≡ store → (v.who ≡ who) × (v.acts ≡ before) × (v.did ≡ []) → (serves : Serves v asks replies w) → IsPrefix w.acts acts
-      → ((deeds : List Deed) → map Some deeds ≡ map (λ (t : Turn). deed_told t.ask t.reply) serves.turns → TookOne plan o deeds) → Turned who o w
+      → ((deeds : List Deed) → map Some deeds ≡ map (λ (t : Turn). deed_of_reply t.ask t.reply) serves.turns → TookOne plan o deeds) → Turned who o w
   turned who o v w asks replies at new serves later takes =
       let each : AreServed store.width store.limit acts who (length before) serves.turns =
       subst (λ (u : Which × (ℕ × List Act)). AreServed u.0.width u.0.limit acts u.1.0 (length u.1.1) serves.turns) (λ i. (at i, (new.0 i, new.1 i)))
@@ -73,24 +73,24 @@ module _ (store : Which) (rows : List Row) (round top base number : ℕ) (past :
         turns = serves.turns;
         did = serves.did ∙ (λ i. new.2 i ++ places_of (new.0 i) serves.turns);
         part = mine;
-        took = takes (deeds_in mine.steps) mine.told;
+        took = takes (deeds_in mine.steps) mine.holds;
       }
 
   mender_did : (who : ℕ) (v w : Shows) (m : Mending) (drawer : DrawerState) (mended : Mended) → v.store ≡ store → (v.who ≡ who) × (v.acts ≡ before) × (v.did ≡ []) → IsMendingPart plan tickets m → DidPart v m drawer mended w → HasEnded mended → IsPrefix w.acts acts
       → Turned who (back_with drawer mended) w
   mender_did who v w m drawer Paused at new is did ended later = absurd ended
   mender_did who v w m drawer (Worked (Ok done)) at new is did ended later =
-      let asked = all_asked v w (asks_of done.items) (replies_of done.items) did.1 (length-map done.items (λ d. Made d.answer) ∙ sym (length-map done.items (λ d. ask_of d.item))) in
-      turned who (back_with drawer (Worked (Ok done))) v w (asks_of done.items) (replies_of done.items) at new did.1 later
+      let asked = all_asked v w (asks_done done.items) (replies_of done.items) did.1 (length-map done.items (λ d. Made d.answer) ∙ sym (length-map done.items (λ d. ask_of d.item))) in
+      turned who (back_with drawer (Worked (Ok done))) v w (asks_done done.items) (replies_of done.items) at new did.1 later
       (λ deeds told.
       took_ok plan m.drawer drawer done.items (Worked (Ok done)) deeds (subst (λ (p : List Item). Finished p m.drawer drawer done.items) is.plan_is did.0) is.none refl (append-nil done.items)
       (deeds_finished deeds did.1.turns done.items told asked did.1.replied))
   mender_did who v w m drawer (Worked (Err stop)) at new is did ended later =
       let full = did.2 ended in
       let done = stop.done.items in
-      let asks = asks_of done ++ ask_of full.item ∷ [] in
+      let asks = asks_done done ++ ask_of full.item ∷ [] in
       let replies = replies_of done ++ Refused JournalFull ∷ [] in
-      let many : length replies ≡ length asks = omega (arith, length-append (replies_of done) (Refused JournalFull ∷ []), length-append (asks_of done) (ask_of full.item ∷ []), length-map done (λ d. Made d.answer), length-map done (λ d. ask_of d.item)) in
+      let many : length replies ≡ length asks = omega (arith, length-append (replies_of done) (Refused JournalFull ∷ []), length-append (asks_done done) (ask_of full.item ∷ []), length-map done (λ d. Made d.answer), length-map done (λ d. ask_of d.item)) in
       let asked = all_asked v w asks replies full.serves many in
       turned who (back_with drawer (Worked (Err stop))) v w asks replies at new full.serves later
       (λ deeds told.
@@ -187,7 +187,7 @@ pub mend_round : (store : Which) (workers : ℕ) (rows : List Row) (round top ba
     (works : List (Work Mending)) (rans : List (Ran Returned)) (outcome : RowOutcome) (done : List NumberedOutcome)
     → AreNew old.acts 1 passes → IsPrefix old.acts hired.acts → hired.did ≡ old.did ++ did_by passes → IsAllOwn hired → IsPrefix hired.acts renewed.acts
     → AreWorkers store (passes_of works) → AreNew hired.acts 1 (passes_of works) → AreMenders plan tickets works → DidAll DidMend works rans → AreEnded (outcomes_of rans) → HaveSeen renewed.acts (passes_back rans)
-    → renewed.did ≡ hired.did ++ did_by (passes_back rans) → plan ≡ plan_of (standing_of hired.acts).state → length rans ≡ workers → TellsMend plan (outcomes_of rans) outcome → AreDrawnOnce (outcomes_of rans)
+    → renewed.did ≡ hired.did ++ did_by (passes_back rans) → plan ≡ plan_of (standing_of hired.acts).state → length rans ≡ workers → IsMendOutcome plan (outcomes_of rans) outcome → AreDrawnOnce (outcomes_of rans)
     → IsRound store.width store.limit workers rows round top base (number ∷ []) old.acts renewed.acts old.did renewed.did done (done ++ record { number = number; outcome = outcome } ∷ [])
 mend_round store workers rows round top base number is old hired renewed passes plan tickets works rans outcome done idle longer joined own later at fresh are did ended seen all_did planned many tells drawn =
     let m = menders_did store rows round top base number is.past is.few is.in_round hired.acts renewed.acts plan tickets 1 works rans at fresh are did ended seen in

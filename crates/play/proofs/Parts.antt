@@ -4,7 +4,7 @@ use Rattle.gate.specs.Events.{number_if}
 use Rattle.book.specs.Serial.{Act, act_of}
 use Rattle.requests.specs.declared.jobs.Ask.{Ask}
 use Rattle.shared.specs.Deeds.{act_if}
-use Rattle.shared.specs.Serving.{Turn, act_in, deed_told, IsServed, AreServed, places_of}
+use Rattle.shared.specs.Serving.{Turn, act_in, deed_of_reply, IsServed, AreServed, places_of}
 use Rattle.script.specs.declared.rows.Row.{Row}
 use Rattle.play.specs.Runs.{IsAsked, round_in}
 use Rattle.play.specs.Accounts.{Placed, Stands, own_places, Account, dones_in, numbers_in, steps_in, Settles, IsAccount, IsCallOf, RiseFrom, IsBefore, IsOfWorker}
@@ -44,7 +44,7 @@ module _ (w l workers : ℕ) (rows : List Row) (round top : ℕ) (acts : List Ac
       let s : IsServed w l acts who t = served.1 in
       let call : IsCallOf workers rows round top c = calls.0.0 in
       let ask : t.ask ≡ c.job.ask = cc (same) in
-      let act : act_in who t ≡ act_of who s.deed = ap (act_if who) s.told in
+      let act : act_in who t ≡ act_of who s.deed = ap (act_if who) s.holds in
       let rest = part c.job.row (t.place + length (act_in who t)) mine turns (cc (same)) served.2 calls.1 rise.1 in
       let p : Placed = record { before = s.before; step = record { row = c.job.row; who = who; deed = s.deed } } in
       let one : Account = record { done = record { number = c.job.row; outcome = Replied t.reply }; steps = p ∷ []; found = None } in
@@ -65,8 +65,8 @@ module _ (w l workers : ℕ) (rows : List Row) (round top : ℕ) (acts : List Ac
               p,
               refl,
               sym (call.worker ∙ calls.0.1),
-              subst (λ (a : Ask). IsAsked a s.deed) ask (asked_by t.ask t.reply s.deed s.told),
-              λ reply is. text_of w l who t.ask t.reply s.deed s.before reply s.told s.does s.granted is,
+              subst (λ (a : Ask). IsAsked a s.deed) ask (asked_by t.ask t.reply s.deed s.holds),
+              λ reply is. text_of w l who t.ask t.reply s.deed s.before reply s.holds s.does s.granted is,
             );
             of_row = (refl, tt);
           },
@@ -101,14 +101,14 @@ pub record MendPart (w l : ℕ) (rows : List Row) (round top : ℕ) (acts : List
   pub are_of : Each (IsOfWorker rows round top who base low) steps
   pub order : Pairs IsBefore steps
   pub of_row : Each (λ (p : Placed). p.step.row ≡ number) steps
-  pub told : map Some (map (λ (p : Placed). p.step.deed) steps) ≡ map (λ (t : Turn). deed_told t.ask t.reply) turns
+  pub holds : map Some (map (λ (p : Placed). p.step.deed) steps) ≡ map (λ (t : Turn). deed_of_reply t.ask t.reply) turns
 
 module _ (w l : ℕ) (rows : List Row) (round top : ℕ) (acts : List Act) (who base number : ℕ) (past : base < number) (few : number ≤ top) (here : round_in rows number ≡ round) where
   pub mend_part : (low : ℕ) (turns : List Turn) → AreServed w l acts who low turns → MendPart w l rows round top acts who base low number turns
-  mend_part low [] served = record { steps = []; places = refl; stand = tt; are_of = tt; order = tt; of_row = tt; told = refl }
+  mend_part low [] served = record { steps = []; places = refl; stand = tt; are_of = tt; order = tt; of_row = tt; holds = refl }
   mend_part low (t ∷ turns) served =
       let s : IsServed w l acts who t = served.1 in
-      let act : act_in who t ≡ act_of who s.deed = ap (act_if who) s.told in
+      let act : act_in who t ≡ act_of who s.deed = ap (act_if who) s.holds in
       let rest = mend_part (t.place + length (act_in who t)) turns served.2 in
       let p : Placed = record { before = s.before; step = record { row = number; who = who; deed = s.deed } } in
       let at : length s.before ≡ t.place = s.place_is in
@@ -131,5 +131,5 @@ module _ (w l : ℕ) (rows : List Row) (round top : ℕ) (acts : List Act) (who 
           rest.order,
         );
         of_row = (refl, rest.of_row);
-        told = (λ i. sym s.told i ∷ rest.told i);
+        holds = (λ i. sym s.holds i ∷ rest.holds i);
       }

@@ -20,7 +20,7 @@ use Rattle.rounds.specs.declared.pool.Pool.{Pool}
 use Rattle.play.specs.Runs.{round_in}
 use Rattle.play.specs.Lists.{Each, Pairs}
 use Rattle.play.specs.Accounts.{Placed, act_at, Stands, own_places, Account, dones_in, numbers_in, steps_in, earlier, HasDone, IsAccount, IsCallOf, IsMendOf, RiseFrom, IsGood, IsLater, IsNext, IsDone, IsRound, IsPlayed}
-use Rattle.play.specs.Progress.{AreTold, HasRun, IsReadyFor, IsRowAt, Waits, numbers_of}
+use Rattle.play.specs.Progress.{AreReported, HasRun, IsReadyFor, IsRowAt, Waits, rows_waiting}
 use Rattle.play.specs.declared.calls.WorkerJob.{WorkerJob}
 use Rattle.play.specs.declared.rows.Progress.{Progress}
 use Rattle.transcript.specs.declared.outcome.NumberedOutcome.{NumberedOutcome}
@@ -123,14 +123,14 @@ calls_longer workers rows round top later calls le are = each-weaker (IsCallOf w
 -- the property of a round of calls that were made
 abbrev pub MakesRound : ℕ → ℕ → ℕ → List WorkerJob → List Act → List Act → List ℕ → List ℕ → List NumberedOutcome → List NumberedOutcome → Type 0
 MakesRound w l workers calls before acts old_did new_did old new =
-    (rows : List Row) (round top base : ℕ) → Each (IsCallOf workers rows round top) calls → RiseFrom base calls → IsRound w l workers rows round top base (numbers_of calls) before acts old_did new_did old new
+    (rows : List Row) (round top base : ℕ) → Each (IsCallOf workers rows round top) calls → RiseFrom base calls → IsRound w l workers rows round top base (rows_waiting calls) before acts old_did new_did old new
 
 -- they are made
 pub made_all : (w l workers : ℕ) (rows : List Row) (round number : ℕ) (before acts : List Act) (old_did new_did : List ℕ) (old new : List NumberedOutcome) (calls : List WorkerJob) → Waits w l workers rows round number before old_did old calls
-    → IsPrefix before acts → MakesRound w l workers calls before acts old_did new_did old new → IsPlayed w l workers rows number acts new_did new × AreTold number (numbers_in new) []
+    → IsPrefix before acts → MakesRound w l workers calls before acts old_did new_did old new → IsPlayed w l workers rows number acts new_did new × AreReported number (numbers_in new) []
 made_all w l workers rows round number before acts old_did new_did old new calls waits more ran =
     let r = ran rows round number waits.base waits.are waits.rise in (
-      played_more w l workers rows round waits.base number (numbers_of calls) before acts old_did new_did old new waits.le more waits.played r,
+      played_more w l workers rows round waits.base number (rows_waiting calls) before acts old_did new_did old new waits.le more waits.played r,
       λ k.
           let both = ap (times k) (ap numbers_in r.dones ∙ map-append (λ (d : NumberedOutcome). d.number) old (dones_in r.accounts)) ∙ times-append k (numbers_in old) (numbers_in (dones_in r.accounts)) in
           let mine = r.once k in
@@ -141,13 +141,13 @@ made_all w l workers rows round number before acts old_did new_did old new calls
 -- the same, by a pool of this many workers
 pub made_last : (w l workers : ℕ) (rows : List Row) (round number : ℕ) (before acts : List Act) (old_did new_did : List ℕ) (old new : List NumberedOutcome) (pool : ℕ) (calls : List WorkerJob)
     → Waits w l workers rows round number before old_did old calls → IsPrefix before acts → pool ≡ workers → MakesRound w l pool calls before acts old_did new_did old new
-    → IsPlayed w l workers rows number acts new_did new × AreTold number (numbers_in new) []
+    → IsPlayed w l workers rows number acts new_did new × AreReported number (numbers_in new) []
 made_last w l workers rows round number before acts old_did new_did old new pool calls waits more same ran =
     made_all w l workers rows round number before acts old_did new_did old new calls waits more (subst (λ n. MakesRound w l n calls before acts old_did new_did old new) same ran)
 
 -- none wait
 pub waits_none : (w l workers : ℕ) (rows : List Row) (round base number : ℕ) (acts : List Act) (did : List ℕ) (done : List NumberedOutcome) → base ≤ number → IsPlayed w l workers rows base acts did done
-    → AreTold number (numbers_in done) [] → Waits w l workers rows round number acts did done []
+    → AreReported number (numbers_in done) [] → Waits w l workers rows round number acts did done []
 waits_none w l workers rows round base number acts did done le played once = record { base = base; le = le; played = played; are = tt; rise = tt; once = once }
 
 none_told : (k : ℕ) → times k [] + times k [] ≡ once_later (0 + 1) k
@@ -177,7 +177,7 @@ waits_more w l workers rows round number acts did done calls c waits is at =
       are = each-append (IsCallOf workers rows round (number + 1)) calls (c ∷ []) (calls_longer workers rows round number (number + 1) calls (omega arith) waits.are) (is, tt);
       rise = rise_more waits.base calls c waits.rise (omega arith) (each-weaker (IsCallOf workers rows round number) (λ (d : WorkerJob). d.job.row < c.job.row) (λ d d_is. let few : d.job.row ≤ number = d_is.few in omega arith) calls waits.are);
       once = λ k.
-          let one = ap (times k) (map-append (λ (d : WorkerJob). d.job.row) calls (c ∷ [])) ∙ times-append k (numbers_of calls) (c.job.row ∷ []) ∙ ap (λ n. times k (numbers_of calls) + n) (times-one k c.job.row) in
+          let one = ap (times k) (map-append (λ (d : WorkerJob). d.job.row) calls (c ∷ [])) ∙ times-append k (rows_waiting calls) (c.job.row ∷ []) ∙ ap (λ n. times k (rows_waiting calls) + n) (times-one k c.job.row) in
           let here : cond {A = ℕ} (c.job.row == k) 1 0 ≡ cond (number + 1 == k) 1 0 = ap (λ n. cond {A = ℕ} (n == k) 1 0) at in
           let more = once_later-suc (number + 1) k (omega arith) in
           let all = waits.once k in
@@ -277,11 +277,11 @@ makes_mend store workers before number rows row p q f at task ready many more ra
     record { before = length at.done; row = row; number_is = omega arith; there = row_there at.done at.rest row rows at.all; task = task; past = omega arith; few = omega arith; in_round = here } in
     let r = subst (λ n. IsRound store.width store.limit n rows row.round number w.base (number ∷ []) old.acts new.acts old.did new.did p.done.items q.done.items) f.run.many (ran rows row.round number w.base mend) in
     let played = played_more store.width store.limit workers rows row.round w.base number (number ∷ []) old.acts new.acts old.did new.did p.done.items q.done.items (omega arith) more w.played r in
-    let once : AreTold number (numbers_in q.done.items) [] = λ k.
+    let once : AreReported number (numbers_in q.done.items) [] = λ k.
     let both = ap (times k) (ap numbers_in r.dones ∙ map-append (λ (d : NumberedOutcome). d.number) p.done.items (dones_in r.accounts)) ∙ times-append k (numbers_in p.done.items) (numbers_in (dones_in r.accounts)) in
     let mine = r.once k ∙ times-one k number in
     let before_once = w.once k in
-    let no_calls : times k (numbers_of p.calls.items) ≡ 0 = ap (λ (l : List WorkerJob). times k (numbers_of l)) none in
+    let no_calls : times k (rows_waiting p.calls.items) ≡ 0 = ap (λ (l : List WorkerJob). times k (rows_waiting l)) none in
     let last = once_later-suc number k (omega arith) in
     let same_number : once_later number k ≡ once_later (before + 1) k = ap (λ n. once_later n k) number_is in
     omega (arith, both, mine, before_once, no_calls, last, same_number) in

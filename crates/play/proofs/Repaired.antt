@@ -31,9 +31,9 @@ use Rattle.transcript.specs.declared.outcome.RowOutcome.{RowOutcome}
 use Rattle.transcript.specs.declared.outcome.RowOutcome.TheVariants as row
 use Rattle.transcript.specs.Lines.{line_text}
 use Rattle.play.specs.Lists.{Each, Pairs}
-use Rattle.play.specs.Mends.{all_left, drawn_by, TellsMend, AreDrawnOnce}
-use Rattle.play.specs.Printed.{is_noted, noted, is_repaired, is_not_lost, is_gone, is_unrecoverable, mend_text}
-use Rattle.play.specs.Runs.{operation_in, operations_in, is_full, meets_full, steps_by, IsByWorker, IsMend}
+use Rattle.play.specs.Mends.{all_left, drawn_by, IsMendOutcome, AreDrawnOnce}
+use Rattle.play.specs.Printed.{is_noted, count_text, is_repaired, is_not_lost, is_gone, is_unrecoverable, mend_text}
+use Rattle.play.specs.Runs.{operation_made, operations_in, is_full, meets_full, steps_by, IsByWorker, IsMend}
 use Rattle.play.specs.Steps.{Found}
 use Rattle.play.specs.Accounts.{Placed, found_of, IsMendTextOf}
 use Rattle.play.proofs.Buckets.{by_key, by_key-all, each-both, each-filter, each-passes, each-weaker, filter-map, has_key}
@@ -130,7 +130,7 @@ deeds_in steps = map (λ (p : Placed). p.step.deed) steps
 
 operations_are : (steps : List Placed) → operations_in (map found_of steps) ≡ operations_by (deeds_in steps)
 operations_are [] = refl
-operations_are (p ∷ steps) = ap (λ l. operation_in p.step.deed ++ l) (operations_are steps)
+operations_are (p ∷ steps) = ap (λ l. operation_made p.step.deed ++ l) (operations_are steps)
 
 meets_are : (steps : List Placed) → meets_full (map found_of steps) ≡ list_any is_full (deeds_in steps)
 meets_are [] = refl
@@ -214,7 +214,7 @@ same_tests (answer.Shape v len stripes lost) = (refl, refl, refl, refl)
 
 -- the reply if no repair met a full journal
 abbrev numbers_text : List Found → List ℕ
-numbers_text steps = codes "mended " ++ (noted is_repaired steps ++ (codes " " ++ (noted is_not_lost steps ++ (codes " " ++ (noted is_gone steps ++ (codes " " ++ noted is_unrecoverable steps))))))
+numbers_text steps = codes "mended " ++ (count_text is_repaired steps ++ (codes " " ++ (count_text is_not_lost steps ++ (codes " " ++ (count_text is_gone steps ++ (codes " " ++ count_text is_unrecoverable steps))))))
 
 module _ (steps : List Placed) (results : List Done) (are : deeds_in steps ≡ map deed_in results) where
   number_is : (test : Note → Bool) (of_answer : Answer → Bool) → ((a : Answer) → test (note_of a) ≡ of_answer a) → count_by (λ (f : Found). is_noted test f.1.deed) (map found_of steps) ≡ count_by (λ (d : Done). of_answer d.answer) results
@@ -230,7 +230,7 @@ module _ (steps : List Placed) (results : List Done) (are : deeds_in steps ≡ m
       ∙ (λ i. if sym none i then codes "full" else numbers_text (map found_of steps))
 
 -- ---- the whole
-pub mends_told : (workers : ℕ) (plan : List Item) (os : List Returned) (steps : List Placed) (outcome : RowOutcome) → HaveTookInOrder plan os steps → Took plan os (deeds_in steps) → TellsMend plan os outcome → AreDrawnOnce os
+pub mends_told : (workers : ℕ) (plan : List Item) (os : List Returned) (steps : List Placed) (outcome : RowOutcome) → HaveTookInOrder plan os steps → Took plan os (deeds_in steps) → IsMendOutcome plan os outcome → AreDrawnOnce os
     → Each (λ (p : Placed). (1 ≤ p.step.who) × (p.step.who ≤ workers)) steps → IsMend workers plan (map found_of steps) × IsMendTextOf (map found_of steps) outcome
 mends_told workers plan os steps (row.Replied reply) ordered took tells drawn are_by = absurd tells
 mends_told workers plan os steps (row.Mended report) ordered took tells drawn are_by =

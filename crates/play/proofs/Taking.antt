@@ -18,17 +18,17 @@ use Rattle.sealed.specs.declared.fault.Fault.TheVariants.{JournalFull}
 use Rattle.requests.specs.declared.jobs.Ask.{Ask}
 use Rattle.requests.specs.declared.jobs.Reply.{Reply}
 use Rattle.requests.specs.declared.jobs.Reply.TheVariants.{Refused}
-use Rattle.shared.specs.Serving.{Turn, deed_told}
+use Rattle.shared.specs.Serving.{Turn, deed_of_reply}
 use Rattle.mender.specs.declared.done.Done.{Done}
 use Rattle.mender.specs.Drawn.{DrawerState}
 use Rattle.mender.specs.Gathered.{tickets_of, IsOfPlan}
-use Rattle.mender.specs.Mended.{Left, results_of}
-use Rattle.mender.specs.Worked.{repair_of, ask_of, asks_of, replies_of, Worked, Finished}
+use Rattle.mender.specs.Mended.{EndedWorker, results_of}
+use Rattle.mender.specs.Worked.{repair_of, ask_of, asks_done, replies_of, Worked, Finished}
 use Rattle.rounds.specs.declared.kinds.Mended.{Mended}
 use Rattle.rounds.specs.declared.kinds.Returned.{Returned}
 use Rattle.play.specs.Lists.{Each, Pairs}
 use Rattle.play.specs.Mends.{left_of, all_left, is_stopped, drawn_by}
-use Rattle.play.specs.Runs.{operation_in, is_full}
+use Rattle.play.specs.Runs.{operation_made, is_full}
 use Rattle.play.proofs.Buckets.{each-append, each-weaker}
 use Rattle.play.proofs.Mending.{back_with}
 
@@ -47,7 +47,7 @@ abbrev pub deed_in : Done → Deed
 deed_in d = called (repair_of d.item) (note_of d.answer)
 
 abbrev pub operations_by : List Deed → List Operation
-operations_by deeds = flat_map operation_in deeds
+operations_by deeds = flat_map operation_made deeds
 
 -- What these workers took of the plan, each with its repair. Of the plan's tickets they took just those that were drawn. If none met a full journal, the deeds are the results
 pub record Took (plan : List Item) (os : List Returned) (deeds : List Deed) : Type 0 where
@@ -71,10 +71,10 @@ took_more plan xs ys one two a b =
     let any_full = list_any-append is_full one two in
     let any_stopped = list_any-append is_stopped xs ys in
     let tickets_all = map-append (λ (t : Taken). t.0) a.taken b.taken in
-    let results_all : results_of (all_left (xs ++ ys)) ≡ results_of (all_left xs) ++ results_of (all_left ys) = ap results_of (map-append left_of xs ys) ∙ flat_map-append (λ (left : Left). left.done) (all_left xs) (all_left ys) in
+    let results_all : results_of (all_left (xs ++ ys)) ≡ results_of (all_left xs) ++ results_of (all_left ys) = ap results_of (map-append left_of xs ys) ∙ flat_map-append (λ (left : EndedWorker). left.done) (all_left xs) (all_left ys) in
     record {
       taken = a.taken ++ b.taken;
-      operations = flat_map-append operation_in one two ∙ (λ i. a.operations i ++ b.operations i)
+      operations = flat_map-append operation_made one two ∙ (λ i. a.operations i ++ b.operations i)
           ∙ sym (ap (map repair_of) (map-append (λ (t : Taken). t.1) a.taken b.taken) ∙ map-append repair_of (items_in a.taken) (items_in b.taken));
       many = omega (arith, length-append one two, length-append a.taken b.taken, a.many, b.many);
       of_plan = each-append (λ (t : Taken). slice_get plan t.0 ≡ Some t.1) a.taken b.taken a.of_plan b.of_plan;
@@ -172,13 +172,13 @@ took_one plan o deeds t rise = record {
 abbrev told_all : List Ask → List Reply → List (Option Deed)
 told_all [] replies = []
 told_all (a ∷ asks) [] = []
-told_all (a ∷ asks) (r ∷ replies) = deed_told a r ∷ told_all asks replies
+told_all (a ∷ asks) (r ∷ replies) = deed_of_reply a r ∷ told_all asks replies
 
-told_by : (turns : List Turn) → map (λ (t : Turn). deed_told t.ask t.reply) turns ≡ told_all (map (λ (t : Turn). t.ask) turns) (map (λ (t : Turn). t.reply) turns)
+told_by : (turns : List Turn) → map (λ (t : Turn). deed_of_reply t.ask t.reply) turns ≡ told_all (map (λ (t : Turn). t.ask) turns) (map (λ (t : Turn). t.reply) turns)
 told_by [] = refl
-told_by (t ∷ turns) = ap (λ l. deed_told t.ask t.reply ∷ l) (told_by turns)
+told_by (t ∷ turns) = ap (λ l. deed_of_reply t.ask t.reply ∷ l) (told_by turns)
 
-told_results : (done : List Done) (asks : List Ask) (replies : List Reply) → told_all (asks_of done ++ asks) (replies_of done ++ replies) ≡ map Some (map deed_in done) ++ told_all asks replies
+told_results : (done : List Done) (asks : List Ask) (replies : List Reply) → told_all (asks_done done ++ asks) (replies_of done ++ replies) ≡ map Some (map deed_in done) ++ told_all asks replies
 told_results [] asks replies = refl
 told_results (d ∷ done) asks replies = ap (λ l. Some (deed_in d) ∷ l) (told_results done asks replies)
 
@@ -192,13 +192,13 @@ some_same (x ∷ xs) (y ∷ ys) e =
     cc (heads, rest)
 
 -- the deeds of a worker that finished, and of one that met a full journal
-pub deeds_finished : (deeds : List Deed) (turns : List Turn) (done : List Done) → map Some deeds ≡ map (λ (t : Turn). deed_told t.ask t.reply) turns → map (λ (t : Turn). t.ask) turns ≡ asks_of done
+pub deeds_finished : (deeds : List Deed) (turns : List Turn) (done : List Done) → map Some deeds ≡ map (λ (t : Turn). deed_of_reply t.ask t.reply) turns → map (λ (t : Turn). t.ask) turns ≡ asks_done done
     → map (λ (t : Turn). t.reply) turns ≡ replies_of done → deeds ≡ map deed_in done
 deeds_finished deeds turns done told asks replies = some_same deeds (map deed_in done)
-    (told ∙ told_by turns ∙ (λ i. told_all (asks i) (replies i)) ∙ sym (λ i. told_all (append-nil (asks_of done) i) (append-nil (replies_of done) i)) ∙ told_results done [] [] ∙ append-nil (map Some (map deed_in done)))
+    (told ∙ told_by turns ∙ (λ i. told_all (asks i) (replies i)) ∙ sym (λ i. told_all (append-nil (asks_done done) i) (append-nil (replies_of done) i)) ∙ told_results done [] [] ∙ append-nil (map Some (map deed_in done)))
 
-pub deeds_full : (deeds : List Deed) (turns : List Turn) (done : List Done) (item : Item) → map Some deeds ≡ map (λ (t : Turn). deed_told t.ask t.reply) turns
-    → map (λ (t : Turn). t.ask) turns ≡ asks_of done ++ ask_of item ∷ [] → map (λ (t : Turn). t.reply) turns ≡ replies_of done ++ Refused JournalFull ∷ [] → deeds ≡ map deed_in done ++ full (repair_of item) ∷ []
+pub deeds_full : (deeds : List Deed) (turns : List Turn) (done : List Done) (item : Item) → map Some deeds ≡ map (λ (t : Turn). deed_of_reply t.ask t.reply) turns
+    → map (λ (t : Turn). t.ask) turns ≡ asks_done done ++ ask_of item ∷ [] → map (λ (t : Turn). t.reply) turns ≡ replies_of done ++ Refused JournalFull ∷ [] → deeds ≡ map deed_in done ++ full (repair_of item) ∷ []
 deeds_full deeds turns done item told asks replies = some_same deeds (map deed_in done ++ full (repair_of item) ∷ [])
     (told ∙ told_by turns ∙ (λ i. told_all (asks i) (replies i)) ∙ told_results done (ask_of item ∷ []) (Refused JournalFull ∷ []) ∙ sym (map-append Some (map deed_in done) (full (repair_of item) ∷ [])))
 
@@ -267,7 +267,7 @@ pub took_full : (plan : List Item) (old new : DrawerState) (done : List Done) (m
 took_full plan old new done m ticket item deeds w there none stopped are = subst (TookOne plan (back_with new m)) (sym are)
     (took_one plan (back_with new m) (map deed_in done ++ full (repair_of item) ∷ []) (record {
       taken = map taken_in done ++ (ticket, item) ∷ [];
-      operations = flat_map-append operation_in (map deed_in done) (full (repair_of item) ∷ []) ∙ ap (λ l. l ++ repair_of item ∷ []) (operations_done done)
+      operations = flat_map-append operation_made (map deed_in done) (full (repair_of item) ∷ []) ∙ ap (λ l. l ++ repair_of item ∷ []) (operations_done done)
           ∙ sym (ap (map repair_of) (map-append (λ (t : Taken). t.1) (map taken_in done) ((ticket, item) ∷ [])) ∙ map-append repair_of (items_in (map taken_in done)) (item ∷ []));
       many = omega (arith, length-append (map deed_in done) (full (repair_of item) ∷ []), length-append (map taken_in done) ((ticket, item) ∷ []), many_done done);
       of_plan = each-append (λ (t : Taken). slice_get plan t.0 ≡ Some t.1) (map taken_in done) ((ticket, item) ∷ []) (each_of_plan plan done w.of_plan) (there, tt);

@@ -21,7 +21,7 @@ use Rattle.script.specs.declared.rows.Task.{Task}
 use Rattle.script.specs.declared.rows.Task.TheVariants.{Make, Mend}
 use Rattle.play.specs.Lists.{Each, Pairs}
 use Rattle.play.specs.Steps.{Step, Found, found, standing_after}
-use Rattle.play.specs.Runs.{steps_of, steps_by, IsOne, IsRow, IsMend, IsByWorker, is_full, operation_in, operations_in}
+use Rattle.play.specs.Runs.{steps_of, steps_by, IsOne, IsRow, IsMend, IsByWorker, is_full, operation_made, operations_in}
 use Rattle.play.specs.Printed.{deed_text, is_noted, is_repaired, is_not_lost, is_gone, is_unrecoverable, mend_text, row_text, row_lines}
 use Rattle.transcript.specs.Lines.{AreLines, IsLineFor, line_text}
 use Rattle.play.specs.Accounts.{Placed, act_at, found_of, IsInTurn, Account, dones_in, numbers_in, steps_in, earlier, HasDone, Settles, IsAccount, IsDone}
@@ -106,19 +106,19 @@ operation_for (too_long o) = o
 operation_for (trimmed keep n) = stat []
 
 abbrev many_in : Found → ℕ
-many_in f = length (operation_in f.1.deed)
+many_in f = length (operation_made f.1.deed)
 
 many_operations : (fs : List Found) → length (operations_in fs) ≡ sum_by many_in fs
 many_operations [] = refl
-many_operations (f ∷ fs) = omega (arith, length-append (operation_in f.1.deed) (operations_in fs), sum_by-cons many_in f fs, many_operations fs)
+many_operations (f ∷ fs) = omega (arith, length-append (operation_made f.1.deed) (operations_in fs), sum_by-cons many_in f fs, many_operations fs)
 
-one_at_most : (d : Deed) → length (operation_in d) ≤ 1
+one_at_most : (d : Deed) → length (operation_made d) ≤ 1
 one_at_most (called o m) = omega arith
 one_at_most (full o) = omega arith
 one_at_most (too_long o) = omega arith
 one_at_most (trimmed keep n) = omega arith
 
-the_one : (d : Deed) → length (operation_in d) ≡ 1 → operation_in d ≡ operation_for d ∷ []
+the_one : (d : Deed) → length (operation_made d) ≡ 1 → operation_made d ≡ operation_for d ∷ []
 the_one (called o m) one = refl
 the_one (full o) one = refl
 the_one (too_long o) one = refl
@@ -126,13 +126,13 @@ the_one (trimmed keep n) one = absurd (omega (arith, one))
 
 few_operations : (fs : List Found) → length (operations_in fs) ≤ length fs
 few_operations [] = omega arith
-few_operations (f ∷ fs) = omega (arith, length-append (operation_in f.1.deed) (operations_in fs), one_at_most f.1.deed, few_operations fs)
+few_operations (f ∷ fs) = omega (arith, length-append (operation_made f.1.deed) (operations_in fs), one_at_most f.1.deed, few_operations fs)
 
 -- if each has one
 each_operation : (fs : List Found) → length (operations_in fs) ≡ length fs → operations_in fs ≡ map (λ (f : Found). operation_for f.1.deed) fs
 each_operation [] all = refl
 each_operation (f ∷ fs) all =
-    let both = length-append (operation_in f.1.deed) (operations_in fs) in
+    let both = length-append (operation_made f.1.deed) (operations_in fs) in
     let one = one_at_most f.1.deed in
     let few = few_operations fs in
     (λ i. the_one f.1.deed (omega (arith, all, both, one, few)) i ++ each_operation fs (omega (arith, all, both, one, few)) i)
@@ -227,12 +227,12 @@ module _ (w l workers : ℕ) (rows : List Row) (acts : List Act) (accounts : Lis
       (each-filter (λ (p : Placed). key p < suc (twice (length acts))) (λ (p : Placed). p.step.row == a.done.number) (steps_in accounts) (keys_below w l acts (steps_in accounts) has.stand))
 
   -- what a row does, and the text of its reply
-  abbrev IsTold : Account → Row → Task → Type 0
-  IsTold a row task =
+  abbrev LastRecords : Account → Row → Task → Type 0
+  LastRecords a row task =
       IsRow workers (run_of acts accounts) a.done.number row task
       × ((reply : Line) → IsLineFor a.done.outcome reply → line_text reply ≡ row_text w task (steps_of a.done.number (run_of acts accounts)))
 
-  is_told : (a : Account) → IsAlone (steps_in accounts) a → IsDone w l (length rows) acts (steps_in accounts) a → (row : Row) (task : Task) → Settles w workers row task a → IsTold a row task
+  is_told : (a : Account) → IsAlone (steps_in accounts) a → IsDone w l (length rows) acts (steps_in accounts) a → (row : Row) (task : Task) → Settles w workers row task a → LastRecords a row task
   is_told a alone done row (Make ask) (p, only, who, asked, text) =
       let below = subst (Each (λ (q : Placed). key q < suc (twice (length acts)))) only (keys_of a alone) in
       let one : steps_of a.done.number (run_of acts accounts) ≡ found_of p ∷ [] =

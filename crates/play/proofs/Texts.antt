@@ -24,7 +24,7 @@ use Rattle.requests.specs.declared.jobs.Reply.{Reply}
 use Rattle.requests.specs.declared.jobs.Reply.TheVariants.{Made, Refused, Trimmed}
 use Rattle.shared.specs.Calls.{GrantedIn}
 use Rattle.shared.specs.Runs.{operation_asked}
-use Rattle.shared.specs.Serving.{keep_asked, deed_told, IfGrantedTo}
+use Rattle.shared.specs.Serving.{keep_asked, deed_of_reply, IfGrantedTo}
 use Rattle.transcript.specs.Lines.{IsLineFor, IsAnswerLine, line_text}
 use Rattle.play.specs.Runs.{IsAsked}
 use Rattle.play.specs.Printed as printed
@@ -130,7 +130,7 @@ no_deed : {a : Deed} → ◌≡◌ {A = Option Deed} None (Some a) → ⊥
 no_deed e = cc (e)
 
 -- the reply is the text of the deed
-pub text_of : (w l who : ℕ) (a : Ask) (r : Reply) (deed : Deed) (before : List Act) (reply : lines.Line) → deed_told a r ≡ Some deed → Does w l (standing_of before) deed
+pub text_of : (w l who : ℕ) (a : Ask) (r : Reply) (deed : Deed) (before : List Act) (reply : lines.Line) → deed_of_reply a r ≡ Some deed → Does w l (standing_of before) deed
     → IfGrantedTo (events_in (before ++ act_of who deed)) w (operation_asked a) r → IsLineFor (Replied r) reply → line_text reply ≡ deed_text w (standing_of before) deed
 text_of w l who a r deed before reply told does there is = by r (operation_asked a) (keep_asked a) told there is
   where
@@ -174,7 +174,7 @@ trim_of (ask.Delete name) keep is = absurd (cc (is))
 trim_of (ask.Stat name) keep is = absurd (cc (is))
 
 -- and what was asked for
-pub asked_by : (a : Ask) (r : Reply) (deed : Deed) → deed_told a r ≡ Some deed → IsAsked a deed
+pub asked_by : (a : Ask) (r : Reply) (deed : Deed) → deed_of_reply a r ≡ Some deed → IsAsked a deed
 asked_by a r deed told = by r told
   where
     call : (f : Operation → Deed) → ((o : Operation) → operation_asked a ≡ Some o → IsAsked a (f o)) → (o : Option Operation) → operation_asked a ≡ o → option_map f o ≡ Some deed → IsAsked a deed
@@ -185,7 +185,7 @@ asked_by a r deed told = by r told
     keep n None e is = absurd (no_deed is)
     keep n (Some k) e is = subst (IsAsked a) (some_deed is) (trim_of a k e)
 
-    by : (r : Reply) → deed_told a r ≡ Some deed → IsAsked a deed
+    by : (r : Reply) → deed_of_reply a r ≡ Some deed → IsAsked a deed
     by (Made x) is = call (λ o. called o (note_of x)) (λ o e. e) (operation_asked a) refl is
     by (Refused JournalFull) is = call full (λ o e. e) (operation_asked a) refl is
     by (Refused TooLong) is = call too_long (λ o e. e) (operation_asked a) refl is

@@ -8,7 +8,7 @@ use Rattle.gate.proofs.Lists.{prefix_trans}
 use Rattle.history.specs.History.{History, entry_of}
 use Rattle.book.specs.Contents.{Contents}
 use Rattle.book.specs.Serial.{Act, events_in, given_in, standing_of}
-use Rattle.book.specs.Tells.{HoldsHistory}
+use Rattle.book.specs.Holds.{HoldsHistory}
 use Rattle.script.specs.declared.rows.Row.{Row}
 use Rattle.play.specs.Lists.{Each, Pairs}
 use Rattle.play.specs.Steps.{Step, standing_after, calls_in}

@@ -7,7 +7,7 @@ use Rattle.book.specs.declared.plan.Item.{Item}
 use Rattle.mender.specs.declared.done.Done.{Done}
 use Rattle.mender.specs.Drawn.{DrawerState, AreFirst}
 use Rattle.mender.specs.Gathered.{IsComplete, report_of}
-use Rattle.mender.specs.Mended.{Left, HasFinished, results_of}
+use Rattle.mender.specs.Mended.{EndedWorker, HasFinished, results_of}
 use Rattle.rounds.specs.declared.kinds.Mended.{Mended}
 use Rattle.rounds.specs.declared.kinds.Mended.TheVariants.{Worked, Paused}
 use Rattle.rounds.specs.declared.kinds.Mending.{Mending}
@@ -46,13 +46,13 @@ results_in m = []
 
 -- a worker at its end. Draws leave the sum of a drawer's allowance and its draws unchanged, so this
 -- is the allowance that it got
-abbrev pub left_with : DrawerState → List Done → Left
+abbrev pub left_with : DrawerState → List Done → EndedWorker
 left_with drawer done = record { given = drawer.allowance + length drawer.drawn; drawer = drawer; done = done }
 
-abbrev pub left_of : Returned → Left
+abbrev pub left_of : Returned → EndedWorker
 left_of o = left_with o.drawer (results_in o.mended)
 
-abbrev pub all_left : List Returned → List Left
+abbrev pub all_left : List Returned → List EndedWorker
 all_left outcomes = map left_of outcomes
 
 -- a worker that did not stop has finished its part
@@ -70,7 +70,7 @@ AreBack plan tickets (o ∷ os) = IsBack plan tickets o × AreBack plan tickets 
 
 -- the allowances that they were given
 abbrev pub given_before : List Returned → ℕ
-given_before outcomes = sum_by (λ (left : Left). left.given) (all_left outcomes)
+given_before outcomes = sum_by (λ (left : EndedWorker). left.given) (all_left outcomes)
 
 -- the worker did what it could: the pace admitted it, and it stopped only at a full journal
 abbrev pub HasEnded : Mended → Type 0
@@ -103,8 +103,8 @@ AreDrawnOnce outcomes = AreFirst (drawn_by outcomes) (length (drawn_by outcomes)
 
 -- The outcome of a mend. If no worker stopped, each item has one result, and it has the counts of
 -- all results; otherwise a worker stopped
-abbrev pub TellsMend : List Item → List Returned → RowOutcome → Type 0
-TellsMend plan outcomes (row.Replied reply) = ⊥
-TellsMend plan outcomes (row.Mended report) =
+abbrev pub IsMendOutcome : List Item → List Returned → RowOutcome → Type 0
+IsMendOutcome plan outcomes (row.Replied reply) = ⊥
+IsMendOutcome plan outcomes (row.Mended report) =
     (list_any is_stopped outcomes ≡ false) × IsComplete plan (results_of (all_left outcomes)) × (report ≡ report_of (results_of (all_left outcomes)))
-TellsMend plan outcomes row.Full = list_any is_stopped outcomes ≡ true
+IsMendOutcome plan outcomes row.Full = list_any is_stopped outcomes ≡ true

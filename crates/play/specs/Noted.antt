@@ -19,12 +19,12 @@ AreRepliesOf called rs = AreAllOf called.0 rs
 abbrev pub outcome_for : RowReply → NumberedOutcome
 outcome_for r = record { number = r.row; outcome = Replied r.reply }
 
-abbrev pub noted : List RowReply → List NumberedOutcome
-noted replies = map outcome_for replies
+abbrev pub noted_outcomes : List RowReply → List NumberedOutcome
+noted_outcomes replies = map outcome_for replies
 
 -- the replies of all workers, one worker after the other, are appended to the earlier ones
 abbrev pub AppendsReplies : List Called → List NumberedOutcome → List NumberedOutcome → Type 0
 AppendsReplies [] old new = new ≡ old
 AppendsReplies (o ∷ outcomes) old new =
     (replies : List RowReply) × AreRepliesOf o replies
-    × AppendsReplies outcomes (old ++ noted replies) new
+    × AppendsReplies outcomes (old ++ noted_outcomes replies) new

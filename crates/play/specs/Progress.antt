@@ -13,11 +13,11 @@ use Rattle.play.specs.declared.rows.Progress.{Progress}
 use Rattle.transcript.specs.declared.outcome.NumberedOutcome.{NumberedOutcome}
 
 -- each row up to this one has one outcome, or waits
-abbrev pub AreTold : ℕ → List ℕ → List ℕ → Type 0
-AreTold top told waiting = (k : ℕ) → times k told + times k waiting ≡ once_later (top + 1) k
+abbrev pub AreReported : ℕ → List ℕ → List ℕ → Type 0
+AreReported top reported waiting = (k : ℕ) → times k reported + times k waiting ≡ once_later (top + 1) k
 
-abbrev pub numbers_of : List WorkerJob → List ℕ
-numbers_of calls = map (λ (c : WorkerJob). c.job.row) calls
+abbrev pub rows_waiting : List WorkerJob → List ℕ
+rows_waiting calls = map (λ (c : WorkerJob). c.job.row) calls
 
 -- the rows up to some row have run, and the calls of the rows behind it, up to this one, wait
 pub record Waits (w l workers : ℕ) (rows : List Row) (round number : ℕ) (acts : List Act) (did : List ℕ) (done : List NumberedOutcome) (calls : List WorkerJob) : Type 0 where
@@ -26,7 +26,7 @@ pub record Waits (w l workers : ℕ) (rows : List Row) (round number : ℕ) (act
   pub played : IsPlayed w l workers rows base acts did done
   pub are : Each (IsCallOf workers rows round number) calls
   pub rise : RiseFrom base calls
-  pub once : AreTold number (numbers_in done) (numbers_of calls)
+  pub once : AreReported number (numbers_in done) (rows_waiting calls)
 
 -- the first rows have run, up to this one, except the calls of the last round, which wait. The pool
 -- has this many workers

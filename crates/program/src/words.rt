@@ -6,7 +6,7 @@ ghost use Rattle.std.specs.IoError.{error_kind};
 ghost use Rattle.std.specs.Io.KnownBytes.{Appends, Keeps};
 ghost use Rattle.command_line.specs.Line.{Says};
 ghost use Rattle.script.specs.Ranges.{InRange};
-ghost use Rattle.play.specs.Fails.{IsAccepted, NamesRefusedRow};
+ghost use Rattle.play.specs.Fails.{IsAcceptedScript, NamesRefusedRow};
 ghost use Rattle.program.specs.Endings.{IfFailure, IsEndingOf, IsQuiet, IsRunEnding, IsSuccess};
 ghost use Rattle.program.specs.Endings.{message_of};
 ghost use Rattle.program.specs.Output.{IsPrint};
@@ -109,7 +109,7 @@ pub fn run_line<Rt: Threads + Wait + Sync>(
     requires limit { InRange line.now.options.limit 1048576 }
     ensures prints { IfOk result
         (λ text. IsPrint line.now.options script.items (string_bytes text)) }
-    ensures accepted { OnOk result (IsAccepted line.now.options.workers script.items) }
+    ensures accepted { OnOk result (IsAcceptedScript line.now.options.workers script.items) }
     ensures cause { IfErr result
         (λ fail. NamesRefusedRow line.now.options.workers script.items fail) }
     ensures never_paused { IfErr result (λ fail. fail ≢ Fail.Paused) }

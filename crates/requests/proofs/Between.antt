@@ -17,9 +17,9 @@ use Rattle.history.specs.Step.{Operation, put, read, lose, repair, delete, stat,
 use Rattle.history.specs.History.{Event, History, state_of, call_of, entry_of}
 use Rattle.history.proofs.Beginnings.{after_all-append}
 use Rattle.book.specs.Contents.{Contents, sealed_at}
-use Rattle.book.specs.Tells.{HoldsHistory, Correspond}
+use Rattle.book.specs.Holds.{HoldsHistory, Correspond}
 use Rattle.book.specs.Serial.{Act, call, trim, events_in, given_in}
-use Rattle.requests.specs.Between.{bytes_found, operation_in, first_in, between, acts_for, acts_between, TellsActs, MayFollow}
+use Rattle.requests.specs.Between.{bytes_found, operation_in, first_in, between, acts_for, acts_between, RecordsActs, MayFollow}
 use Rattle.requests.proofs.Bytes.{bytes_are}
 
 kept_bytes : (w : ℕ) (found : Option Sealed) (v : ℕ) (code : Code) (b : List ℕ) → Correspond w found (Some (record { version = v; bytes = b; code = code; lost = nothing })) → bytes_found found ≡ b
@@ -68,7 +68,7 @@ pub record GoesOn (a b : Contents) (g : History) (n : ℕ) : Type 0 where
   pub width : b.width ≡ a.width
   pub limit : b.limit ≡ a.limit
   pub few : length g ≤ 1
-  pub told : (h : History) → HoldsHistory a h → HoldsHistory b (h ++ g)
+  pub holds : (h : History) → HoldsHistory a h → HoldsHistory b (h ++ g)
   pub held : (h : History) → HoldsHistory a h → b.base.trimmed ≤ length h
   pub given : b.base.trimmed ≡ a.base.trimmed + n
   pub one : 0 < length g → n ≡ 0
@@ -78,7 +78,7 @@ pub record GoesOn (a b : Contents) (g : History) (n : ℕ) : Type 0 where
 pub between_is : (a b : Contents) (g h : History) (n : ℕ) → GoesOn a b g n → HoldsHistory a h → between a b ≡ g
 between_is a b g h n on told =
     let t = b.base.trimmed in
-    let later : HoldsHistory b (h ++ g) = on.told h told in
+    let later : HoldsHistory b (h ++ g) = on.holds h told in
     let entries : b.entries ≡ map entry_of (drop t h) ++ map entry_of g =
     later.entries ∙ ap (map entry_of) (drop-append-le t h g (on.held h told)) ∙ map-append entry_of (drop t h) g in
     let whole : length (map entry_of (drop t h)) ≡ length h - t = length-map (drop t h) entry_of ∙ length-drop t h in
@@ -118,18 +118,18 @@ acts_are a b g h n on told =
     λ i. acts_for (between_is a b g h n on told i) (more i)
 
 -- after these acts the books tell one more
-pub tells_more : (a b : Contents) (g : History) (n : ℕ) → GoesOn a b g n → (acts : List Act) → TellsActs a acts → TellsActs b (acts ++ acts_for g n)
+pub tells_more : (a b : Contents) (g : History) (n : ℕ) → GoesOn a b g n → (acts : List Act) → RecordsActs a acts → RecordsActs b (acts ++ acts_for g n)
 tells_more a b g n on acts t =
     let h : History = events_in acts in
-    let later : HoldsHistory b (h ++ g) = on.told h t.tells in
-    let old : a.base.trimmed + length a.entries ≡ length h = told_length a h t.tells in
+    let later : HoldsHistory b (h ++ g) = on.holds h t.holds in
+    let old : a.base.trimmed + length a.entries ≡ length h = told_length a h t.holds in
     let new : b.base.trimmed + length b.entries ≡ length (h ++ g) = told_length b (h ++ g) later in
     let long = length-append h g in
     let fits : length a.entries ≤ a.limit = t.room in
     let given : b.base.trimmed ≡ a.base.trimmed + n = on.given in
     let same : b.limit ≡ a.limit = on.limit in
     record {
-      tells = subst (HoldsHistory b) (sym (events-append acts (acts_for g n) ∙ ap (λ l. h ++ l) (events_for g n on.few))) later;
+      holds = subst (HoldsHistory b) (sym (events-append acts (acts_for g n) ∙ ap (λ l. h ++ l) (events_for g n on.few))) later;
       given = given ∙ (λ i. t.given i + sym (given_for g n on.one) i) ∙ sym (given-append acts (acts_for g n));
       room = dite (dec_le 1 (length g))
           (λ some. let free : length a.entries < a.limit = below_unless (length a.entries) a.limit fits (on.room some) in let few = on.few in let none = on.one some in omega arith)
@@ -140,7 +140,7 @@ pub goes_follows : (a b : Contents) (g : History) (n : ℕ) → GoesOn a b g n �
 goes_follows a b g n on = record {
   width = on.width;
   limit = on.limit;
-  told = λ acts told. subst (λ (es : List Act). TellsActs b (acts ++ es)) (sym (acts_are a b g (events_in acts) n on told.tells)) (tells_more a b g n on acts told);
+  holds = λ acts told. subst (λ (es : List Act). RecordsActs b (acts ++ es)) (sym (acts_are a b g (events_in acts) n on told.holds)) (tells_more a b g n on acts told);
 }
 
 -- at most one call lies between two books

@@ -11,9 +11,9 @@ use Rattle.sealed.specs.Stripes.{fragment_at}
 use Rattle.sealed.specs.Blob.{data_at, fragment, nothing, pair_cmp}
 use Rattle.sealed.specs.Sealed.{StandsFor}
 use Rattle.sealed.proofs.Places.{stripe_inside, fragment_inside, place_inside, byte_back}
-use Rattle.requests.specs.Bytes.{bytes_left, byte_at, bytes_of}
+use Rattle.requests.specs.Bytes.{bytes_left, blob_byte, blob_bytes}
 
-byte_is : (s : Sealed) (b : List ℕ) → StandsFor s b nothing → (i : ℕ) → i < s.len → byte_at s i ≡ slice_index b i
+byte_is : (s : Sealed) (b : List ℕ) → StandsFor s b nothing → (i : ℕ) → i < s.len → blob_byte s i ≡ slice_index b i
 byte_is s b stands i below =
     let w : ℕ = s.width in
     let some : 1 ≤ w = s.shaped.wide in
@@ -30,5 +30,5 @@ byte_is s b stands i below =
     ∙ ap (slice_index b) (byte_back s.code w some i)
 
 -- they are the bytes for which it stands
-pub bytes_are : (s : Sealed) (b : List ℕ) → StandsFor s b nothing → bytes_of s ≡ b
-bytes_are s b stands = sym (fill_by_all (byte_at s) b s.len 0 (sym stands.length_is) (λ i h. sym (byte_is s b stands i h)))
+pub bytes_are : (s : Sealed) (b : List ℕ) → StandsFor s b nothing → blob_bytes s ≡ b
+bytes_are s b stands = sym (fill_by_all (blob_byte s) b s.len 0 (sym stands.length_is) (λ i h. sym (byte_is s b stands i h)))

@@ -10,17 +10,17 @@ use Rattle.history.specs.Step.{put}
 use Rattle.book.specs.declared.answer.Answer.{Answer}
 use Rattle.book.specs.Contents.{Contents}
 use Rattle.book.specs.Serial.{IsTooLong}
-use Rattle.book.specs.Tells.{CarriesOn}
+use Rattle.book.specs.Holds.{CarriesOn}
 use Rattle.requests.specs.declared.request.Request.{Request}
 use Rattle.requests.specs.declared.request.Request.TheVariants.{Put, Read, Lose, Install, Delete, Stat}
-use Rattle.requests.specs.Bytes.{bytes_of}
+use Rattle.requests.specs.Bytes.{blob_bytes}
 use Rattle.requests.specs.Requests.{operation_of, CanMake, IsFaultOf}
 use Rattle.requests.proofs.Bytes.{bytes_are}
 
 -- a put carries on the bytes that are read out of its sealed value
 pub put_carries : (r : Result Answer Fault) (old new : Contents) (who : ℕ) (n : List ℕ) (s : Sealed) → (b : List ℕ) × StandsFor s b nothing
-    → IfOk r (λ a. (b : List ℕ) → StandsFor s b nothing → CarriesOn old new who (put n s.code b) a) → IfOk r (CarriesOn old new who (put n s.code (bytes_of s)))
-put_carries (Ok a) old new who n s stands carries = carries (bytes_of s) (subst (λ b. StandsFor s b nothing) (sym (bytes_are s stands.0 stands.1)) stands.1)
+    → IfOk r (λ a. (b : List ℕ) → StandsFor s b nothing → CarriesOn old new who (put n s.code b) a) → IfOk r (CarriesOn old new who (put n s.code (blob_bytes s)))
+put_carries (Ok a) old new who n s stands carries = carries (blob_bytes s) (subst (λ b. StandsFor s b nothing) (sym (bytes_are s stands.0 stands.1)) stands.1)
 put_carries (Err e) old new who n s stands carries = tt
 
 neither : {f : Fault} → (f ≡ NoMemory) ⊎ (f ≡ JournalFull) → f ≡ TooLong → ⊥
@@ -41,8 +41,8 @@ pub request_fits : (book : Contents) (request : Request) → CanMake book reques
 request_fits book (Put alloc n s) can over =
     let few : length s.stripes ≤ 4096 = s.shaped.few in
     let count : length s.stripes ≡ stripe_count s.code s.width s.len = s.shaped.count in
-    let long : length (bytes_of s) ≡ s.len = ap length (bytes_are s can.1.0 can.1.1) ∙ sym can.1.1.length_is in
-    let same : stripe_count s.code book.width (length (bytes_of s)) ≡ stripe_count s.code s.width s.len = λ i. stripe_count s.code (sym can.0 i) (long i) in
+    let long : length (blob_bytes s) ≡ s.len = ap length (bytes_are s can.1.0 can.1.1) ∙ sym can.1.1.length_is in
+    let same : stripe_count s.code book.width (length (blob_bytes s)) ≡ stripe_count s.code s.width s.len = λ i. stripe_count s.code (sym can.0 i) (long i) in
     absurd (omega arith)
 request_fits book (Read n start len) can over = over
 request_fits book (Lose alloc n j g) can over = over

@@ -8,12 +8,12 @@ use Rattle.history.specs.Step.{Operation, put, read, lose, repair, delete, stat}
 use Rattle.history.specs.History.{History}
 use Rattle.book.specs.Contents.{Contents, sealed_at}
 use Rattle.book.specs.Serial.{Act, call, trim_acts, events_in, given_in}
-use Rattle.book.specs.Tells.{HoldsHistory}
-use Rattle.requests.specs.Bytes.{bytes_of}
+use Rattle.book.specs.Holds.{HoldsHistory}
+use Rattle.requests.specs.Bytes.{blob_bytes}
 
 abbrev pub bytes_found : Option Sealed → List ℕ
 bytes_found None = []
-bytes_found (Some s) = bytes_of s
+bytes_found (Some s) = blob_bytes s
 
 -- a call with its bytes. Those of a put are what its name has in the book after it
 abbrev pub operation_in : Contents → Call → Operation
@@ -45,8 +45,8 @@ acts_between a b = acts_for (between a b) (b.base.trimmed - a.base.trimmed)
 
 -- the book represents the calls of these acts, has discarded as many as they discard, and has no more
 -- entries than its limit
-pub record TellsActs (book : Contents) (acts : List Act) : Type 0 where
-  pub tells : HoldsHistory book (events_in acts)
+pub record RecordsActs (book : Contents) (acts : List Act) : Type 0 where
+  pub holds : HoldsHistory book (events_in acts)
   pub given : book.base.trimmed ≡ given_in acts
   pub room : length book.entries ≤ book.limit
 
@@ -54,4 +54,4 @@ pub record TellsActs (book : Contents) (acts : List Act) : Type 0 where
 pub record MayFollow (a b : Contents) : Type 0 where
   pub width : b.width ≡ a.width
   pub limit : b.limit ≡ a.limit
-  pub told : (acts : List Act) → TellsActs a acts → TellsActs b (acts ++ acts_between a b)
+  pub holds : (acts : List Act) → RecordsActs a acts → RecordsActs b (acts ++ acts_between a b)

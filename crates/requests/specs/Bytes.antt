@@ -11,8 +11,8 @@ bytes_left None = []
 bytes_left (Some x) = x
 
 -- byte i of the blob
-abbrev pub byte_at : Sealed → ℕ → ℕ
-byte_at s i = slice_index (bytes_left (fragment_at s.stripes (stripe_of s.code s.width i) (fragment_of s.code s.width i))) (place_of s.width i)
+abbrev pub blob_byte : Sealed → ℕ → ℕ
+blob_byte s i = slice_index (bytes_left (fragment_at s.stripes (stripe_of s.code s.width i) (fragment_of s.code s.width i))) (place_of s.width i)
 
-abbrev pub bytes_of : Sealed → List ℕ
-bytes_of s = map (byte_at s) (range_with_len 0 s.len)
+abbrev pub blob_bytes : Sealed → List ℕ
+blob_bytes s = map (blob_byte s) (range_with_len 0 s.len)

@@ -5,7 +5,7 @@ use Rattle.sealed.specs.declared.fault.Fault.TheVariants.{NoMemory, JournalFull}
 use Rattle.sealed.specs.Rebuilding.{IsRebuildable}
 use Rattle.history.specs.Step.{repair}
 use Rattle.book.specs.Contents.{Contents, sealed_at}
-use Rattle.book.specs.Tells.{CarriesOn}
+use Rattle.book.specs.Holds.{CarriesOn}
 use Rattle.requests.specs.declared.inspection.Inspection.{Inspection}
 use Rattle.requests.specs.declared.inspection.Inspection.TheVariants.{Done, Refused, Rebuildable}
 

@@ -10,14 +10,14 @@ use Rattle.book.specs.declared.answer.Answer.{Answer}
 use Rattle.book.specs.Asked.{IsReadAnswer, IsGrantable}
 use Rattle.book.specs.Contents.{Contents, sealed_at}
 use Rattle.book.specs.Known.{IsFragmentIn}
-use Rattle.book.specs.Tells.{IsCallFault, HoldsHistory}
+use Rattle.book.specs.Holds.{IsCallFault, HoldsHistory}
 use Rattle.requests.specs.declared.request.Request.{Request}
 use Rattle.requests.specs.declared.request.Request.TheVariants.{Put, Read, Lose, Install, Delete, Stat}
-use Rattle.requests.specs.Bytes.{bytes_of}
+use Rattle.requests.specs.Bytes.{blob_bytes}
 
 -- what is asked for
 abbrev pub operation_of : Request → Operation
-operation_of (Put alloc n s) = put n s.code (bytes_of s)
+operation_of (Put alloc n s) = put n s.code (blob_bytes s)
 operation_of (Read n start len) = read n start len
 operation_of (Lose alloc n j f) = lose n j f
 operation_of (Install alloc n version j f bytes) = repair n j f

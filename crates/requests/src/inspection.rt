@@ -1,9 +1,9 @@
 //! The inspection of a book before a repair. Fragments are rebuilt outside the critical section.
 ghost use Rattle.std.specs.Prelude.{◌≡◌};
-ghost use Rattle.book.specs.Tells.{KeepsBase};
+ghost use Rattle.book.specs.Holds.{KeepsBase};
 ghost use Rattle.requests.specs.Inspections.{FoundIn};
 
-use crate::Kept;
+use crate::BoxedBook;
 use book::{Answer, Book, Fault, Name};
 use sealed::Sealed;
 use std::alloc::Global;
@@ -26,17 +26,18 @@ pub enum Inspection {
 /// `JournalFull` if the journal holds as many entries as its limit; else `NoMemory` if out of
 /// memory.
 pub fn inspect(
-    kept: &mut Kept,
+    boxed: &mut BoxedBook,
     alloc: Global,
     who: u32,
     name: &Name,
     stripe: u64,
     fragment: u64,
 ) -> Inspection
-    ensures found { FoundIn kept.old.0.value kept.new.0.value who name.now stripe fragment result }
-    ensures kept { KeepsBase kept.old.0.value kept.new.0.value }
+    ensures found { FoundIn boxed.old.0.value boxed.new.0.value who name.now stripe fragment
+        result }
+    ensures unchanged { KeepsBase boxed.old.0.value boxed.new.0.value }
 {
-    let book: &mut Book = &mut kept.0;
+    let book: &mut Book = &mut boxed.0;
     if book.is_full() {
         return Inspection::Refused(Fault::JournalFull);
     }

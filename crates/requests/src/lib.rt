@@ -2,12 +2,12 @@
 //! the jobs of a run.
 #![tactic(auto)]
 
+mod boxed_book;
 mod inspection;
 mod jobs;
-mod kept;
 mod request;
 
+pub use boxed_book::BoxedBook;
 pub use inspection::{Inspection, inspect};
 pub use jobs::{Ask, Cause, Job, Pace, Reply, RowReply, Stopped};
-pub use kept::Kept;
 pub use request::Request;

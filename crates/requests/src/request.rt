@@ -2,10 +2,10 @@
 ghost use Rattle.std.specs.Prelude.{◌≡◌, ◌↔◌, length, IfOk, IfErr, OnErr};
 ghost use Rattle.history.specs.Parts.{name_of};
 ghost use Rattle.history.specs.History.{call_of};
-ghost use Rattle.book.specs.Tells.{CarriesOn, KeepsBase};
+ghost use Rattle.book.specs.Holds.{CarriesOn, KeepsBase};
 ghost use Rattle.requests.specs.Requests.{operation_of, CanMake, IsAnswerTo, MayWant, IsFaultOf};
 
-use crate::Kept;
+use crate::BoxedBook;
 use book::{Answer, Book, Fault, Name};
 use bytes::Bytes;
 use sealed::Sealed;
@@ -73,19 +73,19 @@ impl Request {
     /// `JournalFull` if the journal holds as many entries as its limit; else `NoMemory` if out of
     /// memory. A deletion and a question for the shape do not allocate. After either the book is
     /// unchanged.
-    pub fn make_on(self, kept: &mut Kept, who: u32) -> Result<Answer, Fault>
-        requires { CanMake kept.old.0.value self }
+    pub fn make_on(self, boxed: &mut BoxedBook, who: u32) -> Result<Answer, Fault>
+        requires { CanMake boxed.old.0.value self }
         ensures ok { IfOk result
-            (CarriesOn kept.old.0.value kept.new.0.value who (operation_of self)) }
-        ensures answer { IfOk result (IsAnswerTo kept.old.0.value self) }
-        ensures no_memory { result ≡ Err Fault.NoMemory → MayWant kept.old.0.value self }
+            (CarriesOn boxed.old.0.value boxed.new.0.value who (operation_of self)) }
+        ensures answer { IfOk result (IsAnswerTo boxed.old.0.value self) }
+        ensures no_memory { result ≡ Err Fault.NoMemory → MayWant boxed.old.0.value self }
         ensures full { (result ≡ Err Fault.JournalFull)
-            ↔ (length kept.old.0.value.entries ≡ kept.old.0.value.limit) }
-        ensures kept { KeepsBase kept.old.0.value kept.new.0.value }
+            ↔ (length boxed.old.0.value.entries ≡ boxed.old.0.value.limit) }
+        ensures unchanged { KeepsBase boxed.old.0.value boxed.new.0.value }
         ensures faults { IfErr result (IsFaultOf self) }
-        ensures err { OnErr result (kept.new.0.value ≡ kept.old.0.value) }
+        ensures err { OnErr result (boxed.new.0.value ≡ boxed.old.0.value) }
     {
-        let book: &mut Book = &mut kept.0;
+        let book: &mut Book = &mut boxed.0;
         match self {
             Request::Put {
                 alloc,

@@ -2,7 +2,7 @@
 use Rattle.std.proofs.Common.{ℕ, Bool, List, [], ◌∷◌, ◌++◌, Result, Ok, Err, IfOk, map, subst, sym}
 use Rattle.std.proofs.lemmas.List.{map-append}
 use Rattle.shared.specs.Passes.{Which}
-use Rattle.rounds.specs.Rounds.{AllBelongTo, BelongsTo, ArePaced, AreReady, IsReady, DidAll, DidAt, EachRan, Effect, work_of}
+use Rattle.rounds.specs.Rounds.{AllBelongTo, IsWorkFor, ArePaced, AreReady, IsReady, DidAll, DidAt, EachRan, Effect, work_of}
 use Rattle.rounds.specs.declared.work.Ran.{Ran}
 use Rattle.rounds.specs.declared.work.Started.{Started}
 use Rattle.rounds.specs.declared.work.Work.{Work}
@@ -32,7 +32,7 @@ if_each_did items did paced may_answer works (Ok v) all = each_did did paced may
 if_each_did items did paced may_answer works (Err e) all = (tt, tt)
 
 -- the work between others has a pass to the store too
-pub one-of : {E : Type 0} (fits : E → Type 0) (store : Which) (before after : List (Work E)) (w : Work E) → AllBelongTo fits store (before ++ w ∷ after) → BelongsTo fits store w
+pub one-of : {E : Type 0} (fits : E → Type 0) (store : Which) (before after : List (Work E)) (w : Work E) → AllBelongTo fits store (before ++ w ∷ after) → IsWorkFor fits store w
 one-of fits store [] after w all = all.0
 one-of fits store (x ∷ before) after w all = one-of fits store before after w all.1
 

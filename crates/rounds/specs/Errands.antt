@@ -4,7 +4,7 @@ use Rattle.std.specs.Global.{Global}
 use mathlib.Core.List.{IsPrefix}
 use Rattle.sealed.specs.declared.fault.Fault.{Fault}
 use Rattle.sealed.specs.declared.fault.Fault.TheVariants.{JournalFull}
-use Rattle.book.specs.Tells.{IsCallFault}
+use Rattle.book.specs.Holds.{IsCallFault}
 use Rattle.requests.specs.declared.jobs.Cause.{Cause}
 use Rattle.requests.specs.declared.jobs.Cause.TheVariants as cause
 use Rattle.requests.specs.declared.jobs.Job.{Job}

@@ -17,12 +17,12 @@ abbrev pub AtPace : Type 0 → Type 0 → Type 1
 AtPace E O = (ℕ → Bool → Type 0) → Effect E O
 
 -- the pass is one to this store
-abbrev pub BelongsTo : {E : Type 0} → (E → Type 0) → Which → Work E → Type 0
-BelongsTo fits store w = (w.pass.store ≡ store) × fits w.errand
+abbrev pub IsWorkFor : {E : Type 0} → (E → Type 0) → Which → Work E → Type 0
+IsWorkFor fits store w = (w.pass.store ≡ store) × fits w.errand
 
 abbrev pub AllBelongTo : {E : Type 0} → (E → Type 0) → Which → List (Work E) → Type 0
 AllBelongTo fits store [] = Unit {0}
-AllBelongTo fits store (w ∷ ws) = BelongsTo fits store w × AllBelongTo fits store ws
+AllBelongTo fits store (w ∷ ws) = IsWorkFor fits store w × AllBelongTo fits store ws
 
 abbrev pub Did : {E O : Type 0} → Effect E O → Work E → Ran O → Type 0
 Did did work ran = did work.pass work.errand ran.outcome ran.pass
@@ -66,7 +66,7 @@ work_of (Done promise ran) = promise.0.value
 abbrev pub IsReady : {E P O : Type 0} → (E → Type 0) → Effect E O → AtPace E O → Which → P
     → (ℕ → Bool → Type 0) → Started E P O → Type 0
 IsReady fits did paced store pace may_answer (Busy handle) = handle.promise.1.value ≡ pace
-IsReady fits did paced store pace may_answer (Idle work) = BelongsTo fits store work
+IsReady fits did paced store pace may_answer (Idle work) = IsWorkFor fits store work
 IsReady fits did paced store pace may_answer (Done promise ran) =
     DidAt did paced may_answer promise.0.value ran
 

@@ -32,7 +32,7 @@ impl Pool {
         requires few { workers ≤ 64 }
         requires own { IsAllOwn first }
         ensures fresh { IfOk result (IsFresh store.now) }
-        ensures kept { IfOk result (λ pool. (pool.first.acts ≡ first.acts)
+        ensures unchanged { IfOk result (λ pool. (pool.first.acts ≡ first.acts)
             × (pool.first.did ≡ first.did)) }
         ensures many { IfOk result (λ pool. length pool.passes.items ≡ workers) }
     {

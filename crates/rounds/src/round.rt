@@ -1,7 +1,7 @@
 //! One round: a thread for each worker that has a task, all joined at its end.
 ghost use Rattle.std.specs.Prelude.{◌≡◌, ◌≤◌, ◌++◌, [], false, IfOk, IfErr, map};
 ghost use Rattle.std.specs.Prelude.{vec_len, vec_capacity};
-ghost use Rattle.rounds.specs.Rounds.{AllBelongTo, BelongsTo, ArePaced, AreReady, IsReady, DidAll};
+ghost use Rattle.rounds.specs.Rounds.{AllBelongTo, IsWorkFor, ArePaced, AreReady, IsReady, DidAll};
 ghost use Rattle.rounds.specs.Rounds.{DidAt};
 ghost use Rattle.rounds.specs.Rounds.{EachRan, AreReturned, work_of};
 
@@ -21,7 +21,7 @@ fn work_on<R: Wait, E: Errand, P: Pace>(
     work: Work<E>,
     pace: &P,
 ) -> Ran<E::Outcome>
-    requires { BelongsTo E.fits store.now work }
+    requires { IsWorkFor E.fits store.now work }
     ensures { DidAt E.did E.paced (P.may_answer pace.now) work result }
 {
     let Work { mut pass, errand } = work;
@@ -41,7 +41,7 @@ fn start<'s, 'e, R: Threads + Wait + Sync, E: Errand + Send + 'e, P: Pace + Sync
 ) -> Started<E, P>
 where
     E::Outcome: Send,
-    requires { BelongsTo E.fits store.now work }
+    requires { IsWorkFor E.fits store.now work }
     ensures work { work_of result ≡ work }
     ensures ready { IsReady E.fits E.did E.paced store.now pace.now (P.may_answer pace.now) result }
 {
@@ -53,7 +53,7 @@ where
         DoesErrand(Snapshot::of(&work), Snapshot::of(pace)),
     );
     let run = move || -> Ran<E::Outcome>
-        requires { BelongsTo E.fits store.now work }
+        requires { IsWorkFor E.fits store.now work }
         ensures { DidAt E.did E.paced (P.may_answer pace.entry.now) work result }
     { work_on(rt, alloc, store, work, pace) };
     match scope.spawn_with(promise, run) {

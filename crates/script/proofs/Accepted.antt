@@ -12,7 +12,7 @@ use Rattle.script.specs.declared.rows.Word.{Word}
 use Rattle.script.specs.Numbers.{is_number, value}
 use Rattle.script.specs.declared.rows.Operation.{Operation}
 use Rattle.script.specs.declared.rows.Operation.TheVariants.{Put, PutSmall, Read, Lose, Repair, Delete, Stat, Trim, Mend}
-use Rattle.script.specs.Fields.{Record, a_field, b_field, is_number_in, is_worker, name_field, operation_field, operation_of, round_field, row_of, task_of, worker_field}
+use Rattle.script.specs.Fields.{Record, a_field, b_field, is_number_in, is_worker, name_field, operation_field, operation_named, round_field, row_of, task_of, worker_field}
 use Rattle.script.proofs.Rounds.{round-at}
 use Rattle.script.specs.Script.{IsTidy, IsWorkerOf, HasWorker, breaks_mend, first_word, is_in_round, is_mend, is_mend_in_round, refused_at, AcceptedBefore, last_round, last_row, refusal, tests}
 
@@ -67,7 +67,7 @@ passed-all workers earlier r h =
     let passed = all-passed (tests workers earlier r) h in
     let rounds = passed.1.1.0 in
     let up = last-both (is_number_in 1 4294967295 (round_field r)) (nat_le (last_round earlier) (value (round_field r))) rounds in
-    record { room = passed.0; rises = grind (arith, nat_tests); alone = passed.1.1.1.1.1.1.1.0; worker = worker-of workers (operation_of (operation_field r)) (worker_field r) (name_field r) (a_field r) (b_field r) passed.1.1.1.0 }
+    record { room = passed.0; rises = grind (arith, nat_tests); alone = passed.1.1.1.1.1.1.1.0; worker = worker-of workers (operation_named (operation_field r)) (worker_field r) (name_field r) (a_field r) (b_field r) passed.1.1.1.0 }
 
 last-place : {X : Type 0} (xs : List X) (x : X) → slice_get (xs ++ (x ∷ [])) (length xs) ≡ Some x
 last-place [] x = refl

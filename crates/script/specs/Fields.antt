@@ -35,8 +35,8 @@ abbrev pub b_field : Record → List ℕ
 b_field r = slice_index_or r 5 []
 
 -- the operations by their words
-unfoldable pub operation_of : List ℕ → Option Operation
-operation_of text =
+unfoldable pub operation_named : List ℕ → Option Operation
+operation_named text =
     if bytes_eq text (codes "put") then Some Put
     else if bytes_eq text (codes "put6") then Some PutSmall
     else if bytes_eq text (codes "read") then Some Read
@@ -85,8 +85,8 @@ hex_bytes (high ∷ low ∷ rest) = (hex_digit high * 16 + hex_digit low) ∷ he
 abbrev pub are_bytes : List ℕ → List ℕ → Bool
 are_bytes a b = bytes_eq a (codes "text") || (bytes_eq a (codes "hex") && are_hex_bytes b)
 
-abbrev pub bytes_of : List ℕ → List ℕ → List ℕ
-bytes_of a b = if bytes_eq a (codes "text") then b else hex_bytes b
+abbrev pub field_bytes : List ℕ → List ℕ → List ℕ
+field_bytes a b = if bytes_eq a (codes "text") then b else hex_bytes b
 
 abbrev pub are_numbers : List ℕ → List ℕ → Bool
 are_numbers a b = is_number a && is_number b
@@ -106,8 +106,8 @@ fits_arguments operation a b = are_empty a b
 
 -- the task of a record that is not refused. A record without an operation is refused
 abbrev pub task_of : Option Operation → List ℕ → List ℕ → List ℕ → Task
-task_of (Some Put) name a b = task.Make (ask.Put name Wide (bytes_of a b))
-task_of (Some PutSmall) name a b = task.Make (ask.Put name Small (bytes_of a b))
+task_of (Some Put) name a b = task.Make (ask.Put name Wide (field_bytes a b))
+task_of (Some PutSmall) name a b = task.Make (ask.Put name Small (field_bytes a b))
 task_of (Some Read) name a b = task.Make (ask.Read name (value a) (value b))
 task_of (Some Lose) name a b = task.Make (ask.Lose name (value a) (value b))
 task_of (Some Repair) name a b = task.Make (ask.Repair name (value a) (value b))
@@ -121,5 +121,5 @@ abbrev pub row_of : Record → Row
 row_of r = record {
   round = value (round_field r);
   worker = value (worker_field r);
-  task = task_of (operation_of (operation_field r)) (name_field r) (a_field r) (b_field r);
+  task = task_of (operation_named (operation_field r)) (name_field r) (a_field r) (b_field r);
 }

@@ -3,7 +3,7 @@ use Rattle.std.specs.Prelude.{ℕ, List, [], ◌∷◌, All, Bool, true, false, 
 use Rattle.std.specs.List.{list_any}
 use Rattle.csv.specs.Reading.{default_config, records, strip_bom}
 use Rattle.script.specs.Numbers.{value}
-use Rattle.script.specs.Fields.{Record, a_field, b_field, fits_arguments, fits_name, is_number_in, is_worker, name_field, operation_field, operation_of, round_field, row_of, worker_field}
+use Rattle.script.specs.Fields.{Record, a_field, b_field, fits_arguments, fits_name, is_number_in, is_worker, name_field, operation_field, operation_named, round_field, row_of, worker_field}
 use Rattle.script.specs.declared.rows.BadScript.{BadScript}
 use Rattle.script.specs.declared.rows.BadScript.TheVariants as bad
 use Rattle.script.specs.declared.rows.Head.{Head}
@@ -51,10 +51,10 @@ tests workers earlier r =
     (length earlier == 65536, word.Rows)
     ∷ (not (length r == 6), word.Fields)
     ∷ (not (is_number_in 1 4294967295 (round_field r) && nat_le (last_round earlier) (value (round_field r))), word.Round)
-    ∷ (not (is_worker workers (operation_of (operation_field r)) (worker_field r)), word.Worker)
-    ∷ (not (is_some (operation_of (operation_field r))), word.Op)
-    ∷ (not (fits_name (operation_of (operation_field r)) (name_field r)), word.Name)
-    ∷ (not (fits_arguments (operation_of (operation_field r)) (a_field r) (b_field r)), word.Argument)
+    ∷ (not (is_worker workers (operation_named (operation_field r)) (worker_field r)), word.Worker)
+    ∷ (not (is_some (operation_named (operation_field r))), word.Op)
+    ∷ (not (fits_name (operation_named (operation_field r)) (name_field r)), word.Name)
+    ∷ (not (fits_arguments (operation_named (operation_field r)) (a_field r) (b_field r)), word.Argument)
     ∷ (breaks_mend earlier (row_of r), word.Mend)
     ∷ []
 
@@ -93,8 +93,8 @@ at_row refusal_is.NoMemory row = bad.NoMemory
 abbrev pub late_word : List Row → Record → Option Word
 late_word earlier r =
     first_word (
-    (not (fits_name (operation_of (operation_field r)) (name_field r)), word.Name)
-    ∷ (not (fits_arguments (operation_of (operation_field r)) (a_field r) (b_field r)), word.Argument)
+    (not (fits_name (operation_named (operation_field r)) (name_field r)), word.Name)
+    ∷ (not (fits_arguments (operation_named (operation_field r)) (a_field r) (b_field r)), word.Argument)
     ∷ (breaks_mend earlier (row_of r), word.Mend)
     ∷ [])
 
@@ -104,7 +104,7 @@ pub record Heads (workers : ℕ) (earlier : List Row) (r : Record) (head : Head)
   pub round : head.round ≡ value (round_field r)
   pub rises : last_round earlier ≤ head.round
   pub worker : head.worker ≡ value (worker_field r)
-  pub operation : operation_of (operation_field r) ≡ Some head.operation
+  pub operation : operation_named (operation_field r) ≡ Some head.operation
 
 -- a call is by one of this many workers
 abbrev pub IsWorkerOf : ℕ → ℕ → Task → Type 0
@@ -134,6 +134,6 @@ Explains workers all bad.NoMemory = Unit {0}
 
 -- why a script was not read: the error has the first record that is refused and its first word, or
 -- memory ran out, or the reader failed
-abbrev pub TellsWhy : ℕ → List Record → NotRead → Type 0
-TellsWhy workers all (not_read.Bad error) = Explains workers all error
-TellsWhy workers all (not_read.Reader kind) = Unit {0}
+abbrev pub ExplainsFailure : ℕ → List Record → NotRead → Type 0
+ExplainsFailure workers all (not_read.Bad error) = Explains workers all error
+ExplainsFailure workers all (not_read.Reader kind) = Unit {0}

@@ -4,9 +4,10 @@ ghost use Rattle.std.specs.Prelude.{◌≡◌, ◌≢◌, ◌<◌, [], ◌∷◌
 ghost use Rattle.std.specs.Prelude.{MatchResult, IfOk};
 ghost use Rattle.script.specs.Names.{is_name};
 ghost use Rattle.script.specs.Numbers.{value};
-ghost use Rattle.script.specs.Fields.{are_bytes, are_empty, are_hex_bytes, are_numbers, bytes_of};
+ghost use Rattle.script.specs.Fields.{are_bytes, are_empty, are_hex_bytes, are_numbers};
 ghost use Rattle.script.specs.Fields.{fits_arguments, hex_bytes, hex_digit, is_hex_digit};
-ghost use Rattle.script.specs.Fields.{is_number_in, is_worker, operation_of, task_of};
+ghost use Rattle.script.specs.Fields.{field_bytes, is_number_in, is_worker, operation_named};
+ghost use Rattle.script.specs.Fields.{task_of};
 ghost use Rattle.script.specs.Script.{first_word, task_refusal, RefusesWith};
 
 use crate::numbers::number;
@@ -35,9 +36,9 @@ pub(crate) fn number_in(text: &[u8], low: u32, high: u32) -> Option<u32>
 }
 
 /// The operation with this word, or `None` if there is none.
-#[tactic(auto, unfolding(crate::specs::Fields::operation_of))]
+#[tactic(auto, unfolding(crate::specs::Fields::operation_named))]
 pub(crate) fn operation(text: &[u8]) -> Option<Operation>
-    ensures { result ≡ operation_of text.now }
+    ensures { result ≡ operation_named text.now }
 {
     match text {
         b"put" => Some(Operation::Put),
@@ -99,7 +100,7 @@ fn hex_bytes(alloc: Global, text: &[u8]) -> Result<Option<Vec<u8>>, AllocError>
 /// `AllocError` if memory runs out.
 fn put_bytes(alloc: Global, a: &[u8], b: &[u8]) -> Result<Option<Bytes>, AllocError>
     ensures { IfOk result (λ o. MatchOption o (are_bytes a.now b.now ≡ false)
-        (λ v. (are_bytes a.now b.now ≡ true) × (v ≡ bytes_of a.now b.now))) }
+        (λ v. (are_bytes a.now b.now ≡ true) × (v ≡ field_bytes a.now b.now))) }
 {
     match a {
         b"text" => Ok(Some(Bytes::copy_from_slice(alloc, b)?)),
@@ -245,7 +246,8 @@ fn ask(alloc: Global, operation: Operation, name: Name, a: &[u8], b: &[u8]) -> R
 /// A put in this code.
 fn put(alloc: Global, name: Name, code: Code, a: &[u8], b: &[u8]) -> Result<Ask, Refusal>
     ensures { MatchResult result
-        (λ ask. (are_bytes a.now b.now ≡ true) × (ask ≡ Ask.Put name code (bytes_of a.now b.now)))
+        (λ ask. (are_bytes a.now b.now ≡ true)
+        × (ask ≡ Ask.Put name code (field_bytes a.now b.now)))
         (λ e. RefusesWith e (first_word ((not (are_bytes a.now b.now), Word.Argument) ∷ []))) }
 {
     match put_bytes(alloc, a, b) {

@@ -4,7 +4,7 @@ ghost use Rattle.std.specs.Prelude.{◌≡◌, ◌<◌, ◌≤◌, All, ℕ, Lis
 ghost use Rattle.std.specs.Prelude.{IfErr, IfSome};
 ghost use Rattle.script.specs.Fields.{Record, row_of};
 ghost use Rattle.script.specs.Script.{AcceptedBefore, at_row, Explains, HasWorker, script_records};
-ghost use Rattle.script.specs.Script.{TellsWhy};
+ghost use Rattle.script.specs.Script.{ExplainsFailure};
 
 use crate::records::row;
 use crate::retried::Retried;
@@ -26,7 +26,7 @@ fn at_row(refusal: Refusal, row: u32) -> BadScript
 
 /// The error for an error of `csv`.
 fn not_read(error: csv::Error) -> NotRead
-    ensures { (workers : ℕ) (all : List Record) → TellsWhy workers all result }
+    ensures { (workers : ℕ) (all : List Record) → ExplainsFailure workers all result }
 {
     match error.into_kind() {
         ErrorKind::Io(error) => NotRead::Reader(error.kind()),
@@ -37,7 +37,7 @@ fn not_read(error: csv::Error) -> NotRead
 /// Reads the reader to its end. Returns this error, or the reader's own if the reader fails.
 fn read_out<R: Read + Drop>(mut input: R, error: BadScript) -> NotRead
     ensures { (workers : ℕ) (all : List Record) → Explains workers all error
-        → TellsWhy workers all result }
+        → ExplainsFailure workers all result }
 {
     match io::copy(&mut input, &mut io::sink()) {
         Ok(_) => NotRead::Bad(error),
@@ -63,7 +63,7 @@ pub fn read_script<R: Read + Drop>(
         AcceptedBefore workers (script_records text) (length (script_records text))
         × (rows.items ≡ map row_of (script_records text)))) }
     ensures refused { IfErr result (λ error. IfSome (R.remaining input)
-        (λ text. TellsWhy workers (script_records text) error)) }
+        (λ text. ExplainsFailure workers (script_records text) error)) }
     ensures few { IfOk result (λ rows. length rows.items ≤ 65536) }
     ensures workers { IfOk result (λ rows. All (HasWorker workers) rows.items) }
 {

@@ -13,13 +13,13 @@ use Rattle.lent.specs.declared.piece.Piece.{Piece}
 use Rattle.lent.specs.declared.piece.Piece.TheVariants.{Lent, Built}
 use Rattle.lent.specs.Ahead.{Ahead}
 use Rattle.lent.specs.Granted.{cut_of, range_of}
-use Rattle.lent.specs.Pieces.{IsPieceBy, bytes_of, joined}
+use Rattle.lent.specs.Pieces.{IsPieceBy, bytes_in_piece, joined}
 use Rattle.lent.specs.Spans.{span_of, spans_of}
 use Rattle.lent.specs.Walk.{ArePieces, Gives, Joins, bytes_ahead}
 use Rattle.lent.proofs.Collecting.{Collects, all_pieces, all_bytes}
 use Rattle.lent.proofs.Collecting as collecting
 use Rattle.session.specs.declared.lending.LentSlice.{LentSlice}
-use Rattle.session.specs.LentFrom.{chosen, pieces_of, needed, items_of, IsLentFrom, HasRebuilt}
+use Rattle.session.specs.LentFrom.{chosen, pieces_of, needed, lists_of, IsLentFrom, HasRebuilt}
 
 -- ---- lengths
 pub piece_count : (spans : List (Part × Option (List ℕ))) (rebuilt : List (List ℕ)) → length rebuilt ≡ length spans → length (pieces_of spans rebuilt) ≡ length spans
@@ -27,30 +27,30 @@ piece_count [] rebuilt e = refl
 piece_count (span ∷ spans) [] e = e
 piece_count (span ∷ spans) (bytes ∷ rebuilt) e = let tail : length rebuilt ≡ length spans = omega (arith, e) in omega (arith, piece_count spans rebuilt tail)
 
-pub counted : (s : Sealed) (parts : List Part) (vs : List (Vec ℕ Global)) → length vs ≡ length parts → length (pieces_of (spans_of s parts) (items_of vs)) ≡ length vs
+pub counted : (s : Sealed) (parts : List Part) (vs : List (Vec ℕ Global)) → length vs ≡ length parts → length (pieces_of (spans_of s parts) (lists_of vs)) ≡ length vs
 counted s parts vs e =
     let spans : length (spans_of s parts) ≡ length parts = length-map parts (span_of s) in
-    let items : length (items_of vs) ≡ length vs = length-map vs _ in
-    piece_count (spans_of s parts) (items_of vs) (items ∙ e ∙ sym spans) ∙ spans ∙ sym e
+    let items : length (lists_of vs) ≡ length vs = length-map vs _ in
+    piece_count (spans_of s parts) (lists_of vs) (items ∙ e ∙ sym spans) ∙ spans ∙ sym e
 
 -- ---- rebuilding
 needed_more : (pieces : List Piece) (piece : Piece) → map needed (pieces ++ piece ∷ []) ≡ map needed pieces ++ needed piece ∷ []
 needed_more [] piece = refl
 needed_more (one ∷ pieces) piece = ap (λ xs. needed one ∷ xs) (needed_more pieces piece)
 
-items_more : (vs : List (Vec ℕ Global)) (v : Vec ℕ Global) → items_of (vs ++ v ∷ []) ≡ items_of vs ++ v.items ∷ []
+items_more : (vs : List (Vec ℕ Global)) (v : Vec ℕ Global) → lists_of (vs ++ v ∷ []) ≡ lists_of vs ++ v.items ∷ []
 items_more [] v = refl
 items_more (one ∷ vs) v = ap (λ xs. one.items ∷ xs) (items_more vs v)
 
-joined_is : (pieces : List Piece) → concat (map bytes_of pieces) ≡ joined pieces
+joined_is : (pieces : List Piece) → concat (map bytes_in_piece pieces) ≡ joined pieces
 joined_is [] = refl
-joined_is (piece ∷ pieces) = ap (λ xs. bytes_of piece ++ xs) (joined_is pieces)
+joined_is (piece ∷ pieces) = ap (λ xs. bytes_in_piece piece ++ xs) (joined_is pieces)
 
 -- a walk from `first` to `now` has returned these pieces, with these rebuilt bytes
 pub record IsRebuilding (first now : Ahead) (vs : List (Vec ℕ Global)) : Type 0 where
   pub pieces : List Piece
   pub collects : Collects first now pieces
-  pub items_are : items_of vs ≡ map needed pieces
+  pub items_are : lists_of vs ≡ map needed pieces
 
 pub begun : (first : Ahead) → IsRebuilding first first []
 begun first = record { pieces = []; collects = collecting.begun first; items_are = refl }
@@ -64,7 +64,7 @@ one_more first old new vs piece v before gives joins is = record {
 }
 
 pub rebuilt_all : (g : Grant) (first now : Ahead) (vs : List (Vec ℕ Global)) → first.sealed ≡ g.sealed.value → first.parts ≡ cut_of g
-    → ((b : List ℕ) → length b ≡ g.sealed.value.len → bytes_ahead first b ≡ range_of g b) → IsRebuilding first now vs → now.parts ≡ [] → HasRebuilt g (items_of vs)
+    → ((b : List ℕ) → length b ≡ g.sealed.value.len → bytes_ahead first b ≡ range_of g b) → IsRebuilding first now vs → now.parts ≡ [] → HasRebuilt g (lists_of vs)
 rebuilt_all g first now vs sealed_is parts_are bytes is none = record {
   pieces = is.pieces;
   are = subst (λ (parts : List Part). ArePieces g.sealed.value parts is.pieces) parts_are (subst (λ (s : Sealed). ArePieces s first.parts is.pieces) sealed_is (all_pieces first now is.pieces is.collects none));
@@ -75,13 +75,13 @@ rebuilt_all g first now vs sealed_is parts_are bytes is none = record {
 
 -- ---- the pieces from both
 chosen_is : (s : Sealed) (part : Part) (piece : Piece) (found : Option (List ℕ)) → fragment_at s.stripes part.stripe part.fragment ≡ found → IsPieceBy s part found piece
-    → chosen (span_of s part) (needed piece) ≡ bytes_of piece
+    → chosen (span_of s part) (needed piece) ≡ bytes_in_piece piece
 chosen_is s part (Lent r) (Some x) e is = rw e (sym is)
 chosen_is s part (Built v) None e is = rw e refl
 chosen_is s part (Built v) (Some x) e is = absurd is
 chosen_is s part (Lent r) None e is = absurd is
 
-pub pieces_are : (s : Sealed) (parts : List Part) (pieces : List Piece) → ArePieces s parts pieces → pieces_of (spans_of s parts) (map needed pieces) ≡ map bytes_of pieces
+pub pieces_are : (s : Sealed) (parts : List Part) (pieces : List Piece) → ArePieces s parts pieces → pieces_of (spans_of s parts) (map needed pieces) ≡ map bytes_in_piece pieces
 pieces_are s [] [] are = refl
 pieces_are s [] (piece ∷ pieces) are = absurd are
 pieces_are s (part ∷ parts) [] are = absurd are
@@ -90,7 +90,7 @@ pieces_are s (part ∷ parts) (piece ∷ pieces) are =
 
 pub lent_from : (g : Grant) (rebuilt : List (List ℕ)) → HasRebuilt g rebuilt → IsLentFrom g (pieces_of (spans_of g.sealed.value (cut_of g)) rebuilt)
 lent_from g rebuilt has =
-    let e : pieces_of (spans_of g.sealed.value (cut_of g)) rebuilt ≡ map bytes_of has.pieces =
+    let e : pieces_of (spans_of g.sealed.value (cut_of g)) rebuilt ≡ map bytes_in_piece has.pieces =
     ap (pieces_of (spans_of g.sealed.value (cut_of g))) has.rebuilt_is ∙ pieces_are g.sealed.value (cut_of g) has.pieces has.are in
     record { pieces = has.pieces; are = has.are; lent_is = e; range_is = λ b lost stands. ap concat e ∙ has.range_is b lost stands }
 
@@ -100,7 +100,7 @@ pieces_count s [] (piece ∷ pieces) are = absurd are
 pieces_count s (part ∷ parts) [] are = absurd are
 pieces_count s (part ∷ parts) (piece ∷ pieces) are = omega (arith, pieces_count s parts pieces are.1)
 
-pub aligned : (g : Grant) (vs : List (Vec ℕ Global)) → HasRebuilt g (items_of vs) → length vs ≡ length (cut_of g)
+pub aligned : (g : Grant) (vs : List (Vec ℕ Global)) → HasRebuilt g (lists_of vs) → length vs ≡ length (cut_of g)
 aligned g vs has = sym (length-map vs _) ∙ ap length has.rebuilt_is ∙ length-map has.pieces needed ∙ pieces_count g.sealed.value (cut_of g) has.pieces has.are
 
 -- ---- lending

@@ -22,9 +22,9 @@ use Rattle.lent.specs.declared.piece.Piece.{Piece}
 use Rattle.lent.specs.declared.piece.Piece.TheVariants.{Lent, Built}
 use Rattle.lent.specs.Ahead.{Ahead}
 use Rattle.sealed.specs.Range.{cut_end}
-use Rattle.lent.specs.Cut.{part_of, numbers_of}
+use Rattle.lent.specs.Cut.{cut_part, numbers_of}
 use Rattle.lent.specs.Granted.{cut_of, range_of}
-use Rattle.lent.specs.Pieces.{IsPieceBy, IsPieceOf, bytes_of}
+use Rattle.lent.specs.Pieces.{IsPieceBy, IsPieceOf, bytes_in_piece}
 use Rattle.lent.specs.Spans.{spans_of}
 use Rattle.lent.specs.Walk.{ArePieces, Gives}
 use Rattle.lent.proofs.Joining.{fill_from, joins}
@@ -65,20 +65,20 @@ piece_at s f a (suc n) (suc k) (piece ∷ pieces) are low =
     (r.0, subst (λ m. IsPieceOf s (f m) r.0) (let e : a + 1 + k ≡ a + suc k = omega arith in e) r.1, r.2)
 
 -- the piece of a lost fragment was built
-built_by : (s : Sealed) (part : Part) (found : Option (List ℕ)) (piece : Piece) → is_none found ≡ true → IsPieceBy s part found piece → needed piece ≡ bytes_of piece
+built_by : (s : Sealed) (part : Part) (found : Option (List ℕ)) (piece : Piece) → is_none found ≡ true → IsPieceBy s part found piece → needed piece ≡ bytes_in_piece piece
 built_by s part (Some x) piece gone is = absurd (let no : false ≡ true = gone in cc)
 built_by s part None (Lent r) gone is = absurd is
 built_by s part None (Built v) gone is = refl
 
 -- a piece has the bytes that its part numbers
 piece_bytes : (s : Sealed) (part : Part) (piece : Piece) (b : List ℕ) (lost : Lost) → StandsFor s b lost → part.stripe < stripe_count s.code s.width s.len → part.fragment < data_count s.code → part.to ≤ s.width
-    → IsPieceOf s part piece → bytes_of piece ≡ map (λ i. slice_index_or b i 0) (numbers_of s.code s.width part)
+    → IsPieceOf s part piece → bytes_in_piece piece ≡ map (λ i. slice_index_or b i 0) (numbers_of s.code s.width part)
 piece_bytes s part piece b lost stands below is_data inside is =
     let g : ℕ → ℕ = λ i. slice_index_or b i 0 in
     let old : Ahead = record { sealed = s; parts = part ∷ [] } in
     let new : Ahead = record { sealed = s; parts = [] } in
     let gives : Gives old new piece = record { part = part; next = refl; is = is; same = refl } in
-    sym (append-nil (bytes_of piece)) ∙ sym (joins old new piece gives below is_data inside b lost stands) ∙ ap (map g) (append-nil (numbers_of s.code s.width part))
+    sym (append-nil (bytes_in_piece piece)) ∙ sym (joins old new piece gives below is_data inside b lost stands) ∙ ap (map g) (append-nil (numbers_of s.code s.width part))
 
 cut_end_is : (w start len : ℕ) → 0 < len → cut_end w start len ≡ (start + len - 1) / w + 1
 cut_end_is w start len some = grind arith
@@ -104,7 +104,7 @@ module _ (g : Grant) (from : ℕ) (inside : from < g.len) where
   end = min (number * s.width + s.width) (g.start + g.len)
 
   abbrev part : Part
-  part = part_of s.code s.width g.start (g.start + g.len) number
+  part = cut_part s.code s.width g.start (g.start + g.len) number
 
   first : g.start / s.width ≤ number
   first = div_mono s.width g.start at s.shaped.wide (omega arith)
@@ -123,7 +123,7 @@ module _ (g : Grant) (from : ℕ) (inside : from < g.len) where
   has_index rebuilt has =
       let c = g.start / s.width in
       let n = cut_end s.width g.start g.len - c in
-      let parts : length (cut_of g) ≡ n = length-map-range_with_len (part_of s.code s.width g.start (g.start + g.len)) c n in
+      let parts : length (cut_of g) ≡ n = length-map-range_with_len (cut_part s.code s.width g.start (g.start + g.len)) c n in
       let pieces = pieces_count s (cut_of g) has.pieces has.are in
       omega (arith, ap length has.rebuilt_is, length-map has.pieces needed, pieces, parts, index_inside)
 
@@ -156,9 +156,9 @@ module _ (g : Grant) (from : ℕ) (inside : from < g.len) where
       let wide = s.shaped.wide in
       let a = around in
       let c = g.start / s.width in
-      let found = piece_at s (part_of s.code s.width g.start (g.start + g.len)) c (cut_end s.width g.start g.len - c) index has.pieces has.are index_inside in
+      let found = piece_at s (cut_part s.code s.width g.start (g.start + g.len)) c (cut_end s.width g.start g.len - c) index has.pieces has.are index_inside in
       let piece = found.0 in
-      let is : IsPieceOf s part piece = subst (λ m. IsPieceOf s (part_of s.code s.width g.start (g.start + g.len) m) piece) (let e : c + index ≡ number = omega (arith, a.0) in e) found.1 in
+      let is : IsPieceOf s part piece = subst (λ m. IsPieceOf s (cut_part s.code s.width g.start (g.start + g.len) m) piece) (let e : c + index ≡ number = omega (arith, a.0) in e) found.1 in
       let stripe : number / data_count s.code ≡ stripe_of s.code s.width at = sym (stripe_by_count s.code s.width wide at) in
       let fragment : number % data_count s.code ≡ fragment_of s.code s.width at = sym (fragment_by_count s.code s.width wide at) in
       let absent : is_none (fragment_at s.stripes part.stripe part.fragment) ≡ true = ap₂ (absent_in s) stripe fragment ∙ gone in

@@ -2,7 +2,7 @@
 use Rattle.std.specs.Prelude.{◌≡◌, ℕ, ◌+◌, ◌<◌, [], length}
 use Rattle.gate.specs.Places.{times}
 use Rattle.book.specs.Contents.{Contents}
-use Rattle.book.specs.Tells.{HoldsHistory}
+use Rattle.book.specs.Holds.{HoldsHistory}
 use Rattle.shared.specs.Passes.{Shows, IsConsistent}
 
 -- the first session of a store with this width and limit: it has seen and made no call
@@ -34,7 +34,7 @@ pub record IsSplitOff (v : Shows) (who : ℕ) (w : Shows) : Type 0 where
 -- session's own
 pub record IsClosing (v : Shows) (book : Contents) : Type 0 where
   pub room : v.room ≡ 64
-  pub told : HoldsHistory book v.seen
+  pub holds : HoldsHistory book v.seen
   pub made : (k : ℕ) → k < length v.seen → times k v.made ≡ 1
   pub count : length v.made ≡ length v.seen
   pub trimmed : book.base.trimmed ≡ v.trimmed

@@ -4,7 +4,7 @@ use Rattle.sealed.specs.Layout.{stripe_count}
 use Rattle.sealed.specs.declared.fault.Fault.{Fault}
 use Rattle.sealed.specs.declared.fault.Fault.TheVariants.{Busy, NoMemory, JournalFull, TooLong}
 use Rattle.history.specs.Step.{Operation, put, read, lose, repair, delete, stat}
-use Rattle.book.specs.Tells.{IsCallFault}
+use Rattle.book.specs.Holds.{IsCallFault}
 use Rattle.book.specs.declared.answer.Answer.{Answer}
 use Rattle.shared.specs.Passes.{Shows}
 use Rattle.shared.specs.Calls.{CanGrant}

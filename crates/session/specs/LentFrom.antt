@@ -10,11 +10,11 @@ use Rattle.lent.specs.declared.part.Part.{Part}
 use Rattle.lent.specs.declared.piece.Piece.{Piece}
 use Rattle.lent.specs.declared.piece.Piece.TheVariants.{Lent, Built}
 use Rattle.lent.specs.Granted.{cut_of, range_of}
-use Rattle.lent.specs.Pieces.{bytes_of}
+use Rattle.lent.specs.Pieces.{bytes_in_piece}
 use Rattle.lent.specs.Walk.{ArePieces}
 
-abbrev pub items_of : List (Vec ℕ Global) → List (List ℕ)
-items_of vs = map (λ v. v.items) vs
+abbrev pub lists_of : List (Vec ℕ Global) → List (List ℕ)
+lists_of vs = map (λ v. v.items) vs
 
 -- the bytes of a part: those of its fragment, or the rebuilt ones
 abbrev pub chosen : Part × Option (List ℕ) → List ℕ → List ℕ
@@ -37,7 +37,7 @@ needed (Built v) = v.items
 pub record IsLentFrom (g : Grant) (lent : List (List ℕ)) : Type 0 where
   pub pieces : List Piece
   pub are : ArePieces g.sealed.value (cut_of g) pieces
-  pub lent_is : lent ≡ map bytes_of pieces
+  pub lent_is : lent ≡ map bytes_in_piece pieces
   pub range_is : (b : List ℕ) (lost : Lost) → StandsFor g.sealed.value b lost → concat lent ≡ range_of g b
 
 -- these are the rebuilt bytes of the grant's pieces
@@ -45,4 +45,4 @@ pub record HasRebuilt (g : Grant) (rebuilt : List (List ℕ)) : Type 0 where
   pub pieces : List Piece
   pub are : ArePieces g.sealed.value (cut_of g) pieces
   pub rebuilt_is : rebuilt ≡ map needed pieces
-  pub range_is : (b : List ℕ) (lost : Lost) → StandsFor g.sealed.value b lost → concat (map bytes_of pieces) ≡ range_of g b
+  pub range_is : (b : List ℕ) (lost : Lost) → StandsFor g.sealed.value b lost → concat (map bytes_in_piece pieces) ≡ range_of g b

@@ -11,9 +11,9 @@ use Rattle.shared.specs.Mends.{FoundBusy}
 use Rattle.session.specs.KnownFault.{IsBusyOrCallFault}
 
 -- an item with an answer is removed, and one with an error stays the next
-abbrev pub items_after : Item → List Item → Result Answer Fault → List Item
-items_after item items (Ok a) = items
-items_after item items (Err e) = item ∷ items
+abbrev pub items_left : Item → List Item → Result Answer Fault → List Item
+items_left item items (Ok a) = items
+items_left item items (Err e) = item ∷ items
 
 -- the repair of this item was called, with this reply
 pub record HasRepaired (item : Item) (v : Shows) (reply : Result Answer Fault) (w : Shows) : Type 0 where
@@ -25,5 +25,5 @@ pub record HasRepaired (item : Item) (v : Shows) (reply : Result Answer Fault) (
 -- the next item was repaired; or there is none, and nothing was done
 abbrev pub IsRepairStep : List Item → Shows → Option (Result Answer Fault) → List Item → Shows → Type 0
 IsRepairStep [] v None left w = (left ≡ []) × (w ≡ v)
-IsRepairStep (item ∷ items) v (Some reply) left w = HasRepaired item v reply w × (left ≡ items_after item items reply)
+IsRepairStep (item ∷ items) v (Some reply) left w = HasRepaired item v reply w × (left ≡ items_left item items reply)
 IsRepairStep items v reply left w = ⊥

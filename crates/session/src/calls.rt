@@ -11,7 +11,7 @@ ghost use Rattle.history.specs.Step.{repair as repair_of, delete as delete_of, s
 ghost use Rattle.history.specs.History.{state_of};
 ghost use Rattle.book.specs.Numbers.{AreNumbersOf};
 ghost use Rattle.book.specs.Plan.{plan_of, items_after};
-ghost use Rattle.book.specs.Tells.{IsCallFault};
+ghost use Rattle.book.specs.Holds.{IsCallFault};
 ghost use Rattle.book.specs.Trimming.{journaled};
 ghost use Rattle.shared.specs.Calls.{Called, CanGrant, GrantedIn, IfGranted};
 ghost use Rattle.shared.specs.Deeds.{Takes, trim_deed};
@@ -75,7 +75,7 @@ impl Session {
         code: Code,
     ) -> Result<Answer, Fault>
         ensures called { Called self.old (put_of name code refused.old) result self.new }
-        ensures kept { refused.new ≡ refused.old }
+        ensures unchanged { refused.new ≡ refused.old }
         ensures too_long { (result ≡ Err Fault.TooLong)
             ↔ (4096 < stripe_count code self.old.store.width (length refused.old)) }
         ensures faults { IfErr result

@@ -2,7 +2,7 @@
 ghost use Rattle.std.specs.Prelude.{◌≡◌, ◌++◌, ℕ, List, length, map, min, take, drop, IfOk};
 ghost use Rattle.sealed.specs.Blob.{Lost};
 ghost use Rattle.sealed.specs.Sealed.{StandsFor};
-ghost use Rattle.session.specs.LentFrom.{IsLentFrom, HasRebuilt, items_of, needed, chosen};
+ghost use Rattle.session.specs.LentFrom.{IsLentFrom, HasRebuilt, lists_of, needed, chosen};
 ghost use Rattle.lent.specs.Spans.{seen};
 
 use lent::{Grant, Piece, Span};
@@ -38,14 +38,14 @@ impl Model for Lending {
     ghost use Rattle.sealed.specs.Sealed.{StandsFor};
     ghost use Rattle.lent.specs.Granted.{cut_of};
     ghost use Rattle.lent.specs.Spans.{spans_of};
-    ghost use Rattle.session.specs.LentFrom.{HasRebuilt, items_of, pieces_of};
+    ghost use Rattle.session.specs.LentFrom.{HasRebuilt, lists_of, pieces_of};
 
     ghost Value = { List (List ℕ) };
 
     ghost view = { λ l. pieces_of (spans_of l.grant.sealed.value (cut_of l.grant))
-        (items_of l.rebuilt.items) };
+        (lists_of l.rebuilt.items) };
 
-    ghost invariant = { λ l. HasRebuilt l.grant (items_of l.rebuilt.items)
+    ghost invariant = { λ l. HasRebuilt l.grant (lists_of l.rebuilt.items)
         × ((b : List ℕ) × (lost : Lost) × StandsFor l.grant.sealed.value b lost) };
 }
 
@@ -72,7 +72,7 @@ impl Lending {
     pub fn lend<'a>(&'a self, target: &mut [LentSlice<'a>]) -> usize
         ensures count { result ≡ min (length target.old) (length self.now) }
         ensures bytes { map (λ s. s.bytes.now) (take result target.new) ≡ take result self.now }
-        ensures kept { drop result target.new ≡ drop result target.old }
+        ensures unchanged { drop result target.new ≡ drop result target.old }
     {
         let mut spans = self.grant.spans();
         let mut at = 0;
@@ -91,7 +91,7 @@ impl Lending {
 
 /// The rebuilt bytes of each piece of a granted range.
 fn rebuilt_of(alloc: Global, grant: &Grant) -> Result<Vec<Vec<u8>>, NoMemory>
-    ensures { IfOk result (λ rebuilt. HasRebuilt grant.now (items_of rebuilt.items)) }
+    ensures { IfOk result (λ rebuilt. HasRebuilt grant.now (lists_of rebuilt.items)) }
 {
     let mut rebuilt = Vec::new(alloc);
     let mut walk = grant.walk();

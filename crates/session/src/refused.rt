@@ -57,7 +57,7 @@ impl Refused {
         store: &Store,
         code: Code,
     ) -> Result<Sealed, Fault>
-        ensures kept { self.new ≡ self.old }
+        ensures unchanged { self.new ≡ self.old }
         ensures sealing { IsSealing store.now.width code self.old result }
         ensures too_long { (result ≡ Err Fault.TooLong)
             ↔ (4096 < stripe_count code store.now.width (length self.old)) }

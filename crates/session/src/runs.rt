@@ -3,7 +3,7 @@ ghost use Rattle.std.specs.Prelude.{◌≡◌, ◌+◌, ◌<◌, ◌≤◌, ℕ,
 ghost use Rattle.sealed.specs.Blob.{Lost};
 ghost use Rattle.sealed.specs.Sealed.{StandsFor};
 ghost use Rattle.sealed.specs.Runs.{is_absent_at};
-ghost use Rattle.session.specs.LentFrom.{HasRebuilt, items_of};
+ghost use Rattle.session.specs.LentFrom.{HasRebuilt, lists_of};
 ghost use Rattle.session.specs.Runs.{AreRunsFrom, IsRunFrom};
 
 use crate::{Lending, LentSlice};
@@ -20,7 +20,7 @@ impl Lending {
     pub fn lend_runs<'a>(&'a self, from: u64, target: &mut [LentSlice<'a>]) -> usize
         ensures count { result ≤ length target.old }
         ensures runs { AreRunsFrom self.now from (length target.old) (take result target.new) }
-        ensures kept { drop result target.new ≡ drop result target.old }
+        ensures unchanged { drop result target.new ≡ drop result target.old }
     {
         let mut from = from;
         let mut count = 0;
@@ -37,7 +37,7 @@ impl Lending {
 /// The run of the range that begins at its byte `from`.
 fn run_at<'a>(grant: &'a Grant, rebuilt: &'a [Vec<u8>], from: u64) -> &'a [u8]
     requires inside { from < grant.now.len }
-    requires rebuilt { HasRebuilt grant.now (items_of rebuilt.now) }
+    requires rebuilt { HasRebuilt grant.now (lists_of rebuilt.now) }
     requires stands { (b : List ℕ) × (lost : Lost) × StandsFor grant.now.sealed.value b lost }
     ensures run { IsRunFrom grant.now from result.now }
 {
@@ -53,7 +53,7 @@ fn run_at<'a>(grant: &'a Grant, rebuilt: &'a [Vec<u8>], from: u64) -> &'a [u8]
 /// The rebuilt bytes of the range from its byte `from` on, up to the end of its piece.
 fn rebuilt_at<'a>(grant: &Grant, rebuilt: &'a [Vec<u8>], from: u64) -> &'a [u8]
     requires inside { from < grant.now.len }
-    requires rebuilt { HasRebuilt grant.now (items_of rebuilt.now) }
+    requires rebuilt { HasRebuilt grant.now (lists_of rebuilt.now) }
     requires stands { (b : List ℕ) × (lost : Lost) × StandsFor grant.now.sealed.value b lost }
     requires absent { is_absent_at grant.now.sealed.value (grant.now.start + from) ≡ true }
     ensures run { IsRunFrom grant.now from result.now }

@@ -4,7 +4,7 @@ ghost use Rattle.std.specs.Prelude.{IfErr, OnOk, OnErr};
 ghost use mathlib.Core.List.{IsPrefix};
 ghost use Rattle.gate.specs.Places.{AreApart, times};
 ghost use Rattle.history.specs.Log.{call_limit};
-ghost use Rattle.book.specs.Tells.{HoldsHistory};
+ghost use Rattle.book.specs.Holds.{HoldsHistory};
 ghost use Rattle.shared.specs.Passes.{IsConsistent, IsWhole};
 ghost use Rattle.session.specs.FreshSession.{IsFirstSession, IsSplitOff, IsClosing};
 
@@ -51,7 +51,7 @@ impl Session {
     /// Splits off a session of the same store, with this label and a room of 1. `NoPass` if the
     /// session's own room is 1. `NoMemory` if memory runs out; the session is then unchanged.
     pub fn split(&mut self, who: u32) -> Result<Session, Fault>
-        ensures kept { OnOk result (self.new ≡ record self.old { room = self.old.room - 1 }) }
+        ensures unchanged { OnOk result (self.new ≡ record self.old { room = self.old.room - 1 }) }
         ensures given { IfOk result (IsSplitOff self.old who) }
         ensures no_pass { (result ≡ Err Fault.NoPass) ↔ (self.old.room ≡ 1) }
         ensures faults { IfErr result (λ e. (e ≡ Fault.NoMemory) ⊎ (e ≡ Fault.NoPass)) }
@@ -73,7 +73,7 @@ impl Session {
     /// its calls.
     pub fn join(&mut self, other: Session)
         requires { other.store ≡ self.old.store }
-        ensures kept { (self.new.store ≡ self.old.store) × (self.new.who ≡ self.old.who)
+        ensures unchanged { (self.new.store ≡ self.old.store) × (self.new.who ≡ self.old.who)
             × (self.new.room ≡ self.old.room + other.room) }
         ensures one { ((self.new.seen ≡ self.old.seen) × (self.new.trimmed ≡ self.old.trimmed))
             ⊎ ((self.new.seen ≡ other.seen) × (self.new.trimmed ≡ other.trimmed)) }

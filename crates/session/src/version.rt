@@ -79,7 +79,7 @@ impl Session {
         requires known { IsFragmentIn version.old.known.seen self.old.store.width version.old.name
             version.old.sealed.version stripe fragment bytes }
         ensures installed { HasInstalled self.old version.old stripe fragment result self.new }
-        ensures kept { version.new ≡ version.old }
+        ensures unchanged { version.new ≡ version.old }
     {
         let receipt = version.receipt.duplicate(&self.store);
         self.pass.accept(&self.store, receipt);

@@ -3,7 +3,7 @@ use Rattle.std.proofs.Common.{◌≡◌, ◌⊎◌, inl, inr, ℕ, false, [], �
 use mathlib.Core.List.{IsPrefix}
 use Rattle.gate.specs.Places.{TableId, SeatState, ReceiptState, last_of, IsChain}
 use Rattle.book.specs.Serial.{Act}
-use Rattle.book.specs.Tells.{HoldsHistory}
+use Rattle.book.specs.Holds.{HoldsHistory}
 use Rattle.shared.specs.Passes.{acts_of}
 use Rattle.shared.proofs.Passes.{joined, accepted, opened}
 use Rattle.ledger.specs.declared.held.Held.{Held}
@@ -44,7 +44,7 @@ one_received a r q mine told one = ⊎_elim (λ (e : q.list ≡ a.list). subst I
 
 pub accepted_seat : (a q : SeatState (Held ShardBook Act)) (r : ReceiptState (Held ShardBook Act)) → IsSeat a → IsSeatReceipt r → q ≡ record a { list = q.list } → IsPrefix a.list q.list → (q.list ≡ a.list) ⊎ (q.list ≡ r.list) → IsSeat q
 accepted_seat a q r mine told same first one = record {
-  pass = accepted (plain a) (plain q) (plain_receipt r) mine.pass told.told (ap plain same) (plain_prefix a.list q.list first) (one_books a.list r.list q.list one);
+  pass = accepted (plain a) (plain q) (plain_receipt r) mine.pass told.holds (ap plain same) (plain_prefix a.list q.list first) (one_books a.list r.list q.list one);
   kept = one_received a r q mine told one;
 }
 

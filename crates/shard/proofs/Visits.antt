@@ -14,8 +14,8 @@ use Rattle.book.specs.declared.answer.Answer.{Answer}
 use Rattle.requests.specs.declared.inspection.Inspection.{Inspection}
 use Rattle.requests.specs.declared.inspection.Inspection.TheVariants.{Done, Refused, Rebuildable}
 use Rattle.book.specs.Serial.{Act, events_in}
-use Rattle.requests.specs.declared.kept.Kept.{Kept}
-use Rattle.requests.specs.Between.{TellsActs, acts_for}
+use Rattle.requests.specs.declared.boxed_book.BoxedBook.{BoxedBook}
+use Rattle.requests.specs.Between.{RecordsActs, acts_for}
 use Rattle.requests.proofs.Between.{GoesOn, acts_are, events_for, goes_follows}
 use Rattle.one_map.specs.OneMap.{IsLegalOneMap}
 use Rattle.shared.specs.Passes.{acts_of}
@@ -27,8 +27,8 @@ use Rattle.shared.proofs.Requests.{FoundInside, busy_pass}
 use Rattle.ledger.specs.declared.view.Setup.{Setup}
 use Rattle.ledger.specs.declared.held.Held.{Held}
 use Rattle.ledger.specs.Acts.{LedgerState, KeeperState, FollowerState, IsRecorded, acts_at, indices}
-use Rattle.ledger.specs.Acts.{acts_of as at_shard}
-use Rattle.ledger.specs.Values.{MayFollowHeld, KeepsAll, grown, acts_in, acts_to, left_beside}
+use Rattle.ledger.specs.Acts.{as_shard_acts as at_shard}
+use Rattle.ledger.specs.Values.{MayFollowHeld, KeepsAll, grown, acts_left, acts_to, left_beside}
 use Rattle.ledger.proofs.Lists.{acts_at-more}
 use Rattle.ledger.proofs.Values.{keeps_longer, acts_to-last}
 use Rattle.ledger_map.specs.declared.acts.ShardBook.{ShardBook}
@@ -36,7 +36,7 @@ use Rattle.ledger_map.specs.Legal.{AreCallsAt, event_shard, calls_of}
 use Rattle.ledger_map.specs.Books.{book_of, between_books, IsShard, MayLeave}
 use Rattle.shard.specs.Seats.{SeatShows, books_in, plain, book_follows, ledger_beside, shard_beside, seat_shows, IsKeptChain, IsSeat, IsSeatOf}
 use Rattle.shard.specs.Looked.{inspected}
-use Rattle.shard.specs.Listed.{Listing, listing_of, IsListed, IsKeptUp}
+use Rattle.shard.specs.Listed.{Listing, listing_of, IsListed, IsUpToDate}
 
 -- ---- lists of books beside keepers
 abbrev pub Books : Type 0
@@ -55,7 +55,7 @@ plain_chain [] c = tt
 plain_chain (x ∷ []) c = tt
 plain_chain (x ∷ y ∷ ys) c = (c.0.0, plain_chain (y ∷ ys) c.1)
 
-pub plain_acts : (list : Books) → acts_in between_books list ≡ acts_of (books_in list)
+pub plain_acts : (list : Books) → acts_left between_books list ≡ acts_of (books_in list)
 plain_acts [] = refl
 plain_acts (x ∷ []) = refl
 plain_acts (x ∷ y ∷ ys) = ap (λ (l : List Act). between_books x.value y.value ++ l) (plain_acts (y ∷ ys))
@@ -107,7 +107,7 @@ leaves m q y acts l = record {
 }
 
 -- a book, beside the keeper that was found
-abbrev pub beside : Held ShardBook Act → Kept → Held ShardBook Act
+abbrev pub beside : Held ShardBook Act → BoxedBook → Held ShardBook Act
 beside x y = record { value = record { 0 = y }; keeper = x.keeper }
 
 -- what is known once a seat has entered
@@ -118,7 +118,7 @@ module _ (ledger : LedgerState) (p m : SeatState (Held ShardBook Act)) (x : Held
   found_last : keeps.0 ≡ x
   found_last = let both : Some keeps.0 ≡ Some x = sym keeps.1 ∙ enter.found in cc
 
-  keeper_is : x.keeper ≡ record { ledger = seat.kept.ledger; shard = seat.kept.shard; acts = acts_in between_books m.list }
+  keeper_is : x.keeper ≡ record { ledger = seat.kept.ledger; shard = seat.kept.shard; acts = acts_left between_books m.list }
   keeper_is = ap (λ (h : Held ShardBook Act). h.keeper) (sym found_last) ∙ keeps.2
 
   ledger_at : seat.kept.ledger ≡ ledger.table
@@ -141,14 +141,14 @@ module _ (ledger : LedgerState) (p m : SeatState (Held ShardBook Act)) (x : Held
 
   pub is_shard : IsShard ledger.setup x
   is_shard = record {
-    width = plain_found.told.width ∙ (ap (λ (t : SeatShows). t.shows.store.width) is ∙ at.width);
-    told = subst (TellsActs (book_of x.value)) (sym keeper_acts) plain_found.told.told;
+    width = plain_found.holds.width ∙ (ap (λ (t : SeatShows). t.shows.store.width) is ∙ at.width);
+    holds = subst (RecordsActs (book_of x.value)) (sym keeper_acts) plain_found.holds.holds;
   }
 
   -- and what may be left
-  module _ (y : Kept) (g : History) (n : ℕ) (on : GoesOn (book_of x.value) y.0.value g n) where
+  module _ (y : BoxedBook) (g : History) (n : ℕ) (on : GoesOn (book_of x.value) y.0.value g n) where
     lies : between_books x.value (record { 0 = y }) ≡ acts_for g n
-    lies = acts_are (book_of x.value) y.0.value g (events_in (acts_of (books_in m.list))) n on plain_found.told.told.tells
+    lies = acts_are (book_of x.value) y.0.value g (events_in (acts_of (books_in m.list))) n on plain_found.holds.holds.holds
 
     pub may_leave : AreCallsAt (event_shard ledger.setup.count) s.shard g → (h : Held ShardBook Act) × (last_of m.list ≡ Some h) × MayLeave ledger.setup h (beside x y)
     may_leave calls = (
@@ -167,14 +167,14 @@ module _ (ledger : LedgerState) (p m : SeatState (Held ShardBook Act)) (x : Held
     recorded_acts = acts_to-last between_books m.list x (record { 0 = y }) enter.found ∙ lies
 
 -- What a visit leaves of a seat and of a follower
-pub record Visited (setup : Setup) (p q : SeatState (Held ShardBook Act)) (who : ℕ) (s : SeatShows) (x : Kept) (g : History) (n : ℕ) (v w : FollowerState Act) : Type 0 where
+pub record Visited (setup : Setup) (p q : SeatState (Held ShardBook Act)) (who : ℕ) (s : SeatShows) (x : BoxedBook) (g : History) (n : ℕ) (v w : FollowerState Act) : Type 0 where
   pub step : Stepped (plain p) (plain q) x g n
   pub seat : IsSeat q
   pub same : ((seat_shows q who).ledger ≡ s.ledger) × ((seat_shows q who).shard ≡ s.shard)
   pub listed : IsListed s.shard (acts_for g n) s.shows.acts (acts_of (books_in q.list)) (listing_of v) (listing_of w)
-  pub follower : IsKeptUp setup s.shard s.shows.acts (acts_of (books_in q.list)) v w
+  pub follower : IsUpToDate setup s.shard s.shows.acts (acts_of (books_in q.list)) v w
 
-pub visited : (ledger : LedgerState) (p m q : SeatState (Held ShardBook Act)) (x : Held ShardBook Act) (y : Kept) (who : ℕ) (s : SeatShows) (g : History) (n : ℕ) (v w : FollowerState Act)
+pub visited : (ledger : LedgerState) (p m q : SeatState (Held ShardBook Act)) (x : Held ShardBook Act) (y : BoxedBook) (who : ℕ) (s : SeatShows) (g : History) (n : ℕ) (v w : FollowerState Act)
     → seat_shows p who ≡ s → IsSeatOf ledger s → IsSeat p → EntersHeld p m x → GoesOn (book_of x.value) y.0.value g n
     → LeavesHeld m q (beside x y) (acts_to between_books m.list (record { 0 = y })) → IsRecorded v x.keeper (acts_to between_books m.list (record { 0 = y })) w → (w.ledger ≡ v.ledger) × (w.room ≡ v.room)
     → IsLegalOneMap ledger.setup.count ledger.setup.about (calls_of w.list) → Visited ledger.setup p q who s x.value.0 g n v w
@@ -195,7 +195,7 @@ visited ledger p m q x y who s g n v w is at seat enter on left recorded follows
     let now : IsKeptChain q.list = record { chain = chain; ledger = seat.kept.ledger; shard = seat.kept.shard; keeps = all } in
     let k : x.keeper.shard ≡ s.shard = keeper_shard ledger p m x who s is at seat enter in
     let list : w.list ≡ recorded.before ++ at_shard s.shard (acts_for g n) = recorded.list ∙ (λ i. recorded.before ++ at_shard (k i) (acts i)) in
-    let had : last.keeper ≡ record { ledger = seat.kept.ledger; shard = seat.kept.shard; acts = acts_in between_books q.list } =
+    let had : last.keeper ≡ record { ledger = seat.kept.ledger; shard = seat.kept.shard; acts = acts_left between_books q.list } =
     ap (λ (h : Held ShardBook Act). h.keeper) (by_some (sym here ∙ all.1)) ∙ all.2 in
     let shown : acts_at s.shard w.list ≡ acts_of (books_in q.list) =
     (λ i. acts_at (sym k i) w.list) ∙ ap (acts_at x.keeper.shard) recorded.list ∙ acts_at-more x.keeper.shard recorded.before (acts_to between_books m.list book)
@@ -234,7 +234,7 @@ nothing_listed k acts had shown v none same = record {
   entered = inl (refl, none, same);
 }
 
-pub nothing_changed : (setup : Setup) (k : ℕ) (had shown : List Act) (v : FollowerState Act) → shown ≡ had → IsKeptUp setup k had shown v v
+pub nothing_changed : (setup : Setup) (k : ℕ) (had shown : List Act) (v : FollowerState Act) → shown ≡ had → IsUpToDate setup k had shown v v
 nothing_changed setup k had shown v same = record {
   ledger = refl;
   room = refl;
@@ -265,7 +265,7 @@ busy_acts p q who s is found = ap (λ (u : SeatState (Held ShardBook Act)). acts
 pub expected_now : (p m : SeatState (Held ShardBook Act)) → (m.expected_length ≡ p.expected_length) × (p.expected_length ≤ length m.list) → (m.expected_length ≡ p.expected_length) × (p.expected_length ≤ length (books_in m.list))
 expected_now p m e = (e.0, (let long = plain_length m.list in let le = e.1 in omega arith))
 
-pub left_books : (m q : SeatState (Held ShardBook Act)) (x : Held ShardBook Act) (y : Kept) → q.list ≡ m.list ++ left_beside (beside x y) (acts_to between_books m.list (record { 0 = y })) ∷ [] → books_in q.list ≡ books_in m.list ++ y ∷ []
+pub left_books : (m q : SeatState (Held ShardBook Act)) (x : Held ShardBook Act) (y : BoxedBook) → q.list ≡ m.list ++ left_beside (beside x y) (acts_to between_books m.list (record { 0 = y })) ∷ [] → books_in q.list ≡ books_in m.list ++ y ∷ []
 left_books m q x y list = ap books_in list ∙ map-append (λ (h : Held ShardBook Act). h.value.0) m.list (left_beside (beside x y) (acts_to between_books m.list (record { 0 = y })) ∷ [])
 
 -- what is listed is what the deed is
@@ -309,7 +309,7 @@ listed_later k acts had between shown u v w first then = record {
     by (inl same) (inl none) = inl (none.0 ∙ same.0, none.1, none.2 ∙ same.2)
     by (inr all) (inl none) = inr (ap (λ (l : Listing). acts_at k l.list) none.0 ∙ all ∙ sym none.2)
 
-pub kept_later : (setup : Setup) (k : ℕ) (had between shown : List Act) (u v w : FollowerState Act) → IsKeptUp setup k had between u v → IsKeptUp setup k between shown v w → IsKeptUp setup k had shown u w
+pub kept_later : (setup : Setup) (k : ℕ) (had between shown : List Act) (u v w : FollowerState Act) → IsUpToDate setup k had between u v → IsUpToDate setup k between shown v w → IsUpToDate setup k had shown u w
 kept_later setup k had between shown u v w first then = record {
   ledger = then.ledger ∙ first.ledger;
   room = then.room ∙ first.room;

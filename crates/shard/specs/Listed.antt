@@ -5,7 +5,7 @@ use Rattle.book.specs.Serial.{Act}
 use Rattle.one_map.specs.OneMap.{IsLegalOneMap}
 use Rattle.ledger.specs.declared.view.Setup.{Setup}
 use Rattle.ledger.specs.declared.view.ShardAct.{ShardAct}
-use Rattle.ledger.specs.Acts.{FollowerState, acts_of, acts_at, indices}
+use Rattle.ledger.specs.Acts.{FollowerState, as_shard_acts, acts_at, indices}
 use Rattle.ledger_map.specs.Legal.{calls_of}
 
 -- A beginning of the list of all shards' acts, and the indices in it of a caller's own
@@ -23,13 +23,13 @@ listing_of f = record { list = f.list; own = f.own }
 pub record IsListed (k : ℕ) (acts had shown : List Act) (v w : Listing) : Type 0 where
   pub before : List (ShardAct Act)
   pub seen : IsPrefix v.list before
-  pub list : w.list ≡ before ++ acts_of k acts
+  pub list : w.list ≡ before ++ as_shard_acts k acts
   pub own : w.own ≡ v.own ++ indices (length before) (length acts)
   pub entered : ((w ≡ v) × (acts ≡ []) × (shown ≡ had)) ⊎ (acts_at k w.list ≡ shown)
 
 -- What a visit of a shard leaves of a follower. What is shown of the shard is a beginning of its
 -- acts in the list, and the calls in the list are a legal history of one map, if they were before
-pub record IsKeptUp (setup : Setup) (k : ℕ) (had shown : List Act)
+pub record IsUpToDate (setup : Setup) (k : ℕ) (had shown : List Act)
     (v w : FollowerState Act) : Type 0 where
   pub ledger : w.ledger ≡ v.ledger
   pub room : w.room ≡ v.room

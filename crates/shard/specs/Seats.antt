@@ -2,9 +2,9 @@
 use Rattle.std.specs.Prelude.{◌≡◌, ℕ, ◌<◌, List, [], map, Option, None, Some}
 use Rattle.gate.specs.Places.{TableId, SeatState, ReceiptState, last_of, IsChain}
 use Rattle.book.specs.Serial.{Act}
-use Rattle.requests.specs.declared.kept.Kept.{Kept}
+use Rattle.requests.specs.declared.boxed_book.BoxedBook.{BoxedBook}
 use Rattle.requests.specs.Between.{MayFollow}
-use Rattle.shared.specs.Passes.{Which, Shows, shows, IsPass, IsTold}
+use Rattle.shared.specs.Passes.{Which, Shows, shows, IsPass, LastRecords}
 use Rattle.ledger.specs.declared.held.Held.{Held}
 use Rattle.ledger.specs.Acts.{LedgerState}
 use Rattle.ledger.specs.Values.{MayFollowHeld, KeepsAll}
@@ -19,11 +19,11 @@ pub record SeatShows : Type 0 where
   pub shard : ℕ
 
 -- the books, without their keepers
-abbrev pub books_in : List (Held ShardBook Act) → List Kept
+abbrev pub books_in : List (Held ShardBook Act) → List BoxedBook
 books_in list = map (λ h. h.value.0) list
 
 -- a seat at a gate of books
-abbrev pub plain : SeatState (Held ShardBook Act) → SeatState Kept
+abbrev pub plain : SeatState (Held ShardBook Act) → SeatState BoxedBook
 plain p = record {
   gate = p.gate;
   list = books_in p.list;
@@ -33,7 +33,7 @@ plain p = record {
   expected_length = p.expected_length;
 }
 
-abbrev pub plain_receipt : ReceiptState (Held ShardBook Act) → ReceiptState Kept
+abbrev pub plain_receipt : ReceiptState (Held ShardBook Act) → ReceiptState BoxedBook
 plain_receipt r = record { gate = r.gate; list = books_in r.list }
 
 abbrev pub ledger_beside : Option (Held ShardBook Act) → Option TableId
@@ -66,7 +66,7 @@ pub record IsSeat (p : SeatState (Held ShardBook Act)) : Type 0 where
   pub kept : IsKeptChain p.list
 
 pub record IsSeatReceipt (r : ReceiptState (Held ShardBook Act)) : Type 0 where
-  pub told : IsTold (books_in r.list)
+  pub holds : LastRecords (books_in r.list)
   pub kept : IsKeptChain r.list
 
 -- the shard is one of this ledger, whose setup has the width

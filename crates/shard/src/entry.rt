@@ -7,7 +7,7 @@ ghost use Rattle.shared.specs.Passes.{FindsBusy, VisitsOnce};
 ghost use Rattle.requests.specs.Requests.{operation_of, IsFaultOf};
 ghost use Rattle.shared.specs.Requests.{CanAsk, IsGrantedTo, WantedFor};
 ghost use Rattle.shard.specs.Seats.{IsSeatOf};
-ghost use Rattle.shard.specs.Listed.{IsListed, IsKeptUp, listing_of};
+ghost use Rattle.shard.specs.Listed.{IsListed, IsUpToDate, listing_of};
 
 use crate::{Shard, ShardSeat};
 use book::{Answer, Fault};
@@ -43,7 +43,7 @@ impl Shard {
             (act_if seat.old.shows.who (deed_of (operation_of request) result))
             seat.old.shows.acts seat.new.shows.acts (listing_of follower.old)
             (listing_of follower.new) }
-        ensures follower { IsKeptUp ledger.now.setup seat.old.shard seat.old.shows.acts
+        ensures follower { IsUpToDate ledger.now.setup seat.old.shard seat.old.shows.acts
             seat.new.shows.acts follower.old follower.new }
     {
         let mut inside = ledger.enter(rt, &self.gate, &mut seat.seat);
@@ -81,7 +81,7 @@ impl Shard {
             (act_if seat.old.shows.who (deed_of (operation_of request) result))
             seat.old.shows.acts seat.new.shows.acts (listing_of follower.old)
             (listing_of follower.new) }
-        ensures follower { IsKeptUp ledger.now.setup seat.old.shard seat.old.shows.acts
+        ensures follower { IsUpToDate ledger.now.setup seat.old.shard seat.old.shows.acts
             seat.new.shows.acts follower.old follower.new }
     {
         match self.try_prepared(ledger, seat, follower, request) {
@@ -113,7 +113,7 @@ impl Shard {
             → WantedFor seat.new.shows.seen self.now.width request) }
         ensures faults { IfOk result (λ reply. IfErr reply (IsFaultOf request)) }
         ensures entered { IfOk result (λ _. VisitsOnce seat.old.shows seat.new.shows) }
-        ensures kept { IfErr result (λ r. r ≡ request) }
+        ensures unchanged { IfErr result (λ r. r ≡ request) }
         ensures refused { IfErr result (λ _. Called seat.old.shows (operation_of request)
             (Err Fault.Busy) seat.new.shows) }
         ensures busy { IfErr result (λ _. FindsBusy seat.old.shows seat.new.shows) }
@@ -125,7 +125,7 @@ impl Shard {
             (listing_of follower.new)) }
         ensures unlisted { IfErr result (λ _. IsListed seat.old.shard [] seat.old.shows.acts
             seat.new.shows.acts (listing_of follower.old) (listing_of follower.new)) }
-        ensures follower { IsKeptUp ledger.now.setup seat.old.shard seat.old.shows.acts
+        ensures follower { IsUpToDate ledger.now.setup seat.old.shard seat.old.shows.acts
             seat.new.shows.acts follower.old follower.new }
     {
         let Some(mut inside) = self.gate.try_enter(&mut seat.seat) else {

@@ -1,7 +1,7 @@
 //! Repairs. Fragments are rebuilt outside the critical section, while other threads may enter it.
 ghost use Rattle.std.specs.Prelude.{◌≡◌, ◌≢◌, ◌⊎◌, ◌+◌, IfErr};
 ghost use Rattle.history.specs.Step.{repair as repair_of};
-ghost use Rattle.book.specs.Tells.{IsCallFault};
+ghost use Rattle.book.specs.Holds.{IsCallFault};
 ghost use Rattle.one_map.specs.OneMap.{operation_shard};
 ghost use Rattle.shared.specs.Calls.{Called};
 ghost use Rattle.shared.specs.Deeds.{deed_of, act_if};
@@ -9,7 +9,7 @@ ghost use Rattle.shared.specs.Passes.{FindsBusy, VisitsOnce};
 ghost use Rattle.requests.specs.Inspections.{IfRefused};
 ghost use Rattle.shared.specs.Mends.{InspectionGives, FoundBusy};
 ghost use Rattle.shard.specs.Seats.{IsSeatOf};
-ghost use Rattle.shard.specs.Listed.{IsListed, IsKeptUp, listing_of};
+ghost use Rattle.shard.specs.Listed.{IsListed, IsUpToDate, listing_of};
 ghost use Rattle.shard.specs.Looked.{inspected};
 
 use crate::{Shard, ShardSeat};
@@ -47,7 +47,7 @@ impl Shard {
             (act_if seat.old.shows.who (deed_of (repair_of name stripe fragment) result))
             seat.old.shows.acts seat.new.shows.acts (listing_of follower.old)
             (listing_of follower.new) }
-        ensures follower { IsKeptUp ledger.now.setup seat.old.shard seat.old.shows.acts
+        ensures follower { IsUpToDate ledger.now.setup seat.old.shard seat.old.shows.acts
             seat.new.shows.acts follower.old follower.new }
     {
         let found = self.inspect(rt, alloc, ledger, seat, follower, &name, stripe, fragment);
@@ -92,7 +92,7 @@ impl Shard {
             (act_if seat.old.shows.who (deed_of (repair_of name stripe fragment) result))
             seat.old.shows.acts seat.new.shows.acts (listing_of follower.old)
             (listing_of follower.new) }
-        ensures follower { IsKeptUp ledger.now.setup seat.old.shard seat.old.shows.acts
+        ensures follower { IsUpToDate ledger.now.setup seat.old.shard seat.old.shows.acts
             seat.new.shows.acts follower.old follower.new }
     {
         let found = self.try_inspect(alloc, ledger, seat, follower, &name, stripe, fragment);
@@ -132,7 +132,7 @@ impl Shard {
             (act_if seat.old.shows.who (inspected (repair_of name.now stripe fragment) result))
             seat.old.shows.acts seat.new.shows.acts (listing_of follower.old)
             (listing_of follower.new) }
-        ensures follower { IsKeptUp ledger.now.setup seat.old.shard seat.old.shows.acts
+        ensures follower { IsUpToDate ledger.now.setup seat.old.shard seat.old.shows.acts
             seat.new.shows.acts follower.old follower.new }
     {
         let mut inside = ledger.enter(rt, &self.gate, &mut seat.seat);
@@ -171,7 +171,7 @@ impl Shard {
             (act_if seat.old.shows.who (inspected (repair_of name.now stripe fragment) result))
             seat.old.shows.acts seat.new.shows.acts (listing_of follower.old)
             (listing_of follower.new) }
-        ensures follower { IsKeptUp ledger.now.setup seat.old.shard seat.old.shows.acts
+        ensures follower { IsUpToDate ledger.now.setup seat.old.shard seat.old.shows.acts
             seat.new.shows.acts follower.old follower.new }
     {
         let Some(mut inside) = self.gate.try_enter(&mut seat.seat) else {

@@ -5,7 +5,7 @@ ghost use Rattle.book.specs.Trimming.{journaled};
 ghost use Rattle.shared.specs.Deeds.{Takes};
 ghost use Rattle.shared.specs.Passes.{FindsBusy, VisitsOnce};
 ghost use Rattle.shard.specs.Seats.{IsSeatOf};
-ghost use Rattle.shard.specs.Listed.{IsListed, IsKeptUp, listing_of};
+ghost use Rattle.shard.specs.Listed.{IsListed, IsUpToDate, listing_of};
 
 use crate::{Shard, ShardSeat};
 use book::{Fault, Numbers};
@@ -27,13 +27,13 @@ impl Shard {
         requires at { IsSeatOf ledger.now seat.old }
         requires ledger { follower.old.ledger ≡ ledger.now }
         ensures takes { Takes seat.old.shows None seat.new.shows }
-        ensures told { AreNumbersOf self.now.width seat.new.shows.seen result }
+        ensures holds { AreNumbersOf self.now.width seat.new.shows.seen result }
         ensures entries { result.entries ≡ journaled self.now.limit
             (length seat.new.shows.seen - seat.new.shows.trimmed) }
         ensures same { (seat.new.ledger ≡ seat.old.ledger) × (seat.new.shard ≡ seat.old.shard) }
         ensures listed { IsListed seat.old.shard [] seat.old.shows.acts seat.new.shows.acts
             (listing_of follower.old) (listing_of follower.new) }
-        ensures follower { IsKeptUp ledger.now.setup seat.old.shard seat.old.shows.acts
+        ensures follower { IsUpToDate ledger.now.setup seat.old.shard seat.old.shows.acts
             seat.new.shows.acts follower.old follower.new }
     {
         let inside = ledger.enter(rt, &self.gate, &mut seat.seat);
@@ -63,7 +63,7 @@ impl Shard {
         ensures same { (seat.new.ledger ≡ seat.old.ledger) × (seat.new.shard ≡ seat.old.shard) }
         ensures listed { IsListed seat.old.shard [] seat.old.shows.acts seat.new.shows.acts
             (listing_of follower.old) (listing_of follower.new) }
-        ensures follower { IsKeptUp ledger.now.setup seat.old.shard seat.old.shows.acts
+        ensures follower { IsUpToDate ledger.now.setup seat.old.shard seat.old.shows.acts
             seat.new.shows.acts follower.old follower.new }
     {
         let Some(inside) = self.gate.try_enter(&mut seat.seat) else {

@@ -5,7 +5,7 @@ ghost use Rattle.book.specs.Plan.{plan_of};
 ghost use Rattle.shared.specs.Deeds.{Takes};
 ghost use Rattle.shared.specs.Passes.{FindsBusy, VisitsOnce};
 ghost use Rattle.shard.specs.Seats.{IsSeatOf};
-ghost use Rattle.shard.specs.Listed.{IsListed, IsKeptUp, listing_of};
+ghost use Rattle.shard.specs.Listed.{IsListed, IsUpToDate, listing_of};
 
 use crate::{Shard, ShardSeat};
 use book::{Fault, Plan};
@@ -33,7 +33,7 @@ impl Shard {
         ensures same { (seat.new.ledger ≡ seat.old.ledger) × (seat.new.shard ≡ seat.old.shard) }
         ensures listed { IsListed seat.old.shard [] seat.old.shows.acts seat.new.shows.acts
             (listing_of follower.old) (listing_of follower.new) }
-        ensures follower { IsKeptUp ledger.now.setup seat.old.shard seat.old.shows.acts
+        ensures follower { IsUpToDate ledger.now.setup seat.old.shard seat.old.shows.acts
             seat.new.shows.acts follower.old follower.new }
     {
         let inside = ledger.enter(rt, &self.gate, &mut seat.seat);
@@ -62,7 +62,7 @@ impl Shard {
         ensures same { (seat.new.ledger ≡ seat.old.ledger) × (seat.new.shard ≡ seat.old.shard) }
         ensures listed { IsListed seat.old.shard [] seat.old.shows.acts seat.new.shows.acts
             (listing_of follower.old) (listing_of follower.new) }
-        ensures follower { IsKeptUp ledger.now.setup seat.old.shard seat.old.shows.acts
+        ensures follower { IsUpToDate ledger.now.setup seat.old.shard seat.old.shows.acts
             seat.new.shows.acts follower.old follower.new }
     {
         let Some(inside) = self.gate.try_enter(&mut seat.seat) else {

@@ -81,7 +81,7 @@ impl ShardSeat {
     /// unchanged.
     pub fn split(&mut self, shard: &Shard, who: u32) -> Result<ShardSeat, Fault>
         requires shard { self.old.shows.store ≡ shard.now }
-        ensures kept { OnOk result
+        ensures unchanged { OnOk result
             (self.new.shows ≡ record self.old.shows { room = self.old.shows.room - 1 }) }
         ensures given { IfOk result
             (λ s. s.shows ≡ record {
@@ -117,7 +117,7 @@ impl ShardSeat {
     /// does not allocate.
     pub fn join(&mut self, shard: &Shard, other: ShardSeat)
         requires shard { (self.old.shows.store ≡ shard.now) × (other.shows.store ≡ shard.now) }
-        ensures kept { (self.new.shows.store ≡ self.old.shows.store)
+        ensures unchanged { (self.new.shows.store ≡ self.old.shows.store)
             × (self.new.shows.who ≡ self.old.shows.who)
             × (self.new.shows.room ≡ self.old.shows.room + other.shows.room) }
         ensures one { ((self.new.shows.seen ≡ self.old.shows.seen)
@@ -155,7 +155,7 @@ impl ShardSeat {
     /// Takes in a receipt, as `Pass::accept` does. It does not allocate, and does not wait.
     pub fn accept(&mut self, shard: &Shard, receipt: SeatReceipt)
         requires shard { (self.old.shows.store ≡ shard.now) × (receipt.store ≡ shard.now) }
-        ensures kept { self.new.shows ≡ record self.old.shows {
+        ensures unchanged { self.new.shows ≡ record self.old.shows {
           seen = self.new.shows.seen;
           trimmed = self.new.shows.trimmed;
           acts = self.new.shows.acts;

@@ -2,7 +2,7 @@
 ghost use Rattle.std.specs.Prelude.{◌≡◌, ◌+◌, ◌<◌, ℕ, [], Some, length, IfOk, IfErr};
 ghost use Rattle.gate.specs.Places.{times};
 ghost use Rattle.history.specs.Log.{call_limit};
-ghost use Rattle.book.specs.Tells.{HoldsHistory};
+ghost use Rattle.book.specs.Holds.{HoldsHistory};
 ghost use Rattle.shared.specs.Passes.{IsConsistent};
 ghost use mathlib.Core.List.{IsPrefix};
 ghost use Rattle.ledger.specs.Acts.{acts_at, HasAll};
@@ -13,7 +13,7 @@ use book::{Book, Fault, Limit};
 use gate::Gate;
 use ledger::{Follower, Held, Keeper, Ledger};
 use ledger_map::{ShardBook, StoreAct};
-use requests::Kept;
+use requests::BoxedBook;
 use sealed::Width;
 use std::alloc::Global;
 use std::marker::Model;
@@ -59,7 +59,7 @@ impl Shard {
             return Err(Fault::NoMemory);
         };
         let limit = book.call_limit();
-        let Ok(kept) = Kept::boxed(alloc, book) else {
+        let Ok(kept) = BoxedBook::boxed(alloc, book) else {
             return Err(Fault::NoMemory);
         };
         let Ok((gate, seat)) = ledger.open_gate(alloc, keeper, ShardBook(kept)) else {
@@ -82,7 +82,7 @@ impl Shard {
         requires lone { seat.shows.room ≡ 64 }
         requires at { IsSeatOf ledger.now seat }
         requires ledger { (follower.old.ledger ≡ ledger.now) × (follower.old.room ≡ 64) }
-        ensures told { HoldsHistory result seat.shows.seen }
+        ensures holds { HoldsHistory result seat.shows.seen }
         ensures made { (k : ℕ) → k < length seat.shows.seen → times k seat.shows.made ≡ 1 }
         ensures count { length seat.shows.made ≡ length seat.shows.seen }
         ensures trimmed { result.base.trimmed ≡ seat.shows.trimmed }
@@ -90,14 +90,14 @@ impl Shard {
         ensures did { (k : ℕ) → k < length seat.shows.acts → times k seat.shows.did ≡ 1 }
         ensures did_count { length seat.shows.did ≡ length seat.shows.acts }
         ensures entries { result.base.trimmed + length result.entries ≡ length seat.shows.made }
-        ensures kept { (result.width ≡ self.width) × (result.limit ≡ self.limit) }
+        ensures unchanged { (result.width ≡ self.width) × (result.limit ≡ self.limit) }
         ensures follower { follower.new ≡ follower.old }
         ensures all { HasAll follower.old.list follower.old.own }
         ensures acts { acts_at seat.shard follower.old.list ≡ seat.shows.acts }
     {
         let ShardSeat { seat, who: _ } = seat;
         let Shard { gate, .. } = self;
-        let ShardBook(Kept(book)) = ledger.close_gate(gate, seat, follower);
+        let ShardBook(BoxedBook(book)) = ledger.close_gate(gate, seat, follower);
         Box::into_inner(book)
     }
 }

@@ -3,7 +3,7 @@ ghost use Rattle.std.specs.Prelude.{◌≡◌, ◌≢◌, ◌⊎◌, ◌+◌, If
 ghost use Rattle.shared.specs.Deeds.{Takes, trim_deed, act_if};
 ghost use Rattle.shared.specs.Passes.{FindsBusy, VisitsOnce};
 ghost use Rattle.shard.specs.Seats.{IsSeatOf};
-ghost use Rattle.shard.specs.Listed.{IsListed, IsKeptUp, listing_of};
+ghost use Rattle.shard.specs.Listed.{IsListed, IsUpToDate, listing_of};
 
 use crate::{Shard, ShardSeat};
 use book::Fault;
@@ -33,7 +33,7 @@ impl Shard {
             (act_if seat.old.shows.who (trim_deed keep result))
             seat.old.shows.acts seat.new.shows.acts (listing_of follower.old)
             (listing_of follower.new) }
-        ensures follower { IsKeptUp ledger.now.setup seat.old.shard seat.old.shows.acts
+        ensures follower { IsUpToDate ledger.now.setup seat.old.shard seat.old.shows.acts
             seat.new.shows.acts follower.old follower.new }
     {
         let mut inside = ledger.enter(rt, &self.gate, &mut seat.seat);
@@ -64,7 +64,7 @@ impl Shard {
             (act_if seat.old.shows.who (trim_deed keep result))
             seat.old.shows.acts seat.new.shows.acts (listing_of follower.old)
             (listing_of follower.new) }
-        ensures follower { IsKeptUp ledger.now.setup seat.old.shard seat.old.shows.acts
+        ensures follower { IsUpToDate ledger.now.setup seat.old.shard seat.old.shows.acts
             seat.new.shows.acts follower.old follower.new }
     {
         let Some(mut inside) = self.gate.try_enter(&mut seat.seat) else {

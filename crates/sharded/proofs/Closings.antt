@@ -32,7 +32,7 @@ closed_interleaving vs books own are = record { of_shards = of_shards; order = i
     of_shards k v e = let c = closed_at vs books are k v e in whole_of_shard (length vs) k v (own k v e) c.1.whole c.1.agrees
 
 pub closed_one_map : (w : ℕ) (vs : List Shows) (books : List Contents) → 0 < length vs → AreClosed vs books → HaveWidth w vs → HasOneMap w vs
-closed_one_map w vs books some are wide = has_one_map w vs some wide (λ k v e. let c = closed_at vs books are k v e in subst (λ x. IsLegal x v.seen) c.1.width c.1.told.legal)
+closed_one_map w vs books some are wide = has_one_map w vs some wide (λ k v e. let c = closed_at vs books are k v e in subst (λ x. IsLegal x v.seen) c.1.width c.1.holds.legal)
 
 -- ---- closed from the last on
 pub record ClosedFrom (vs left : List Shows) (stores : List Which) (books : List Contents) : Type 0 where

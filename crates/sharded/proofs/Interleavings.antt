@@ -11,7 +11,7 @@ use Rattle.book.specs.Serial.{Act, call, trim, events_in}
 use Rattle.shared.specs.Passes.{Shows, IsConsistent, IsWhole}
 use Rattle.one_map.specs.Hash.{shard_of}
 use Rattle.one_map.specs.OneMap.{operation_shard, part}
-use Rattle.sharded.specs.Passes.{IsActOfShard, HasActsOfShard, AreLegal, HaveWidth}
+use Rattle.sharded.specs.Passes.{IsActOfShard, HasActsOfShard, HaveLegalHistories, HaveWidth}
 use Rattle.sharded.specs.Interleavings.{IsInterleavingOf, HasOneMap, AreCallsOfShard}
 use Rattle.sharded.proofs.Steps.{same_some}
 use Rattle.one_map.proofs.OneMap.{legal_both_ways, map_has}
@@ -22,7 +22,7 @@ at_below [] k l = absurd (omega arith)
 at_below (x ∷ xs) zero l = (x, refl)
 at_below (x ∷ xs) (suc k) l = at_below xs k (omega arith)
 
-pub has_one_map : (w : ℕ) (vs : List Shows) → 0 < length vs → HaveWidth w vs → AreLegal vs → HasOneMap w vs
+pub has_one_map : (w : ℕ) (vs : List Shows) → 0 < length vs → HaveWidth w vs → HaveLegalHistories vs → HasOneMap w vs
 has_one_map w vs some wide legal h order = (
   (legal_both_ways (length vs) w some h).0 (λ k below.
       let found = at_below vs k below in

@@ -7,7 +7,7 @@ use Rattle.gate.specs.Places.{times}
 use Rattle.gate.proofs.Lists.{prefix_self, prefix_trans, prefix_length, times-append}
 use Rattle.book.specs.Serial.{Act, Deed}
 use Rattle.ledger.specs.declared.view.ShardAct.{ShardAct}
-use Rattle.ledger.specs.Acts.{acts_of, indices}
+use Rattle.ledger.specs.Acts.{as_shard_acts, indices}
 use Rattle.ledger.proofs.Lists.{times-indices, once_below-here, once_below-le}
 use Rattle.shared.specs.Deeds.{act_if}
 use Rattle.shard.specs.Listed.{IsListed}
@@ -20,7 +20,7 @@ longer_same v = (prefix_self v.list, prefix_self v.own)
 -- a step more
 pub longer_more : {k : ℕ} {acts had shown : List Act} (u v w : PassShows) → IsLonger u v → IsListed k acts had shown (listing v) (listing w) → IsLonger u w
 longer_more {k} {acts} u v w so l = (
-  prefix_trans u.list v.list w.list so.0 (prefix_trans v.list l.before w.list l.seen (acts_of k acts, sym l.list)),
+  prefix_trans u.list v.list w.list so.0 (prefix_trans v.list l.before w.list l.seen (as_shard_acts k acts, sym l.list)),
   prefix_trans u.own v.own w.own so.1 (indices (length l.before) (length acts), sym l.own),
 )
 
@@ -37,7 +37,7 @@ none_below n m p some = dite (dec_le n p) (λ past. past)
 pub done_after : (list : List (ShardAct Act)) (v w : PassShows) (k : ℕ) (deed : Option Deed) → IsPrefix list v.list → IsListedAt k deed v w → IsDoneAfter list v w
 done_after list v w k deed first l =
     let acts : List Act = act_if (who_at v.shards k) deed in
-    let more : IsPrefix v.list w.list = prefix_trans v.list l.before w.list l.seen (acts_of k acts, sym l.list) in (
+    let more : IsPrefix v.list w.list = prefix_trans v.list l.before w.list l.seen (as_shard_acts k acts, sym l.list) in (
       prefix_trans list v.list w.list first more,
       (λ p fewer.
           let all : times p w.own ≡ times p v.own + times p (indices (length l.before) (length acts)) = ap (times p) l.own ∙ times-append p v.own (indices (length l.before) (length acts)) in

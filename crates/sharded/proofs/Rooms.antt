@@ -4,7 +4,7 @@ use Rattle.std.proofs.lemmas.Option.{slice_get_within}
 use Rattle.std.proofs.lemmas.Bool.Decides.{eqb_tells}
 use Rattle.history.specs.History.{IsLegal}
 use Rattle.shared.specs.Passes.{Shows}
-use Rattle.sharded.specs.Passes.{HasRoomOfOne, AreLone, AreLegal}
+use Rattle.sharded.specs.Passes.{HasRoomOfOne, AreLone, HaveLegalHistories}
 use Rattle.sharded.proofs.Steps.{same_some}
 
 pub record LeastOf (vs : List Shows) (n least : ℕ) : Type 0 where
@@ -33,7 +33,7 @@ least_more vs n least room v there is range legal so = record { range = (omega (
 pub least_lone : (vs : List Shows) (least : ℕ) → LeastOf vs (length vs) least → least ≡ 64 → AreLone vs
 least_lone vs least so full k v e = let had = so.each k v (slice_get_within vs k v e) e in omega (arith, had.0, had.1, full)
 
-pub least_legal : (vs : List Shows) (least : ℕ) → LeastOf vs (length vs) least → AreLegal vs
+pub least_legal : (vs : List Shows) (least : ℕ) → LeastOf vs (length vs) least → HaveLegalHistories vs
 least_legal vs least so k v e = (so.each k v (slice_get_within vs k v e) e).2
 
 pub least_least : (vs : List Shows) (least : ℕ) → LeastOf vs (length vs) least → (k : ℕ) (v : Shows) → slice_get vs k ≡ Some v → least ≤ v.room

@@ -13,14 +13,14 @@ use Rattle.one_map.specs.Hash.{shard_of}
 use Rattle.one_map.specs.OneMap.{name_of, operation_shard, IsLegalOneMap}
 use Rattle.ledger_map.specs.Legal.{calls_of}
 use Rattle.ledger.specs.declared.view.ShardAct.{ShardAct}
-use Rattle.ledger.specs.Acts.{LedgerState, FollowerState, acts_of, acts_at}
+use Rattle.ledger.specs.Acts.{LedgerState, FollowerState, as_shard_acts, acts_at}
 use Rattle.ledger.proofs.Lists.{acts_at-append}
 use Rattle.shared.specs.Passes.{Which, Shows, FindsBusy}
 use Rattle.shared.specs.Deeds.{deed_of, act_if, Takes}
 use Rattle.shared.specs.Calls.{Called}
 use Rattle.shared.specs.Mends.{FoundBusy}
 use Rattle.shard.specs.Seats.{SeatShows, IsSeatOf}
-use Rattle.shard.specs.Listed.{Listing, listing_of, IsListed, IsKeptUp}
+use Rattle.shard.specs.Listed.{Listing, listing_of, IsListed, IsUpToDate}
 use Rattle.sharded.specs.Passes.{StoreShows, PassShows, stores_of, store_of, AreLone, HaveActsOfShards}
 use Rattle.sharded.specs.Steps.{IsStepAt, IsCallAt, IsBusyAt, IsBusyRepairAt, width_for, seen_for}
 use Rattle.sharded.specs.Listings.{who_at, shown_at, listing, IsListedAt, IsListedCall}
@@ -60,7 +60,7 @@ pub acts_longer : (k : ℕ) (xs ys : List (ShardAct Act)) → IsPrefix xs ys →
 acts_longer k xs ys p = (acts_at k p.0, sym (acts_at-append k xs p.0) ∙ ap (acts_at k) p.1)
 
 pub list_longer : (k : ℕ) (acts had shown : List Act) (v w : Listing) → IsListed k acts had shown v w → IsPrefix v.list w.list
-list_longer k acts had shown v w l = prefix_trans v.list l.before w.list l.seen (acts_of k acts, sym l.list)
+list_longer k acts had shown v w l = prefix_trans v.list l.before w.list l.seen (as_shard_acts k acts, sym l.list)
 
 -- ---- the seat at one shard, as the code takes it
 pub record HeldSeat (seats : List SeatShows) (f : FollowerState Act) (args : PassShows) (ss : List Which) (ledger : LedgerState) (store : StoreShows) (k : ℕ) (own : SeatShows) : Type 0 where
@@ -80,10 +80,10 @@ pub record SteppedSeat (ledger : LedgerState) (deed : Option Deed) (own new : Se
   pub takes : Takes own.shows deed new.shows
   pub place : IsSamePlace own new
   pub listed : IsListed own.shard (act_if own.shows.who deed) own.shows.acts new.shows.acts (listing_of f) (listing_of g)
-  pub follower : IsKeptUp ledger.setup own.shard own.shows.acts new.shows.acts f g
+  pub follower : IsUpToDate ledger.setup own.shard own.shows.acts new.shows.acts f g
 
 pub stepped_seat : {ledger : LedgerState} {deed : Option Deed} (own new : SeatShows) (f g : FollowerState Act) → Takes own.shows deed new.shows → IsSamePlace own new
-    → IsListed own.shard (act_if own.shows.who deed) own.shows.acts new.shows.acts (listing_of f) (listing_of g) → IsKeptUp ledger.setup own.shard own.shows.acts new.shows.acts f g → SteppedSeat ledger deed own new f g
+    → IsListed own.shard (act_if own.shows.who deed) own.shows.acts new.shows.acts (listing_of f) (listing_of g) → IsUpToDate ledger.setup own.shard own.shows.acts new.shows.acts f g → SteppedSeat ledger deed own new f g
 stepped_seat own new f g takes place listed follower = record { takes = takes; place = place; listed = listed; follower = follower }
 
 module _ {seats : List SeatShows} {f : FollowerState Act} {args : PassShows} {ss : List Which} {ledger : LedgerState} {store : StoreShows} {k : ℕ} {own : SeatShows} (h : HeldSeat seats f args ss ledger store k own) where

@@ -9,7 +9,7 @@ use Rattle.history.specs.History.{History}
 use Rattle.book.specs.declared.answer.Answer.{Answer}
 use Rattle.one_map.specs.Hash.{shard_of}
 use Rattle.shared.specs.Passes.{Shows}
-use Rattle.shared.specs.Snapshots.{held_by, HasNoBlob}
+use Rattle.shared.specs.Snapshots.{version_held_by, HasNoBlob}
 use Rattle.shared.proofs.Snapshots.{has_no_blob}
 use Rattle.sharded.specs.Steps.{IsStepAt, IsCallAt, seen_at, seen_for}
 use Rattle.sharded.proofs.Steps.{set_here}
@@ -24,6 +24,6 @@ seen_after vs ws n at =
     ap (λ (m : ℕ). seen_at ws (shard_of m n)) long ∙ seen_named ws k at.new here
 
 -- without a snapshot the name has no blob
-pub has_no_blob_at : (r : Result Answer Fault) (result : Result (Option Sealed) Fault) (vs ws : List Shows) (n : List ℕ) → result ≡ held_by r → IsCallAt vs (read n 0 0) r ws → IfOk result (λ found. IfNone found (HasNoBlob (seen_for ws n) n))
+pub has_no_blob_at : (r : Result Answer Fault) (result : Result (Option Sealed) Fault) (vs ws : List Shows) (n : List ℕ) → result ≡ version_held_by r → IsCallAt vs (read n 0 0) r ws → IfOk result (λ found. IfNone found (HasNoBlob (seen_for ws n) n))
 has_no_blob_at r result vs ws n held at =
     subst (λ (h : History). IfOk result (λ found. IfNone found (HasNoBlob h n))) (sym (seen_after vs ws n at)) (has_no_blob r result at.old at.new n held at.does)

@@ -11,7 +11,7 @@ use Rattle.book.specs.Trimming.{journaled}
 use Rattle.book.specs.declared.numbers.Numbers.{Numbers}
 use Rattle.book.proofs.Counting.{open_decided}
 use Rattle.shared.specs.Passes.{Which, Shows}
-use Rattle.sharded.specs.Totals.{AreNumbersAt, AreTotals, added}
+use Rattle.sharded.specs.Totals.{AreNumbersAt, AreSumsOfAll, capped_sum}
 
 -- ---- a sum that is cut off
 cut_once : (m s b : ℕ) → min (min s m + b) m ≡ min (s + b) m
@@ -46,7 +46,7 @@ module _ (f : Shows → ℕ) where
 -- as its pass then shows it, which is at this store
 pub numbers_at : (v : Shows) (store : Which) (n : Numbers) → v.store ≡ store → AreNumbersOf store.width v.seen n → n.entries ≡ journaled store.limit (length v.seen - v.trimmed) → AreNumbersAt v n
 numbers_at v store n is told entries = record {
-  told = subst (λ (s : Which). AreNumbersOf s.width v.seen n) (sym is) told;
+  holds = subst (λ (s : Which). AreNumbersOf s.width v.seen n) (sym is) told;
   entries = subst (λ (s : Which). n.entries ≡ journaled s.limit (length v.seen - v.trimmed)) (sym is) entries;
 }
 
@@ -55,17 +55,17 @@ numbers_found v store (Ok n) is told entries = numbers_at v store n is told entr
 numbers_found v store (Err e) is told entries = tt
 
 -- ---- the totals
-pub totals_none : AreTotals [] (record { blobs = 0; bytes = 0; lost = 0; unrecoverable = 0; calls = 0; entries = 0 })
+pub totals_none : AreSumsOfAll [] (record { blobs = 0; bytes = 0; lost = 0; unrecoverable = 0; calls = 0; entries = 0 })
 totals_none = record { blobs = refl; bytes = refl; lost = refl; unrecoverable = refl; decided = open_decided; calls = refl; entries = refl }
 
-pub totals_more : (us ws : List Shows) (n : ℕ) (old new : Shows) (t m : Numbers) → slice_get us n ≡ Some old → ws ≡ slice_set us n new → AreTotals (take n us) t → AreNumbersAt new m → AreTotals (take (n + 1) ws) (added t m)
+pub totals_more : (us ws : List Shows) (n : ℕ) (old new : Shows) (t m : Numbers) → slice_get us n ≡ Some old → ws ≡ slice_set us n new → AreSumsOfAll (take n us) t → AreNumbersAt new m → AreSumsOfAll (take (n + 1) ws) (capped_sum t m)
 totals_more us ws n old new t m there only so at = record {
-  blobs = total_exact (λ v. length (finite.entries (state_of v.seen).names)) us ws n old new t.blobs m.blobs there only so.blobs at.told.blobs;
-  bytes = total_cut (λ v. sum_of (λ blob. length blob.bytes) (state_of v.seen)) us ws n old new t.bytes m.bytes there only so.bytes at.told.bytes;
-  lost = total_cut (λ v. length (plan_of (state_of v.seen))) us ws n old new t.lost m.lost there only so.lost at.told.lost;
-  unrecoverable = total_cut (λ v. sum_of (open_stripes v.store.width) (state_of v.seen)) us ws n old new t.unrecoverable m.unrecoverable there only so.unrecoverable at.told.unrecoverable;
+  blobs = total_exact (λ v. length (finite.entries (state_of v.seen).names)) us ws n old new t.blobs m.blobs there only so.blobs at.holds.blobs;
+  bytes = total_cut (λ v. sum_of (λ blob. length blob.bytes) (state_of v.seen)) us ws n old new t.bytes m.bytes there only so.bytes at.holds.bytes;
+  lost = total_cut (λ v. length (plan_of (state_of v.seen))) us ws n old new t.lost m.lost there only so.lost at.holds.lost;
+  unrecoverable = total_cut (λ v. sum_of (open_stripes v.store.width) (state_of v.seen)) us ws n old new t.unrecoverable m.unrecoverable there only so.unrecoverable at.holds.unrecoverable;
   decided = open_decided;
-  calls = total_exact (λ v. length v.seen) us ws n old new t.calls m.calls there only so.calls at.told.calls;
+  calls = total_exact (λ v. length v.seen) us ws n old new t.calls m.calls there only so.calls at.holds.calls;
   entries = total_exact (λ v. journaled v.store.limit (length v.seen - v.trimmed)) us ws n old new t.entries m.entries there only so.entries at.entries;
 }
 
@@ -75,5 +75,5 @@ take_whole [] (suc n) l = refl
 take_whole (x ∷ xs) zero l = absurd (omega arith)
 take_whole (x ∷ xs) (suc n) l = ap (λ ys. x ∷ ys) (take_whole xs n (omega arith))
 
-pub totals_all : (ws : List Shows) (n : ℕ) (t : Numbers) → length ws ≤ n → AreTotals (take n ws) t → AreTotals ws t
-totals_all ws n t l so = subst (λ xs. AreTotals xs t) (take_whole ws n l) so
+pub totals_all : (ws : List Shows) (n : ℕ) (t : Numbers) → length ws ≤ n → AreSumsOfAll (take n ws) t → AreSumsOfAll ws t
+totals_all ws n t l so = subst (λ xs. AreSumsOfAll xs t) (take_whole ws n l) so

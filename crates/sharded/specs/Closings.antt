@@ -1,13 +1,13 @@
 -- The books of a store that is closed.
 use Rattle.std.specs.Prelude.{◌≡◌, ◌+◌, List, [], ◌∷◌, length}
 use Rattle.book.specs.Contents.{Contents}
-use Rattle.book.specs.Tells.{HoldsHistory}
+use Rattle.book.specs.Holds.{HoldsHistory}
 use Rattle.shared.specs.Passes.{Shows, IsConsistent, IsWhole}
 
 -- The book represents what its pass has seen. Each call and each trim in it was made by this pass
 -- or by one that it joined
 pub record IsClosed (v : Shows) (book : Contents) : Type 0 where
-  pub told : HoldsHistory book v.seen
+  pub holds : HoldsHistory book v.seen
   pub whole : IsWhole v
   pub calls : length v.made ≡ length v.seen
   pub acts : length v.did ≡ length v.acts

@@ -46,8 +46,8 @@ abbrev pub AreLone : List Shows → Type 0
 AreLone vs = (k : ℕ) (v : Shows) → slice_get vs k ≡ Some v → v.room ≡ 64
 
 -- each has seen a legal history
-abbrev pub AreLegal : List Shows → Type 0
-AreLegal vs = (k : ℕ) (v : Shows) → slice_get vs k ≡ Some v → IsLegal v.store.width v.seen
+abbrev pub HaveLegalHistories : List Shows → Type 0
+HaveLegalHistories vs = (k : ℕ) (v : Shows) → slice_get vs k ≡ Some v → IsLegal v.store.width v.seen
 
 -- what each shows is consistent
 abbrev pub AreConsistent : List Shows → Type 0

@@ -4,7 +4,7 @@ use Rattle.sealed.specs.declared.fault.Fault.{Fault}
 use Rattle.sealed.specs.declared.value.Sealed.{Sealed}
 use Rattle.history.specs.Step.{read}
 use Rattle.book.specs.declared.answer.Answer.{Answer}
-use Rattle.shared.specs.Snapshots.{held_by}
+use Rattle.shared.specs.Snapshots.{version_held_by}
 use Rattle.sharded.specs.Passes.{PassShows}
 use Rattle.sharded.specs.Steps.{IsCallAt}
 use Rattle.sharded.specs.Listings.{IsListedCall}
@@ -16,4 +16,4 @@ pub record TakesSnapshotAt (v : PassShows) (n : List ℕ)
   pub answer : Result Answer Fault
   pub called : IsCallAt v.shards (read n 0 0) answer w.shards
   pub listed : IsListedCall v (read n 0 0) answer w
-  pub held : result ≡ held_by answer
+  pub held : result ≡ version_held_by answer

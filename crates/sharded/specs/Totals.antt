@@ -14,12 +14,12 @@ use Rattle.shared.specs.Passes.{Shows}
 
 -- the numbers of a shard, by what its pass shows
 pub record AreNumbersAt (v : Shows) (n : Numbers) : Type 0 where
-  pub told : AreNumbersOf v.store.width v.seen n
+  pub holds : AreNumbersOf v.store.width v.seen n
   pub entries : n.entries ≡ journaled v.store.limit (length v.seen - v.trimmed)
 
 -- each sum as a total is given: at most the largest number of 64 bits
-abbrev pub added : Numbers → Numbers → Numbers
-added a b = record {
+abbrev pub capped_sum : Numbers → Numbers → Numbers
+capped_sum a b = record {
   blobs = capped (a.blobs + b.blobs);
   bytes = capped (a.bytes + b.bytes);
   lost = capped (a.lost + b.lost);
@@ -30,7 +30,7 @@ added a b = record {
 
 -- The sums over all shards, of each by the history that its pass has seen. A stripe is counted as
 -- unrecoverable if and only if one of its fragments is.
-pub record AreTotals (vs : List Shows) (n : Numbers) : Type 0 where
+pub record AreSumsOfAll (vs : List Shows) (n : Numbers) : Type 0 where
   pub blobs : n.blobs ≡ capped (sum_by (λ v. length (finite.entries (state_of v.seen).names)) vs)
   pub bytes : n.bytes
       ≡ capped (sum_by (λ v. sum_of (λ blob. length blob.bytes) (state_of v.seen)) vs)

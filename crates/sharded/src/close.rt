@@ -6,7 +6,7 @@ ghost use Rattle.ledger.specs.Acts.{HasAll};
 ghost use Rattle.ledger_map.specs.Legal.{calls_of};
 ghost use Rattle.shared.specs.Passes.{Shows};
 ghost use Rattle.sharded.specs.Listings.{AreBeginnings, AreAllListed};
-ghost use Rattle.sharded.specs.Passes.{store_of, AreLone, AreLegal, HaveWidth};
+ghost use Rattle.sharded.specs.Passes.{store_of, AreLone, HaveLegalHistories, HaveWidth};
 ghost use Rattle.sharded.specs.Interleavings.{HasOneMap, HasInterleaving};
 ghost use Rattle.sharded.specs.Closings.{AreClosed};
 ghost use Rattle.sharded.specs.Seats.{shows_of, seat_stores, pass_shows, IsPassOf};
@@ -41,7 +41,7 @@ impl ShardedPass {
         ensures some { (result ≡ 64) ⊎ ((k : ℕ) × (v : Shows)
             × (slice_get self.now.shards k ≡ Some v) × (result ≡ v.room)) }
         ensures lone { result ≡ 64 → AreLone self.now.shards }
-        ensures legal { AreLegal self.now.shards }
+        ensures legal { HaveLegalHistories self.now.shards }
         ensures one_map { (w : ℕ) → 0 < length self.now.shards → HaveWidth w self.now.shards
             → HasOneMap w self.now.shards }
         ensures list { (w : ℕ) → 0 < length self.now.shards → HaveWidth w self.now.shards
@@ -92,7 +92,7 @@ fn find_least_room(seats: &[ShardSeat]) -> u64
     ensures some { (result ≡ 64) ⊎ ((k : ℕ) × (v : Shows)
         × (slice_get (shows_of seats.now) k ≡ Some v) × (result ≡ v.room)) }
     ensures lone { result ≡ 64 → AreLone (shows_of seats.now) }
-    ensures legal { AreLegal (shows_of seats.now) }
+    ensures legal { HaveLegalHistories (shows_of seats.now) }
 {
     let mut least = 64;
     for seat in seats {

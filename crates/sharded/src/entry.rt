@@ -94,7 +94,7 @@ impl ShardedStore {
         ensures entered { IfOk result
             (λ _. IsStepAt (operation_shard (length pass.old.shards) (operation_of request))
             VisitsOnce pass.old.shards pass.new.shards) }
-        ensures kept { IfErr result (λ r. r ≡ request) }
+        ensures unchanged { IfErr result (λ r. r ≡ request) }
         ensures refused { IfErr result (λ _. IsCallAt pass.old.shards (operation_of request)
             (Err Fault.Busy) pass.new.shards) }
         ensures unlisted { IfErr result

@@ -6,7 +6,7 @@ ghost use Rattle.std.specs.Prelude.{◌≡◌, ◌≢◌, ◌⊎◌, length, IfE
 ghost use Rattle.history.specs.Step.{repair as repair_of};
 ghost use Rattle.one_map.specs.OneMap.{operation_shard};
 ghost use Rattle.book.specs.Known.{IsFragmentIn};
-ghost use Rattle.book.specs.Tells.{IsCallFault};
+ghost use Rattle.book.specs.Holds.{IsCallFault};
 ghost use Rattle.shared.specs.Passes.{VisitsOnce};
 ghost use Rattle.sharded.specs.Passes.{store_of, AreLone};
 ghost use Rattle.sharded.specs.Listings.{IsListedCall};

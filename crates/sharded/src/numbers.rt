@@ -3,7 +3,7 @@ ghost use Rattle.std.specs.Prelude.{◌≡◌, ◌≢◌, ◌<◌, [], length, N
 ghost use Rattle.shared.specs.Deeds.{Takes};
 ghost use Rattle.shared.specs.Passes.{FindsBusy};
 ghost use Rattle.sharded.specs.Listings.{IsListedAt, IsLonger};
-ghost use Rattle.sharded.specs.Totals.{AreNumbersAt, AreTotals, added};
+ghost use Rattle.sharded.specs.Totals.{AreNumbersAt, AreSumsOfAll, capped_sum};
 ghost use Rattle.sharded.specs.Passes.{store_of, AreLone};
 ghost use Rattle.sharded.specs.Steps.{IsStepAt};
 ghost use Rattle.sharded.specs.StepsTo.{AreSteps, HasLooked, HaveLookedToBusy};
@@ -21,7 +21,7 @@ impl ShardedStore {
     pub fn numbers<R: Wait>(&self, rt: &R, pass: &mut ShardedPass) -> Numbers
         requires { store_of pass.old ≡ self.now }
         ensures looked { AreSteps HasLooked pass.old.shards pass.new.shards }
-        ensures totals { AreTotals pass.new.shards result }
+        ensures totals { AreSumsOfAll pass.new.shards result }
         ensures longer { IsLonger pass.old pass.new }
         ensures same { store_of pass.new ≡ self.now }
     {
@@ -38,7 +38,7 @@ impl ShardedStore {
     pub fn try_numbers(&self, pass: &mut ShardedPass) -> Result<Numbers, Fault>
         requires { store_of pass.old ≡ self.now }
         ensures ok { OnOk result (AreSteps HasLooked pass.old.shards pass.new.shards) }
-        ensures totals { IfOk result (AreTotals pass.new.shards) }
+        ensures totals { IfOk result (AreSumsOfAll pass.new.shards) }
         ensures busy { OnErr result (HaveLookedToBusy pass.old.shards pass.new.shards) }
         ensures longer { IsLonger pass.old pass.new }
         ensures same { store_of pass.new ≡ self.now }
@@ -91,7 +91,7 @@ impl ShardedStore {
 
 /// The totals over no shard.
 fn no_numbers() -> Numbers
-    ensures { AreTotals [] result }
+    ensures { AreSumsOfAll [] result }
 {
     Numbers {
         blobs: 0,
@@ -105,7 +105,7 @@ fn no_numbers() -> Numbers
 
 /// The sums of the numbers of two stores.
 fn add(some: Numbers, more: Numbers) -> Numbers
-    ensures { result ≡ added some more }
+    ensures { result ≡ capped_sum some more }
 {
     Numbers {
         blobs: some.blobs.saturating_add(more.blobs),

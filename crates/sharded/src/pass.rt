@@ -30,7 +30,7 @@ impl ShardedPass {
         who: u32,
     ) -> Result<ShardedPass, Fault>
         requires { store_of self.old ≡ store.now }
-        ensures kept { OnOk result (self.new.shards ≡ map kept_in_split self.old.shards) }
+        ensures unchanged { OnOk result (self.new.shards ≡ map kept_in_split self.old.shards) }
         ensures given { IfOk result
             (λ p. p.shards ≡ map (given_in_split who) self.old.shards) }
         ensures list { listing self.new ≡ listing self.old }
@@ -98,7 +98,7 @@ fn split_all(
 ) -> Result<(), Fault>
     requires stores { seat_stores seats.old.items ≡ shards.now }
     requires none { given.old.items ≡ [] }
-    ensures kept { OnOk result (seats.new.items ≡ map kept_seat seats.old.items) }
+    ensures unchanged { OnOk result (seats.new.items ≡ map kept_seat seats.old.items) }
     ensures given { OnOk result (given.new.items ≡ map (given_seat who) seats.old.items) }
     ensures err { OnErr result
         (AreSeatsInPart who seats.old.items seats.new.items given.new.items) }

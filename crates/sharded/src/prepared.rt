@@ -3,7 +3,7 @@ ghost use Rattle.std.specs.Prelude.{◌≡◌, ◌⊎◌, ◌↔◌, ◌<◌, le
 ghost use Rattle.sealed.specs.declared.fault.Fault.{Fault};
 ghost use Rattle.sealed.specs.Layout.{stripe_count};
 ghost use Rattle.history.specs.Step.{put as put_of};
-ghost use Rattle.book.specs.Tells.{IsCallFault};
+ghost use Rattle.book.specs.Holds.{IsCallFault};
 ghost use Rattle.requests.specs.Requests.{operation_of, IsFaultOf};
 ghost use Rattle.sharded.specs.Passes.{PassShows, store_of};
 ghost use Rattle.sharded.specs.Requests.{CanAskAt};

@@ -4,9 +4,9 @@
 
 ghost use Rattle.std.specs.Prelude.{◌≡◌, ◌≢◌, ◌⊎◌, Err, IfOk, IfErr, IfSome, IfNone};
 ghost use Rattle.history.specs.Step.{read as read_of};
-ghost use Rattle.book.specs.Tells.{IsCallFault};
+ghost use Rattle.book.specs.Holds.{IsCallFault};
 ghost use Rattle.shared.specs.Calls.{CanGrant};
-ghost use Rattle.shared.specs.Snapshots.{HasFragmentsOf, HasNoBlob, IsVersionIn, held_by};
+ghost use Rattle.shared.specs.Snapshots.{HasFragmentsOf, HasNoBlob, IsVersionIn, version_held_by};
 ghost use Rattle.sharded.specs.Passes.{store_of, AreLone};
 ghost use Rattle.sharded.specs.Snapshots.{TakesSnapshotAt};
 ghost use Rattle.sharded.specs.Steps.{seen_for, width_for, IsBusyAt};
@@ -72,7 +72,7 @@ impl ShardedStore {
 /// The snapshot that the answer to a read of no byte gives. Such a range lies inside every blob and
 /// has no unrecoverable byte, so without a grant the name has no blob.
 fn snapshot_of(called: Result<Answer, Fault>) -> Result<Option<Snapshot>, Fault>
-    ensures { result ≡ held_by called }
+    ensures { result ≡ version_held_by called }
 {
     match called {
         Ok(Answer::Granted(grant)) => Ok(Some(grant.into_snapshot())),

@@ -7,7 +7,7 @@ ghost use Rattle.std.specs.Prelude.{◌≡◌, ◌≢◌, ◌⊎◌, ◌↔◌, 
 ghost use Rattle.sealed.specs.Layout.{stripe_count};
 ghost use Rattle.history.specs.Step.{put as put_of, read as read_of, lose as lose_of};
 ghost use Rattle.history.specs.Step.{repair as repair_of, delete as delete_of, stat as stat_of};
-ghost use Rattle.book.specs.Tells.{IsCallFault};
+ghost use Rattle.book.specs.Holds.{IsCallFault};
 ghost use Rattle.shared.specs.Calls.{CanGrant, GrantedIn, IfGranted};
 ghost use Rattle.sharded.specs.Passes.{store_of, AreLone};
 ghost use Rattle.sharded.specs.Listings.{IsListedCall};

@@ -3,7 +3,7 @@
 
 ghost use Rattle.std.specs.Prelude.{◌≡◌, ◌⊎◌, ◌^◌, [], length, IfOk, IfErr, OnOk, OnErr};
 ghost use Rattle.std.specs.Vec.{vec_capacity};
-ghost use Rattle.book.specs.Tells.{IsCallFault};
+ghost use Rattle.book.specs.Holds.{IsCallFault};
 ghost use Rattle.mender.specs.Drawn.{IsIntact};
 ghost use Rattle.mender.specs.Worked.{Finished, AreInOrder};
 ghost use Rattle.sharded.specs.Passes.{store_of};

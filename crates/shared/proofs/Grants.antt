@@ -18,11 +18,11 @@ use Rattle.book.specs.declared.answer.Answer.TheVariants as answer
 use Rattle.book.specs.Asked.{IsReadAnswer, IsGrantable}
 use Rattle.book.specs.Contents.{sealed_at}
 use Rattle.book.specs.Serial.{events_in}
-use Rattle.book.specs.Tells.{Represents, Correspond}
+use Rattle.book.specs.Holds.{Represents, Correspond}
 use Rattle.book.proofs.Reading.{inside_from}
 use Rattle.book.proofs.Same.{unreadable_alike}
 use Rattle.book.proofs.Versions.{was_put, only_put}
-use Rattle.requests.specs.declared.kept.Kept.{Kept}
+use Rattle.requests.specs.declared.boxed_book.BoxedBook.{BoxedBook}
 use Rattle.requests.specs.declared.request.Request.{Request}
 use Rattle.requests.specs.declared.request.Request.TheVariants.{Put, Read, Lose, Install, Delete, Stat}
 use Rattle.shared.specs.Passes.{seen_of, width_of}
@@ -38,7 +38,7 @@ grant_in w None had start len g right both = absurd right
 grant_in w (Some s) None start len g right both = absurd both
 grant_in w (Some s) (Some blob) start len g right both = (blob, refl, subst (λ (x : Sealed). Represents w x blob) (sym right.0) both, right.1, right.2)
 
-granted : (p q : SeatState Kept) (x : Kept) (who w : ℕ) (n : List ℕ) (start len : ℕ) (a : Answer) → Stepped p q x (event who (read n start len) a ∷ []) 0 → width_of q.list ≡ w
+granted : (p q : SeatState BoxedBook) (x : BoxedBook) (who w : ℕ) (n : List ℕ) (start len : ℕ) (a : Answer) → Stepped p q x (event who (read n start len) a ∷ []) 0 → width_of q.list ≡ w
     → IsReadAnswer (sealed_at x.0.value n) start len a → IfGranted a (GrantedIn (seen_of q.list) w n start len)
 granted p q x who w n start len (answer.Granted g) s width right =
     let h : History = seen_of p.list ++ events_in s.others in
@@ -51,14 +51,14 @@ granted p q x who w n start len (answer.Granted g) s width right =
       len_is = is.4;
       blob = is.0;
       here = here;
-      represents = subst (λ (v : ℕ). Represents v g.sealed.value is.0) (s.told.width ∙ width) is.2;
+      represents = subst (λ (v : ℕ). Represents v g.sealed.value is.0) (s.holds.width ∙ width) is.2;
       put_is = put_is;
       only = λ m code c other. only_put (width_of q.list) (seen_of q.list) s.legal is.0.version n m is.0.code code is.0.bytes c put_is other;
     }
 granted p q x who w n start len a s width right = tt
 
 -- where the request is a read
-pub all_granted : (r : Result Answer Fault) (p q : SeatState Kept) (x : Kept) (who w : ℕ) (request : Request) → Stepped p q x (made_by who (operation_of request) r) 0 → width_of q.list ≡ w
+pub all_granted : (r : Result Answer Fault) (p q : SeatState BoxedBook) (x : BoxedBook) (who w : ℕ) (request : Request) → Stepped p q x (made_by who (operation_of request) r) 0 → width_of q.list ≡ w
     → IfOk r (IsAnswerTo x.0.value request) → IfOk r (IsGrantedTo (seen_of q.list) w request)
 all_granted (Err e) p q x who w request s width right = tt
 all_granted (Ok a) p q x who w (Read n start len) s width right = granted p q x who w n start len a s width right
@@ -83,7 +83,7 @@ can_grant w (Some s) (Some blob) start len can both =
     (blob.version, second_case _ _ _ (subst (λ (l : ℕ). is_outside l start len ≡ false) len_is can.0) (inr (λ u. can.1 ((unreadable_alike w wide s blob both start len fits).1 u), refl)))
 
 -- where the request is a read, memory was wanted for a grant
-pub wanted_for : (r : Result Answer Fault) (p q : SeatState Kept) (x : Kept) (who w : ℕ) (request : Request) → Stepped p q x (made_by who (operation_of request) r) 0 → width_of q.list ≡ w
+pub wanted_for : (r : Result Answer Fault) (p q : SeatState BoxedBook) (x : BoxedBook) (who w : ℕ) (request : Request) → Stepped p q x (made_by who (operation_of request) r) 0 → width_of q.list ≡ w
     → (r ≡ Err NoMemory → MayWant x.0.value request) → r ≡ Err NoMemory → WantedFor (seen_of q.list) w request
 wanted_for (Ok a) p q x who w request s width may is = absurd (cc (is))
 wanted_for (Err e) p q x who w (Read n start len) s width may is =
@@ -91,7 +91,7 @@ wanted_for (Err e) p q x who w (Read n start len) s width may is =
     let same : h ≡ seen_of q.list = sym (s.seen ∙ append-nil h) in
     let can = can_grant x.0.value.width (sealed_at x.0.value n) (finite.get (state_of h).names n) start len (may is) ((told_history p q x _ 0 s).catalogue n) in
     let at_last = subst (λ (g : History). IsReadReply x.0.value.width (finite.get (state_of g).names n) start len (noted.Granted can.0)) same can.1 in
-    (can.0, subst (λ (v : ℕ). IsReadReply v (finite.get (state_of (seen_of q.list)).names n) start len (noted.Granted can.0)) (s.told.width ∙ width) at_last)
+    (can.0, subst (λ (v : ℕ). IsReadReply v (finite.get (state_of (seen_of q.list)).names n) start len (noted.Granted can.0)) (s.holds.width ∙ width) at_last)
 wanted_for (Err e) p q x who w (Put alloc n sealed) s width may is = tt
 wanted_for (Err e) p q x who w (Lose alloc n j f) s width may is = tt
 wanted_for (Err e) p q x who w (Install alloc n version j f bytes) s width may is = tt

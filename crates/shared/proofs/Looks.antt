@@ -11,9 +11,9 @@ use Rattle.book.specs.declared.plan.Plan.{Plan}
 use Rattle.book.specs.declared.plan.Item.{Item}
 use Rattle.book.specs.Contents.{Contents, journal_of}
 use Rattle.book.specs.Numbers.{AreNumbersOf}
-use Rattle.book.specs.Tells.{HoldsHistory}
+use Rattle.book.specs.Holds.{HoldsHistory}
 use Rattle.book.specs.Trimming.{given_up, journaled}
-use Rattle.requests.specs.declared.kept.Kept.{Kept}
+use Rattle.requests.specs.declared.boxed_book.BoxedBook.{BoxedBook}
 use Rattle.book.specs.Serial.{events_in, given_in}
 use Rattle.shared.specs.Passes.{Shows, Which, acts_of, seen_of, shows, limit_of, trimmed_of}
 use Rattle.shared.specs.Deeds.{trim_deed, Takes}
@@ -36,15 +36,15 @@ pub trim_goes_on : (r : Result ℕ Fault) (old new : Contents) → new.width ≡
 trim_goes_on r old new width limit told trimmed same = still_goes_on old new (given_by r) width limit (given_more r old new trimmed same) told
 
 -- the trim is that of one thread
-pub takes_trim : (r : Result ℕ Fault) (p q : SeatState Kept) (x : Kept) (who keep : ℕ) → Stepped p q x [] (given_by r)
+pub takes_trim : (r : Result ℕ Fault) (p q : SeatState BoxedBook) (x : BoxedBook) (who keep : ℕ) → Stepped p q x [] (given_by r)
     → IfOk r (λ n. n ≡ given_up x.0.value.base.trimmed (length (journal_of x.0.value)) keep) → Takes (shows p who) (trim_deed keep r) (shows q who)
 takes_trim (Err e) p q x who keep step answer = takes p q x [] 0 who None step refl tt
 takes_trim (Ok n) p q x who keep step answer =
     let acts = acts_of p.list ++ step.others in
     let calls = calls_found p q x [] n step in
-    let given : x.0.value.base.trimmed ≡ given_in acts = step.told.told.given in
+    let given : x.0.value.base.trimmed ≡ given_in acts = step.holds.holds.given in
     let count : length x.0.value.entries ≡ length (events_in acts) - given_in acts = omega arith in
-    let limit : x.0.value.limit ≡ limit_of p.list = step.told.limit ∙ ap (λ (s : Which). s.limit) step.store in
+    let limit : x.0.value.limit ≡ limit_of p.list = step.holds.limit ∙ ap (λ (s : Which). s.limit) step.store in
     takes p q x [] n who (trim_deed keep (Ok n)) step refl (answer ∙ ap (λ k. given_up x.0.value.base.trimmed k keep) (kept_count x.0.value) ∙ (λ i. given_up (given i) (journaled (limit i) (count i)) keep))
 
 -- a trim in parts
@@ -66,7 +66,7 @@ whole_trim (Err e) keep v w part few whole = part.2
 whole_trim (Ok n) keep v w part few whole = whole (omega (arith, few.1))
 
 -- the items that the book lists are those of the history that was seen
-pub planned : (items_of : History → List Item) (found : Result Plan AllocError) (r : Result Plan Fault) (p q : SeatState Kept) (x : Kept) (Q : AllocError → Type 0) → Stepped p q x [] 0 → is_ok r ≡ is_ok found
+pub planned : (items_of : History → List Item) (found : Result Plan AllocError) (r : Result Plan Fault) (p q : SeatState BoxedBook) (x : BoxedBook) (Q : AllocError → Type 0) → Stepped p q x [] 0 → is_ok r ≡ is_ok found
     → MatchResult found (λ plan. r ≡ Ok plan) Q → IfOk found (λ plan. (h : History) → HoldsHistory x.0.value h → plan.items.items ≡ items_of h)
     → IfOk r (λ plan. plan.items.items ≡ items_of (seen_of q.list))
 planned items_of (Ok plan) r p q x Q step both same is =
@@ -77,11 +77,11 @@ planned items_of (Err e) (Ok plan) p q x Q step both same is = absurd (cc (both)
 planned items_of (Err e) (Err f) p q x Q step both same is = tt
 
 -- ---- the numbers of the book are those of what was seen
-module _ (p q : SeatState Kept) (x : Kept) (who : ℕ) (store : Which) (step : Stepped p q x [] 0) (here : (shows p who).store ≡ store) where
+module _ (p q : SeatState BoxedBook) (x : BoxedBook) (who : ℕ) (store : Which) (step : Stepped p q x [] 0) (here : (shows p who).store ≡ store) where
   pub numbered : (n : Numbers) → ((h : History) → HoldsHistory x.0.value h → AreNumbersOf x.0.value.width h n) → AreNumbersOf store.width (seen_of q.list) n
   numbered n are =
       let h : History = seen_of p.list ++ events_in step.others in
-      let width : x.0.value.width ≡ store.width = step.told.width ∙ ap (λ (s : Which). s.width) (step.store ∙ here) in
+      let width : x.0.value.width ≡ store.width = step.holds.width ∙ ap (λ (s : Which). s.width) (step.store ∙ here) in
       subst (λ w. AreNumbersOf w (seen_of q.list) n) width
       (subst (λ (g : History). AreNumbersOf x.0.value.width g n) (sym (step.seen ∙ append-nil h)) (are h (told_history p q x [] 0 step)))
 
@@ -90,6 +90,6 @@ module _ (p q : SeatState Kept) (x : Kept) (who : ℕ) (store : Which) (step : S
       let h : History = seen_of p.list ++ events_in step.others in
       let same : length (seen_of q.list) ≡ length h = ap length (step.seen ∙ append-nil h) in
       let told : x.0.value.base.trimmed + length x.0.value.entries ≡ length h = told_length x.0.value h (told_history p q x [] 0 step) in
-      let limit : x.0.value.limit ≡ store.limit = step.told.limit ∙ ap (λ (s : Which). s.limit) (step.store ∙ here) in
+      let limit : x.0.value.limit ≡ store.limit = step.holds.limit ∙ ap (λ (s : Which). s.limit) (step.store ∙ here) in
       let count : length x.0.value.entries ≡ length (seen_of q.list) - trimmed_of q.list = omega arith in
       is ∙ kept_count x.0.value ∙ (λ i. journaled (limit i) (count i))

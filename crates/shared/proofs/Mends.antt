@@ -18,9 +18,9 @@ use Rattle.book.specs.declared.answer.Answer.{Answer}
 use Rattle.book.specs.Contents.{Contents, sealed_at}
 use Rattle.book.specs.Known.{IsFragmentIn}
 use Rattle.book.specs.Serial.{Deed, Does, Act, events_in, standing_of}
-use Rattle.book.specs.Tells.{Represents, Correspond}
+use Rattle.book.specs.Holds.{Represents, Correspond}
 use Rattle.book.proofs.Versions.{was_put}
-use Rattle.requests.specs.declared.kept.Kept.{Kept}
+use Rattle.requests.specs.declared.boxed_book.BoxedBook.{BoxedBook}
 use Rattle.requests.specs.declared.inspection.Inspection.{Inspection}
 use Rattle.requests.specs.declared.inspection.Inspection.TheVariants.{Done, Refused, Rebuildable}
 use Rattle.shared.specs.Passes.{Which, Shows, seen_of, width_of, trimmed_of, shows}
@@ -50,14 +50,14 @@ known_by w None had s is both = absurd (cc (is))
 known_by w (Some t) None s is both = absurd both
 known_by w (Some t) (Some blob) s is both = (blob, refl, (let same : t ≡ s = cc in subst (λ (x : Sealed). Represents w x blob) same both))
 
-known : (p q : SeatState Kept) (x : Kept) (n : List ℕ) (s : Sealed) → Stepped p q x [] 0 → sealed_at x.0.value n ≡ Some s → IsKnown (seen_of q.list) (width_of q.list) n s
+known : (p q : SeatState BoxedBook) (x : BoxedBook) (n : List ℕ) (s : Sealed) → Stepped p q x [] 0 → sealed_at x.0.value n ≡ Some s → IsKnown (seen_of q.list) (width_of q.list) n s
 known p q x n s step found =
     let h : History = seen_of p.list ++ events_in step.others in
     let same : seen_of q.list ≡ h = step.seen ∙ append-nil h in
     let is = known_by x.0.value.width (sealed_at x.0.value n) (finite.get (state_of h).names n) s found ((told_history p q x [] 0 step).catalogue n) in
     record {
       blob = is.0;
-      represents = subst (λ (w : ℕ). Represents w s is.0) step.told.width is.2;
+      represents = subst (λ (w : ℕ). Represents w s is.0) step.holds.width is.2;
       put_is = was_put (width_of q.list) (seen_of q.list) step.legal n is.0 (ap (λ (g : History). finite.get (state_of g).names n) same ∙ is.1);
     }
 
@@ -71,7 +71,7 @@ refused_full e book is =
     other none there = cc (none, there)
 
 -- what an inspection of the book makes of a pass
-pub inspection_found : (p q : SeatState Kept) (x y : Kept) (who : ℕ) (n : List ℕ) (j f : ℕ) (l : Inspection) → Stepped p q x (events_at_inspection l who (repair n j f)) 0 → trimmed_of q.list ≡ x.0.value.base.trimmed → FoundIn x.0.value y.0.value who n j f l
+pub inspection_found : (p q : SeatState BoxedBook) (x y : BoxedBook) (who : ℕ) (n : List ℕ) (j f : ℕ) (l : Inspection) → Stepped p q x (events_at_inspection l who (repair n j f)) 0 → trimmed_of q.list ≡ x.0.value.base.trimmed → FoundIn x.0.value y.0.value who n j f l
     → InspectionGives (shows p who) n j f l (shows q who)
 inspection_found p q x y who n j f (Done a) step left is =
     called p q x who (repair n j f) (Ok a) step left ((λ e. absurd (cc (e))), (λ there. absurd (is.1 there))) (λ e. absurd (cc (e))) (λ e. cc (e))

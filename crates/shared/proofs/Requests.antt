@@ -8,7 +8,7 @@ use Rattle.sealed.specs.Layout.{stripe_count}
 use Rattle.history.specs.Step.{Operation, put}
 use Rattle.history.specs.History.{History}
 use Rattle.book.specs.Known.{IsFragmentIn}
-use Rattle.requests.specs.declared.kept.Kept.{Kept}
+use Rattle.requests.specs.declared.boxed_book.BoxedBook.{BoxedBook}
 use Rattle.requests.specs.declared.request.Request.{Request}
 use Rattle.requests.specs.declared.request.Request.TheVariants.{Put, Read, Lose, Install, Delete, Stat}
 use Rattle.lrc_code.specs.declared.Code.{Code}
@@ -37,12 +37,12 @@ put_later h h' w n v j f x more is = record {
 }
 
 -- what a pass may ask can be made on the book that it finds
-can_make : (p m : SeatState Kept) (x : Kept) (who : ℕ) (request : Request) → Found p m x → CanAsk (shows p who) request → CanMake x.0.value request
-can_make p m x who (Put alloc n s) f can = (can.0 ∙ sym f.told.width, can.1)
+can_make : (p m : SeatState BoxedBook) (x : BoxedBook) (who : ℕ) (request : Request) → Found p m x → CanAsk (shows p who) request → CanMake x.0.value request
+can_make p m x who (Put alloc n s) f can = (can.0 ∙ sym f.holds.width, can.1)
 can_make p m x who (Install alloc n version j g bytes) f can = (
   seen_of m.list,
-  f.told.told.tells,
-  subst (λ (w : ℕ). IsFragmentIn (seen_of m.list) w n version j g bytes) (sym f.told.width) (put_later (seen_of p.list) (seen_of m.list) (width_of p.list) n version j g bytes (found_before p m x f) can),
+  f.holds.holds.holds,
+  subst (λ (w : ℕ). IsFragmentIn (seen_of m.list) w n version j g bytes) (sym f.holds.width) (put_later (seen_of p.list) (seen_of m.list) (width_of p.list) n version j g bytes (found_before p m x f) can),
 )
 can_make p m x who (Read n start len) f can = tt
 can_make p m x who (Lose alloc n j g) f can = tt
@@ -50,7 +50,7 @@ can_make p m x who (Delete n) f can = tt
 can_make p m x who (Stat n) f can = tt
 
 -- and on the book that it enters to
-pub can_make_inside : (p m : SeatState Kept) (x : Kept) (who : ℕ) (request : Request) (v : Shows) → shows p who ≡ v → IsPass p → Enters p m x → CanAsk v request → CanMake x.0.value request
+pub can_make_inside : (p m : SeatState BoxedBook) (x : BoxedBook) (who : ℕ) (request : Request) (v : Shows) → shows p who ≡ v → IsPass p → Enters p m x → CanAsk v request → CanMake x.0.value request
 can_make_inside p m x who request v same pass enters can = can_make p m x who request (found p m x pass enters) (subst (λ (u : Shows). CanAsk u request) (sym same) can)
 
 -- a blob that was refused before the gate was entered
@@ -61,14 +61,14 @@ refused_put v n code b w f agrees width is long =
     (λ there. subst (λ (u : ℕ). 4096 < stripe_count code u (length b)) width (long there))
 
 -- a seat found another inside, and is else as it was
-abbrev pub FoundInside : SeatState Kept → SeatState Kept → Type 0
+abbrev pub FoundInside : SeatState BoxedBook → SeatState BoxedBook → Type 0
 FoundInside p q = (length p.list < q.expected_length) × (q ≡ record p { expected_length = q.expected_length })
 
-pub busy_pass : (p q : SeatState Kept) → IsPass p → FoundInside p q → IsPass q
+pub busy_pass : (p q : SeatState BoxedBook) → IsPass p → FoundInside p q → IsPass q
 busy_pass p q pass found =
-    pass_again p q pass (ap (λ (s : SeatState Kept). s.list) found.1) (ap (λ (s : SeatState Kept). s.own) found.1) (ap (λ (s : SeatState Kept). s.inside) found.1 ∙ pass.outside)
+    pass_again p q pass (ap (λ (s : SeatState BoxedBook). s.list) found.1) (ap (λ (s : SeatState BoxedBook). s.own) found.1) (ap (λ (s : SeatState BoxedBook). s.inside) found.1 ∙ pass.outside)
 
-nothing_done : (p q : SeatState Kept) (who : ℕ) → IsPass p → q ≡ record p { expected_length = q.expected_length } → Takes (shows p who) None (shows q who)
+nothing_done : (p q : SeatState BoxedBook) (who : ℕ) → IsPass p → q ≡ record p { expected_length = q.expected_length } → Takes (shows p who) None (shows q who)
 nothing_done p q who pass same =
     let v : Shows = shows p who in
     let agrees = agreed p who pass in
@@ -82,16 +82,16 @@ nothing_done p q who pass same =
       agrees = record { seen_is = agrees.seen_is; trimmed_is = agrees.trimmed_is; made_is = agrees.made_is; room = agrees.room };
       lone = none.lone;
     } in
-    subst (λ (s : SeatState Kept). Takes v None (shows s who)) (sym same) now
+    subst (λ (s : SeatState BoxedBook). Takes v None (shows s who)) (sym same) now
 
-pub did_nothing : (p q : SeatState Kept) (who : ℕ) (v : Shows) → IsPass p → FoundInside p q → shows p who ≡ v → Takes v None (shows q who)
+pub did_nothing : (p q : SeatState BoxedBook) (who : ℕ) (v : Shows) → IsPass p → FoundInside p q → shows p who ≡ v → Takes v None (shows q who)
 did_nothing p q who v pass found is = subst (λ (u : Shows). Takes u None (shows q who)) is (nothing_done p q who pass found.1)
 
-pub finds_busy : (p q : SeatState Kept) (who : ℕ) (v : Shows) → FoundInside p q → shows p who ≡ v → FindsBusy v (shows q who)
-finds_busy p q who v found is = subst (λ (u : Shows). FindsBusy u (shows q who)) is (found.0, ap (λ (s : SeatState Kept). shows s who) found.1)
+pub finds_busy : (p q : SeatState BoxedBook) (who : ℕ) (v : Shows) → FoundInside p q → shows p who ≡ v → FindsBusy v (shows q who)
+finds_busy p q who v found is = subst (λ (u : Shows). FindsBusy u (shows q who)) is (found.0, ap (λ (s : SeatState BoxedBook). shows s who) found.1)
 
 -- a pass that was let in
-pub visits_once : (p m q : SeatState Kept) (who : ℕ) (v : Shows) (y : Kept) → (m.expected_length ≡ p.expected_length) × (p.expected_length ≤ length m.list) → q.list ≡ m.list ++ y ∷ [] → length q.own ≡ length p.own + 1
+pub visits_once : (p m q : SeatState BoxedBook) (who : ℕ) (v : Shows) (y : BoxedBook) → (m.expected_length ≡ p.expected_length) × (p.expected_length ≤ length m.list) → q.list ≡ m.list ++ y ∷ [] → length q.own ≡ length p.own + 1
     → shows p who ≡ v → VisitsOnce v (shows q who)
 visits_once p m q who v y expected list own is =
     let more : length q.list ≡ length m.list + 1 = ap length list ∙ length-append m.list (y ∷ []) in
@@ -99,7 +99,7 @@ visits_once p m q who v y expected list own is =
     subst (λ (u : Shows). VisitsOnce u (shows q who)) is (own, omega arith)
 
 -- a pass that found another inside
-pub was_busy : (p q : SeatState Kept) (who : ℕ) (v : Shows) (o : Operation) → IsPass p → FoundInside p q → shows p who ≡ v → Called v o (Err Busy) (shows q who)
+pub was_busy : (p q : SeatState BoxedBook) (who : ℕ) (v : Shows) (o : Operation) → IsPass p → FoundInside p q → shows p who ≡ v → Called v o (Err Busy) (shows q who)
 was_busy p q who v o pass found is = record {
   takes = did_nothing p q who v pass found is;
   no_memory = λ e. absurd (cc e);

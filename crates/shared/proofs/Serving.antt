@@ -23,15 +23,15 @@ use Rattle.requests.specs.declared.jobs.Reply.TheVariants.{Made, Refused, Trimme
 use Rattle.shared.specs.Passes.{Which, Shows}
 use Rattle.shared.specs.Deeds.{deed_of, act_if, Takes}
 use Rattle.shared.specs.Calls.{Called, GrantedIn, IfGranted}
-use Rattle.shared.specs.Runs.{operation_asked, reply_for}
+use Rattle.shared.specs.Runs.{operation_asked, call_reply}
 use Rattle.shared.proofs.Steps.{act_called}
-use Rattle.shared.specs.Serving.{deed_told, IfGrantedTo, Turn, act_in, IsServed, AreServed, places_of, acts_in, Serves}
+use Rattle.shared.specs.Serving.{deed_of_reply, IfGrantedTo, Turn, act_in, IsServed, AreServed, places_of, acts_in, Serves}
 
 -- ---- what was served stays served
 served-longer : (w l : ℕ) (acts later : List Act) (who : ℕ) (t : Turn) → IsPrefix acts later → IsServed w l acts who t → IsServed w l later who t
 served-longer w l acts later who t p is = record {
   deed = is.deed;
-  told = is.told;
+  holds = is.holds;
   before = is.before;
   place_is = is.place_is;
   does = is.does;
@@ -48,7 +48,7 @@ served-inside : (w l : ℕ) (acts : List Act) (who : ℕ) (t : Turn) → IsServe
 served-inside w l acts who t is =
     let long = length-append is.before (act_of who is.deed) in
     let fits = prefix_length (is.before ++ act_of who is.deed) acts is.stands in
-    let same : length (act_in who t) ≡ length (act_of who is.deed) = ap (λ d. length (act_if who d)) is.told in
+    let same : length (act_in who t) ≡ length (act_of who is.deed) = ap (λ d. length (act_if who d)) is.holds in
     let at : length is.before ≡ t.place = is.place_is in
     omega arith
 
@@ -132,7 +132,7 @@ serves_longer v u w asks more replies many one rest =
 
 -- ---- one job
 -- the reply tells a deed that was done, and where it grants a read, the grant is of what was done before, and of itself
-pub serves_one : (v w : Shows) (a : Ask) (reply : Reply) (d : Deed) → deed_told a reply ≡ Some d → Takes v (Some d) w → IfGrantedTo w.seen w.store.width (operation_asked a) reply
+pub serves_one : (v w : Shows) (a : Ask) (reply : Reply) (d : Deed) → deed_of_reply a reply ≡ Some d → Takes v (Some d) w → IfGrantedTo w.seen w.store.width (operation_asked a) reply
     → Serves v (a ∷ []) (reply ∷ []) w
 serves_one v w a reply d told takes granted =
     let before : List Act = v.acts ++ takes.others in
@@ -149,7 +149,7 @@ serves_one v w a reply d told takes granted =
         omega arith,
         record {
           deed = d;
-          told = told;
+          holds = told;
           before = before;
           place_is = refl;
           does = takes.does;
@@ -166,7 +166,7 @@ serves_one v w a reply d told takes granted =
 
 -- a call by its reply
 serves_call : (v w : Shows) (a : Ask) (o : Operation) (r : Result Answer Fault) → operation_asked a ≡ Some o → Called v o r w
-    → IfOk r (λ answer. IfGrantedTo w.seen w.store.width (Some o) (Made answer)) → IfOk (reply_for r) (λ reply. Serves v (a ∷ []) (reply ∷ []) w)
+    → IfOk r (λ answer. IfGrantedTo w.seen w.store.width (Some o) (Made answer)) → IfOk (call_reply r) (λ reply. Serves v (a ∷ []) (reply ∷ []) w)
 serves_call v w a o (Ok answer) asked made granted =
     serves_one v w a (Made answer) (called o (note_of answer)) (ap (option_map (λ p. called p (note_of answer))) asked) made.takes
     (subst (λ (p : Option Operation). IfGrantedTo w.seen w.store.width p (Made answer)) (sym asked) granted)
@@ -190,7 +190,7 @@ read_granted h w n start len answer there m begin many g asked made =
     GrantedOf o g = Unit {0}
 
 -- the reply to a call that is no read
-pub serves_made : (v w : Shows) (a : Ask) (o : Operation) (r : Result Answer Fault) (x : Result Reply Fault) → operation_asked a ≡ Some o → x ≡ reply_for r → Called v o r w
+pub serves_made : (v w : Shows) (a : Ask) (o : Operation) (r : Result Answer Fault) (x : Result Reply Fault) → operation_asked a ≡ Some o → x ≡ call_reply r → Called v o r w
     → ((n : List ℕ) (start len : ℕ) → o ≡ read n start len → ⊥) → IfOk x (λ reply. Serves v (a ∷ []) (reply ∷ []) w)
 serves_made v w a o r x asked is made other = subst (λ (x : Result Reply Fault). IfOk x (λ reply. Serves v (a ∷ []) (reply ∷ []) w)) (sym is) (serves_call v w a o r asked made (by r))
   where
@@ -199,7 +199,7 @@ serves_made v w a o r x asked is made other = subst (λ (x : Result Reply Fault)
     by (Err fault) = tt
 
 -- the reply to a read
-pub serves_read : (v w : Shows) (a : Ask) (n : List ℕ) (start len : ℕ) (r : Result Answer Fault) (x : Result Reply Fault) → operation_asked a ≡ Some (read n start len) → x ≡ reply_for r
+pub serves_read : (v w : Shows) (a : Ask) (n : List ℕ) (start len : ℕ) (r : Result Answer Fault) (x : Result Reply Fault) → operation_asked a ≡ Some (read n start len) → x ≡ call_reply r
     → Called v (read n start len) r w → IfOk r (λ answer. IfGranted answer (GrantedIn w.seen w.store.width n start len)) → IfOk x (λ reply. Serves v (a ∷ []) (reply ∷ []) w)
 serves_read v w a n start len r x asked is made granted =
     subst (λ (x : Result Reply Fault). IfOk x (λ reply. Serves v (a ∷ []) (reply ∷ []) w)) (sym is)

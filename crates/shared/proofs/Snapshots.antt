@@ -21,7 +21,7 @@ use Rattle.requests.proofs.Between.{events-append}
 use Rattle.shared.specs.Passes.{Shows, IsConsistent}
 use Rattle.shared.specs.Deeds.{deed_of, act_if}
 use Rattle.shared.specs.Calls.{Called, GrantedIn, IfGranted}
-use Rattle.shared.specs.Snapshots.{held_by, IsVersionIn, HasNoBlob, HasFragmentsOf}
+use Rattle.shared.specs.Snapshots.{version_held_by, IsVersionIn, HasNoBlob, HasFragmentsOf}
 use Rattle.shared.proofs.Mends.{known_fragment}
 use Rattle.shared.proofs.Requests.{put_later}
 use Rattle.shared.proofs.Steps.{event}
@@ -54,31 +54,31 @@ seen_reply : (v w : Shows) (n : List ℕ) (start len : ℕ) (a : Answer) → Cal
 seen_reply v w n start len a made =
     subst (λ (s : State). IsReadReply v.store.width (finite.get s.names n) start len (note_of a)) (sym (same_state v w n start len a made)) made.takes.does.1
 
-no_grant : (a : Answer) (version : ℕ) → note_of a ≡ note.Granted version → held_by (Ok a) ≡ Ok None → ⊥
+no_grant : (a : Answer) (version : ℕ) → note_of a ≡ note.Granted version → version_held_by (Ok a) ≡ Ok None → ⊥
 no_grant (answer.Granted g) version is none = cc (none)
 no_grant a version is none = cc (is)
 
-no_blob : (found : Option Blob) (a : Answer) → MatchOption found (note_of a ≡ note.NoName) (λ blob. note_of a ≡ note.Granted blob.version) → held_by (Ok a) ≡ Ok None → found ≡ None
+no_blob : (found : Option Blob) (a : Answer) → MatchOption found (note_of a ≡ note.NoName) (λ blob. note_of a ≡ note.Granted blob.version) → version_held_by (Ok a) ≡ Ok None → found ≡ None
 no_blob None a is none = refl
 no_blob (Some blob) a is none = absurd (no_grant a blob.version is none)
 
-none_held : (r : Result Answer Fault) (v w : Shows) (n : List ℕ) → Called v (read n 0 0) r w → IfOk (held_by r) (λ found. IfNone found (HasNoBlob w.seen n))
+none_held : (r : Result Answer Fault) (v w : Shows) (n : List ℕ) → Called v (read n 0 0) r w → IfOk (version_held_by r) (λ found. IfNone found (HasNoBlob w.seen n))
 none_held (Err e) v w n made = tt
 none_held (Ok (answer.Granted g)) v w n made = tt
 none_held (Ok a) v w n made = no_blob (finite.get (state_of w.seen).names n) a (reply_to v.store.width (finite.get (state_of w.seen).names n) (note_of a) (seen_reply v w n 0 0 a made)) refl
 
 -- without a snapshot the name has no blob
-pub has_no_blob : (r : Result Answer Fault) (result : Result (Option Sealed) Fault) (v w : Shows) (n : List ℕ) → result ≡ held_by r → Called v (read n 0 0) r w → IfOk result (λ found. IfNone found (HasNoBlob w.seen n))
+pub has_no_blob : (r : Result Answer Fault) (result : Result (Option Sealed) Fault) (v w : Shows) (n : List ℕ) → result ≡ version_held_by r → Called v (read n 0 0) r w → IfOk result (λ found. IfNone found (HasNoBlob w.seen n))
 has_no_blob r result v w n held made = subst (λ (x : Result (Option Sealed) Fault). IfOk x (λ found. IfNone found (HasNoBlob w.seen n))) (sym held) (none_held r v w n made)
 
 -- ---- what is held
-version_held : (r : Result Answer Fault) (h : History) (w : ℕ) (n : List ℕ) → IfOk r (λ a. IfGranted a (GrantedIn h w n 0 0)) → IfOk (held_by r) (λ found. IfSome found (IsVersionIn h w n))
+version_held : (r : Result Answer Fault) (h : History) (w : ℕ) (n : List ℕ) → IfOk r (λ a. IfGranted a (GrantedIn h w n 0 0)) → IfOk (version_held_by r) (λ found. IfSome found (IsVersionIn h w n))
 version_held (Err e) h w n granted = tt
 version_held (Ok (answer.Granted g)) h w n granted = record { blob = granted.blob; here = granted.here; represents = granted.represents; put_is = granted.put_is; only = granted.only }
 version_held (Ok a) h w n granted = tt
 
 -- a snapshot is of a version of the history
-pub has_version : (r : Result Answer Fault) (result : Result (Option Sealed) Fault) (h : History) (w : ℕ) (n : List ℕ) → result ≡ held_by r → IfOk r (λ a. IfGranted a (GrantedIn h w n 0 0))
+pub has_version : (r : Result Answer Fault) (result : Result (Option Sealed) Fault) (h : History) (w : ℕ) (n : List ℕ) → result ≡ version_held_by r → IfOk r (λ a. IfGranted a (GrantedIn h w n 0 0))
     → IfOk result (λ found. IfSome found (IsVersionIn h w n))
 has_version r result h w n held granted = subst (λ (x : Result (Option Sealed) Fault). IfOk x (λ found. IfSome found (IsVersionIn h w n))) (sym held) (version_held r h w n granted)
 
@@ -108,18 +108,18 @@ fragments_still v w o r width n s agrees made known later j f bytes more has of 
 
 -- ---- faults
 -- they are those of the read
-fault_held : (r : Result Answer Fault) (e : Fault) → held_by r ≡ Err e → r ≡ Err e
+fault_held : (r : Result Answer Fault) (e : Fault) → version_held_by r ≡ Err e → r ≡ Err e
 fault_held (Err f) e is = cc (is)
 fault_held (Ok (answer.Granted g)) e is = absurd (cc (is))
 fault_held (Ok a) e is = absurd (cc (is))
 
-pub fault_of : (r : Result Answer Fault) (result : Result (Option Sealed) Fault) (e : Fault) → result ≡ held_by r → result ≡ Err e → r ≡ Err e
+pub fault_of : (r : Result Answer Fault) (result : Result (Option Sealed) Fault) (e : Fault) → result ≡ version_held_by r → result ≡ Err e → r ≡ Err e
 fault_of r result e held is = fault_held r e (sym held ∙ is)
 
-faults_held : (r : Result Answer Fault) (P : Fault → Type 0) → IfErr r P → IfErr (held_by r) P
+faults_held : (r : Result Answer Fault) (P : Fault → Type 0) → IfErr r P → IfErr (version_held_by r) P
 faults_held (Err e) P holds = holds
 faults_held (Ok (answer.Granted g)) P holds = tt
 faults_held (Ok a) P holds = tt
 
-pub faults_are : (r : Result Answer Fault) (result : Result (Option Sealed) Fault) (P : Fault → Type 0) → result ≡ held_by r → IfErr r P → IfErr result P
+pub faults_are : (r : Result Answer Fault) (result : Result (Option Sealed) Fault) (P : Fault → Type 0) → result ≡ version_held_by r → IfErr r P → IfErr result P
 faults_are r result P held holds = subst (λ (x : Result (Option Sealed) Fault). IfErr x P) (sym held) (faults_held r P holds)

@@ -11,7 +11,7 @@ use Rattle.history.specs.Step.{Operation, put, read, IsReply}
 use Rattle.history.specs.History.{History, HasPut, state_of}
 use Rattle.book.specs.declared.answer.Answer.{Answer}
 use Rattle.book.specs.declared.answer.Answer.TheVariants.{Granted}
-use Rattle.book.specs.Tells.{Represents}
+use Rattle.book.specs.Holds.{Represents}
 use Rattle.shared.specs.Deeds.{deed_of, Takes}
 use Rattle.shared.specs.Passes.{Shows}
 

@@ -6,7 +6,7 @@ use Rattle.sealed.specs.Rebuilding.{IsRebuildable, IsFragmentOf}
 use Rattle.history.specs.State.{Blob}
 use Rattle.history.specs.Step.{repair}
 use Rattle.history.specs.History.{History, HasPut}
-use Rattle.book.specs.Tells.{Represents}
+use Rattle.book.specs.Holds.{Represents}
 use Rattle.requests.specs.declared.inspection.Inspection.{Inspection}
 use Rattle.requests.specs.declared.inspection.Inspection.TheVariants.{Done, Refused, Rebuildable}
 use Rattle.requests.specs.declared.request.Request.{Request}

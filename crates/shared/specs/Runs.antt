@@ -20,8 +20,8 @@ operation_asked (Stat name) = Some (stat name)
 operation_asked (Trim keep) = None
 
 -- the reply to a call, or the fault that stops the run
-abbrev pub reply_for : Result Answer Fault → Result Reply Fault
-reply_for (Ok answer) = Ok (Made answer)
-reply_for (Err JournalFull) = Ok (Refused JournalFull)
-reply_for (Err TooLong) = Ok (Refused TooLong)
-reply_for (Err fault) = Err fault
+abbrev pub call_reply : Result Answer Fault → Result Reply Fault
+call_reply (Ok answer) = Ok (Made answer)
+call_reply (Err JournalFull) = Ok (Refused JournalFull)
+call_reply (Err TooLong) = Ok (Refused TooLong)
+call_reply (Err fault) = Err fault

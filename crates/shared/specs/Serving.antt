@@ -42,13 +42,13 @@ keep_asked (ask.Trim keep) = Some keep
 keep_asked other = None
 
 -- ---- one job
--- what was done, as the reply tells it
-abbrev pub deed_told : Ask → Reply → Option Deed
-deed_told a (Made answer) = option_map (λ o. called o (note_of answer)) (operation_asked a)
-deed_told a (Refused JournalFull) = option_map full (operation_asked a)
-deed_told a (Refused TooLong) = option_map too_long (operation_asked a)
-deed_told a (Refused fault) = None
-deed_told a (Trimmed n) = option_map (λ keep. trimmed keep n) (keep_asked a)
+-- what was done, as the reply shows it
+abbrev pub deed_of_reply : Ask → Reply → Option Deed
+deed_of_reply a (Made answer) = option_map (λ o. called o (note_of answer)) (operation_asked a)
+deed_of_reply a (Refused JournalFull) = option_map full (operation_asked a)
+deed_of_reply a (Refused TooLong) = option_map too_long (operation_asked a)
+deed_of_reply a (Refused fault) = None
+deed_of_reply a (Trimmed n) = option_map (λ keep. trimmed keep n) (keep_asked a)
 
 -- where a read was asked for, and the reply is a grant, it is one after this history
 abbrev pub IfGrantedTo : History → ℕ → Option Operation → Reply → Type 0
@@ -62,13 +62,13 @@ pub record Turn : Type 0 where
 
 -- as an act, if it is one
 abbrev pub act_in : ℕ → Turn → List Act
-act_in who t = act_if who (deed_told t.ask t.reply)
+act_in who t = act_if who (deed_of_reply t.ask t.reply)
 
--- What the reply tells is what one thread does after the first acts, as many as the place says. It
+-- What the reply shows is what one thread does after the first acts, as many as the place says. It
 -- is the next act, where it is one. A granted read is so after just these acts and itself
 pub record IsServed (w limit : ℕ) (acts : List Act) (who : ℕ) (t : Turn) : Type 0 where
   pub deed : Deed
-  pub told : deed_told t.ask t.reply ≡ Some deed
+  pub holds : deed_of_reply t.ask t.reply ≡ Some deed
   pub before : List Act
   pub place_is : length before ≡ t.place
   pub does : Does w limit (standing_of before) deed

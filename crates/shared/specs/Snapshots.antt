@@ -13,22 +13,22 @@ use Rattle.history.specs.History.{History, HasPut, state_of}
 use Rattle.book.specs.declared.answer.Answer.{Answer}
 use Rattle.book.specs.declared.answer.Answer.TheVariants.{Granted}
 use Rattle.book.specs.Known.{IsFragmentIn}
-use Rattle.book.specs.Tells.{Represents}
+use Rattle.book.specs.Holds.{Represents}
 use Rattle.shared.specs.Passes.{Shows}
 use Rattle.shared.specs.Calls.{Called}
 
 -- what the answer to a read of no byte gives: the version that a grant holds, none if the name has
 -- no blob, or the same fault. Such a read has no other answer
-abbrev pub held_by : Result Answer Fault → Result (Option Sealed) Fault
-held_by (Ok (Granted g)) = Ok (Some g.sealed.value)
-held_by (Ok answer) = Ok None
-held_by (Err e) = Err e
+abbrev pub version_held_by : Result Answer Fault → Result (Option Sealed) Fault
+version_held_by (Ok (Granted g)) = Ok (Some g.sealed.value)
+version_held_by (Ok answer) = Ok None
+version_held_by (Err e) = Err e
 
 -- the pass read no byte of the name, and the result is what the answer gives
 pub record TakesSnapshot (v : Shows) (n : List ℕ) (result : Result (Option Sealed) Fault) (w : Shows) : Type 0 where
   pub answer : Result Answer Fault
   pub called : Called v (read n 0 0) answer w
-  pub held : result ≡ held_by answer
+  pub held : result ≡ version_held_by answer
 
 -- After the history the name has a blob, which the value represents. The blob was put in the
 -- history under its version, and no other put has this version.

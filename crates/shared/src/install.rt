@@ -5,7 +5,7 @@
 ghost use Rattle.std.specs.Prelude.{◌≡◌, ◌≢◌, ◌⊎◌, IfErr};
 ghost use Rattle.history.specs.Step.{repair as repair_of};
 ghost use Rattle.book.specs.Known.{IsFragmentIn};
-ghost use Rattle.book.specs.Tells.{IsCallFault};
+ghost use Rattle.book.specs.Holds.{IsCallFault};
 ghost use Rattle.shared.specs.Calls.{Called};
 ghost use Rattle.shared.specs.Passes.{FindsBusy, VisitsOnce};
 

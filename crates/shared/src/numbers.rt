@@ -16,7 +16,7 @@ impl Store {
     pub fn numbers<R: Wait>(&self, rt: &R, pass: &mut Pass) -> Numbers
         requires { pass.old.store ≡ self.now }
         ensures takes { Takes pass.old None pass.new }
-        ensures told { AreNumbersOf self.now.width pass.new.seen result }
+        ensures holds { AreNumbersOf self.now.width pass.new.seen result }
         ensures entries { result.entries
             ≡ journaled self.now.limit (length pass.new.seen - pass.new.trimmed) }
     {

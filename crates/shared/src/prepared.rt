@@ -6,7 +6,7 @@ ghost use Rattle.sealed.specs.Blob.{nothing};
 ghost use Rattle.sealed.specs.Layout.{stripe_count};
 ghost use Rattle.sealed.specs.Sealed.{StandsFor};
 ghost use Rattle.history.specs.Step.{put as put_of};
-ghost use Rattle.book.specs.Tells.{IsCallFault};
+ghost use Rattle.book.specs.Holds.{IsCallFault};
 ghost use Rattle.requests.specs.Requests.{operation_of, IsFaultOf};
 ghost use Rattle.shared.specs.Calls.{Called};
 ghost use Rattle.shared.specs.Passes.{Shows, FindsBusy, VisitsOnce};
@@ -122,7 +122,7 @@ impl Store {
             → Called pass.old (put_of name sealed.code b) reply pass.new) }
         ensures faults { IfOk result (λ reply. IfErr reply IsCallFault) }
         ensures entered { IfOk result (λ _. VisitsOnce pass.old pass.new) }
-        ensures kept { IfErr result (λ s. s ≡ sealed) }
+        ensures unchanged { IfErr result (λ s. s ≡ sealed) }
         ensures refused { IfErr result (λ _. (b : List ℕ)
             → Called pass.old (put_of name sealed.code b) (Err Fault.Busy) pass.new) }
         ensures busy { IfErr result (λ _. FindsBusy pass.old pass.new) }
@@ -161,7 +161,7 @@ impl Store {
             → WantedFor pass.new.seen self.now.width request) }
         ensures faults { IfOk result (λ reply. IfErr reply (IsFaultOf request)) }
         ensures entered { IfOk result (λ _. VisitsOnce pass.old pass.new) }
-        ensures kept { IfErr result (λ r. r ≡ request) }
+        ensures unchanged { IfErr result (λ r. r ≡ request) }
         ensures refused { IfErr result
             (λ _. Called pass.old (operation_of request) (Err Fault.Busy) pass.new) }
         ensures busy { IfErr result (λ _. FindsBusy pass.old pass.new) }

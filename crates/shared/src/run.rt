@@ -3,7 +3,7 @@ ghost use Rattle.std.specs.Prelude.{◌≡◌, ◌⊎◌, ◌<◌, List, [], ◌
 ghost use mathlib.Core.List.{IsPrefix};
 ghost use Rattle.requests.specs.declared.jobs.Ask.{Ask};
 ghost use Rattle.shared.specs.Paced.{AreLetThrough, AsksMemory, HasNotBegun, StoppedAt};
-ghost use Rattle.shared.specs.Runs.{reply_for};
+ghost use Rattle.shared.specs.Runs.{call_reply};
 ghost use Rattle.shared.specs.Serving.{asks_of, replies_in, rows_asked, rows_replied, Serves};
 
 use crate::{Ask, Cause, Job, Pace, Pass, Reply, RowReply, Stopped, Store};
@@ -108,7 +108,7 @@ impl Store {
 
 /// The reply to a call, or the fault that stops the run.
 fn reply_to(made: Result<Answer, Fault>) -> Result<Reply, Fault>
-    ensures { result ≡ reply_for made }
+    ensures { result ≡ call_reply made }
 {
     match made {
         Ok(answer) => Ok(Reply::Made(answer)),

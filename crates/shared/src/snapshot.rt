@@ -3,11 +3,11 @@
 // Contracts repeat, since a caller sees only that of the call that it makes.
 
 ghost use Rattle.std.specs.Prelude.{◌≡◌, ◌≢◌, ◌⊎◌, Err, IfOk, IfErr, IfSome, IfNone};
-ghost use Rattle.book.specs.Tells.{IsCallFault};
+ghost use Rattle.book.specs.Holds.{IsCallFault};
 ghost use Rattle.shared.specs.Calls.{CanGrant};
 ghost use Rattle.shared.specs.Passes.{FindsBusy, VisitsOnce};
 ghost use Rattle.shared.specs.Snapshots.{HasFragmentsOf, HasNoBlob, IsVersionIn, TakesSnapshot};
-ghost use Rattle.shared.specs.Snapshots.{held_by};
+ghost use Rattle.shared.specs.Snapshots.{version_held_by};
 
 use crate::{Pass, Store};
 use book::{Answer, Fault, Name};
@@ -64,7 +64,7 @@ impl Store {
 /// The snapshot that the answer to a read of no byte gives. Such a range lies inside every blob and
 /// has no unrecoverable byte, so without a grant the name has no blob.
 fn snapshot_of(called: Result<Answer, Fault>) -> Result<Option<Snapshot>, Fault>
-    ensures { result ≡ held_by called }
+    ensures { result ≡ version_held_by called }
 {
     match called {
         Ok(Answer::Granted(grant)) => Ok(Some(grant.into_snapshot())),

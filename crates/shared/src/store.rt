@@ -2,13 +2,13 @@
 ghost use Rattle.std.specs.Prelude.{◌≡◌, ◌⊎◌, ◌↔◌, ◌+◌, ◌≤◌, ◌<◌, ℕ, [], length, IfOk, IfErr};
 ghost use Rattle.gate.specs.Places.{times};
 ghost use Rattle.history.specs.Log.{call_limit};
-ghost use Rattle.book.specs.Tells.{HoldsHistory};
+ghost use Rattle.book.specs.Holds.{HoldsHistory};
 ghost use Rattle.shared.specs.Passes.{IsConsistent};
 
 use crate::Pass;
 use book::{Book, Fault, Limit};
 use gate::Gate;
-use requests::Kept;
+use requests::BoxedBook;
 use sealed::Width;
 use std::alloc::Global;
 use std::marker::Model;
@@ -17,7 +17,7 @@ use std::marker::Model;
 /// which is 2^62 if it has none. Dropping it drops its blobs.
 #[derive(Drop)]
 pub struct Store {
-    pub(crate) gate: Gate<Kept>,
+    pub(crate) gate: Gate<BoxedBook>,
     pub(crate) width: Width,
     limit: u64,
 }
@@ -87,7 +87,7 @@ impl Store {
             return Err(Fault::NoMemory);
         };
         let limit = book.call_limit();
-        let Ok(kept) = Kept::boxed(alloc, book) else {
+        let Ok(kept) = BoxedBook::boxed(alloc, book) else {
             return Err(Fault::NoMemory);
         };
         let Ok((gate, seat)) = Gate::new(alloc, kept) else {
@@ -103,7 +103,7 @@ impl Store {
     pub fn close(self, pass: Pass) -> Book
         requires store { pass.store ≡ self }
         requires lone { pass.room ≡ 64 }
-        ensures told { HoldsHistory result pass.seen }
+        ensures holds { HoldsHistory result pass.seen }
         ensures made { (k : ℕ) → k < length pass.seen → times k pass.made ≡ 1 }
         ensures count { length pass.made ≡ length pass.seen }
         ensures trimmed { result.base.trimmed ≡ pass.trimmed }
@@ -111,7 +111,7 @@ impl Store {
         ensures did { (k : ℕ) → k < length pass.acts → times k pass.did ≡ 1 }
         ensures did_count { length pass.did ≡ length pass.acts }
         ensures entries { result.base.trimmed + length result.entries ≡ length pass.made }
-        ensures kept { (result.width ≡ self.width) × (result.limit ≡ self.limit) }
+        ensures unchanged { (result.width ≡ self.width) × (result.limit ≡ self.limit) }
     {
         self.take_book(pass)
     }
@@ -120,7 +120,7 @@ impl Store {
     pub fn take_book(&self, pass: Pass) -> Book
         requires store { pass.store ≡ self.now }
         requires lone { pass.room ≡ 64 }
-        ensures told { HoldsHistory result pass.seen }
+        ensures holds { HoldsHistory result pass.seen }
         ensures made { (k : ℕ) → k < length pass.seen → times k pass.made ≡ 1 }
         ensures count { length pass.made ≡ length pass.seen }
         ensures trimmed { result.base.trimmed ≡ pass.trimmed }
@@ -128,10 +128,10 @@ impl Store {
         ensures did { (k : ℕ) → k < length pass.acts → times k pass.did ≡ 1 }
         ensures did_count { length pass.did ≡ length pass.acts }
         ensures entries { result.base.trimmed + length result.entries ≡ length pass.made }
-        ensures kept { (result.width ≡ self.now.width) × (result.limit ≡ self.now.limit) }
+        ensures unchanged { (result.width ≡ self.now.width) × (result.limit ≡ self.now.limit) }
     {
         let Pass { seat, who: _ } = pass;
-        let Kept(book) = self.gate.take(seat);
+        let BoxedBook(book) = self.gate.take(seat);
         Box::into_inner(book)
     }
 }

@@ -11,7 +11,7 @@ ghost use Rattle.std.specs.Prelude.{IfErr};
 ghost use Rattle.sealed.specs.Layout.{stripe_count};
 ghost use Rattle.history.specs.Step.{put as put_of, read as read_of, lose as lose_of};
 ghost use Rattle.history.specs.Step.{delete as delete_of, stat as stat_of};
-ghost use Rattle.book.specs.Tells.{IsCallFault};
+ghost use Rattle.book.specs.Holds.{IsCallFault};
 ghost use Rattle.shared.specs.Calls.{Called, CanGrant, GrantedIn, IfGranted, IsRefusedOutside};
 ghost use Rattle.shared.specs.Passes.{FindsBusy, VisitsOnce};
 

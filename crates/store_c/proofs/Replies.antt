@@ -13,10 +13,10 @@ use Rattle.store_c.specs.Status.{status_of, version_of}
 use Rattle.store_c.specs.OnSession.{IsAfterBusy, HasReply, IsOnSession}
 
 -- if the slot held a session
-pub on_session : (old new : Option Held) (v w : Shows) (number status : ℕ) (Kept : Type 0) (Did : Shows → Shows → Type 0) → old ≡ Some (Session v number) → new ≡ Some (Session w number) → Did v w
-    → IsOnSession old status new Kept Did
-on_session old new v w number status Kept Did was is did =
-    subst (λ (h : Option Held). IsOnSession h status new Kept Did) (sym was) (subst (λ (h : Option Held). IsOnSession (Some (Session v number)) status h Kept Did) (sym is) (did, refl))
+pub on_session : (old new : Option Held) (v w : Shows) (number status : ℕ) (Unchanged : Type 0) (Did : Shows → Shows → Type 0) → old ≡ Some (Session v number) → new ≡ Some (Session w number) → Did v w
+    → IsOnSession old status new Unchanged Did
+on_session old new v w number status Unchanged Did was is did =
+    subst (λ (h : Option Held). IsOnSession h status new Unchanged Did) (sym was) (subst (λ (h : Option Held). IsOnSession (Some (Session v number)) status h Unchanged Did) (sym is) (did, refl))
 
 -- the same call, with its operation given in another form
 pub replied : (v : Shows) (o p : Operation) (reply : Result Answer Fault) (status before after : ℕ) (w : Shows) → o ≡ p → Called v o reply w → HasKnownFault v o reply w → status ≡ status_of reply → after ≡ version_of before reply

@@ -92,9 +92,9 @@ pub data IsStatCall (v : Shows) (name : List ℕ) (status before after : ℕ) (o
 -- The slot held a session, and holds it again after this was done to it; or it held none, and
 -- nothing was done
 abbrev pub IsOnSession : Option Held → ℕ → Option Held → Type 0 → (Shows → Shows → Type 0) → Type 0
-IsOnSession (Some (Session v number)) status (Some (Session w same)) Kept Did = Did v w × (same ≡ number)
-IsOnSession (Some (Session v number)) status new Kept Did = ⊥
-IsOnSession old status new Kept Did = (status ≡ empty) × (new ≡ old) × Kept
+IsOnSession (Some (Session v number)) status (Some (Session w same)) Unchanged Did = Did v w × (same ≡ number)
+IsOnSession (Some (Session v number)) status new Unchanged Did = ⊥
+IsOnSession old status new Unchanged Did = (status ≡ empty) × (new ≡ old) × Unchanged
 
 -- The same for a trim of at most so many entries. If there were fewer it is a trim of all
 pub record IsTrimPartCall (v : Shows) (keep most status before after : ℕ) (w : Shows) : Type 0 where

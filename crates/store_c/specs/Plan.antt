@@ -12,7 +12,7 @@ use Rattle.shared.specs.Passes.{Shows, FindsBusy}
 use Rattle.shared.specs.Deeds.{Takes}
 use Rattle.session.specs.declared.held.Held.{Held}
 use Rattle.session.specs.declared.held.Held.TheVariants.{Session, Repairs}
-use Rattle.session.specs.RepairStep.{items_after}
+use Rattle.session.specs.RepairStep.{items_left}
 use Rattle.store_c.specs.Status.{done, empty, no_memory, nothing_left, occupied, status_of_fault}
 use Rattle.store_c.specs.OnSession.{HasReply}
 
@@ -58,7 +58,7 @@ IsPlanPartTo v (Some x) most status counts w given = IsOccupied v x status count
 pub record HasMended (v : Shows) (item : Item) (items : List Item) (status before after : ℕ) (w : Shows) (left : List Item) : Type 0 where
   pub reply : Result Answer Fault
   pub is : HasReply v (repair item.name item.stripe item.f) reply status before after w
-  pub left_is : left ≡ items_after item items reply
+  pub left_is : left ≡ items_left item items reply
 
 -- the next item was repaired, or there is none
 abbrev pub IsMendStep : Shows → List Item → ℕ → ℕ → ℕ → Shows → List Item → Type 0

@@ -5,7 +5,7 @@ use Rattle.gate.specs.Places.{AreApart}
 use Rattle.history.specs.History.{History}
 use Rattle.history.specs.Log.{call_limit}
 use Rattle.book.specs.Contents.{Contents, journal_of}
-use Rattle.book.specs.Tells.{HoldsHistory}
+use Rattle.book.specs.Holds.{HoldsHistory}
 use Rattle.shared.specs.Passes.{Shows, IsWhole}
 use Rattle.session.specs.declared.held.Held.{Held}
 use Rattle.session.specs.declared.held.Held.TheVariants.{Session}

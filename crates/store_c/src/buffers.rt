@@ -5,7 +5,7 @@ ghost use Rattle.history.specs.Step.{put as put_of};
 ghost use Rattle.store_c.specs.OnSession.{IsPutCall, HasSomeReply};
 ghost use Rattle.store_c.specs.Buffers.{IsReserve, IsPutFrom, IsSpent};
 
-use crate::answers::{put_arguments, tell};
+use crate::answers::{put_arguments, write_version};
 use crate::status::{DONE, EMPTY, NO_MEMORY};
 use session::{Bytes, Code, Held, Name, Refused, Session, Slot};
 use std::alloc::Global;
@@ -160,7 +160,7 @@ fn put_blob(
     ensures spent { IsSpent refused result given.new }
 {
     let reply = session.put_again(alloc, name, &mut refused, code);
-    let status = tell(&reply, version);
+    let status = write_version(&reply, version);
     if status != DONE {
         *given = Some(Held::Refused(refused));
     }

@@ -6,7 +6,7 @@ ghost use Rattle.history.specs.Step.{delete as delete_of};
 ghost use Rattle.store_c.specs.OnSession.{IsNamedCall, IsPutCall, IsReadCall, IsStatCall};
 ghost use Rattle.store_c.specs.OnSession.{IsTrimCall, IsTrimPartCall, HasSomeReply};
 
-use crate::answers::{name_of, number_of, put_arguments, tell, tell_shape};
+use crate::answers::{name_of, number_of, put_arguments, write_shape, write_version};
 use crate::status::{BAD_NAME, DONE, NOT_REBUILT};
 use session::{Answer, Code, Name, Session, copy_out};
 use std::alloc::Global;
@@ -42,7 +42,7 @@ fn put_copy(
         session.new }
 {
     let reply = session.put_copy(alloc, name, blob, code);
-    tell(&reply, version)
+    write_version(&reply, version)
 }
 
 pub(crate) fn read(
@@ -62,7 +62,7 @@ pub(crate) fn read(
         return BAD_NAME;
     };
     let reply = session.read(name, start, target.len() as u64);
-    let status = tell(&reply, version);
+    let status = write_version(&reply, version);
     let Ok(Answer::Granted(grant)) = reply else {
         return status;
     };
@@ -91,7 +91,7 @@ pub(crate) fn lose(
         return BAD_NAME;
     };
     let reply = session.lose(alloc, name, stripe, fragment);
-    tell(&reply, version)
+    write_version(&reply, version)
 }
 
 pub(crate) fn repair(
@@ -109,7 +109,7 @@ pub(crate) fn repair(
         return BAD_NAME;
     };
     let reply = session.repair(alloc, name, stripe, fragment);
-    tell(&reply, version)
+    write_version(&reply, version)
 }
 
 pub(crate) fn delete(session: &mut Session, name: &[u8], version: &mut u64) -> u32
@@ -120,7 +120,7 @@ pub(crate) fn delete(session: &mut Session, name: &[u8], version: &mut u64) -> u
         return BAD_NAME;
     };
     let reply = session.delete(name);
-    tell(&reply, version)
+    write_version(&reply, version)
 }
 
 pub(crate) fn stat(
@@ -138,8 +138,8 @@ pub(crate) fn stat(
         return BAD_NAME;
     };
     let reply = session.stat(name);
-    tell_shape(&reply, len, stripes, lost);
-    tell(&reply, version)
+    write_shape(&reply, len, stripes, lost);
+    write_version(&reply, version)
 }
 
 pub(crate) fn trim(alloc: Global, session: &mut Session, keep: u64, discarded: &mut u64) -> u32

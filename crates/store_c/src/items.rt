@@ -31,7 +31,7 @@ fn item_for(item: &Item) -> PlanItem<'_>
 pub(crate) fn lend_items<'a>(repairs: &'a Repairs, target: &mut [PlanItem<'a>]) -> usize
     ensures count { result ≡ min (length target.old) (length repairs.now.items) }
     ensures items { map item_of (take result target.new) ≡ take result repairs.now.items }
-    ensures kept { drop result target.new ≡ drop result target.old }
+    ensures unchanged { drop result target.new ≡ drop result target.old }
 {
     let mut at = 0;
     while at < target.len() {

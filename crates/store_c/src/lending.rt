@@ -2,7 +2,7 @@
 ghost use Rattle.std.specs.Prelude.{◌≡◌, None};
 ghost use Rattle.store_c.specs.Lend.{IsLend, IsLendTo};
 
-use crate::answers::{name_of, tell};
+use crate::answers::{name_of, write_version};
 use crate::status::{BAD_NAME, DONE, NO_MEMORY, NOT_REBUILT, OCCUPIED};
 use session::{Answer, Held, Lending, Session, Slot};
 use std::alloc::Global;
@@ -29,7 +29,7 @@ fn lend(
         return NO_MEMORY;
     };
     let reply = session.read(name, start, len);
-    let status = tell(&reply, version);
+    let status = write_version(&reply, version);
     let Ok(Answer::Granted(grant)) = reply else {
         return status;
     };

@@ -5,7 +5,7 @@ ghost use Rattle.session.specs.declared.held.Held.TheVariants.{Repairs as Repair
 ghost use Rattle.store_c.specs.Plan.{HasPlan, IsPlanTo, IsPlanPartTo, IsMendStep, IsSkip};
 ghost use Rattle.store_c.specs.Plan.{all_lost, some_lost};
 
-use crate::answers::{number_of, tell};
+use crate::answers::{number_of, write_version};
 use crate::status::{DONE, NO_MEMORY, NOTHING_LEFT, OCCUPIED};
 use session::{Held, Plan, Repairs, Session, Slot};
 use std::alloc::Global;
@@ -136,7 +136,7 @@ pub(crate) fn mend_step(
     ensures last { repairs.new.last ≡ repairs.old.last }
 {
     match repairs.step(session, alloc) {
-        Some(reply) => tell(&reply, version),
+        Some(reply) => write_version(&reply, version),
         None => NOTHING_LEFT,
     }
 }

@@ -5,7 +5,7 @@ ghost use Rattle.store_c.specs.Install.{CanInstall, MayInstall, IsInstall, IsIns
 ghost use Rattle.store_c.specs.Versions.{IsShapeOf, IsLostOf, IsFragmentTo};
 ghost use Rattle.store_c.specs.Versions.{IsRange, IsRangeTo};
 
-use crate::answers::{name_of, number_of, tell};
+use crate::answers::{name_of, number_of, write_version};
 use crate::status::{
     ALREADY_LOST, BAD_ARGUMENT, BAD_NAME, DONE, EMPTY, NO_FRAGMENT, NO_MEMORY, NO_NAME, OCCUPIED,
     OUT_OF_RANGE, UNRECOVERABLE,
@@ -222,11 +222,11 @@ pub(crate) fn install_by(
     stripe: u64,
     fragment: u64,
     bytes: &[u8],
-    told: &mut u64,
+    written: &mut u64,
 ) -> u32
     requires { MayInstall held.old given.old stripe fragment bytes.now }
     ensures { IsInstallCall held.old given.old stripe fragment bytes.now result
-        (told.old, told.new) held.new given.new }
+        (written.old, written.new) held.new given.new }
 {
     match held.take() {
         Some(
@@ -243,7 +243,7 @@ pub(crate) fn install_by(
                 stripe,
                 fragment,
                 bytes,
-                told,
+                written,
             );
             *held = Some(Held::Session { session, number });
             status
@@ -264,12 +264,13 @@ fn install_of(
     stripe: u64,
     fragment: u64,
     bytes: &[u8],
-    told: &mut u64,
+    written: &mut u64,
 ) -> u32
     requires { MayInstall (Some (Held.Session session.old number)) given.old stripe fragment
         bytes.now }
     ensures { IsInstallCall (Some (Held.Session session.old number)) given.old stripe fragment
-        bytes.now result (told.old, told.new) (Some (Held.Session session.new number)) given.new }
+        bytes.now result (written.old, written.new) (Some (Held.Session session.new number))
+        given.new }
 {
     match given.take() {
         Some(
@@ -287,7 +288,7 @@ fn install_of(
                 stripe,
                 fragment,
                 bytes,
-                told,
+                written,
             );
             *given = Some(Held::Version {
                 version,
@@ -312,12 +313,12 @@ fn install(
     stripe: u64,
     fragment: u64,
     bytes: &[u8],
-    told: &mut u64,
+    written: &mut u64,
 ) -> u32
     requires { CanInstall session.old number version.old theirs stripe fragment bytes.now }
     ensures call { IsInstall session.old number version.old theirs stripe fragment bytes.now result
-        (told.old, told.new) session.new }
-    ensures kept { version.new ≡ version.old }
+        (written.old, written.new) session.new }
+    ensures unchanged { version.new ≡ version.old }
 {
     if theirs != number {
         return BAD_ARGUMENT;
@@ -332,5 +333,5 @@ fn install(
         return NO_MEMORY;
     };
     let reply = session.install(alloc, version, stripe, fragment, bytes);
-    tell(&reply, told)
+    write_version(&reply, written)
 }

@@ -7,7 +7,7 @@ use Rattle.gf256.proofs.Linear.{product-xor_left}
 use Rattle.kernels.specs.Lists.{xor_sum, combined}
 use Rattle.kernels.proofs.Sums.{xor_sum_same, xor_sum-xor, xor_sum_zero}
 use Rattle.syndromes.specs.declared.formulas.Formula.{Formula}
-use Rattle.syndromes.specs.Syndromes.{syndrome, column_at, sum_by, HasSums, HasRoom}
+use Rattle.syndromes.specs.Syndromes.{wide_syndrome, column_at, sum_by, HasSums, HasRoom}
 use Rattle.syndromes.specs.Formulas.{IsFormula, IsNoneOr, share_of, addend}
 use Rattle.kernels.specs.declared.blocks.TheConstants.{LANES}
 
@@ -19,8 +19,8 @@ abbrev pub added : Option (List ℕ) → (ℕ → ℕ) → ℕ
 added shares s = xor_sum 4 (λ e. product (share_of shares e) (s e))
 
 added_is : (lists : List (Option (Bor (List ℕ)))) (shares : Option (List ℕ)) (n k : ℕ) (bytes : List ℕ) → k < n → HasSums lists shares n bytes
-    → addend shares bytes k ≡ added shares (λ e. syndrome e (column_at lists k))
-added_is lists None n k bytes l sums = sym (xor_sum_zero 4 (λ e. product 0 (syndrome e (column_at lists k))) (λ e m. product-zero_left (syndrome e (column_at lists k))))
+    → addend shares bytes k ≡ added shares (λ e. wide_syndrome e (column_at lists k))
+added_is lists None n k bytes l sums = sym (xor_sum_zero 4 (λ e. product 0 (wide_syndrome e (column_at lists k))) (λ e m. product-zero_left (wide_syndrome e (column_at lists k))))
 added_is lists (Some a) n k bytes l sums = sums k l
 
 -- the factors give what the shares give, less what is added
@@ -56,9 +56,9 @@ made_at f s x y z is first second third =
 
 -- with what is added, a formula gives the sum by its shares
 pub made_by : (f : Formula) (lists : List (Option (Bor (List ℕ)))) (x y z : List ℕ) (n k : ℕ) → k < n → IsFormula f → HasSums lists f.first n x → HasSums lists f.second n y → HasSums lists f.third n z
-    → bit_xor (bit_xor (bit_xor (combined f.factors (λ e. syndrome e (column_at lists k))) (addend f.third z k)) (addend f.second y k)) (addend f.first x k) ≡ sum_by f.shares (λ e. syndrome e (column_at lists k))
+    → bit_xor (bit_xor (bit_xor (combined f.factors (λ e. wide_syndrome e (column_at lists k))) (addend f.third z k)) (addend f.second y k)) (addend f.first x k) ≡ sum_by f.shares (λ e. wide_syndrome e (column_at lists k))
 made_by f lists x y z n k l is first second third =
-    let s = λ (e : ℕ). syndrome e (column_at lists k) in
+    let s = λ (e : ℕ). wide_syndrome e (column_at lists k) in
     let whole = sum_by f.shares s in
     let with_first = bit_xor whole (added f.first s) in
     let with_second = bit_xor with_first (added f.second s) in

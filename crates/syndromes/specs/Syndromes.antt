@@ -1,6 +1,6 @@
 -- Sums of syndromes, and the room that targets have for them.
 use Rattle.std.specs.Prelude.{ℕ, ◌≤◌, List, Option, IfSome, length}
-pub use Rattle.one_pass.specs.Syndromes.{byte_of, column_at, syndrome, syndromes_at, HaveBytes}
+pub use Rattle.one_pass.specs.Syndromes.{list_byte, column_at, wide_syndrome, syndromes_at, HaveBytes}
 pub use Rattle.one_pass.specs.Syndromes.{sum_by, HasSums}
 
 -- where shares are given, the list has at least n bytes

@@ -2,7 +2,7 @@
 ghost use Rattle.std.specs.Prelude.{◌≡◌, ℕ, ◌+◌, ◌-◌, ◌<◌, ◌≤◌, [], ◌∷◌, All, EachIndex, length};
 ghost use Rattle.std.specs.Prelude.{map, slice_index, bit_xor};
 ghost use Rattle.kernels.specs.Lists.{combined, bytes_at, list_at};
-ghost use Rattle.syndromes.specs.Syndromes.{syndrome, column_at, HaveBytes};
+ghost use Rattle.syndromes.specs.Syndromes.{wide_syndrome, column_at, HaveBytes};
 
 use gf256::xor_into;
 use kernels::{combine_lists, write_parities};
@@ -45,7 +45,7 @@ pub(crate) fn write_syndromes(
     requires same_fourth { length fourth.old ≡ end - at }
     ensures { (e k : ℕ) → e < 4 → k < end - at
         → slice_index (list_at (first.new ∷ second.new ∷ third.new ∷ fourth.new ∷ []) e) k
-        ≡ syndrome e (column_at lists.now (at + k)) }
+        ≡ wide_syndrome e (column_at lists.now (at + k)) }
 {
     let mut sources: [&[u8]; 12] = [&[]; 12];
     for i in 0..12 {

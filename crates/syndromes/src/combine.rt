@@ -2,7 +2,7 @@
 ghost use Rattle.std.specs.Prelude.{◌≡◌, ℕ, ◌+◌, ◌-◌, ◌<◌, ◌≤◌, None, [], ◌∷◌, All, EachIndex};
 ghost use Rattle.std.specs.Prelude.{IfSome, length, map, slice_index, bit_xor};
 ghost use Rattle.kernels.specs.Lists.{combined, bytes_at, list_at};
-ghost use Rattle.syndromes.specs.Syndromes.{syndrome, column_at, HaveBytes, HasSums, HasRoom};
+ghost use Rattle.syndromes.specs.Syndromes.{column_at, HaveBytes, HasSums, HasRoom};
 ghost use Rattle.syndromes.specs.Formulas.{IsFormula, AreFormulas, addend, shares_for};
 ghost use Rattle.syndromes.specs.Plans.{IsPlan, TakesOnly, AreSyndromes};
 
@@ -158,7 +158,7 @@ fn make_target(
     requires are { AreSyndromes block.now.lists.now block.now.at block.now.end block.now.has_second
         block.now.has_third block.now.has_fourth (map (λ s. s.now) block.now.syndromes) }
     ensures made { HasSums block.now.lists.now (shares_for formula.now) block.now.end target.new }
-    ensures kept { formula.now ≡ None → target.new ≡ target.old }
+    ensures unchanged { formula.now ≡ None → target.new ≡ target.old }
 {
     if let Some(formula) = formula {
         make_part(
@@ -245,10 +245,10 @@ fn make_block(
     ensures second { HasSums lists.now (shares_for plan.now.formulas.second) end second.new }
     ensures third { HasSums lists.now (shares_for plan.now.formulas.third) end third.new }
     ensures fourth { HasSums lists.now (shares_for plan.now.formulas.fourth) end fourth.new }
-    ensures first_kept { plan.now.formulas.first ≡ None → first.new ≡ first.old }
-    ensures second_kept { plan.now.formulas.second ≡ None → second.new ≡ second.old }
-    ensures third_kept { plan.now.formulas.third ≡ None → third.new ≡ third.old }
-    ensures fourth_kept { plan.now.formulas.fourth ≡ None → fourth.new ≡ fourth.old }
+    ensures first_unchanged { plan.now.formulas.first ≡ None → first.new ≡ first.old }
+    ensures second_unchanged { plan.now.formulas.second ≡ None → second.new ≡ second.old }
+    ensures third_unchanged { plan.now.formulas.third ≡ None → third.new ≡ third.old }
+    ensures fourth_unchanged { plan.now.formulas.fourth ≡ None → fourth.new ≡ fourth.old }
 {
     let has_second = plan.takes_second;
     let has_third = plan.takes_third;
@@ -294,10 +294,10 @@ fn combine_by_blocks(
     ensures second { HasSums lists.now (shares_for plan.now.formulas.second) width second.new }
     ensures third { HasSums lists.now (shares_for plan.now.formulas.third) width third.new }
     ensures fourth { HasSums lists.now (shares_for plan.now.formulas.fourth) width fourth.new }
-    ensures first_kept { plan.now.formulas.first ≡ None → first.new ≡ first.old }
-    ensures second_kept { plan.now.formulas.second ≡ None → second.new ≡ second.old }
-    ensures third_kept { plan.now.formulas.third ≡ None → third.new ≡ third.old }
-    ensures fourth_kept { plan.now.formulas.fourth ≡ None → fourth.new ≡ fourth.old }
+    ensures first_unchanged { plan.now.formulas.first ≡ None → first.new ≡ first.old }
+    ensures second_unchanged { plan.now.formulas.second ≡ None → second.new ≡ second.old }
+    ensures third_unchanged { plan.now.formulas.third ≡ None → third.new ≡ third.old }
+    ensures fourth_unchanged { plan.now.formulas.fourth ≡ None → fourth.new ≡ fourth.old }
 {
     let mut one = [0; BLOCK];
     let mut two = [0; BLOCK];
@@ -354,10 +354,10 @@ pub fn combine_syndromes(
     ensures second { HasSums lists.now b width second.new }
     ensures third { HasSums lists.now c width third.new }
     ensures fourth { HasSums lists.now d width fourth.new }
-    ensures first_kept { a ≡ None → first.new ≡ first.old }
-    ensures second_kept { b ≡ None → second.new ≡ second.old }
-    ensures third_kept { c ≡ None → third.new ≡ third.old }
-    ensures fourth_kept { d ≡ None → fourth.new ≡ fourth.old }
+    ensures first_unchanged { a ≡ None → first.new ≡ first.old }
+    ensures second_unchanged { b ≡ None → second.new ≡ second.old }
+    ensures third_unchanged { c ≡ None → third.new ≡ third.old }
+    ensures fourth_unchanged { d ≡ None → fourth.new ≡ fourth.old }
 {
     if width < LANES
         || !combine_in_one_pass(lists, width, a, b, c, d, first, second, third, fourth)

@@ -2,7 +2,7 @@
 //! patterns.
 ghost use Rattle.std.specs.Prelude.{◌≡◌, ◌≤◌, true, false, None, Some, length};
 ghost use Rattle.syndromes.specs.Syndromes.{HaveBytes, HasSums, HasRoom};
-ghost use Rattle.one_pass.specs.Weights.{Takes, unit};
+ghost use Rattle.one_pass.specs.Weights.{UsesOnly, unit};
 ghost use Rattle.one_pass.specs.Patterns.{group, ArePair, AreTriple, AreTwoPairs, AreGlobals};
 ghost use Rattle.one_pass.specs.Patterns.{ArePlainAndWeighed, AreGroups};
 
@@ -26,7 +26,7 @@ fn group_shares(is_second: bool) -> [u8; 4]
 
 /// Whether the shares take none but these syndromes.
 fn takes_only(shares: &[u8; 4], second: bool, fourth: bool) -> bool
-    ensures { result ≡ true → Takes shares.now second true fourth }
+    ensures { result ≡ true → UsesOnly shares.now second true fourth }
 {
     (second || shares[1] == 0) && (fourth || shares[3] == 0)
 }
@@ -210,10 +210,10 @@ pub(crate) fn combine_in_one_pass(
     ensures second { result ≡ true → HasSums lists.now b width second.new }
     ensures third { result ≡ true → HasSums lists.now c width third.new }
     ensures fourth { result ≡ true → HasSums lists.now d width fourth.new }
-    ensures first_kept { a ≡ None → first.new ≡ first.old }
-    ensures second_kept { b ≡ None → second.new ≡ second.old }
-    ensures third_kept { c ≡ None → third.new ≡ third.old }
-    ensures fourth_kept { d ≡ None → fourth.new ≡ fourth.old }
+    ensures first_unchanged { a ≡ None → first.new ≡ first.old }
+    ensures second_unchanged { b ≡ None → second.new ≡ second.old }
+    ensures third_unchanged { c ≡ None → third.new ≡ third.old }
+    ensures fourth_unchanged { d ≡ None → fourth.new ≡ fourth.old }
     ensures refused { result ≡ false → (first.new ≡ first.old) × (second.new ≡ second.old)
         × (third.new ≡ third.old) × (fourth.new ≡ fourth.old) }
 {

@@ -6,7 +6,7 @@ use Rattle.book.specs.Serial.{Act, call}
 use Rattle.ledger.specs.declared.view.ShardAct.{ShardAct}
 
 -- a call of this operation
-pub record IsCallOf (o : Operation) (d : ShardAct Act) : Type 0 where
+pub record IsRecordedCall (o : Operation) (d : ShardAct Act) : Type 0 where
   pub who : ℕ
   pub note : Note
   pub is : d.act ≡ call (record { who = who; operation = o; note = note })
@@ -19,5 +19,5 @@ pub record StandsBefore (one other : Operation) (list : List (ShardAct Act)) : T
   pub second : ShardAct Act
   pub after : List (ShardAct Act)
   pub whole : list ≡ before ++ first ∷ (between ++ second ∷ after)
-  pub first_is : IsCallOf one first
-  pub second_is : IsCallOf other second
+  pub first_is : IsRecordedCall one first
+  pub second_is : IsRecordedCall other second

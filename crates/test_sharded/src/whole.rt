@@ -101,8 +101,8 @@ fn expect_numbers<R: Wait>(
     Ok(())
 }
 
-/// Repairs a name's lost fragment with the bytes that a snapshot gives. It is repaired without them if
-/// out of memory.
+/// Repairs a name's lost fragment with the bytes that a snapshot gives. It is repaired without them
+/// if out of memory.
 fn install<R: Wait>(
     rt: &R,
     alloc: Global,

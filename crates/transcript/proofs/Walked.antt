@@ -10,7 +10,7 @@ use Rattle.lent.specs.declared.part.Part.{Part}
 use Rattle.lent.specs.declared.piece.Piece.{Piece}
 use Rattle.lent.specs.declared.piece.Piece.TheVariants.{Lent, Built}
 use Rattle.lent.specs.Ahead.{Ahead}
-use Rattle.lent.specs.Pieces.{bytes_of, IsPieceBy}
+use Rattle.lent.specs.Pieces.{bytes_in_piece, IsPieceBy}
 use Rattle.lent.specs.Walk.{Gives, Joins, bytes_ahead}
 use Rattle.transcript.specs.Lines.{is_lent, is_there, TakesIn}
 use Rattle.transcript.specs.declared.line.Reading.{Reading}
@@ -21,13 +21,13 @@ IsSplit s whole done ahead =
     (ahead.sealed ≡ s) × ((b : List ℕ) (lost : Lost) → StandsFor s b lost → whole b ≡ done ++ bytes_ahead ahead b)
 
 pub split-more : (s : Sealed) (whole : List ℕ → List ℕ) (done more : List ℕ) (old new : Ahead) (piece : Piece) → IsSplit s whole done old
-    → Gives old new piece → Joins old new piece → more ≡ done ++ bytes_of piece → IsSplit s whole more new
+    → Gives old new piece → Joins old new piece → more ≡ done ++ bytes_in_piece piece → IsSplit s whole more new
 split-more s whole done more old new piece split gives joins is = (
   gives.same ∙ split.0,
   λ b lost stands.
       let P : Sealed → Type 0 = λ t. StandsFor t b lost in
-      let next : bytes_ahead old b ≡ bytes_of piece ++ bytes_ahead new b = joins b lost (subst P (sym split.0) stands) in
-      split.1 b lost stands ∙ ap (λ (x : List ℕ). done ++ x) next ∙ sym (append_assoc done (bytes_of piece) (bytes_ahead new b))
+      let next : bytes_ahead old b ≡ bytes_in_piece piece ++ bytes_ahead new b = joins b lost (subst P (sym split.0) stands) in
+      split.1 b lost stands ∙ ap (λ (x : List ℕ). done ++ x) next ∙ sym (append_assoc done (bytes_in_piece piece) (bytes_ahead new b))
       ∙ ap (λ (x : List ℕ). x ++ bytes_ahead new b) (sym is),
 )
 

@@ -11,7 +11,7 @@ use Rattle.lent.specs.declared.grant.Grant.{Grant}
 use Rattle.lent.specs.declared.part.Part.{Part}
 use Rattle.lent.specs.declared.piece.Piece.{Piece}
 use Rattle.lent.specs.declared.piece.Piece.TheVariants.{Lent, Built}
-use Rattle.lent.specs.Pieces.{bytes_of}
+use Rattle.lent.specs.Pieces.{bytes_in_piece}
 use Rattle.history.specs.Text.{note_text, entry_text}
 use Rattle.history.specs.declared.note.Entry.{Entry}
 use Rattle.book.specs.Notes.{note_of}
@@ -69,7 +69,7 @@ pub record TakesIn (r : Reading) (piece : Piece) (more : Reading) : Type 0 where
   pub version : more.version ≡ r.version
   pub lent : more.lent ≡ r.lent + cond (is_lent piece) 1 0
   pub built : more.built ≡ r.built + cond (not (is_lent piece)) 1 0
-  pub bytes : more.bytes.items ≡ r.bytes.items ++ bytes_of piece
+  pub bytes : more.bytes.items ≡ r.bytes.items ++ bytes_in_piece piece
 
 -- the line to an answer
 abbrev pub IsReadBy : Grant → Line → Type 0

@@ -2,7 +2,7 @@ use Rattle.std.proofs.Common.{ℕ, refl, sym, subst, ◌∙◌}
 use Rattle.std.proofs.lemmas.Bool.{true≢false}
 use Rattle.lrc_code.specs.Code.{is_lost}
 use Rattle.decode.specs.Decoding.{HasOpen}
-use Rattle.decode.specs.DecodePlan.{IsPlan, HasAllOf, IsRest}
+use Rattle.decode.specs.DecodePlan.{IsDecodePlan, HasAllOf, IsRest}
 use Rattle.coder_c.specs.Call.{code_with, chosen_of, AreLostIn}
 use Rattle.coder_c.specs.PlanBytes.{missing_in, plan_in}
 use Rattle.coder_c.proofs.Asked.{at_code}
@@ -42,7 +42,7 @@ returns-in_default-plan_for-clause-taken c =
 pub returns-clause-plan : goal.returns-clause-plan
 returns-clause-plan c = λ _.
     let made = c.in-Some-plan_for.made in
-    at_code (code_with c.args.data_fragments) c.in-Some.code (λ code. IsPlan (plan_in code c.plan_bytes.result)) (sym c.in-Some.ensures)
+    at_code (code_with c.args.data_fragments) c.in-Some.code (λ code. IsDecodePlan (plan_in code c.plan_bytes.result)) (sym c.in-Some.ensures)
     (is_plan_of_bytes c.in-Some.code c.plan_bytes.result made c.in-Some-plan_for.ensures.code c.plan_bytes.ensures.missing c.plan_bytes.ensures.chosen c.plan_bytes.ensures.shares c.in-Some-plan_for.ensures.plan)
 
 pub returns-clause-lost : goal.returns-clause-lost

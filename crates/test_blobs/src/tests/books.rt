@@ -2,7 +2,7 @@ ghost use Rattle.std.specs.Prelude.{◌≡◌, ◌∷◌, ◌++◌, []};
 ghost use Rattle.history.specs.History.{History};
 ghost use Rattle.history.specs.Step.{put as put_of};
 ghost use Rattle.book.specs.Known.{IsFragmentIn};
-ghost use Rattle.book.specs.Tells.{HoldsHistory};
+ghost use Rattle.book.specs.Holds.{HoldsHistory};
 
 use book::{Answer, Book, Fault, Limit, Name, Note, Plan, is_lawful, is_lawful_from};
 use bytes::Bytes;
@@ -14,7 +14,7 @@ use std::process::Abort;
 /// A book of width 1, and the name `a`.
 fn beginning(rt: &impl Abort, alloc: Global, entries: u32) -> (Book, Name)
     ensures width { result.0.width ≡ 1 }
-    ensures told { HoldsHistory result.0 [] }
+    ensures holds { HoldsHistory result.0 [] }
 {
     let width = Width::new(1).expect(rt, "a width");
     let limit = Limit::new(entries).expect(rt, "a limit");
@@ -25,7 +25,7 @@ fn beginning(rt: &impl Abort, alloc: Global, entries: u32) -> (Book, Name)
 /// Stores bytes under a name.
 fn store(rt: &impl Abort, alloc: Global, book: &mut Book, name: &Name, bytes: &'static [u8]) -> Note
     ensures width { book.new.width ≡ book.old.width }
-    ensures told { (h : History) → HoldsHistory book.old h
+    ensures holds { (h : History) → HoldsHistory book.old h
         → HoldsHistory book.new (h ++ record {
           who = 1;
           operation = put_of name.now Code.Wide bytes.now;

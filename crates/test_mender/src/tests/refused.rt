@@ -149,7 +149,7 @@ fn each_fragment_comes_back(rt: HostRuntime) -> Result<(), Fail> {
 
 /// The text of each fault.
 #[test]
-fn faults_are_told(rt: HostRuntime) -> Result<(), Fail> {
+fn faults_are_reported(rt: HostRuntime) -> Result<(), Fail> {
     let faults = [
         (Fault::NoMemory, "out of memory"),
         (Fault::JournalFull, "the journal is full"),

@@ -11,12 +11,12 @@ use std::test::Fail;
 /// Writes down its calls, a digit for each: `1` to `7` before the row of this number, `9` after it.
 /// It stops at one row.
 #[derive(Drop)]
-struct Told {
+struct RecordingPace {
     digits: AtomicU64,
     last: u32,
 }
 
-impl Told {
+impl RecordingPace {
     fn note(&self, digit: u32) {
         let before = self.digits.load(Ordering::SeqCst);
         let digits = before.wrapping_mul(10).wrapping_add(u64::from(digit));
@@ -24,7 +24,7 @@ impl Told {
     }
 }
 
-impl Pace for Told {
+impl Pace for RecordingPace {
     fn before(&self, row: u32) -> bool {
         self.note(row);
         row != self.last
@@ -42,11 +42,11 @@ const FIVE_ROWS: &[u8] =
 /// `before` and `after` are called once for each row, in order, also for a mend. After a stop
 /// nothing more is called.
 #[test]
-fn each_row_is_told_of_once(rt: HostRuntime) -> Result<(), Fail> {
+fn each_row_is_reported_once(rt: HostRuntime) -> Result<(), Fail> {
     let alloc = rt.alloc();
     let mut options = options(1, 4096, false);
     options.workers = 1;
-    let told: [(u32, u64); 6] = [
+    let expected: [(u32, u64); 6] = [
         (1, 1),
         (2, 1192),
         (3, 1192293),
@@ -54,8 +54,8 @@ fn each_row_is_told_of_once(rt: HostRuntime) -> Result<(), Fail> {
         (5, 1192293394495),
         (6, 119_229_339_449_559),
     ];
-    for (last, digits) in told {
-        let pace = Told {
+    for (last, digits) in expected {
+        let pace = RecordingPace {
             digits: AtomicU64::new(0),
             last,
         };
@@ -73,7 +73,7 @@ fn each_row_is_told_of_once(rt: HostRuntime) -> Result<(), Fail> {
 
 /// The text of each fail that no script is refused for.
 #[test]
-fn fails_are_told(rt: HostRuntime) -> Result<(), Fail> {
+fn failures_are_reported(rt: HostRuntime) -> Result<(), Fail> {
     let fails = [
         (PlayFail::Read, "cannot read the script"),
         (PlayFail::Write, "cannot write"),

@@ -3,7 +3,7 @@ use Rattle.std.specs.Prelude.{◌==◌}
 use Rattle.gf256.specs.Field.{product}
 use Rattle.gf256.proofs.Laws.{product_comm}
 use Rattle.lrc_code.specs.Code.{is_lost}
-use Rattle.lrc_code.specs.ParityCheck.{place_of, determinant}
+use Rattle.lrc_code.specs.ParityCheck.{found_place, determinant}
 use Rattle.lrc_code.proofs.Solved.{Solving, determinant_some, scaled_determines}
 use Rattle.lrc_code.proofs.Checks.{solving_found}
 use Rattle.lrc_code.proofs.Short.{short_global}
@@ -18,8 +18,8 @@ found c =
     c.without-others.ensures (rw c.first_group.ensures.value at c.first_of-first.ensures.found) (rw c.second_group.ensures.value at c.first_of-second.ensures.found)
     (λ i l.
     c.without_found-left_over.ensures c.args.code i l
-    ∙ ap (λ b. not (i == place_of c.args.code c.first_of-second.result) && b)
-    (c.without_found.ensures c.args.code i l ∙ ap (λ b. not (i == place_of c.args.code c.first_of-first.result) && b) (c.without-others.ensures i)))
+    ∙ ap (λ b. not (i == found_place c.args.code c.first_of-second.result) && b)
+    (c.without_found.ensures c.args.code i l ∙ ap (λ b. not (i == found_place c.args.code c.first_of-first.result) && b) (c.without-others.ensures i)))
     (rw c.all.ensures.value at c.first_of-found.ensures.found))
 
 determinant_is : (c : goal.After-determinant_of) → c.determinant_of.result ≡ determinant c.args.code c.place-p.result c.place-q.result c.other-g.result c.args.f

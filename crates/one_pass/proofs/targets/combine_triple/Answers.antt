@@ -1,5 +1,5 @@
 use Rattle.std.proofs.Common.{◌≡◌, ℕ, ◌+◌, ◌-◌, ◌<◌, map, ◌∙◌, arith, bit_xor, ap₂, not, eqb}
-use Rattle.one_pass.specs.Syndromes.{syndrome, syndromes_at, column_at, sum_by}
+use Rattle.one_pass.specs.Syndromes.{wide_syndrome, syndromes_at, column_at, sum_by}
 use Rattle.one_pass.specs.Weights.{unit}
 use Rattle.one_pass.specs.Patterns.{group}
 use Rattle.one_pass.proofs.Written.{spliced}
@@ -13,7 +13,7 @@ each-preserved g c =
     let end : ℕ = c.block_end-end.result in
     let i = c.each.invariant in
     let order = c.next_block-at.ensures.no_gap in
-    let s = λ (k e : ℕ). syndrome e (column_at lists k) in
+    let s = λ (k e : ℕ). wide_syndrome e (column_at lists k) in
     let same : (j e : ℕ) → j < end - at → e < 4 → syndromes_at (map (λ s. s.now) c.sources_of-sources.result) j e ≡ s (at + j) e =
     λ j e l m. c.sources_of-sources.ensures.syndromes j e l m in
     record {

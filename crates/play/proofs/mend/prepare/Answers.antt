@@ -18,7 +18,7 @@ returns-clause-prepared g c =
     let takes = c.in_ok-plan.ensures.takes in
     let look = looked_alone joined c.make_plan.new.pass takes c.join-first.ensures.room in
     let split = c.in_ok-first.field-0 in
-    let kept = c.in_ok-first.ensures.kept in
+    let kept = c.in_ok-first.ensures.unchanged in
     record {
       passes = split.passes;
       fresh = c.in_ok-first.ensures.fresh;

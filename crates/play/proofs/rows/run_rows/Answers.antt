@@ -6,7 +6,7 @@ use Rattle.rounds.specs.declared.halt.Halt.TheVariants as halt
 use Rattle.script.specs.declared.rows.Row.{Row}
 use Rattle.play.specs.Accounts.{IsPlayed, numbers_in}
 use Rattle.play.specs.Paced.{HoldsBack}
-use Rattle.play.specs.Progress.{AreTold, IsRowAt}
+use Rattle.play.specs.Progress.{AreReported, IsRowAt}
 use Rattle.play.proofs.Pacing.{calls_held, passed_on}
 use Rattle.play.proofs.Played.{made_last, run_none}
 use Rattle.play.proofs.rows.run_rows.Given as given
@@ -39,7 +39,7 @@ loop-row-preserved g c =
 
 -- all rows have run, and each has one outcome
 all_made : (g : given.Over) (c : In_ok-pool g) → IsPlayed c.args.store.now.width c.args.store.now.limit (length c.args.pool.passes.items) c.args.rows.items (length c.args.rows.items) c.in_ok-pool.pool.first.acts c.in_ok-pool.pool.first.did c.run_calls.new.done.items
-    × AreTold (length c.args.rows.items) (numbers_in c.run_calls.new.done.items) []
+    × AreReported (length c.args.rows.items) (numbers_in c.run_calls.new.done.items) []
 all_made g c =
     let inv = c.loop-row.invariant in
     let store = c.args.store.now in
@@ -52,7 +52,7 @@ all_made g c =
     let pool = c.in_ok-pool.pool in
     let made = made_last store.width store.limit workers rows progress.round c.loop-row.number progress.pool.first.acts pool.first.acts progress.pool.first.did pool.first.did progress.done.items c.run_calls.new.done.items
     (length progress.pool.passes.items) progress.calls.items inv.run.waits c.in_ok-pool.ensures.acts inv.run.many c.in_ok-pool.ensures.round in
-    subst (λ (n : ℕ). IsPlayed store.width store.limit workers rows n pool.first.acts pool.first.did c.run_calls.new.done.items × AreTold n (numbers_in c.run_calls.new.done.items) []) number made
+    subst (λ (n : ℕ). IsPlayed store.width store.limit workers rows n pool.first.acts pool.first.did c.run_calls.new.done.items × AreReported n (numbers_in c.run_calls.new.done.items) []) number made
 
 pub returns-clause-played : goal.returns-clause-played
 returns-clause-played g c = (all_made g (goal.at.returns-clause-played g c).In_ok-pool).0

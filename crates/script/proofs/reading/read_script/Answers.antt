@@ -1,7 +1,7 @@
 use Rattle.std.proofs.Common.{◌≡◌, ◌∙◌, rules, true, length, ◌+◌}
 use Rattle.std.specs.Result.{is_ok}
 use Rattle.csv.specs.Records.{fields_of}
-use Rattle.script.specs.Script.{Explains, TellsWhy, at_row, script_records}
+use Rattle.script.specs.Script.{Explains, ExplainsFailure, at_row, script_records}
 use Rattle.script.proofs.Progress.{given, of_each, of_every, progress-end, progress-more, progress-refused, progress-start}
 use Rattle.script.proofs.reading.read_script.Goals as goal
 
@@ -38,7 +38,7 @@ returns-in-Ok-false-clause-read g c =
     progress-end (λ retried. g.R.Read.remaining retried.reader) c.args.workers c.records.rows.items (g.R.Read.remaining c.args.input) c.records.reader c.read_byte_record.new.self (fields_of c.read_byte_record.new.row) p read
 
 pub returns-in-Err-clause-refused : goal.returns-in-Err-clause-refused
-returns-in-Err-clause-refused g c = of_every (λ text. TellsWhy c.args.workers (script_records text) c.not_read.result) (g.R.Read.remaining c.args.input) (λ text. c.not_read.ensures c.args.workers (script_records text))
+returns-in-Err-clause-refused g c = of_every (λ text. ExplainsFailure c.args.workers (script_records text) c.not_read.result) (g.R.Read.remaining c.args.input) (λ text. c.not_read.ensures c.args.workers (script_records text))
 
 pub returns-in-Err-row-clause-refused : goal.returns-in-Err-row-clause-refused
 returns-in-Err-row-clause-refused g c =
@@ -47,6 +47,6 @@ returns-in-Err-row-clause-refused g c =
     let t = rw c.as_slice.ensures.value at c.in-Err-row.ensures in
     let count : c.len.result ≡ length c.records.rows.items = search rules in
     let error : c.at_row-error.result ≡ at_row c.in-Err-row.refusal (length c.records.rows.items + 1) = rw (← count) c.at_row-error.ensures in
-    of_each (λ text. Explains c.args.workers (script_records text) (at_row c.in-Err-row.refusal (length c.records.rows.items + 1))) (λ text. TellsWhy c.args.workers (script_records text) c.read_out.result) (g.R.Read.remaining c.args.input)
+    of_each (λ text. Explains c.args.workers (script_records text) (at_row c.in-Err-row.refusal (length c.records.rows.items + 1))) (λ text. ExplainsFailure c.args.workers (script_records text) c.read_out.result) (g.R.Read.remaining c.args.input)
     (λ text why. c.read_out.ensures c.args.workers (script_records text) (rw error why))
     (progress-refused (λ retried. g.R.Read.remaining retried.reader) c.args.workers c.records.rows.items (g.R.Read.remaining c.args.input) c.records.reader c.read_byte_record.new.self (fields_of c.read_byte_record.new.row) c.in-Err-row.refusal p read t)

@@ -1,6 +1,6 @@
 use Rattle.std.proofs.Common.{◌≡◌, ◌+◌, ◌-◌, ◌≤◌, ℕ, [], ◌∷◌, length, ap, sym, subst, ◌∙◌, arith}
 use borrow.Rule.Slice.PartMut.{put_mid}
-use Rattle.lent.specs.Pieces.{bytes_of}
+use Rattle.lent.specs.Pieces.{bytes_in_piece}
 use Rattle.lent.proofs.Collecting.{on_err, at_end}
 use Rattle.session.specs.CopyOf.{lent_of, built_of}
 use Rattle.session.specs.declared.copying.Copied.{Copied}
@@ -53,7 +53,7 @@ kept c f =
     let copied = c.match-piece.copied in
     let ys_are = c.copy_from_slice.ensures.after ∙ c.bytes-bytes.ensures in
     let n_is : n ≡ length c.copy_from_slice.new.self = ap length (sym c.copy_from_slice.ensures.after) in
-    let m : n ≡ length (bytes_of c.in-Some.piece) = ap length c.bytes-bytes.ensures in
+    let m : n ≡ length (bytes_in_piece c.in-Some.piece) = ap length c.bytes-bytes.ensures in
     let parts : (copied.lent ≡ l.copied.lent + lent_of (c.in-Some.piece ∷ [])) × (copied.built ≡ l.copied.built + built_of (c.in-Some.piece ∷ [])) = elim c.match-piece.branch [
       | in-Lent w ↦ let p = lent_piece c.in-Some.piece _ w.in-Lent.is in let k = w.copied-is in
           (omega (arith, ap (λ (x : Copied). x.lent) k, p.0, m), omega (arith, ap (λ (x : Copied). x.built) k, p.1))

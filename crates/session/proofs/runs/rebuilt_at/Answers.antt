@@ -4,7 +4,7 @@ use Rattle.std.proofs.Math.Nat.{div-mul-le_self}
 use Rattle.std.proofs.lemmas.List.{length-map, get_or-map, length-drop, take_all}
 use Rattle.sealed.specs.declared.value.Sealed.{Sealed}
 use Rattle.lent.specs.declared.grant.Grant.{Grant}
-use Rattle.session.specs.LentFrom.{items_of}
+use Rattle.session.specs.LentFrom.{lists_of}
 use Rattle.session.specs.Runs.{IsRunFrom}
 use Rattle.session.proofs.Running.{index, begin, has_index, is_rebuilt_run}
 use Rattle.session.proofs.runs.rebuilt_at.Goals.{After-as_slice}
@@ -24,7 +24,7 @@ bounds c =
     let g : Grant = c.args.grant.now in
     let wide : c.from-width.result ≡ g.sealed.value.width = c.from-width.ensures ∙ c.get.ensures.value ∙ ap (λ (t : Sealed). t.width) c.deref.ensures in
     let index_is : (g.start + c.args.from) / c.from-width.result - g.start / c.from-width.result ≡ index g c.args.from c.requires.inside = ap (λ w. (g.start + c.args.from) / w - g.start / w) wide in
-    omega (arith, index_is, has_index g c.args.from c.requires.inside (items_of c.args.rebuilt.now) c.requires.rebuilt, length-map c.args.rebuilt.now (λ v. v.items))
+    omega (arith, index_is, has_index g c.args.from c.requires.inside (lists_of c.args.rebuilt.now) c.requires.rebuilt, length-map c.args.rebuilt.now (λ v. v.items))
 
 pub offset_bounds-rebuilt-piece : goal.offset_bounds-rebuilt-piece
 offset_bounds-rebuilt-piece c = let inside = bounds c in search rules
@@ -46,23 +46,23 @@ module _ (c : After-as_slice) where
   begin_is : c.max-begin.result ≡ begin g c.args.from c.requires.inside
   begin_is = c.max-begin.ensures ∙ ap (λ w. max g.start ((g.start + c.args.from) / w * w)) wide
 
-  piece_is : c.as_slice.result.now ≡ slice_index_or (items_of c.args.rebuilt.now) (index g c.args.from c.requires.inside) []
+  piece_is : c.as_slice.result.now ≡ slice_index_or (lists_of c.args.rebuilt.now) (index g c.args.from c.requires.inside) []
   piece_is =
       let vs = c.args.rebuilt.now in
       let index_is : (g.start + c.args.from) / c.from-width.result - g.start / c.from-width.result ≡ index g c.args.from c.requires.inside = ap (λ w. (g.start + c.args.from) / w - g.start / w) wide in
       let inside : (g.start + c.args.from) / c.from-width.result - g.start / c.from-width.result < length vs =
-      omega (arith, index_is, has_index g c.args.from c.requires.inside (items_of vs) c.requires.rebuilt, length-map vs (λ v. v.items)) in
+      omega (arith, index_is, has_index g c.args.from c.requires.inside (lists_of vs) c.requires.rebuilt, length-map vs (λ v. v.items)) in
       c.as_slice.ensures.value ∙ ap (λ v. v.items) c.index-rebuilt-piece.is
       ∙ sym (get_or-map (λ v. v.items) vs ((g.start + c.args.from) / c.from-width.result - g.start / c.from-width.result) c.index-rebuilt-piece.result [] inside)
-      ∙ ap (λ k. slice_index_or (items_of vs) k []) index_is
+      ∙ ap (λ k. slice_index_or (lists_of vs) k []) index_is
 
   run : (place ≤ length c.as_slice.result.now) × IsRunFrom g c.args.from (drop place c.as_slice.result.now)
   run =
       let s = c.requires.stands in
-      let is = is_rebuilt_run g c.args.from c.requires.inside (items_of c.args.rebuilt.now) c.requires.rebuilt c.requires.absent s.0 s.1 s.2 in
+      let is = is_rebuilt_run g c.args.from c.requires.inside (lists_of c.args.rebuilt.now) c.requires.rebuilt c.requires.absent s.0 s.1 s.2 in
       subst (λ (xs : List ℕ). (place ≤ length xs) × IsRunFrom g c.args.from (drop place xs)) (sym piece_is)
-      (subst (λ b. (g.start + c.args.from - b ≤ length (slice_index_or (items_of c.args.rebuilt.now) (index g c.args.from c.requires.inside) []))
-      × IsRunFrom g c.args.from (drop (g.start + c.args.from - b) (slice_index_or (items_of c.args.rebuilt.now) (index g c.args.from c.requires.inside) []))) (sym begin_is) is)
+      (subst (λ b. (g.start + c.args.from - b ≤ length (slice_index_or (lists_of c.args.rebuilt.now) (index g c.args.from c.requires.inside) []))
+      × IsRunFrom g c.args.from (drop (g.start + c.args.from - b) (slice_index_or (lists_of c.args.rebuilt.now) (index g c.args.from c.requires.inside) []))) (sym begin_is) is)
 
 pub slice_bounds-result-count : goal.slice_bounds-result-count
 slice_bounds-result-count c = (run c).0

@@ -45,15 +45,15 @@ loop-shard-preserved c =
       closed = closed_more (shows_of c.args.seats.items) (shows_of c.loop-shard.seats.items) (shows_of c.pop-in-Some.new.self.items) c.loop-shard.shards.items c.pop.new.self.items c.loop-shard.books.items c.push_reserved.new.self.items seat.shows
           c.in-Some.shard c.close.result before c.in-Some.ensures.items c.push_reserved.ensures.items
           (record {
-            told = book.told;
+            holds = book.holds;
             whole = record { calls = book.made; all = book.did };
             calls = book.count;
             acts = book.did_count;
             trimmed = book.trimmed;
             entries = book.entries;
             agrees = book.agrees;
-            width = book.kept.0 ∙ ap (λ (s : Which). s.width) (sym last.0);
-            limit = book.kept.1 ∙ ap (λ (s : Which). s.limit) (sym last.0);
+            width = book.unchanged.0 ∙ ap (λ (s : Which). s.width) (sym last.0);
+            limit = book.unchanged.1 ∙ ap (λ (s : Which). s.limit) (sym last.0);
           })
           c.loop-shard.invariant.closed;
       seats = left_less c.args.seats.items c.loop-shard.seats.items c.pop-in-Some.new.self.items c.args.follower.now c.loop-shard.follower c.close.new.follower seat c.in-Some-pop.ensures.items c.loop-shard.invariant.seats book.follower book.all

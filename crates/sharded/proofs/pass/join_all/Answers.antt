@@ -22,9 +22,9 @@ loop-other-preserved c =
     c.join.new.self
     (record {
       joined = record {
-        store = joined.kept.0;
-        who = joined.kept.1;
-        room = joined.kept.2;
+        store = joined.unchanged.0;
+        who = joined.unchanged.1;
+        room = joined.unchanged.2;
         one = joined.one;
         seen = joined.seen;
         made = joined.made;
@@ -37,7 +37,7 @@ loop-other-preserved c =
       agrees = joined.agrees;
       same = joined.same;
     })
-    joined.kept.0
+    joined.unchanged.0
 
 pub join-requires : goal.join-requires
 join-requires c = record {

@@ -19,7 +19,7 @@ pub loop-shard-preserved : goal.loop-shard-preserved
 loop-shard-preserved c =
     let own = c.index_mut-own.result.now in
     let next = split_next c.args.who c.loop-shard.shard c.args.seats.now.items c.loop-shard.seats.items c.reserve.new.self.items own c.split.new.self c.in_ok-seat.seat (own_split (goal.at.loop-shard-preserved c).After-split)
-    (kept_by own c.split.new.self c.in_ok-seat.ensures.kept c.split.ensures.same) (given_by c.args.who own c.in_ok-seat.seat c.in_ok-seat.ensures.given c.in_ok-seat.ensures.at) in
+    (kept_by own c.split.new.self c.in_ok-seat.ensures.unchanged c.split.ensures.same) (given_by c.args.who own c.in_ok-seat.seat c.in_ok-seat.ensures.given c.in_ok-seat.ensures.at) in
     (next.0, c.push_reserved.ensures.items ∙ next.1, next.2)
 
 pub returns-in_err-seat-clause-err : goal.returns-in_err-seat-clause-err

@@ -21,8 +21,8 @@ loop-receipt-preserved c =
       store_is = c.index-shards-shard.is;
     })
     c.accept.new.self
-    (record { accepted = record { kept = accepted.kept; one = accepted.one; seen = accepted.seen; acts = accepted.acts; later = accepted.later; lone = accepted.lone }; agrees = accepted.agrees; same = accepted.same })
-    (ap (λ (x : Shows). x.store) accepted.kept)
+    (record { accepted = record { kept = accepted.unchanged; one = accepted.one; seen = accepted.seen; acts = accepted.acts; later = accepted.later; lone = accepted.lone }; agrees = accepted.agrees; same = accepted.same })
+    (ap (λ (x : Shows). x.store) accepted.unchanged)
 
 pub accept-requires : goal.accept-requires
 accept-requires c = record {

@@ -24,13 +24,13 @@ returns-in-Ok c =
     let g = c.in-Ok-Granted.grant in
     let len : ℕ = length c.args.target.now in
     let reply_is : call.result ≡ Ok (Granted g) = c.in-Ok-Granted.is ∙ ap Ok c.in-Ok-Granted.field-0-is in
-    let is = replied v (read name.name c.args.start len) (read c.args.name.now c.args.start len) call.result 0 c.args.version.now c.tell-status.new.version call.new.self
-    (λ i. read (name.ensures.0 i) c.args.start len) call.ensures.called (call.ensures.faults, call.ensures.no_memory) (sym (ap status_of reply_is)) c.tell-status.ensures.version call.ensures.busy call.ensures.lone in
-    let so = subst (λ (r : Result Answer Fault). HasReply v (read c.args.name.now c.args.start len) r 0 c.args.version.now c.tell-status.new.version call.new.self) reply_is is in
+    let is = replied v (read name.name c.args.start len) (read c.args.name.now c.args.start len) call.result 0 c.args.version.now c.write_version-status.new.version call.new.self
+    (λ i. read (name.ensures.0 i) c.args.start len) call.ensures.called (call.ensures.faults, call.ensures.no_memory) (sym (ap status_of reply_is)) c.write_version-status.ensures.version call.ensures.busy call.ensures.lone in
+    let so = subst (λ (r : Result Answer Fault). HasReply v (read c.args.name.now c.args.start len) r 0 c.args.version.now c.write_version-status.new.version call.new.self) reply_is is in
     let here = granted call.result g call.new.self.seen v.store.width name.name c.args.name.now c.args.start len reply_is name.ensures.0 call.ensures.grant in
     let copy = c.in-Ok.ensures.copy in
     granted_read name.ensures.1 g so refl copy
-    (has_bytes call.result g call.new.self.seen v.store.width c.args.name.now c.args.start len _ c.args.version.now _ reply_is here (copy.range_is here.blob.bytes here.blob.lost here.represents.stands) c.tell-status.ensures.version)
+    (has_bytes call.result g call.new.self.seen v.store.width c.args.name.now c.args.start len _ c.args.version.now _ reply_is here (copy.range_is here.blob.bytes here.blob.lost here.represents.stands) c.write_version-status.ensures.version)
 
 pub returns : goal.returns
 returns c =
@@ -40,7 +40,7 @@ returns c =
     let g = c.in-Ok-Granted.grant in
     let len : ℕ = length c.args.target.now in
     let reply_is : call.result ≡ Ok (Granted g) = c.in-Ok-Granted.is ∙ ap Ok c.in-Ok-Granted.field-0-is in
-    let is = replied v (read name.name c.args.start len) (read c.args.name.now c.args.start len) call.result 0 c.args.version.now c.tell-status.new.version call.new.self
-    (λ i. read (name.ensures.0 i) c.args.start len) call.ensures.called (call.ensures.faults, call.ensures.no_memory) (sym (ap status_of reply_is)) c.tell-status.ensures.version call.ensures.busy call.ensures.lone in
-    let so = subst (λ (r : Result Answer Fault). HasReply v (read c.args.name.now c.args.start len) r 0 c.args.version.now c.tell-status.new.version call.new.self) reply_is is in
+    let is = replied v (read name.name c.args.start len) (read c.args.name.now c.args.start len) call.result 0 c.args.version.now c.write_version-status.new.version call.new.self
+    (λ i. read (name.ensures.0 i) c.args.start len) call.ensures.called (call.ensures.faults, call.ensures.no_memory) (sym (ap status_of reply_is)) c.write_version-status.ensures.version call.ensures.busy call.ensures.lone in
+    let so = subst (λ (r : Result Answer Fault). HasReply v (read c.args.name.now c.args.start len) r 0 c.args.version.now c.write_version-status.new.version call.new.self) reply_is is in
     unbuilt_read name.ensures.1 g so refl c.in-Err.ensures.err refl

@@ -25,13 +25,13 @@ returns-in-Ok-of_read c =
     let g = c.in-Ok-Granted.grant in
     let start = c.args.start in let len = c.args.len in
     let reply_is : call.result ≡ Ok (Granted g) = c.in-Ok-Granted.is ∙ ap Ok c.in-Ok-Granted.field-0-is in
-    let is = replied v (read name.name start len) (read c.args.name.now start len) call.result 0 c.args.version.now c.tell-status.new.version call.new.self
-    (λ i. read (name.ensures.0 i) start len) call.ensures.called (call.ensures.faults, call.ensures.no_memory) (sym (ap status_of reply_is)) c.tell-status.ensures.version call.ensures.busy call.ensures.lone in
-    let so = subst (λ (r : Result Answer Fault). HasReply v (read c.args.name.now start len) r 0 c.args.version.now c.tell-status.new.version call.new.self) reply_is is in
+    let is = replied v (read name.name start len) (read c.args.name.now start len) call.result 0 c.args.version.now c.write_version-status.new.version call.new.self
+    (λ i. read (name.ensures.0 i) start len) call.ensures.called (call.ensures.faults, call.ensures.no_memory) (sym (ap status_of reply_is)) c.write_version-status.ensures.version call.ensures.busy call.ensures.lone in
+    let so = subst (λ (r : Result Answer Fault). HasReply v (read c.args.name.now start len) r 0 c.args.version.now c.write_version-status.new.version call.new.self) reply_is is in
     let here = granted call.result g call.new.self.seen v.store.width name.name c.args.name.now start len reply_is name.ensures.0 call.ensures.grant in
     let from = c.in-Ok-of_read.ensures in
     granted_lend name.ensures.1 g so refl c.in-Ok-of_read.lending from
-    (has_bytes call.result g call.new.self.seen v.store.width c.args.name.now start len _ c.args.version.now _ reply_is here (from.range_is here.blob.bytes here.blob.lost here.represents.stands) c.tell-status.ensures.version)
+    (has_bytes call.result g call.new.self.seen v.store.width c.args.name.now start len _ c.args.version.now _ reply_is here (from.range_is here.blob.bytes here.blob.lost here.represents.stands) c.write_version-status.ensures.version)
     c.len.ensures c.put.ensures
 
 pub returns-in-Err : goal.returns-in-Err
@@ -42,7 +42,7 @@ returns-in-Err c =
     let g = c.in-Ok-Granted.grant in
     let start = c.args.start in let len = c.args.len in
     let reply_is : call.result ≡ Ok (Granted g) = c.in-Ok-Granted.is ∙ ap Ok c.in-Ok-Granted.field-0-is in
-    let is = replied v (read name.name start len) (read c.args.name.now start len) call.result 0 c.args.version.now c.tell-status.new.version call.new.self
-    (λ i. read (name.ensures.0 i) start len) call.ensures.called (call.ensures.faults, call.ensures.no_memory) (sym (ap status_of reply_is)) c.tell-status.ensures.version call.ensures.busy call.ensures.lone in
-    let so = subst (λ (r : Result Answer Fault). HasReply v (read c.args.name.now start len) r 0 c.args.version.now c.tell-status.new.version call.new.self) reply_is is in
+    let is = replied v (read name.name start len) (read c.args.name.now start len) call.result 0 c.args.version.now c.write_version-status.new.version call.new.self
+    (λ i. read (name.ensures.0 i) start len) call.ensures.called (call.ensures.faults, call.ensures.no_memory) (sym (ap status_of reply_is)) c.write_version-status.ensures.version call.ensures.busy call.ensures.lone in
+    let so = subst (λ (r : Result Answer Fault). HasReply v (read c.args.name.now start len) r 0 c.args.version.now c.write_version-status.new.version call.new.self) reply_is is in
     unbuilt_lend name.ensures.1 g so refl refl c.requires

@@ -16,5 +16,5 @@ returns-in-Some-Repairs c =
     let part = c.next_part in
     let left = c.in-Some-Repairs.repairs in
     subst (λ (other : Option Held). IsPlanPartTo c.args.session.now other c.args.most part.result (c.args.items.now, part.new.items) part.new.session (Some (Repairs part.new.repairs)))
-    (ap Some (sym c.in-Some-Repairs.field-0-is) ∙ sym c.in-Some-Repairs.is ∙ c.get_mut.ensures.value ∙ c.is_vacant.ensures.kept)
+    (ap Some (sym c.in-Some-Repairs.field-0-is) ∙ sym c.in-Some-Repairs.is ∙ c.get_mut.ensures.value ∙ c.is_vacant.ensures.unchanged)
     (next_of c.args.session.now left.items left.last c.args.most part.result (c.args.items.now, part.new.items) part.new.session (Some (Repairs part.new.repairs)) (omega (arith, c.len.ensures, c.if-len-eq0.true)) part.ensures)

@@ -9,9 +9,9 @@ returns-else-theirs-number c =
     let join = c.join.ensures in
     joined_with c.args.given.now _ _ c.args.session theirs.other c.args.number theirs.theirs 0 (sym c.take.ensures.value ∙ theirs.is ∙ ap Some theirs.field-0-is)
     (joined c.join.new.self refl c.if-theirs-number.false (record {
-      store_is = join.kept.0;
-      who_is = join.kept.1;
-      room_is = join.kept.2;
+      store_is = join.unchanged.0;
+      who_is = join.unchanged.1;
+      room_is = join.unchanged.2;
       one = join.one;
       seen = join.seen;
       made = join.made;

@@ -7,4 +7,4 @@ pub returns-in-Ok-split : goal.returns-in-Ok-split
 returns-in-Ok-split c =
     let made = c.in-Ok-split in
     subst (λ (other : Option Held). IsSplitTo c.args.session.now c.args.number other c.args.who 0 c.split.new.self c.put.new.self.held)
-    (sym (c.is_vacant.ensures.vacant.0 c.if-not-is_vacant.false)) (split_off made.session refl made.ensures.kept made.ensures.given c.put.ensures)
+    (sym (c.is_vacant.ensures.vacant.0 c.if-not-is_vacant.false)) (split_off made.session refl made.ensures.unchanged made.ensures.given c.put.ensures)

@@ -5,7 +5,7 @@ use super::{gives, granted, letters};
 use book::{Book, Limit, Name};
 use gate::{Gate, Seat};
 use lent::Grant;
-use requests::Kept;
+use requests::BoxedBook;
 use sealed::{Width, seal};
 use std::alloc::Global;
 use std::process::Abort;
@@ -17,10 +17,10 @@ use std::thread::join;
 fn walk_beside(
     rt: &impl Abort,
     alloc: Global,
-    gate: &Gate<Kept>,
-    seat: Seat<Kept>,
+    gate: &Gate<BoxedBook>,
+    seat: Seat<BoxedBook>,
     grant: &Grant,
-) -> Seat<Kept>
+) -> Seat<BoxedBook>
     requires { (seat.gate ≡ gate.now) × (seat.inside ≡ false) }
     ensures { (result.gate ≡ gate.now) × (result.inside ≡ false) }
 {
@@ -34,7 +34,7 @@ fn walk_beside(
 }
 
 /// The number of entries that a seat finds at a free gate.
-fn entries_found(rt: &impl Abort, gate: &Gate<Kept>, seat: &mut Seat<Kept>) -> usize
+fn entries_found(rt: &impl Abort, gate: &Gate<BoxedBook>, seat: &mut Seat<BoxedBook>) -> usize
     requires { (seat.old.gate ≡ gate.now) × (seat.old.inside ≡ false) }
 {
     let Some(inside) = gate.try_enter(seat) else {
@@ -60,14 +60,14 @@ fn begun(rt: &impl Abort, alloc: Global) -> Result<(Book, Grant), Fail> {
 fn walk_while_entered(rt: HostRuntime) -> Result<(), Fail> {
     let alloc = rt.alloc();
     let (book, grant) = begun(&rt, alloc)?;
-    let (gate, mut first) = Gate::new(alloc, Kept::boxed(alloc, book)?)?;
+    let (gate, mut first) = Gate::new(alloc, BoxedBook::boxed(alloc, book)?)?;
     let second = first.split(&gate)?;
     let Some(inside) = gate.try_enter(&mut first) else {
         panic!(rt; "the gate was free");
     };
     let (mut second, ()) = join(
         &rt,
-        || -> Seat<Kept>
+        || -> Seat<BoxedBook>
             requires { (second.gate ≡ gate) × (second.inside ≡ false) }
             ensures { (result.gate ≡ gate) × (result.inside ≡ false) }
         { walk_beside(&rt, alloc, &gate, second, &grant) },

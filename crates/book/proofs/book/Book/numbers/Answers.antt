@@ -10,8 +10,8 @@ use Rattle.book.specs.Totals.{totals_of}
 use Rattle.book.proofs.Counting.{same_blobs, same_bytes, same_lost, same_unrecoverable, same_calls, open_decided}
 use Rattle.book.proofs.book.Book.numbers.Goals as goal
 
-pub returns-clause-told : goal.returns-clause-told
-returns-clause-told c h told =
+pub returns-clause-holds : goal.returns-clause-holds
+returns-clause-holds c h told =
     let book = c.args.self.now in
     let catalogue : c.self.inside.catalogue ≡ book.catalogue = ap (λ (s : Contents). s.catalogue) c.self.view_is in
     let P : Catalogue → Type 0 = λ entries. IsStrictlySortedBy name_cmp (keys_of entries) in

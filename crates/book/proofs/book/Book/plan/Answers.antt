@@ -1,6 +1,6 @@
 use Rattle.history.specs.History.{state_of}
 use Rattle.book.specs.Plan.{plan_of}
-use Rattle.book.specs.Tells.{HoldsHistory}
+use Rattle.book.specs.Holds.{HoldsHistory}
 use Rattle.book.proofs.Parts.{whole_plan}
 use Rattle.book.proofs.book.Book.plan.Goals as goal
 

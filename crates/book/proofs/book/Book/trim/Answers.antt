@@ -30,8 +30,8 @@ invariant_of-self-2 c =
       omega (arith, c.in_ok-advance.ensures.trimmed, taken, c.if-self-count.false, ap (λ (b : Inside). b.base.trimmed) c.self-inside.view_is, ap (λ (s : Contents). s.base.trimmed) c.self.view_is, ap (λ (s : Contents). s.base.trimmed) c.self-2.view_is),
     )
 
-pub returns-clause-told : goal.returns-clause-told
-returns-clause-told c =
+pub returns-clause-holds : goal.returns-clause-holds
+returns-clause-holds c =
     let n : ℕ = length c.entries.result.now - c.args.keep in
     let old : Contents = c.args.self.now in
     let base : c.self-2.inside.base ≡ old.base = ap (λ (s : Contents). s.base) c.self-2.view_is in

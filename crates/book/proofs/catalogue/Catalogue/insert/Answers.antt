@@ -4,7 +4,7 @@ use Rattle.std.specs.BTreeSet.{contains}
 use Rattle.history.specs.Names.{name_cmp}
 use Rattle.book.specs.declared.totals.Totals.{Totals}
 use Rattle.book.specs.Losing.{value_at}
-use Rattle.book.specs.Totals.{DifferBy, share_at, share_of}
+use Rattle.book.specs.Totals.{DifferBy, share_at, totals_of_blob}
 use Rattle.book.proofs.Lacking.{none_lacked}
 use Rattle.book.proofs.Lacks.{none_lacks, replaced}
 use Rattle.book.proofs.Summing.{differ_insert}
@@ -27,7 +27,7 @@ replace-requires-clause-differ c =
     let n = c.duplicate.result in
     let s = c.whole-stored.result in
     let before : c.of-before.result ≡ share_at (value_at old n) = c.of-before.ensures.value ∙ ap share_at (c.as_ref.ensures.value ∙ c.in_ok-replaced.ensures.old) in
-    let after : c.share-after.result ≡ share_of s = c.share-after.ensures.value in
+    let after : c.share-after.result ≡ totals_of_blob s = c.share-after.ensures.value in
     let few : s.len < 2 ^ 64 = omega (arith, c.share-after.ensures.share.0, ap (λ (t : Totals). t.bytes) after) in (
       old,
       c.self.invariant.1,

@@ -27,8 +27,8 @@ invariant_of-seat g c =
     (λ y e. if_some (λ x. g.T.Follows.follows x c.args.inside.value) _ y (sym (ap (λ p. last_of p.list) c.seat.view_is) ∙ e) c.requires.follows)
     (left_as g.T.Follows.follows 0 0 _ _ me.0 c.args.inside.value now c.store.ensures.2)
 
-pub returns-clause-kept : goal.returns-clause-kept
-returns-clause-kept g c =
+pub returns-clause-unchanged : goal.returns-clause-unchanged
+returns-clause-unchanged g c =
     let me = c.seat.inside.table_seat.me in
     let inside : me.0.inside ≡ true = ap (λ p. p.inside) c.seat.view_is ∙ c.requires.inside in
     let slots : me.1 ≡ (0, None) ∷ [] = c.seat.invariant.slots ∙ ap slots_of inside in

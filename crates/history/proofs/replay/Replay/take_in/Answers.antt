@@ -1,7 +1,7 @@
 use Rattle.std.proofs.Common.{◌≡◌, ◌+◌, ◌∷◌, Bool, true, false, IsTrue, drop, sym, ap, ◌∙◌, subst, map, arith}
 use Rattle.history.specs.Metadata.{views_of, PairsRise}
 use Rattle.history.specs.Parts.{changes_of}
-use Rattle.history.specs.Views.{Views, IsNoted, AreNoted, all_next, next}
+use Rattle.history.specs.Views.{Views, IsNoted, AreNoted, all_next, next_views}
 use Rattle.history.specs.declared.replay.Replay.{Replay}
 use Rattle.history.proofs.Framing.{changes_at}
 use Rattle.history.proofs.Shapes.{within, named_at}
@@ -41,7 +41,7 @@ loop-entry-preserved c =
     elim c.if-can_change.branch [
       | then-can_change+else-not-expects+in_ok-apply t ↦
           let split : changes_of (drop i es) ≡ e ∷ rest = at true (sym c.can_change.ensures ∙ t.if-can_change.true) in
-          let after : views_of c.if-can_change.self ≡ next v e = ap views_of t.self-is ∙ t.in_ok-apply.ensures.views in
+          let after : views_of c.if-can_change.self ≡ next_views v e = ap views_of t.self-is ∙ t.in_ok-apply.ensures.views in
           record {
             width = ap (λ (r : Replay). r.width) t.self-is ∙ t.apply.ensures.width ∙ was.width;
             noted = λ a. subst (λ (x : Views). AreNoted w x rest) (sym after) (subst (AreNoted w v) split (was.noted a)).1;

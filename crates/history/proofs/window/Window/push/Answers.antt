@@ -8,7 +8,7 @@ use Rattle.history.proofs.window.Window.push.Goals as goal
 written : (c : goal.After-self-1) → AreWritten c.self.inside.slots.items c.copy_before.new.slots.items c.write.new.slots.items c.self.inside.limit c.self.inside.end c.args.entry
 written c =
     subst (λ (l : ℕ). AreWritten c.self.inside.slots.items c.copy_before.new.slots.items c.write.new.slots.items l c.self.inside.end c.args.entry) c.get-limit.ensures.value
-    (record { copied = c.copy_before.ensures.copied; kept = c.copy_before.ensures.kept; items = c.write.ensures.items })
+    (record { copied = c.copy_before.ensures.copied; kept = c.copy_before.ensures.unchanged; items = c.write.ensures.items })
 
 -- there is room for one more
 room : (c : goal.After-self-1) → c.self.inside.end < c.self.inside.start + c.self.inside.limit

@@ -2,7 +2,7 @@ use Rattle.std.proofs.Common.{◌≡◌, ◌<◌, [], ◌∷◌, length, get_or,
 use Rattle.std.proofs.lemmas.List.{length-map, get_or-map}
 use Rattle.lent.specs.Granted.{cut_of}
 use Rattle.lent.specs.Spans.{span_of, spans_of, seen}
-use Rattle.session.specs.LentFrom.{pieces_of, items_of, chosen}
+use Rattle.session.specs.LentFrom.{pieces_of, lists_of, chosen}
 use Rattle.session.proofs.Lendings.{IsLending, at_first, one_lent, counted, aligned}
 use Rattle.session.proofs.lending.Lending.lend.Goals as goal
 
@@ -10,12 +10,12 @@ pub loop-at-init : goal.loop-at-init
 loop-at-init c =
     let g = c.self.inside.grant in let vs = c.self.inside.rebuilt.items in
     let spans = spans_of g.sealed.value (cut_of g) in
-    subst (λ ahead. IsLending (pieces_of spans (items_of vs)) (items_of vs) ahead 0 c.args.target.now c.args.target.now) (sym c.spans-spans.ensures)
-    (at_first spans (items_of vs) c.args.target.now (length-map (cut_of g) (span_of g.sealed.value) ∙ sym (aligned g vs c.self.invariant.0) ∙ sym (length-map vs (λ v. v.items))))
+    subst (λ ahead. IsLending (pieces_of spans (lists_of vs)) (lists_of vs) ahead 0 c.args.target.now c.args.target.now) (sym c.spans-spans.ensures)
+    (at_first spans (lists_of vs) c.args.target.now (length-map (cut_of g) (span_of g.sealed.value) ∙ sym (aligned g vs c.self.invariant.0) ∙ sym (length-map vs (λ v. v.items))))
 
 pub loop-at-preserved : goal.loop-at-preserved
 loop-at-preserved c =
-    let l = c.loop-at in let g = c.self.inside.grant in let rebuilt = items_of c.self.inside.rebuilt.items in let pieces = pieces_of (spans_of g.sealed.value (cut_of g)) rebuilt in
+    let l = c.loop-at in let g = c.self.inside.grant in let rebuilt = lists_of c.self.inside.rebuilt.items in let pieces = pieces_of (spans_of g.sealed.value (cut_of g)) rebuilt in
     let span = seen c.in-Some.span in
     let before : IsLending pieces rebuilt (span ∷ c.next.new.self) l.at c.args.target.now l.target =
     subst (λ spans. IsLending pieces rebuilt spans l.at c.args.target.now l.target) c.in-Some.ensures.steps l.invariant in

@@ -10,7 +10,7 @@ returns-clause-ok c =
     subst (λ (v : Shows). IsClosing v c.take_book.result) c.self.view_is
     record {
       room = sym c.room.ensures.value ∙ c.if-room-ne64.false;
-      told = e.told;
+      holds = e.holds;
       made = e.made;
       count = e.count;
       trimmed = e.trimmed;
@@ -18,6 +18,6 @@ returns-clause-ok c =
       did = e.did;
       did_count = e.did_count;
       entries = e.entries;
-      width_kept = e.kept.0 ∙ ap (λ (s : Which). s.width) which;
-      limit_kept = e.kept.1 ∙ ap (λ (s : Which). s.limit) which;
+      width_kept = e.unchanged.0 ∙ ap (λ (s : Which). s.width) which;
+      limit_kept = e.unchanged.1 ∙ ap (λ (s : Which). s.limit) which;
     }

@@ -15,7 +15,7 @@ use Rattle.shard.proofs.seat.ShardSeat.join.Goals as goal
 pub invariant_of-self : goal.invariant_of-self
 invariant_of-self c =
     let e = c.join.ensures in
-    joined_seat c.self.inside.seat c.other.inside.seat c.join.new.self c.self.invariant c.other.invariant e.seen.0 e.seen.1 e.own e.one e.kept.1
+    joined_seat c.self.inside.seat c.other.inside.seat c.join.new.self c.self.invariant c.other.invariant e.seen.0 e.seen.1 e.own e.one e.unchanged.1
 
 pub returns-clause-same : goal.returns-clause-same
 returns-clause-same c =
@@ -75,4 +75,4 @@ returns-clause-whole c = λ all. whole (plain c.join.new.self) c.self.inside.who
 pub returns-clause-agrees : goal.returns-clause-agrees
 returns-clause-agrees c =
     let e = c.join.ensures in
-    agreed (plain c.join.new.self) c.self.inside.who (joined_seat c.self.inside.seat c.other.inside.seat c.join.new.self c.self.invariant c.other.invariant e.seen.0 e.seen.1 e.own e.one e.kept.1).pass
+    agreed (plain c.join.new.self) c.self.inside.who (joined_seat c.self.inside.seat c.other.inside.seat c.join.new.self c.self.invariant c.other.invariant e.seen.0 e.seen.1 e.own e.one e.unchanged.1).pass

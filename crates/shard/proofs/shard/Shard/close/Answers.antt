@@ -3,7 +3,7 @@ use Rattle.gate.specs.Places.{TableId, times, last_of, HasAll}
 use Rattle.ledger.specs.Values.{KeepsAll}
 use Rattle.ledger_map.specs.Books.{between_books}
 use Rattle.book.specs.Contents.{Contents}
-use Rattle.book.specs.Tells.{HoldsHistory}
+use Rattle.book.specs.Holds.{HoldsHistory}
 use Rattle.ledger.specs.Acts.{acts_at}
 use Rattle.shared.specs.Passes.{IsConsistent}
 use Rattle.shared.proofs.Passes.{closed, closed_count, closed_acts, closed_acts_count, closed_entries, closed_told, trimmed_is, agreed}
@@ -49,15 +49,15 @@ returns-clause-did_count c = subst (λ t. length t.shows.did ≡ length t.shows.
 pub returns-clause-agrees : goal.returns-clause-agrees
 returns-clause-agrees c = subst (λ t. IsConsistent t.shows) c.seat.view_is (agreed (plain c.seat.inside.seat) c.seat.inside.who c.seat.invariant.pass)
 
-pub returns-clause-told : goal.returns-clause-told
-returns-clause-told c =
-    let all = own (goal.at.returns-clause-told c).After-close_gate-book in
+pub returns-clause-holds : goal.returns-clause-holds
+returns-clause-holds c =
+    let all = own (goal.at.returns-clause-holds c).After-close_gate-book in
     let Q : Contents → Type 0 = λ book. HoldsHistory book c.args.seat.shows.seen in
-    subst Q (sym c.into_inner.ensures) (subst (λ t. HoldsHistory c.close_gate-book.result.0.0.value t.shows.seen) c.seat.view_is (closed_told (plain c.seat.inside.seat) c.close_gate-book.result.0 c.seat.invariant.pass all.0).told.tells)
+    subst Q (sym c.into_inner.ensures) (subst (λ t. HoldsHistory c.close_gate-book.result.0.0.value t.shows.seen) c.seat.view_is (closed_told (plain c.seat.inside.seat) c.close_gate-book.result.0 c.seat.invariant.pass all.0).holds.holds)
 
-pub returns-clause-kept : goal.returns-clause-kept
-returns-clause-kept c =
-    let all = own (goal.at.returns-clause-kept c).After-close_gate-book in
+pub returns-clause-unchanged : goal.returns-clause-unchanged
+returns-clause-unchanged c =
+    let all = own (goal.at.returns-clause-unchanged c).After-close_gate-book in
     let is = closed_told (plain c.seat.inside.seat) c.close_gate-book.result.0 c.seat.invariant.pass all.0 in
     search rules
 

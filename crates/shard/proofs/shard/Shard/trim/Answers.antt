@@ -10,14 +10,14 @@ use Rattle.shard.proofs.shard.Shard.trim.Goals as goal
 pub leave_book-requires-clause-ledger : goal.leave_book-requires-clause-ledger
 leave_book-requires-clause-ledger g c =
     let e = c.enter-inside.ensures in
-    (c.requires.ledger, keeper_ledger c.args.ledger.now c.seat.inside.seat c.enter-inside.new.seat c.enter-inside.result.value c.seat.inside.who c.args.seat.now c.seat.view_is c.requires.at c.seat.invariant (record { same = (e.kept.0, e.kept.1, e.kept.2); seen = e.seen; found = e.found; lone = e.lone }))
+    (c.requires.ledger, keeper_ledger c.args.ledger.now c.seat.inside.seat c.enter-inside.new.seat c.enter-inside.result.value c.seat.inside.who c.args.seat.now c.seat.view_is c.requires.at c.seat.invariant (record { same = (e.unchanged.0, e.unchanged.1, e.unchanged.2); seen = e.seen; found = e.found; lone = e.lone }))
 
 pub leave_book-requires-clause-found : goal.leave_book-requires-clause-found
 leave_book-requires-clause-found g c =
     let e = c.enter-inside.ensures in
     let m = c.trim-result.ensures in
-    may_leave c.args.ledger.now c.seat.inside.seat c.enter-inside.new.seat c.enter-inside.result.value c.seat.inside.who c.args.seat.now c.seat.view_is c.requires.at c.seat.invariant (record { same = (e.kept.0, e.kept.1, e.kept.2); seen = e.seen; found = e.found; lone = e.lone })
-    c.trim-result.new.self [] (given_by c.trim-result.result) (trim_goes_on c.trim-result.result c.enter-inside.result.value.value.0.0.value c.trim-result.new.self.0.value m.kept.0 m.kept.1 m.told m.trimmed m.err) (tt)
+    may_leave c.args.ledger.now c.seat.inside.seat c.enter-inside.new.seat c.enter-inside.result.value c.seat.inside.who c.args.seat.now c.seat.view_is c.requires.at c.seat.invariant (record { same = (e.unchanged.0, e.unchanged.1, e.unchanged.2); seen = e.seen; found = e.found; lone = e.lone })
+    c.trim-result.new.self [] (given_by c.trim-result.result) (trim_goes_on c.trim-result.result c.enter-inside.result.value.value.0.0.value c.trim-result.new.self.0.value m.unchanged.0 m.unchanged.1 m.holds m.trimmed m.err) (tt)
 
 visit : (g : given.Over) (c : goal.After-leave_book g) → Visited c.args.ledger.now.setup c.seat.inside.seat c.leave_book.new.seat c.seat.inside.who c.args.seat.now c.enter-inside.result.value.value.0 [] (given_by c.trim-result.result) c.args.follower.now c.leave_book.new.follower
 visit g c =
@@ -25,8 +25,8 @@ visit g c =
     let m = c.trim-result.ensures in
     let l = c.leave_book.ensures in
     visited c.args.ledger.now c.seat.inside.seat c.enter-inside.new.seat c.leave_book.new.seat c.enter-inside.result.value c.trim-result.new.self c.seat.inside.who c.args.seat.now [] (given_by c.trim-result.result) c.args.follower.now c.leave_book.new.follower
-    c.seat.view_is c.requires.at c.seat.invariant (record { same = (e.kept.0, e.kept.1, e.kept.2); seen = e.seen; found = e.found; lone = e.lone }) (trim_goes_on c.trim-result.result c.enter-inside.result.value.value.0.0.value c.trim-result.new.self.0.value m.kept.0 m.kept.1 m.told m.trimmed m.err)
-    (record { same = (l.kept.0, l.kept.1, l.kept.2); list = l.list; own = l.own }) l.recorded l.follower l.one_map
+    c.seat.view_is c.requires.at c.seat.invariant (record { same = (e.unchanged.0, e.unchanged.1, e.unchanged.2); seen = e.seen; found = e.found; lone = e.lone }) (trim_goes_on c.trim-result.result c.enter-inside.result.value.value.0.0.value c.trim-result.new.self.0.value m.unchanged.0 m.unchanged.1 m.holds m.trimmed m.err)
+    (record { same = (l.unchanged.0, l.unchanged.1, l.unchanged.2); list = l.list; own = l.own }) l.recorded l.follower l.one_map
 
 pub invariant_of-seat : goal.invariant_of-seat
 invariant_of-seat g c = (visit g c).seat

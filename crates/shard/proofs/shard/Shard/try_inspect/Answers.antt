@@ -16,23 +16,23 @@ use Rattle.shard.proofs.shard.Shard.try_inspect.Goals as goal
 pub leave_book-requires-clause-ledger : goal.leave_book-requires-clause-ledger
 leave_book-requires-clause-ledger c =
     let e = c.try_enter.ensures in
-    (c.requires.ledger, keeper_ledger c.args.ledger.now c.seat.inside.seat c.try_enter.new.seat c.in-Some.inside.value c.seat.inside.who c.args.seat.now c.seat.view_is c.requires.at c.seat.invariant (record { same = (e.kept.0, e.kept.1, e.kept.2); seen = e.seen; found = c.in-Some.ensures.found.1; lone = λ all. (e.lone all).1 }))
+    (c.requires.ledger, keeper_ledger c.args.ledger.now c.seat.inside.seat c.try_enter.new.seat c.in-Some.inside.value c.seat.inside.who c.args.seat.now c.seat.view_is c.requires.at c.seat.invariant (record { same = (e.unchanged.0, e.unchanged.1, e.unchanged.2); seen = e.seen; found = c.in-Some.ensures.found.1; lone = λ all. (e.lone all).1 }))
 
 pub leave_book-requires-clause-found : goal.leave_book-requires-clause-found
 leave_book-requires-clause-found c =
     let e = c.try_enter.ensures in
     let m = c.inspect-inspection.ensures in
-    may_leave c.args.ledger.now c.seat.inside.seat c.try_enter.new.seat c.in-Some.inside.value c.seat.inside.who c.args.seat.now c.seat.view_is c.requires.at c.seat.invariant (record { same = (e.kept.0, e.kept.1, e.kept.2); seen = e.seen; found = c.in-Some.ensures.found.1; lone = λ all. (e.lone all).1 })
-    c.inspect-inspection.new.kept (events_at_inspection c.inspect-inspection.result c.seat.inside.who (repair c.args.name.now c.args.stripe c.args.fragment)) 0 (inspection_goes_on c.inspect-inspection.result c.in-Some.inside.value.value.0.0.value c.inspect-inspection.new.kept.0.value c.seat.inside.who c.args.name.now c.args.stripe c.args.fragment m.kept m.found) (calls_inspected (event_shard c.args.ledger.now.setup.count) c.args.seat.now.shard c.seat.inside.who (repair c.args.name.now c.args.stripe c.args.fragment) c.inspect-inspection.result (λ _. c.requires.name))
+    may_leave c.args.ledger.now c.seat.inside.seat c.try_enter.new.seat c.in-Some.inside.value c.seat.inside.who c.args.seat.now c.seat.view_is c.requires.at c.seat.invariant (record { same = (e.unchanged.0, e.unchanged.1, e.unchanged.2); seen = e.seen; found = c.in-Some.ensures.found.1; lone = λ all. (e.lone all).1 })
+    c.inspect-inspection.new.boxed (events_at_inspection c.inspect-inspection.result c.seat.inside.who (repair c.args.name.now c.args.stripe c.args.fragment)) 0 (inspection_goes_on c.inspect-inspection.result c.in-Some.inside.value.value.0.0.value c.inspect-inspection.new.boxed.0.value c.seat.inside.who c.args.name.now c.args.stripe c.args.fragment m.unchanged m.found) (calls_inspected (event_shard c.args.ledger.now.setup.count) c.args.seat.now.shard c.seat.inside.who (repair c.args.name.now c.args.stripe c.args.fragment) c.inspect-inspection.result (λ _. c.requires.name))
 
 visit : (c : goal.After-leave_book) → Visited c.args.ledger.now.setup c.seat.inside.seat c.leave_book.new.seat c.seat.inside.who c.args.seat.now c.in-Some.inside.value.value.0 (events_at_inspection c.inspect-inspection.result c.seat.inside.who (repair c.args.name.now c.args.stripe c.args.fragment)) 0 c.args.follower.now c.leave_book.new.follower
 visit c =
     let e = c.try_enter.ensures in
     let m = c.inspect-inspection.ensures in
     let l = c.leave_book.ensures in
-    visited c.args.ledger.now c.seat.inside.seat c.try_enter.new.seat c.leave_book.new.seat c.in-Some.inside.value c.inspect-inspection.new.kept c.seat.inside.who c.args.seat.now (events_at_inspection c.inspect-inspection.result c.seat.inside.who (repair c.args.name.now c.args.stripe c.args.fragment)) 0 c.args.follower.now c.leave_book.new.follower
-    c.seat.view_is c.requires.at c.seat.invariant (record { same = (e.kept.0, e.kept.1, e.kept.2); seen = e.seen; found = c.in-Some.ensures.found.1; lone = λ all. (e.lone all).1 }) (inspection_goes_on c.inspect-inspection.result c.in-Some.inside.value.value.0.0.value c.inspect-inspection.new.kept.0.value c.seat.inside.who c.args.name.now c.args.stripe c.args.fragment m.kept m.found)
-    (record { same = (l.kept.0, l.kept.1, l.kept.2); list = l.list; own = l.own }) l.recorded l.follower l.one_map
+    visited c.args.ledger.now c.seat.inside.seat c.try_enter.new.seat c.leave_book.new.seat c.in-Some.inside.value c.inspect-inspection.new.boxed c.seat.inside.who c.args.seat.now (events_at_inspection c.inspect-inspection.result c.seat.inside.who (repair c.args.name.now c.args.stripe c.args.fragment)) 0 c.args.follower.now c.leave_book.new.follower
+    c.seat.view_is c.requires.at c.seat.invariant (record { same = (e.unchanged.0, e.unchanged.1, e.unchanged.2); seen = e.seen; found = c.in-Some.ensures.found.1; lone = λ all. (e.lone all).1 }) (inspection_goes_on c.inspect-inspection.result c.in-Some.inside.value.value.0.0.value c.inspect-inspection.new.boxed.0.value c.seat.inside.who c.args.name.now c.args.stripe c.args.fragment m.unchanged m.found)
+    (record { same = (l.unchanged.0, l.unchanged.1, l.unchanged.2); list = l.list; own = l.own }) l.recorded l.follower l.one_map
 
 pub invariant_of-seat-2 : goal.invariant_of-seat-2
 invariant_of-seat-2 c = (visit c).seat
@@ -48,8 +48,8 @@ returns-clause-found c =
     let m = c.inspect-inspection.ensures in
     let l = c.leave_book.ensures in
     subst (λ v. InspectionGives v c.args.name.now c.args.stripe c.args.fragment c.inspect-inspection.result (shows (plain c.leave_book.new.seat) c.seat.inside.who)) (ap (λ t. t.shows) c.seat.view_is)
-    (inspection_found (plain c.seat.inside.seat) (plain c.leave_book.new.seat) c.in-Some.inside.value.value.0 c.inspect-inspection.new.kept c.seat.inside.who c.args.name.now c.args.stripe c.args.fragment c.inspect-inspection.result (visit c).step
-    (left_base (plain c.try_enter.new.seat) (plain c.leave_book.new.seat) c.in-Some.inside.value.value.0 c.inspect-inspection.new.kept (leaves c.try_enter.new.seat c.leave_book.new.seat (beside c.in-Some.inside.value c.inspect-inspection.new.kept) _ (record { same = (l.kept.0, l.kept.1, l.kept.2); list = l.list; own = l.own })) m.kept.2) m.found)
+    (inspection_found (plain c.seat.inside.seat) (plain c.leave_book.new.seat) c.in-Some.inside.value.value.0 c.inspect-inspection.new.boxed c.seat.inside.who c.args.name.now c.args.stripe c.args.fragment c.inspect-inspection.result (visit c).step
+    (left_base (plain c.try_enter.new.seat) (plain c.leave_book.new.seat) c.in-Some.inside.value.value.0 c.inspect-inspection.new.boxed (leaves c.try_enter.new.seat c.leave_book.new.seat (beside c.in-Some.inside.value c.inspect-inspection.new.boxed) _ (record { same = (l.unchanged.0, l.unchanged.1, l.unchanged.2); list = l.list; own = l.own })) m.unchanged.2) m.found)
 
 pub returns-clause-listed : goal.returns-clause-listed
 returns-clause-listed c =
@@ -72,8 +72,8 @@ returns-in_default-clause-follower c =
 
 pub returns-clause-entered : goal.returns-clause-entered
 returns-clause-entered c = λ _.
-    visits_once (plain c.seat.inside.seat) (plain c.try_enter.new.seat) (plain c.leave_book.new.seat) c.seat.inside.who c.args.seat.now.shows c.inspect-inspection.new.kept
-    (expected_now c.seat.inside.seat c.try_enter.new.seat c.in-Some.ensures.expected) (left_books c.try_enter.new.seat c.leave_book.new.seat c.in-Some.inside.value c.inspect-inspection.new.kept c.leave_book.ensures.list) (visit c).step.visits (ap (λ t. t.shows) c.seat.view_is)
+    visits_once (plain c.seat.inside.seat) (plain c.try_enter.new.seat) (plain c.leave_book.new.seat) c.seat.inside.who c.args.seat.now.shows c.inspect-inspection.new.boxed
+    (expected_now c.seat.inside.seat c.try_enter.new.seat c.in-Some.ensures.expected) (left_books c.try_enter.new.seat c.leave_book.new.seat c.in-Some.inside.value c.inspect-inspection.new.boxed c.leave_book.ensures.list) (visit c).step.visits (ap (λ t. t.shows) c.seat.view_is)
 
 pub returns-in_default-clause-busy : goal.returns-in_default-clause-busy
 returns-in_default-clause-busy c = λ _.

@@ -13,12 +13,12 @@ use Rattle.shard.proofs.shard.Shard.try_plan.Goals as goal
 pub leave_book-requires-clause-ledger : goal.leave_book-requires-clause-ledger
 leave_book-requires-clause-ledger c =
     let e = c.try_enter.ensures in
-    (c.requires.ledger, keeper_ledger c.args.ledger.now c.seat.inside.seat c.try_enter.new.seat c.in-Some.inside.value c.seat.inside.who c.args.seat.now c.seat.view_is c.requires.at c.seat.invariant (record { same = (e.kept.0, e.kept.1, e.kept.2); seen = e.seen; found = c.in-Some.ensures.found.1; lone = λ all. (e.lone all).1 }))
+    (c.requires.ledger, keeper_ledger c.args.ledger.now c.seat.inside.seat c.try_enter.new.seat c.in-Some.inside.value c.seat.inside.who c.args.seat.now c.seat.view_is c.requires.at c.seat.invariant (record { same = (e.unchanged.0, e.unchanged.1, e.unchanged.2); seen = e.seen; found = c.in-Some.ensures.found.1; lone = λ all. (e.lone all).1 }))
 
 pub leave_book-requires-clause-found : goal.leave_book-requires-clause-found
 leave_book-requires-clause-found c =
     let e = c.try_enter.ensures in
-    may_leave c.args.ledger.now c.seat.inside.seat c.try_enter.new.seat c.in-Some.inside.value c.seat.inside.who c.args.seat.now c.seat.view_is c.requires.at c.seat.invariant (record { same = (e.kept.0, e.kept.1, e.kept.2); seen = e.seen; found = c.in-Some.ensures.found.1; lone = λ all. (e.lone all).1 })
+    may_leave c.args.ledger.now c.seat.inside.seat c.try_enter.new.seat c.in-Some.inside.value c.seat.inside.who c.args.seat.now c.seat.view_is c.requires.at c.seat.invariant (record { same = (e.unchanged.0, e.unchanged.1, e.unchanged.2); seen = e.seen; found = c.in-Some.ensures.found.1; lone = λ all. (e.lone all).1 })
     c.in-Some.inside.value.value.0 [] 0 (same_goes_on c.in-Some.inside.value.value.0.0.value c.in-Some.inside.value.value.0.0.value refl) (tt)
 
 visit : (c : goal.After-map_err) → Visited c.args.ledger.now.setup c.seat.inside.seat c.leave_book.new.seat c.seat.inside.who c.args.seat.now c.in-Some.inside.value.value.0 [] 0 c.args.follower.now c.leave_book.new.follower
@@ -26,8 +26,8 @@ visit c =
     let e = c.try_enter.ensures in
     let l = c.leave_book.ensures in
     visited c.args.ledger.now c.seat.inside.seat c.try_enter.new.seat c.leave_book.new.seat c.in-Some.inside.value c.in-Some.inside.value.value.0 c.seat.inside.who c.args.seat.now [] 0 c.args.follower.now c.leave_book.new.follower
-    c.seat.view_is c.requires.at c.seat.invariant (record { same = (e.kept.0, e.kept.1, e.kept.2); seen = e.seen; found = c.in-Some.ensures.found.1; lone = λ all. (e.lone all).1 }) (same_goes_on c.in-Some.inside.value.value.0.0.value c.in-Some.inside.value.value.0.0.value refl)
-    (record { same = (l.kept.0, l.kept.1, l.kept.2); list = l.list; own = l.own }) l.recorded l.follower l.one_map
+    c.seat.view_is c.requires.at c.seat.invariant (record { same = (e.unchanged.0, e.unchanged.1, e.unchanged.2); seen = e.seen; found = c.in-Some.ensures.found.1; lone = λ all. (e.lone all).1 }) (same_goes_on c.in-Some.inside.value.value.0.0.value c.in-Some.inside.value.value.0.0.value refl)
+    (record { same = (l.unchanged.0, l.unchanged.1, l.unchanged.2); list = l.list; own = l.own }) l.recorded l.follower l.one_map
 
 pub invariant_of-seat-2 : goal.invariant_of-seat-2
 invariant_of-seat-2 c = (visit c).seat

@@ -17,28 +17,28 @@ pub make_on-reply-requires : goal.make_on-reply-requires
 make_on-reply-requires c =
     let e = c.try_enter.ensures in
     can_make_inside (plain c.seat.inside.seat) (plain c.try_enter.new.seat) c.in-Some.inside.value.value.0 c.seat.inside.who c.args.request _ (ap (λ t. t.shows) c.seat.view_is) c.seat.invariant.pass
-    (enters c.seat.inside.seat c.try_enter.new.seat c.in-Some.inside.value (record { same = (e.kept.0, e.kept.1, e.kept.2); seen = e.seen; found = c.in-Some.ensures.found.1; lone = λ all. (e.lone all).1 })) c.requires.can
+    (enters c.seat.inside.seat c.try_enter.new.seat c.in-Some.inside.value (record { same = (e.unchanged.0, e.unchanged.1, e.unchanged.2); seen = e.seen; found = c.in-Some.ensures.found.1; lone = λ all. (e.lone all).1 })) c.requires.can
 
 pub leave_book-requires-clause-ledger : goal.leave_book-requires-clause-ledger
 leave_book-requires-clause-ledger c =
     let e = c.try_enter.ensures in
-    (c.requires.ledger, keeper_ledger c.args.ledger.now c.seat.inside.seat c.try_enter.new.seat c.in-Some.inside.value c.seat.inside.who c.args.seat.now c.seat.view_is c.requires.at c.seat.invariant (record { same = (e.kept.0, e.kept.1, e.kept.2); seen = e.seen; found = c.in-Some.ensures.found.1; lone = λ all. (e.lone all).1 }))
+    (c.requires.ledger, keeper_ledger c.args.ledger.now c.seat.inside.seat c.try_enter.new.seat c.in-Some.inside.value c.seat.inside.who c.args.seat.now c.seat.view_is c.requires.at c.seat.invariant (record { same = (e.unchanged.0, e.unchanged.1, e.unchanged.2); seen = e.seen; found = c.in-Some.ensures.found.1; lone = λ all. (e.lone all).1 }))
 
 pub leave_book-requires-clause-found : goal.leave_book-requires-clause-found
 leave_book-requires-clause-found c =
     let e = c.try_enter.ensures in
     let m = c.make_on-reply.ensures in
-    may_leave c.args.ledger.now c.seat.inside.seat c.try_enter.new.seat c.in-Some.inside.value c.seat.inside.who c.args.seat.now c.seat.view_is c.requires.at c.seat.invariant (record { same = (e.kept.0, e.kept.1, e.kept.2); seen = e.seen; found = c.in-Some.ensures.found.1; lone = λ all. (e.lone all).1 })
-    c.make_on-reply.new.kept (made_by c.seat.inside.who (operation_of c.args.request) c.make_on-reply.result) 0 (call_goes_on c.make_on-reply.result c.in-Some.inside.value.value.0.0.value c.make_on-reply.new.kept.0.value c.seat.inside.who (operation_of c.args.request) m.kept (answered c.make_on-reply.result c.in-Some.inside.value.value.0.0.value c.make_on-reply.new.kept.0.value c.seat.inside.who (operation_of c.args.request) m.ok m.full) m.err) (calls_made (event_shard c.args.ledger.now.setup.count) c.args.seat.now.shard c.seat.inside.who (operation_of c.args.request) c.make_on-reply.result (λ _. c.requires.name))
+    may_leave c.args.ledger.now c.seat.inside.seat c.try_enter.new.seat c.in-Some.inside.value c.seat.inside.who c.args.seat.now c.seat.view_is c.requires.at c.seat.invariant (record { same = (e.unchanged.0, e.unchanged.1, e.unchanged.2); seen = e.seen; found = c.in-Some.ensures.found.1; lone = λ all. (e.lone all).1 })
+    c.make_on-reply.new.boxed (made_by c.seat.inside.who (operation_of c.args.request) c.make_on-reply.result) 0 (call_goes_on c.make_on-reply.result c.in-Some.inside.value.value.0.0.value c.make_on-reply.new.boxed.0.value c.seat.inside.who (operation_of c.args.request) m.unchanged (answered c.make_on-reply.result c.in-Some.inside.value.value.0.0.value c.make_on-reply.new.boxed.0.value c.seat.inside.who (operation_of c.args.request) m.ok m.full) m.err) (calls_made (event_shard c.args.ledger.now.setup.count) c.args.seat.now.shard c.seat.inside.who (operation_of c.args.request) c.make_on-reply.result (λ _. c.requires.name))
 
 visit : (c : goal.After-leave_book) → Visited c.args.ledger.now.setup c.seat.inside.seat c.leave_book.new.seat c.seat.inside.who c.args.seat.now c.in-Some.inside.value.value.0 (made_by c.seat.inside.who (operation_of c.args.request) c.make_on-reply.result) 0 c.args.follower.now c.leave_book.new.follower
 visit c =
     let e = c.try_enter.ensures in
     let m = c.make_on-reply.ensures in
     let l = c.leave_book.ensures in
-    visited c.args.ledger.now c.seat.inside.seat c.try_enter.new.seat c.leave_book.new.seat c.in-Some.inside.value c.make_on-reply.new.kept c.seat.inside.who c.args.seat.now (made_by c.seat.inside.who (operation_of c.args.request) c.make_on-reply.result) 0 c.args.follower.now c.leave_book.new.follower
-    c.seat.view_is c.requires.at c.seat.invariant (record { same = (e.kept.0, e.kept.1, e.kept.2); seen = e.seen; found = c.in-Some.ensures.found.1; lone = λ all. (e.lone all).1 }) (call_goes_on c.make_on-reply.result c.in-Some.inside.value.value.0.0.value c.make_on-reply.new.kept.0.value c.seat.inside.who (operation_of c.args.request) m.kept (answered c.make_on-reply.result c.in-Some.inside.value.value.0.0.value c.make_on-reply.new.kept.0.value c.seat.inside.who (operation_of c.args.request) m.ok m.full) m.err)
-    (record { same = (l.kept.0, l.kept.1, l.kept.2); list = l.list; own = l.own }) l.recorded l.follower l.one_map
+    visited c.args.ledger.now c.seat.inside.seat c.try_enter.new.seat c.leave_book.new.seat c.in-Some.inside.value c.make_on-reply.new.boxed c.seat.inside.who c.args.seat.now (made_by c.seat.inside.who (operation_of c.args.request) c.make_on-reply.result) 0 c.args.follower.now c.leave_book.new.follower
+    c.seat.view_is c.requires.at c.seat.invariant (record { same = (e.unchanged.0, e.unchanged.1, e.unchanged.2); seen = e.seen; found = c.in-Some.ensures.found.1; lone = λ all. (e.lone all).1 }) (call_goes_on c.make_on-reply.result c.in-Some.inside.value.value.0.0.value c.make_on-reply.new.boxed.0.value c.seat.inside.who (operation_of c.args.request) m.unchanged (answered c.make_on-reply.result c.in-Some.inside.value.value.0.0.value c.make_on-reply.new.boxed.0.value c.seat.inside.who (operation_of c.args.request) m.ok m.full) m.err)
+    (record { same = (l.unchanged.0, l.unchanged.1, l.unchanged.2); list = l.list; own = l.own }) l.recorded l.follower l.one_map
 
 pub invariant_of-seat-2 : goal.invariant_of-seat-2
 invariant_of-seat-2 c = (visit c).seat
@@ -53,7 +53,7 @@ can : (c : goal.After-leave_book) → CanMake c.in-Some.inside.value.value.0.0.v
 can c =
     let e = c.try_enter.ensures in
     can_make_inside (plain c.seat.inside.seat) (plain c.try_enter.new.seat) c.in-Some.inside.value.value.0 c.seat.inside.who c.args.request _ (ap (λ t. t.shows) c.seat.view_is) c.seat.invariant.pass
-    (enters c.seat.inside.seat c.try_enter.new.seat c.in-Some.inside.value (record { same = (e.kept.0, e.kept.1, e.kept.2); seen = e.seen; found = c.in-Some.ensures.found.1; lone = λ all. (e.lone all).1 })) c.requires.can
+    (enters c.seat.inside.seat c.try_enter.new.seat c.in-Some.inside.value (record { same = (e.unchanged.0, e.unchanged.1, e.unchanged.2); seen = e.seen; found = c.in-Some.ensures.found.1; lone = λ all. (e.lone all).1 })) c.requires.can
 
 pub returns-clause-called : goal.returns-clause-called
 returns-clause-called c =
@@ -61,7 +61,7 @@ returns-clause-called c =
     let l = c.leave_book.ensures in
     subst (λ v. Called v (operation_of c.args.request) c.make_on-reply.result (shows (plain c.leave_book.new.seat) c.seat.inside.who)) (ap (λ t. t.shows) c.seat.view_is)
     (called (plain c.seat.inside.seat) (plain c.leave_book.new.seat) c.in-Some.inside.value.value.0 c.seat.inside.who (operation_of c.args.request) c.make_on-reply.result (visit c).step
-    (left_base (plain c.try_enter.new.seat) (plain c.leave_book.new.seat) c.in-Some.inside.value.value.0 c.make_on-reply.new.kept (leaves c.try_enter.new.seat c.leave_book.new.seat (beside c.in-Some.inside.value c.make_on-reply.new.kept) _ (record { same = (l.kept.0, l.kept.1, l.kept.2); list = l.list; own = l.own })) m.kept.2) m.full
+    (left_base (plain c.try_enter.new.seat) (plain c.leave_book.new.seat) c.in-Some.inside.value.value.0 c.make_on-reply.new.boxed (leaves c.try_enter.new.seat c.leave_book.new.seat (beside c.in-Some.inside.value c.make_on-reply.new.boxed) _ (record { same = (l.unchanged.0, l.unchanged.1, l.unchanged.2); list = l.list; own = l.own })) m.unchanged.2) m.full
     (λ _. request_fits c.in-Some.inside.value.value.0.0.value c.args.request (can c))
     (never_too_long c.make_on-reply.result c.args.request m.faults))
 
@@ -98,8 +98,8 @@ returns-in_default-clause-follower c =
 
 pub returns-clause-entered : goal.returns-clause-entered
 returns-clause-entered c =
-    visits_once (plain c.seat.inside.seat) (plain c.try_enter.new.seat) (plain c.leave_book.new.seat) c.seat.inside.who c.args.seat.now.shows c.make_on-reply.new.kept
-    (expected_now c.seat.inside.seat c.try_enter.new.seat c.in-Some.ensures.expected) (left_books c.try_enter.new.seat c.leave_book.new.seat c.in-Some.inside.value c.make_on-reply.new.kept c.leave_book.ensures.list) (visit c).step.visits (ap (λ t. t.shows) c.seat.view_is)
+    visits_once (plain c.seat.inside.seat) (plain c.try_enter.new.seat) (plain c.leave_book.new.seat) c.seat.inside.who c.args.seat.now.shows c.make_on-reply.new.boxed
+    (expected_now c.seat.inside.seat c.try_enter.new.seat c.in-Some.ensures.expected) (left_books c.try_enter.new.seat c.leave_book.new.seat c.in-Some.inside.value c.make_on-reply.new.boxed c.leave_book.ensures.list) (visit c).step.visits (ap (λ t. t.shows) c.seat.view_is)
 
 pub returns-in_default-clause-busy : goal.returns-in_default-clause-busy
 returns-in_default-clause-busy c =

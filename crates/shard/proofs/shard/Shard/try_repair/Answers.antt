@@ -3,7 +3,7 @@ use Rattle.history.specs.Step.{repair}
 use Rattle.requests.specs.Requests.{operation_of}
 use Rattle.shared.specs.Deeds.{deed_of, act_if}
 use Rattle.shared.proofs.Mends.{can_install, looks_then_installed}
-use Rattle.shard.specs.Listed.{IsListed, IsKeptUp, listing_of}
+use Rattle.shard.specs.Listed.{IsListed, IsUpToDate, listing_of}
 use Rattle.shard.proofs.Visits.{listed_later, kept_later}
 use Rattle.shard.proofs.shard.Shard.try_repair.Goals as goal
 
@@ -27,7 +27,7 @@ returns-clause-listed c =
 pub returns-clause-follower : goal.returns-clause-follower
 returns-clause-follower c =
     kept_later c.args.ledger.now.setup c.args.seat.now.shard c.args.seat.now.shows.acts c.try_inspect-found.new.seat.shows.acts c.try_make.new.seat.shows.acts c.args.follower.now c.try_inspect-found.new.follower c.try_make.new.follower c.in-Rebuildable.ensures.follower
-    (subst (λ k. IsKeptUp c.args.ledger.now.setup k c.try_inspect-found.new.seat.shows.acts c.try_make.new.seat.shows.acts c.try_inspect-found.new.follower c.try_make.new.follower) c.in-Rebuildable.ensures.same.1 c.try_make.ensures.follower)
+    (subst (λ k. IsUpToDate c.args.ledger.now.setup k c.try_inspect-found.new.seat.shows.acts c.try_make.new.seat.shows.acts c.try_inspect-found.new.follower c.try_make.new.follower) c.in-Rebuildable.ensures.same.1 c.try_make.ensures.follower)
 
 pub returns-clause-busy : goal.returns-clause-busy
 returns-clause-busy c = λ busy.

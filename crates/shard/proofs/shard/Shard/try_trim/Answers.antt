@@ -10,14 +10,14 @@ use Rattle.shard.proofs.shard.Shard.try_trim.Goals as goal
 pub leave_book-requires-clause-ledger : goal.leave_book-requires-clause-ledger
 leave_book-requires-clause-ledger c =
     let e = c.try_enter.ensures in
-    (c.requires.ledger, keeper_ledger c.args.ledger.now c.seat.inside.seat c.try_enter.new.seat c.in-Some.inside.value c.seat.inside.who c.args.seat.now c.seat.view_is c.requires.at c.seat.invariant (record { same = (e.kept.0, e.kept.1, e.kept.2); seen = e.seen; found = c.in-Some.ensures.found.1; lone = λ all. (e.lone all).1 }))
+    (c.requires.ledger, keeper_ledger c.args.ledger.now c.seat.inside.seat c.try_enter.new.seat c.in-Some.inside.value c.seat.inside.who c.args.seat.now c.seat.view_is c.requires.at c.seat.invariant (record { same = (e.unchanged.0, e.unchanged.1, e.unchanged.2); seen = e.seen; found = c.in-Some.ensures.found.1; lone = λ all. (e.lone all).1 }))
 
 pub leave_book-requires-clause-found : goal.leave_book-requires-clause-found
 leave_book-requires-clause-found c =
     let e = c.try_enter.ensures in
     let m = c.trim-result.ensures in
-    may_leave c.args.ledger.now c.seat.inside.seat c.try_enter.new.seat c.in-Some.inside.value c.seat.inside.who c.args.seat.now c.seat.view_is c.requires.at c.seat.invariant (record { same = (e.kept.0, e.kept.1, e.kept.2); seen = e.seen; found = c.in-Some.ensures.found.1; lone = λ all. (e.lone all).1 })
-    c.trim-result.new.self [] (given_by c.trim-result.result) (trim_goes_on c.trim-result.result c.in-Some.inside.value.value.0.0.value c.trim-result.new.self.0.value m.kept.0 m.kept.1 m.told m.trimmed m.err) (tt)
+    may_leave c.args.ledger.now c.seat.inside.seat c.try_enter.new.seat c.in-Some.inside.value c.seat.inside.who c.args.seat.now c.seat.view_is c.requires.at c.seat.invariant (record { same = (e.unchanged.0, e.unchanged.1, e.unchanged.2); seen = e.seen; found = c.in-Some.ensures.found.1; lone = λ all. (e.lone all).1 })
+    c.trim-result.new.self [] (given_by c.trim-result.result) (trim_goes_on c.trim-result.result c.in-Some.inside.value.value.0.0.value c.trim-result.new.self.0.value m.unchanged.0 m.unchanged.1 m.holds m.trimmed m.err) (tt)
 
 visit : (c : goal.After-leave_book) → Visited c.args.ledger.now.setup c.seat.inside.seat c.leave_book.new.seat c.seat.inside.who c.args.seat.now c.in-Some.inside.value.value.0 [] (given_by c.trim-result.result) c.args.follower.now c.leave_book.new.follower
 visit c =
@@ -25,8 +25,8 @@ visit c =
     let m = c.trim-result.ensures in
     let l = c.leave_book.ensures in
     visited c.args.ledger.now c.seat.inside.seat c.try_enter.new.seat c.leave_book.new.seat c.in-Some.inside.value c.trim-result.new.self c.seat.inside.who c.args.seat.now [] (given_by c.trim-result.result) c.args.follower.now c.leave_book.new.follower
-    c.seat.view_is c.requires.at c.seat.invariant (record { same = (e.kept.0, e.kept.1, e.kept.2); seen = e.seen; found = c.in-Some.ensures.found.1; lone = λ all. (e.lone all).1 }) (trim_goes_on c.trim-result.result c.in-Some.inside.value.value.0.0.value c.trim-result.new.self.0.value m.kept.0 m.kept.1 m.told m.trimmed m.err)
-    (record { same = (l.kept.0, l.kept.1, l.kept.2); list = l.list; own = l.own }) l.recorded l.follower l.one_map
+    c.seat.view_is c.requires.at c.seat.invariant (record { same = (e.unchanged.0, e.unchanged.1, e.unchanged.2); seen = e.seen; found = c.in-Some.ensures.found.1; lone = λ all. (e.lone all).1 }) (trim_goes_on c.trim-result.result c.in-Some.inside.value.value.0.0.value c.trim-result.new.self.0.value m.unchanged.0 m.unchanged.1 m.holds m.trimmed m.err)
+    (record { same = (l.unchanged.0, l.unchanged.1, l.unchanged.2); list = l.list; own = l.own }) l.recorded l.follower l.one_map
 
 pub invariant_of-seat-2 : goal.invariant_of-seat-2
 invariant_of-seat-2 c = (visit c).seat

@@ -26,7 +26,7 @@ invariant_of-self c =
     let e = c.accept.ensures in
     accepted_pass c.self.inside.seats.items c.receipt.inside.receipts.items c.accept_all.new.seats.items c.self.inside.follower c.accept.new.self c.receipt.inside.receipt c.self.invariant c.receipt.invariant c.accept_all.ensures
     (receipts_many c.receipt.inside.receipts.items c.self.inside.seats.items (ap (λ r. receipt_stores r.shards) c.receipt.view_is ∙ ap (λ s. s.shards) c.requires.receipt ∙ ap (λ s. s.shards) (sym c.requires.store) ∙ ap (λ v. stores_of v.shards) (sym c.self.view_is)))
-    e.kept (ap (λ r. r.ledger) c.receipt.view_is ∙ ap (λ s. s.ledger) c.requires.receipt ∙ ap (λ s. s.ledger) (sym c.requires.store) ∙ ap (λ v. v.ledger) (sym c.self.view_is)) e.one e.seen.0 e.seen.1
+    e.unchanged (ap (λ r. r.ledger) c.receipt.view_is ∙ ap (λ s. s.ledger) c.requires.receipt ∙ ap (λ s. s.ledger) (sym c.requires.store) ∙ ap (λ v. v.ledger) (sym c.self.view_is)) e.one e.seen.0 e.seen.1
 
 pub returns-clause-accepted : goal.returns-clause-accepted
 returns-clause-accepted c =
@@ -40,5 +40,5 @@ returns-clause-later c = λ k deed w listed.
 
 pub returns-clause-same : goal.returns-clause-same
 returns-clause-same c =
-    (λ i. record { shards = accepted_stores (shows_of c.self.inside.seats.items) c.receipt.inside.receipts.items (shows_of c.accept_all.new.seats.items) (accepted_shows c.self.inside.seats.items c.receipt.inside.receipts.items c.accept_all.new.seats.items c.accept_all.ensures) i; ledger = (c.accept.ensures.kept i).ledger })
+    (λ i. record { shards = accepted_stores (shows_of c.self.inside.seats.items) c.receipt.inside.receipts.items (shows_of c.accept_all.new.seats.items) (accepted_shows c.self.inside.seats.items c.receipt.inside.receipts.items c.accept_all.new.seats.items c.accept_all.ensures) i; ledger = (c.accept.ensures.unchanged i).ledger })
     ∙ ap (λ v. record { shards = stores_of v.shards; ledger = v.ledger }) c.self.view_is ∙ c.requires.store

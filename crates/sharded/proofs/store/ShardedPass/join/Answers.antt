@@ -25,7 +25,7 @@ invariant_of-self c =
     let e = c.join.ensures in
     joined_pass c.self.inside.seats.items c.other.inside.seats.items c.join_all.new.seats.items c.self.inside.follower c.other.inside.follower c.join.new.self c.self.invariant c.other.invariant c.join_all.ensures
     (same_many c.other.inside.seats.items c.self.inside.seats.items (ap (λ v. stores_of v.shards) c.other.view_is ∙ ap (λ s. s.shards) c.requires.other ∙ ap (λ s. s.shards) (sym c.requires.store) ∙ ap (λ v. stores_of v.shards) (sym c.self.view_is)))
-    e.kept.0 e.kept.1 (ap (λ v. v.ledger) c.other.view_is ∙ ap (λ s. s.ledger) c.requires.other ∙ ap (λ s. s.ledger) (sym c.requires.store) ∙ ap (λ v. v.ledger) (sym c.self.view_is)) e.one e.seen.0 e.seen.1
+    e.unchanged.0 e.unchanged.1 (ap (λ v. v.ledger) c.other.view_is ∙ ap (λ s. s.ledger) c.requires.other ∙ ap (λ s. s.ledger) (sym c.requires.store) ∙ ap (λ v. v.ledger) (sym c.self.view_is)) e.one e.seen.0 e.seen.1
 
 pub returns-clause-joined : goal.returns-clause-joined
 returns-clause-joined c =
@@ -34,5 +34,5 @@ returns-clause-joined c =
 
 pub returns-clause-same : goal.returns-clause-same
 returns-clause-same c =
-    (λ i. record { shards = joined_stores (shows_of c.self.inside.seats.items) (shows_of c.other.inside.seats.items) (shows_of c.join_all.new.seats.items) (joined_shows c.self.inside.seats.items c.other.inside.seats.items c.join_all.new.seats.items c.join_all.ensures) i; ledger = c.join.ensures.kept.0 i })
+    (λ i. record { shards = joined_stores (shows_of c.self.inside.seats.items) (shows_of c.other.inside.seats.items) (shows_of c.join_all.new.seats.items) (joined_shows c.self.inside.seats.items c.other.inside.seats.items c.join_all.new.seats.items c.join_all.ensures) i; ledger = c.join.ensures.unchanged.0 i })
     ∙ ap (λ v. record { shards = stores_of v.shards; ledger = v.ledger }) c.self.view_is ∙ c.requires.store

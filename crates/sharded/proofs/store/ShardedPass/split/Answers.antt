@@ -20,7 +20,7 @@ pub invariant_of-result : goal.invariant_of-result
 invariant_of-result c = subst (λ seats. IsPassOf seats c.split-follower.result) (sym c.in-Ok.ensures.given) (given_pass c.args.who c.self.inside.seats.items c.self.inside.follower c.split-follower.result c.self.invariant c.split-follower.ensures.given)
 
 pub invariant_of-self : goal.invariant_of-self
-invariant_of-self c = subst (λ seats. IsPassOf seats c.split-follower.new.self) (sym c.in-Ok.ensures.kept) (kept_pass c.self.inside.seats.items c.self.inside.follower c.split-follower.new.self c.self.invariant c.split-follower.ensures.kept)
+invariant_of-self c = subst (λ seats. IsPassOf seats c.split-follower.new.self) (sym c.in-Ok.ensures.unchanged) (kept_pass c.self.inside.seats.items c.self.inside.follower c.split-follower.new.self c.self.invariant c.split-follower.ensures.unchanged)
 
 pub join_all-requires-clause-stores : goal.join_all-requires-clause-stores
 join_all-requires-clause-stores c =
@@ -45,15 +45,15 @@ returns-in-Err-clause-same c =
     let back = back_restored c.args.who c.self.inside.seats.items c.split_all.new.seats.items c.split_all.new.given.items c.join_all.new.seats.items c.in-Err.ensures.err c.join_all.ensures in
     ap (λ l. record { shards = l; ledger = c.self.inside.follower.ledger }) (restored_stores (shows_of c.self.inside.seats.items) (shows_of c.join_all.new.seats.items) back) ∙ ap (λ v. record { shards = stores_of v.shards; ledger = v.ledger }) c.self.view_is ∙ c.requires
 
-pub returns-in-Ok-clause-kept : goal.returns-in-Ok-clause-kept
-returns-in-Ok-clause-kept c = ap shows_of c.in-Ok.ensures.kept ∙ kept_shows c.self.inside.seats.items ∙ ap (λ v. map kept_in_split v.shards) c.self.view_is
+pub returns-in-Ok-clause-unchanged : goal.returns-in-Ok-clause-unchanged
+returns-in-Ok-clause-unchanged c = ap shows_of c.in-Ok.ensures.unchanged ∙ kept_shows c.self.inside.seats.items ∙ ap (λ v. map kept_in_split v.shards) c.self.view_is
 
 pub returns-in-Ok-clause-given : goal.returns-in-Ok-clause-given
 returns-in-Ok-clause-given c = ap shows_of c.in-Ok.ensures.given ∙ given_shows c.args.who c.self.inside.seats.items ∙ ap (λ v. map (given_in_split c.args.who) v.shards) c.self.view_is
 
 pub returns-in-Ok-clause-same : goal.returns-in-Ok-clause-same
 returns-in-Ok-clause-same c =
-    (λ i. record { shards = (ap (λ l. stores_of (shows_of l)) c.in-Ok.ensures.kept ∙ ap stores_of (kept_shows c.self.inside.seats.items) ∙ kept_stores (shows_of c.self.inside.seats.items)) i; ledger = (c.split-follower.ensures.kept i).ledger })
+    (λ i. record { shards = (ap (λ l. stores_of (shows_of l)) c.in-Ok.ensures.unchanged ∙ ap stores_of (kept_shows c.self.inside.seats.items) ∙ kept_stores (shows_of c.self.inside.seats.items)) i; ledger = (c.split-follower.ensures.unchanged i).ledger })
     ∙ ap (λ v. record { shards = stores_of v.shards; ledger = v.ledger }) c.self.view_is ∙ c.requires
 
 pub returns-in-Ok-clause-given_same : goal.returns-in-Ok-clause-given_same

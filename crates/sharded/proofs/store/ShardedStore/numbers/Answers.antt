@@ -1,5 +1,5 @@
 use Rattle.std.proofs.Common.{sym, subst, ap, ◌+◌, arith, take}
-use Rattle.sharded.specs.Totals.{AreTotals}
+use Rattle.sharded.specs.Totals.{AreSumsOfAll}
 use Rattle.sharded.specs.StepsTo.{HasLooked}
 use Rattle.sharded.proofs.StepsTo.{steps_none, steps_more, step_as}
 use Rattle.sharded.proofs.Listings.{longer_same, longer_more}
@@ -16,7 +16,7 @@ loop-shard-preserved g c =
       steps = steps_more HasLooked c.loop-shard.shard c.args.pass.now.shards c.loop-shard.pass.shards c.shard_numbers-numbers.new.pass.shards (step_as (λ v w looked. looked.0) at) c.loop-shard.invariant.steps;
       store = c.shard_numbers-numbers.ensures.same;
       longer = longer_more c.args.pass.now c.loop-shard.pass c.shard_numbers-numbers.new.pass c.loop-shard.invariant.longer c.shard_numbers-numbers.ensures.listed;
-      totals = subst (AreTotals (take (c.loop-shard.shard + 1) c.shard_numbers-numbers.new.pass.shards)) (sym c.add-total.ensures) (totals_more c.loop-shard.pass.shards c.shard_numbers-numbers.new.pass.shards c.loop-shard.shard at.old at.new c.loop-shard.total c.shard_numbers-numbers.result at.there at.only c.loop-shard.invariant.totals at.does.1);
+      totals = subst (AreSumsOfAll (take (c.loop-shard.shard + 1) c.shard_numbers-numbers.new.pass.shards)) (sym c.add-total.ensures) (totals_more c.loop-shard.pass.shards c.shard_numbers-numbers.new.pass.shards c.loop-shard.shard at.old at.new c.loop-shard.total c.shard_numbers-numbers.result at.there at.only c.loop-shard.invariant.totals at.does.1);
     }
 
 pub returns-clause-totals : goal.returns-clause-totals

@@ -28,4 +28,4 @@ pub returns-clause-looked : goal.returns-clause-looked
 returns-clause-looked g c =
     let store : c.numbers.new.seat.shows.store ≡ c.index-at.result.now = c.numbers.ensures.takes.stays.0 ∙ held_store (held_seat c.pass.view_is c.pass.invariant c.self.view_is c.requires.store c.requires.shard c.index_mut-seat.ensures.value) c.index-at.result.now c.index-at.ensures in
     step_at (held_seat c.pass.view_is c.pass.invariant c.self.view_is c.requires.store c.requires.shard c.index_mut-seat.ensures.value) (stepped_seat c.index_mut-seat.result.now c.numbers.new.seat c.pass.inside.follower c.numbers.new.follower c.numbers.ensures.takes c.numbers.ensures.same c.numbers.ensures.listed c.numbers.ensures.follower) (λ v w. Takes v None w × AreNumbersAt w c.numbers.result)
-    (c.numbers.ensures.takes, numbers_at c.numbers.new.seat.shows c.index-at.result.now c.numbers.result store c.numbers.ensures.told c.numbers.ensures.entries)
+    (c.numbers.ensures.takes, numbers_at c.numbers.new.seat.shows c.index-at.result.now c.numbers.result store c.numbers.ensures.holds c.numbers.ensures.entries)

@@ -1,5 +1,5 @@
 use Rattle.std.proofs.Common.{Err, sym, subst, ap, ◌∙◌, ◌+◌, arith, take}
-use Rattle.sharded.specs.Totals.{AreTotals}
+use Rattle.sharded.specs.Totals.{AreSumsOfAll}
 use Rattle.sharded.specs.StepsTo.{HasLooked}
 use Rattle.sharded.proofs.StepsTo.{steps_none, steps_more, step_as, lone_step}
 use Rattle.sharded.proofs.Listings.{longer_same, longer_more}
@@ -16,7 +16,7 @@ loop-shard-preserved c =
       steps = steps_more HasLooked c.loop-shard.shard c.args.pass.now.shards c.loop-shard.pass.shards c.try_shard_numbers.new.pass.shards (step_as (λ v w looked. looked.0) at) c.loop-shard.invariant.steps;
       store = c.in-Ok.ensures.same;
       longer = longer_more c.args.pass.now c.loop-shard.pass c.try_shard_numbers.new.pass c.loop-shard.invariant.longer c.in-Ok.ensures.listed;
-      totals = subst (AreTotals (take (c.loop-shard.shard + 1) c.try_shard_numbers.new.pass.shards)) (sym c.add-total.ensures) (totals_more c.loop-shard.pass.shards c.try_shard_numbers.new.pass.shards c.loop-shard.shard at.old at.new c.loop-shard.total c.in-Ok.numbers at.there at.only c.loop-shard.invariant.totals at.does.1);
+      totals = subst (AreSumsOfAll (take (c.loop-shard.shard + 1) c.try_shard_numbers.new.pass.shards)) (sym c.add-total.ensures) (totals_more c.loop-shard.pass.shards c.try_shard_numbers.new.pass.shards c.loop-shard.shard at.old at.new c.loop-shard.total c.in-Ok.numbers at.there at.only c.loop-shard.invariant.totals at.does.1);
       lone = λ lone. lone_step c.loop-shard.shard c.loop-shard.pass.shards c.try_shard_numbers.new.pass.shards (step_as (λ v w looked. looked.0) at) (c.loop-shard.invariant.lone lone);
     }
 

@@ -1,7 +1,7 @@
 use Rattle.std.proofs.Common.{◌≡◌, ◌⊎◌}
 use Rattle.sealed.specs.declared.fault.Fault.{Fault}
 use Rattle.sealed.specs.declared.fault.Fault.TheVariants.{NoMemory, Busy}
-use Rattle.book.specs.Tells.{IsCallFault}
+use Rattle.book.specs.Holds.{IsCallFault}
 use Rattle.shared.proofs.Snapshots.{has_version, has_fragments, fault_of, faults_are}
 use Rattle.sharded.specs.Steps.{seen_for, width_for}
 use Rattle.sharded.proofs.Snapshots.{has_no_blob_at}

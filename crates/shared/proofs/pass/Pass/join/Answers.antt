@@ -1,7 +1,7 @@
 use Rattle.std.proofs.Common.{◌≡◌, ◌++◌, subst}
 use mathlib.Core.List.{IsPrefix}
 use Rattle.gate.specs.Places.{SeatState, AreApart}
-use Rattle.requests.specs.declared.kept.Kept.{Kept}
+use Rattle.requests.specs.declared.boxed_book.BoxedBook.{BoxedBook}
 use Rattle.shared.specs.Passes.{Shows, shows, acts_of, did_of, seen_of, made_of}
 use Rattle.shared.proofs.Passes.{whole, joined, joined_acts, joined_seen, joined_made, joined_did, joined_apart}
 use Rattle.shared.proofs.pass.Pass.join.Goals.{After-join}
@@ -10,10 +10,10 @@ use Rattle.shared.proofs.pass.Pass.join.Goals as goal
 pub invariant_of-self : goal.invariant_of-self
 invariant_of-self c =
     let e = c.join.ensures in
-    joined c.self.inside.seat c.other.inside.seat c.join.new.self c.self.invariant c.other.invariant e.seen.0 e.seen.1 e.own e.one e.kept.1
+    joined c.self.inside.seat c.other.inside.seat c.join.new.self c.self.invariant c.other.invariant e.seen.0 e.seen.1 e.own e.one e.unchanged.1
 
 -- the joined seat has what two passes show
-record HasBoth (v o : Shows) (now : SeatState Kept) : Type 0 where
+record HasBoth (v o : Shows) (now : SeatState BoxedBook) : Type 0 where
   pub seen : IsPrefix v.seen (seen_of now.list) × IsPrefix o.seen (seen_of now.list)
   pub acts : IsPrefix v.acts (acts_of now.list) × IsPrefix o.acts (acts_of now.list)
   pub made : made_of now.list now.own ≡ v.made ++ o.made

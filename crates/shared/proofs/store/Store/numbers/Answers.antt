@@ -7,13 +7,13 @@ use Rattle.shared.proofs.store.Store.numbers.Given as given
 use Rattle.shared.proofs.store.Store.numbers.Goals as goal
 
 leaves : (g : given.Over) (c : goal.After-wake g) → Leaves c.enter-inside.new.seat c.leave.new.seat c.enter-inside.result.value
-leaves g c = let l = c.leave.ensures in record { same = (l.kept.0, l.kept.1, l.kept.2); list = l.list; own = l.own }
+leaves g c = let l = c.leave.ensures in record { same = (l.unchanged.0, l.unchanged.1, l.unchanged.2); list = l.list; own = l.own }
 
 steps : (g : given.Over) (c : goal.After-wake g) → Stepped c.pass.inside.seat c.leave.new.seat c.enter-inside.result.value [] 0
 steps g c =
     let e = c.enter-inside.ensures in
     stepped c.pass.inside.seat c.enter-inside.new.seat c.leave.new.seat c.enter-inside.result.value c.enter-inside.result.value [] 0 c.pass.invariant
-    (record { same = (e.kept.0, e.kept.1, e.kept.2); seen = e.seen; found = e.found; lone = e.lone })
+    (record { same = (e.unchanged.0, e.unchanged.1, e.unchanged.2); seen = e.seen; found = e.found; lone = e.lone })
     (leaves g c)
     (same_goes_on c.enter-inside.result.value.0.value c.enter-inside.result.value.0.value refl)
 
@@ -27,9 +27,9 @@ leave-requires-clause-follows g c =
 pub invariant_of-pass : goal.invariant_of-pass
 invariant_of-pass g c = (steps g c).pass
 
-pub returns-clause-told : goal.returns-clause-told
-returns-clause-told g c =
-    numbered c.pass.inside.seat c.leave.new.seat c.enter-inside.result.value c.pass.inside.who c.args.self.now (steps g c) (store_is g c) c.numbers-numbers.result c.numbers-numbers.ensures.told
+pub returns-clause-holds : goal.returns-clause-holds
+returns-clause-holds g c =
+    numbered c.pass.inside.seat c.leave.new.seat c.enter-inside.result.value c.pass.inside.who c.args.self.now (steps g c) (store_is g c) c.numbers-numbers.result c.numbers-numbers.ensures.holds
 
 pub returns-clause-entries : goal.returns-clause-entries
 returns-clause-entries g c =

@@ -1,5 +1,5 @@
 use Rattle.sealed.specs.declared.fault.Fault.TheVariants.{NoMemory}
-use Rattle.book.specs.Tells.{IsCallFault}
+use Rattle.book.specs.Holds.{IsCallFault}
 use Rattle.shared.proofs.Snapshots.{has_no_blob, has_version, has_fragments, fault_of, faults_are}
 use Rattle.shared.proofs.store.Store.snapshot.Goals as goal
 

@@ -1,7 +1,7 @@
 use Rattle.std.proofs.Common.{◌≡◌, ℕ, ◌+◌, ◌<◌, Some, length, sym, subst, rules}
 use Rattle.gate.specs.Places.{times, last_of, HasAll}
 use Rattle.book.specs.Contents.{Contents}
-use Rattle.book.specs.Tells.{HoldsHistory}
+use Rattle.book.specs.Holds.{HoldsHistory}
 use Rattle.shared.specs.Passes.{IsConsistent}
 use Rattle.shared.proofs.Passes.{closed, closed_count, closed_acts, closed_acts_count, closed_entries, closed_told, trimmed_is, agreed}
 use Rattle.shared.proofs.Steps.{taken}
@@ -44,14 +44,14 @@ returns-clause-did_count c = subst (λ v. length v.did ≡ length v.acts) c.pass
 pub returns-clause-agrees : goal.returns-clause-agrees
 returns-clause-agrees c = subst IsConsistent c.pass.view_is (agreed c.pass.inside.seat c.pass.inside.who c.pass.invariant)
 
-pub returns-clause-told : goal.returns-clause-told
-returns-clause-told c =
-    let all = own (goal.at.returns-clause-told c).After-take-book in
+pub returns-clause-holds : goal.returns-clause-holds
+returns-clause-holds c =
+    let all = own (goal.at.returns-clause-holds c).After-take-book in
     let Q : Contents → Type 0 = λ book. HoldsHistory book c.args.pass.seen in
-    subst Q (sym c.into_inner.ensures) (subst (λ v. HoldsHistory c.take-book.result.0.value v.seen) c.pass.view_is (closed_told c.pass.inside.seat c.take-book.result c.pass.invariant all.0).told.tells)
+    subst Q (sym c.into_inner.ensures) (subst (λ v. HoldsHistory c.take-book.result.0.value v.seen) c.pass.view_is (closed_told c.pass.inside.seat c.take-book.result c.pass.invariant all.0).holds.holds)
 
-pub returns-clause-kept : goal.returns-clause-kept
-returns-clause-kept c =
-    let all = own (goal.at.returns-clause-kept c).After-take-book in
+pub returns-clause-unchanged : goal.returns-clause-unchanged
+returns-clause-unchanged c =
+    let all = own (goal.at.returns-clause-unchanged c).After-take-book in
     let is = closed_told c.pass.inside.seat c.take-book.result c.pass.invariant all.0 in
     search rules

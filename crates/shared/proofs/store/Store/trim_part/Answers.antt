@@ -14,7 +14,7 @@ pub leave-requires-clause-follows : goal.leave-requires-clause-follows
 leave-requires-clause-follows g c =
     let t = c.trim_part-result.ensures in
     subst (λ o. IfSome o (λ found. MayFollow found.0.value c.trim_part-result.new.self.0.value)) (sym c.enter-inside.ensures.found)
-    (goes_follows c.enter-inside.result.value.0.value c.trim_part-result.new.self.0.value [] (given_by c.trim_part-result.result) (trim_goes_on c.trim_part-result.result c.enter-inside.result.value.0.value c.trim_part-result.new.self.0.value t.kept.0 t.kept.1 t.told t.trimmed t.err))
+    (goes_follows c.enter-inside.result.value.0.value c.trim_part-result.new.self.0.value [] (given_by c.trim_part-result.result) (trim_goes_on c.trim_part-result.result c.enter-inside.result.value.0.value c.trim_part-result.new.self.0.value t.unchanged.0 t.unchanged.1 t.holds t.trimmed t.err))
 
 steps : (g : given.Over) (c : goal.After-wake g) → Stepped c.pass.inside.seat c.leave.new.seat c.enter-inside.result.value [] (given_by c.trim_part-result.result)
 steps g c =
@@ -22,9 +22,9 @@ steps g c =
     let t = c.trim_part-result.ensures in
     let l = c.leave.ensures in
     stepped c.pass.inside.seat c.enter-inside.new.seat c.leave.new.seat c.enter-inside.result.value _ [] (given_by c.trim_part-result.result) c.pass.invariant
-    (record { same = (e.kept.0, e.kept.1, e.kept.2); seen = e.seen; found = e.found; lone = e.lone })
-    (record { same = (l.kept.0, l.kept.1, l.kept.2); list = l.list; own = l.own })
-    (trim_goes_on c.trim_part-result.result c.enter-inside.result.value.0.value c.trim_part-result.new.self.0.value t.kept.0 t.kept.1 t.told t.trimmed t.err)
+    (record { same = (e.unchanged.0, e.unchanged.1, e.unchanged.2); seen = e.seen; found = e.found; lone = e.lone })
+    (record { same = (l.unchanged.0, l.unchanged.1, l.unchanged.2); list = l.list; own = l.own })
+    (trim_goes_on c.trim_part-result.result c.enter-inside.result.value.0.value c.trim_part-result.new.self.0.value t.unchanged.0 t.unchanged.1 t.holds t.trimmed t.err)
 
 pub invariant_of-pass : goal.invariant_of-pass
 invariant_of-pass g c = (steps g c).pass

@@ -12,9 +12,9 @@ use Rattle.shared.proofs.store.Store.try_inspect.Goals as goal
 pub leave-requires-clause-follows : goal.leave-requires-clause-follows
 leave-requires-clause-follows c =
     let e = c.inspect-inspection.ensures in
-    subst (λ o. IfSome o (λ found. MayFollow found.0.value c.inspect-inspection.new.kept.0.value)) (sym c.in-Some.ensures.found.1)
-    (goes_follows c.in-Some.inside.value.0.value c.inspect-inspection.new.kept.0.value _ 0
-    (inspection_goes_on c.inspect-inspection.result c.in-Some.inside.value.0.value c.inspect-inspection.new.kept.0.value c.pass.inside.who c.args.name.now c.args.stripe c.args.fragment e.kept e.found))
+    subst (λ o. IfSome o (λ found. MayFollow found.0.value c.inspect-inspection.new.boxed.0.value)) (sym c.in-Some.ensures.found.1)
+    (goes_follows c.in-Some.inside.value.0.value c.inspect-inspection.new.boxed.0.value _ 0
+    (inspection_goes_on c.inspect-inspection.result c.in-Some.inside.value.0.value c.inspect-inspection.new.boxed.0.value c.pass.inside.who c.args.name.now c.args.stripe c.args.fragment e.unchanged e.found))
 
 steps : (c : goal.After-leave) → Stepped c.pass.inside.seat c.leave.new.seat c.in-Some.inside.value (events_at_inspection c.inspect-inspection.result c.pass.inside.who (repair c.args.name.now c.args.stripe c.args.fragment)) 0
 steps c =
@@ -22,9 +22,9 @@ steps c =
     let m = c.inspect-inspection.ensures in
     let l = c.leave.ensures in
     stepped c.pass.inside.seat c.try_enter.new.seat c.leave.new.seat c.in-Some.inside.value _ _ 0 c.pass.invariant
-    (record { same = (e.kept.0, e.kept.1, e.kept.2); seen = e.seen; found = c.in-Some.ensures.found.1; lone = λ all. (e.lone all).1 })
-    (record { same = (l.kept.0, l.kept.1, l.kept.2); list = l.list; own = l.own })
-    (inspection_goes_on c.inspect-inspection.result c.in-Some.inside.value.0.value c.inspect-inspection.new.kept.0.value c.pass.inside.who c.args.name.now c.args.stripe c.args.fragment m.kept m.found)
+    (record { same = (e.unchanged.0, e.unchanged.1, e.unchanged.2); seen = e.seen; found = c.in-Some.ensures.found.1; lone = λ all. (e.lone all).1 })
+    (record { same = (l.unchanged.0, l.unchanged.1, l.unchanged.2); list = l.list; own = l.own })
+    (inspection_goes_on c.inspect-inspection.result c.in-Some.inside.value.0.value c.inspect-inspection.new.boxed.0.value c.pass.inside.who c.args.name.now c.args.stripe c.args.fragment m.unchanged m.found)
 
 pub invariant_of-pass-2 : goal.invariant_of-pass-2
 invariant_of-pass-2 c = (steps c).pass
@@ -32,8 +32,8 @@ invariant_of-pass-2 c = (steps c).pass
 pub returns-clause-found : goal.returns-clause-found
 returns-clause-found c =
     subst (λ v. InspectionGives v c.args.name.now c.args.stripe c.args.fragment c.inspect-inspection.result (shows c.leave.new.seat c.pass.inside.who)) c.pass.view_is
-    (inspection_found c.pass.inside.seat c.leave.new.seat c.in-Some.inside.value c.inspect-inspection.new.kept c.pass.inside.who c.args.name.now c.args.stripe c.args.fragment c.inspect-inspection.result (steps c)
-    (left_base c.try_enter.new.seat c.leave.new.seat c.in-Some.inside.value c.inspect-inspection.new.kept (record { same = (c.leave.ensures.kept.0, c.leave.ensures.kept.1, c.leave.ensures.kept.2); list = c.leave.ensures.list; own = c.leave.ensures.own }) c.inspect-inspection.ensures.kept.2) c.inspect-inspection.ensures.found)
+    (inspection_found c.pass.inside.seat c.leave.new.seat c.in-Some.inside.value c.inspect-inspection.new.boxed c.pass.inside.who c.args.name.now c.args.stripe c.args.fragment c.inspect-inspection.result (steps c)
+    (left_base c.try_enter.new.seat c.leave.new.seat c.in-Some.inside.value c.inspect-inspection.new.boxed (record { same = (c.leave.ensures.unchanged.0, c.leave.ensures.unchanged.1, c.leave.ensures.unchanged.2); list = c.leave.ensures.list; own = c.leave.ensures.own }) c.inspect-inspection.ensures.unchanged.2) c.inspect-inspection.ensures.found)
 
 pub returns-in_default-clause-found : goal.returns-in_default-clause-found
 returns-in_default-clause-found c =

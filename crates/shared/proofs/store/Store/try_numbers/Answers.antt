@@ -7,7 +7,7 @@ use Rattle.shared.proofs.Looks.{numbered, entries_kept}
 use Rattle.shared.proofs.store.Store.try_numbers.Goals as goal
 
 leaves : (c : goal.After-leave) → Leaves c.try_enter.new.seat c.leave.new.seat c.in-Some.inside.value
-leaves c = let l = c.leave.ensures in record { same = (l.kept.0, l.kept.1, l.kept.2); list = l.list; own = l.own }
+leaves c = let l = c.leave.ensures in record { same = (l.unchanged.0, l.unchanged.1, l.unchanged.2); list = l.list; own = l.own }
 
 store_is : (c : goal.After-leave) → (shows c.pass.inside.seat c.pass.inside.who).store ≡ c.args.self.now
 store_is c = ap (λ (v : Shows). v.store) c.pass.view_is ∙ c.requires
@@ -16,7 +16,7 @@ steps : (c : goal.After-leave) → Stepped c.pass.inside.seat c.leave.new.seat c
 steps c =
     let e = c.try_enter.ensures in
     stepped c.pass.inside.seat c.try_enter.new.seat c.leave.new.seat c.in-Some.inside.value c.in-Some.inside.value [] 0 c.pass.invariant
-    (record { same = (e.kept.0, e.kept.1, e.kept.2); seen = e.seen; found = c.in-Some.ensures.found.1; lone = λ all. (e.lone all).1 })
+    (record { same = (e.unchanged.0, e.unchanged.1, e.unchanged.2); seen = e.seen; found = c.in-Some.ensures.found.1; lone = λ all. (e.lone all).1 })
     (leaves c)
     (same_goes_on c.in-Some.inside.value.0.value c.in-Some.inside.value.0.value refl)
 
@@ -28,7 +28,7 @@ invariant_of-pass-2 c = (steps c).pass
 
 pub returns-clause-ok : goal.returns-clause-ok
 returns-clause-ok c =
-    numbered c.pass.inside.seat c.leave.new.seat c.in-Some.inside.value c.pass.inside.who c.args.self.now (steps c) (store_is c) c.numbers-numbers.result c.numbers-numbers.ensures.told
+    numbered c.pass.inside.seat c.leave.new.seat c.in-Some.inside.value c.pass.inside.who c.args.self.now (steps c) (store_is c) c.numbers-numbers.result c.numbers-numbers.ensures.holds
 
 pub returns-clause-entries : goal.returns-clause-entries
 returns-clause-entries c =

@@ -14,8 +14,8 @@ steps c =
     let e = c.try_enter.ensures in
     let l = c.leave.ensures in
     stepped c.pass.inside.seat c.try_enter.new.seat c.leave.new.seat c.in-Some.inside.value c.in-Some.inside.value [] 0 c.pass.invariant
-    (record { same = (e.kept.0, e.kept.1, e.kept.2); seen = e.seen; found = c.in-Some.ensures.found.1; lone = λ all. (e.lone all).1 })
-    (record { same = (l.kept.0, l.kept.1, l.kept.2); list = l.list; own = l.own })
+    (record { same = (e.unchanged.0, e.unchanged.1, e.unchanged.2); seen = e.seen; found = c.in-Some.ensures.found.1; lone = λ all. (e.lone all).1 })
+    (record { same = (l.unchanged.0, l.unchanged.1, l.unchanged.2); list = l.list; own = l.own })
     (same_goes_on c.in-Some.inside.value.0.value c.in-Some.inside.value.0.value refl)
 
 pub leave-requires-clause-follows : goal.leave-requires-clause-follows

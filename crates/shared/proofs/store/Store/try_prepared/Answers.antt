@@ -14,14 +14,14 @@ pub make_on-reply-requires : goal.make_on-reply-requires
 make_on-reply-requires c =
     let e = c.try_enter.ensures in
     can_make_inside c.pass.inside.seat c.try_enter.new.seat c.in-Some.inside.value c.pass.inside.who c.args.request _ c.pass.view_is c.pass.invariant
-    (record { same = (e.kept.0, e.kept.1, e.kept.2); seen = e.seen; found = c.in-Some.ensures.found.1; lone = λ all. (e.lone all).1 }) c.requires.can
+    (record { same = (e.unchanged.0, e.unchanged.1, e.unchanged.2); seen = e.seen; found = c.in-Some.ensures.found.1; lone = λ all. (e.lone all).1 }) c.requires.can
 
 pub leave-requires-clause-follows : goal.leave-requires-clause-follows
 leave-requires-clause-follows c =
     let e = c.make_on-reply.ensures in
-    subst (λ o. IfSome o (λ found. MayFollow found.0.value c.make_on-reply.new.kept.0.value)) (sym c.in-Some.ensures.found.1)
-    (goes_follows c.in-Some.inside.value.0.value c.make_on-reply.new.kept.0.value _ 0
-    (call_goes_on c.make_on-reply.result c.in-Some.inside.value.0.value c.make_on-reply.new.kept.0.value c.pass.inside.who (operation_of c.args.request) e.kept (answered c.make_on-reply.result c.in-Some.inside.value.0.value c.make_on-reply.new.kept.0.value c.pass.inside.who (operation_of c.args.request) e.ok e.full) e.err))
+    subst (λ o. IfSome o (λ found. MayFollow found.0.value c.make_on-reply.new.boxed.0.value)) (sym c.in-Some.ensures.found.1)
+    (goes_follows c.in-Some.inside.value.0.value c.make_on-reply.new.boxed.0.value _ 0
+    (call_goes_on c.make_on-reply.result c.in-Some.inside.value.0.value c.make_on-reply.new.boxed.0.value c.pass.inside.who (operation_of c.args.request) e.unchanged (answered c.make_on-reply.result c.in-Some.inside.value.0.value c.make_on-reply.new.boxed.0.value c.pass.inside.who (operation_of c.args.request) e.ok e.full) e.err))
 
 steps : (c : goal.After-leave) → Stepped c.pass.inside.seat c.leave.new.seat c.in-Some.inside.value (made_by c.pass.inside.who (operation_of c.args.request) c.make_on-reply.result) 0
 steps c =
@@ -29,15 +29,15 @@ steps c =
     let m = c.make_on-reply.ensures in
     let l = c.leave.ensures in
     stepped c.pass.inside.seat c.try_enter.new.seat c.leave.new.seat c.in-Some.inside.value _ _ 0 c.pass.invariant
-    (record { same = (e.kept.0, e.kept.1, e.kept.2); seen = e.seen; found = c.in-Some.ensures.found.1; lone = λ all. (e.lone all).1 })
-    (record { same = (l.kept.0, l.kept.1, l.kept.2); list = l.list; own = l.own })
-    (call_goes_on c.make_on-reply.result c.in-Some.inside.value.0.value c.make_on-reply.new.kept.0.value c.pass.inside.who (operation_of c.args.request) m.kept (answered c.make_on-reply.result c.in-Some.inside.value.0.value c.make_on-reply.new.kept.0.value c.pass.inside.who (operation_of c.args.request) m.ok m.full) m.err)
+    (record { same = (e.unchanged.0, e.unchanged.1, e.unchanged.2); seen = e.seen; found = c.in-Some.ensures.found.1; lone = λ all. (e.lone all).1 })
+    (record { same = (l.unchanged.0, l.unchanged.1, l.unchanged.2); list = l.list; own = l.own })
+    (call_goes_on c.make_on-reply.result c.in-Some.inside.value.0.value c.make_on-reply.new.boxed.0.value c.pass.inside.who (operation_of c.args.request) m.unchanged (answered c.make_on-reply.result c.in-Some.inside.value.0.value c.make_on-reply.new.boxed.0.value c.pass.inside.who (operation_of c.args.request) m.ok m.full) m.err)
 
 can : (c : goal.After-leave) → CanMake c.in-Some.inside.value.0.value c.args.request
 can c =
     let e = c.try_enter.ensures in
     can_make_inside c.pass.inside.seat c.try_enter.new.seat c.in-Some.inside.value c.pass.inside.who c.args.request _ c.pass.view_is c.pass.invariant
-    (record { same = (e.kept.0, e.kept.1, e.kept.2); seen = e.seen; found = c.in-Some.ensures.found.1; lone = λ all. (e.lone all).1 }) c.requires.can
+    (record { same = (e.unchanged.0, e.unchanged.1, e.unchanged.2); seen = e.seen; found = c.in-Some.ensures.found.1; lone = λ all. (e.lone all).1 }) c.requires.can
 
 pub invariant_of-pass-2 : goal.invariant_of-pass-2
 invariant_of-pass-2 c = (steps c).pass
@@ -47,7 +47,7 @@ returns-clause-called c =
     let m = c.make_on-reply.ensures in
     subst (λ v. Called v (operation_of c.args.request) c.make_on-reply.result (shows c.leave.new.seat c.pass.inside.who)) c.pass.view_is
     (called c.pass.inside.seat c.leave.new.seat c.in-Some.inside.value c.pass.inside.who (operation_of c.args.request) c.make_on-reply.result (steps c)
-    (left_base c.try_enter.new.seat c.leave.new.seat c.in-Some.inside.value _ (record { same = (c.leave.ensures.kept.0, c.leave.ensures.kept.1, c.leave.ensures.kept.2); list = c.leave.ensures.list; own = c.leave.ensures.own }) m.kept.2) m.full
+    (left_base c.try_enter.new.seat c.leave.new.seat c.in-Some.inside.value _ (record { same = (c.leave.ensures.unchanged.0, c.leave.ensures.unchanged.1, c.leave.ensures.unchanged.2); list = c.leave.ensures.list; own = c.leave.ensures.own }) m.unchanged.2) m.full
     (λ _. request_fits c.in-Some.inside.value.0.value c.args.request (can c))
     (never_too_long c.make_on-reply.result c.args.request m.faults))
 

@@ -1,8 +1,8 @@
 use Rattle.std.proofs.Common.{◌≡◌, ◌⊎◌, ap, ◌∙◌}
 use Rattle.sealed.specs.declared.fault.Fault.{Fault}
 use Rattle.sealed.specs.declared.fault.Fault.TheVariants.{NoMemory, Busy}
-use Rattle.book.specs.Tells.{IsCallFault}
-use Rattle.shared.specs.Snapshots.{held_by}
+use Rattle.book.specs.Holds.{IsCallFault}
+use Rattle.shared.specs.Snapshots.{version_held_by}
 use Rattle.shared.proofs.Snapshots.{has_no_blob, has_version, has_fragments, fault_of, faults_are}
 use Rattle.shared.proofs.store.Store.try_snapshot.Goals as goal
 
@@ -30,7 +30,7 @@ pub returns-clause-busy : goal.returns-clause-busy
 returns-clause-busy c = λ busy. c.try_read.ensures.busy (fault_of c.try_read.result c.snapshot_of.result Busy c.snapshot_of.ensures busy)
 
 pub returns-clause-entered : goal.returns-clause-entered
-returns-clause-entered c = λ free. c.try_read.ensures.entered (λ busy. free (c.snapshot_of.ensures ∙ ap held_by busy))
+returns-clause-entered c = λ free. c.try_read.ensures.entered (λ busy. free (c.snapshot_of.ensures ∙ ap version_held_by busy))
 
 pub returns-clause-lone : goal.returns-clause-lone
 returns-clause-lone c = λ alone busy. c.try_read.ensures.lone alone (fault_of c.try_read.result c.snapshot_of.result Busy c.snapshot_of.ensures busy)

@@ -1,7 +1,7 @@
 use Rattle.std.proofs.Common.{◌∷◌, []}
 use Rattle.history.specs.History.{History}
 use Rattle.book.specs.Known.{IsFragmentIn}
-use Rattle.book.specs.Tells.{HoldsHistory}
+use Rattle.book.specs.Holds.{HoldsHistory}
 use Rattle.test_blobs.proofs.tests.books.play.Given as goal
 
 abbrev pub invariant-loop-step : goal.invariant-loop-step

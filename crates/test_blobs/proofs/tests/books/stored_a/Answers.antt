@@ -30,6 +30,6 @@ returns g c =
     let one : c.in-Stored-eq1.field-0 ≡ 1 = omega (arith, c.in-Stored-eq1.field-0-test, c.in-Stored-eq1.field-0-is) in
     let h : History = event name c.store.result ∷ [] in (
       h,
-      c.store.ensures.told [] c.beginning-book.ensures.told,
+      c.store.ensures.holds [] c.beginning-book.ensures.holds,
       subst (λ w. IsFragmentIn h w name 1 0 0 (65 ∷ [])) (sym (c.store.ensures.width ∙ c.beginning-book.ensures.width)) (first_of name c.store.result (c.in-Stored-eq1.is ∙ ap Stored one)),
     )

@@ -3,7 +3,7 @@ ghost use Rattle.std.specs.Prelude.{◌≡◌, ◌≤◌, ◌+◌, ◌-◌, leng
 ghost use Rattle.std.specs.Prelude.{OnErr};
 ghost use Rattle.std.specs.Option.{option_map};
 ghost use Rattle.history.specs.History.{History, state_of};
-ghost use Rattle.book.specs.Tells.{HoldsHistory};
+ghost use Rattle.book.specs.Holds.{HoldsHistory};
 ghost use Rattle.book.specs.Contents.{journal_of};
 ghost use Rattle.book.specs.Trimming.{given_up};
 ghost use Rattle.book.specs.Numbers.{AreNumbersOf};
@@ -16,22 +16,22 @@ use std::alloc::{AllocError, Global};
 /// A book, behind one pointer, so that the gate moves few bytes. Another book may follow it if it
 /// records what this one records: the same acts, or those with one more.
 #[derive(Drop)]
-pub struct Kept(pub Box<Book, Global>);
+pub struct BoxedBook(pub Box<Book, Global>);
 
-impl Follows for Kept {
+impl Follows for BoxedBook {
     ghost use Rattle.requests.specs.Between.{MayFollow};
 
     ghost follows = { λ a b. MayFollow a.0.value b.0.value };
 }
 
-impl Kept {
+impl BoxedBook {
     /// A book behind a pointer. The only fault is `NoMemory`.
-    pub fn boxed(alloc: Global, book: Book) -> Result<Kept, Fault>
+    pub fn boxed(alloc: Global, book: Book) -> Result<BoxedBook, Fault>
         ensures ok { IfOk result (λ k. k.0.value ≡ book) }
         ensures err { IfErr result (λ e. e ≡ Fault.NoMemory) }
     {
         match Box::new(alloc, book) {
-            Ok(book) => Ok(Kept(book)),
+            Ok(book) => Ok(BoxedBook(book)),
             Err(_) => Err(Fault::NoMemory),
         }
     }
@@ -61,7 +61,7 @@ impl Kept {
 
     /// The numbers of the store, as `Book::numbers` gives them.
     pub fn numbers(&self) -> Numbers
-        ensures told { (h : History) → HoldsHistory self.now.0.value h
+        ensures holds { (h : History) → HoldsHistory self.now.0.value h
             → AreNumbersOf self.now.0.value.width h result }
         ensures entries { result.entries ≡ length (journal_of self.now.0.value) }
     {
@@ -70,13 +70,13 @@ impl Kept {
 
     /// Discards all entries of the journal except the last `keep`, as `Book::trim` does.
     pub fn trim(&mut self, alloc: Global, keep: u64) -> Result<u64, Fault>
-        ensures told { (h : History) → HoldsHistory self.old.0.value h
+        ensures holds { (h : History) → HoldsHistory self.old.0.value h
             → HoldsHistory self.new.0.value h }
         ensures answer { IfOk result (λ n. n ≡ given_up self.old.0.value.base.trimmed
             (length (journal_of self.old.0.value)) keep) }
         ensures trimmed { IfOk result
             (λ n. self.new.0.value.base.trimmed ≡ self.old.0.value.base.trimmed + n) }
-        ensures kept { (self.new.0.value.width ≡ self.old.0.value.width)
+        ensures unchanged { (self.new.0.value.width ≡ self.old.0.value.width)
             × (self.new.0.value.limit ≡ self.old.0.value.limit) }
         ensures faults { IfErr result (λ e. e ≡ Fault.NoMemory) }
         ensures err { OnErr result (self.new.0.value ≡ self.old.0.value) }
@@ -87,7 +87,7 @@ impl Kept {
     /// Discards at most `most` entries of the journal, and none of the last `keep`, as
     /// `Book::trim_part` does.
     pub fn trim_part(&mut self, alloc: Global, keep: u64, most: u64) -> Result<u64, Fault>
-        ensures told { (h : History) → HoldsHistory self.old.0.value h
+        ensures holds { (h : History) → HoldsHistory self.old.0.value h
             → HoldsHistory self.new.0.value h }
         ensures answer { IfOk result (λ n. n ≡ given_up self.old.0.value.base.trimmed
             (length (journal_of self.old.0.value))
@@ -95,7 +95,7 @@ impl Kept {
         ensures few { IfOk result (λ n. n ≤ 1048576) }
         ensures trimmed { IfOk result
             (λ n. self.new.0.value.base.trimmed ≡ self.old.0.value.base.trimmed + n) }
-        ensures kept { (self.new.0.value.width ≡ self.old.0.value.width)
+        ensures unchanged { (self.new.0.value.width ≡ self.old.0.value.width)
             × (self.new.0.value.limit ≡ self.old.0.value.limit) }
         ensures faults { IfErr result (λ e. e ≡ Fault.NoMemory) }
         ensures err { OnErr result (self.new.0.value ≡ self.old.0.value) }
