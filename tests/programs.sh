@@ -66,7 +66,7 @@ built() {
     failed=$((failed + 1))
 }
 
-for each in promises instances documents pages figures prose believed commits; do
+for each in promises instances documents pages figures prose believed names commits; do
     part python3 tests/$each.py
 done
 part tests/lint.sh
