@@ -47,7 +47,7 @@ fn has_size(size: u32, set: u32) -> bool
 fn is_counted(code: Code, size: u32, set: u32) -> bool
     requires { set < 65536 }
     ensures value { result ≡ is_counted code size set }
-    ensures holds { IsTrue result → (f : ℕ) → f < fragment_count code → Open code (is_lost set) f
+    ensures recoverable { IsTrue result → (f : ℕ) → f < fragment_count code → Open code (is_lost set) f
         → ⊥ }
 {
     has_size(size, set) && is_whole(code, set as u16)
@@ -105,7 +105,7 @@ struct ReadCount {
 fn read_for(code: Code, set: u16, f: u8) -> u32
     requires inside { f < fragment_count code }
     requires is_lost { is_lost set f ≡ true }
-    requires holds { Open code (is_lost set) f → ⊥ }
+    requires recoverable { Open code (is_lost set) f → ⊥ }
     ensures read { (terms : List Term) × IsRead code (is_lost set) f terms
         × (result ≡ length terms) }
     ensures few { result ≤ 15 }

@@ -8,7 +8,7 @@ pub loop-set-init : goal.loop-set-init
 loop-set-init c = record { adds = none (is_counted c.args.code c.args.size) (ReadsFor c.args.code) (λ (r : ℕ × ℕ). r.0) (λ (r : ℕ × ℕ). r.1) (0, 0); few = omega arith }
 
 pub reads_for-reads-requires : goal.reads_for-reads-requires
-reads_for-reads-requires c = c.is_counted.ensures.holds c.if-is_counted.true
+reads_for-reads-requires c = c.is_counted.ensures.recoverable c.if-is_counted.true
 
 pub loop-set-preserved : goal.loop-set-preserved
 loop-set-preserved c =

@@ -9,8 +9,8 @@ use Rattle.demo_survey.proofs.reads_for.Goals.{then-not-left, else-not-left}
 pub loop-f-init : goal.loop-f-init
 loop-f-init c = record { adds = none (is_lost c.args.set) (IsRead c.args.code (is_lost c.args.set)) length length []; few = omega arith }
 
-pub read_for-read-requires-clause-holds : goal.read_for-read-requires-clause-holds
-read_for-read-requires-clause-holds c = c.requires c.loop-f.f (omega arith)
+pub read_for-read-requires-clause-recoverable : goal.read_for-read-requires-clause-recoverable
+read_for-read-requires-clause-recoverable c = c.requires c.loop-f.f (omega arith)
 
 pub loop-f-preserved : goal.loop-f-preserved
 loop-f-preserved c =
