@@ -1,6 +1,5 @@
 -- The pieces that a walk has returned so far.
-use Rattle.std.proofs.Common.{◌≡◌, ℕ, ◌<◌, ◌||◌, Bool, true, false, List, [], ◌∷◌, ◌++◌, Option, None, Some, Result, Ok, Err, length, refl, sym, ap, ◌∙◌, subst, arith, append_assoc, append-nil, length-append}
-use Rattle.std.specs.Prelude.{OnErr}
+use Rattle.std.proofs.Common.{◌≡◌, ℕ, ◌<◌, ◌||◌, Bool, true, false, List, [], ◌∷◌, ◌++◌, Option, None, Some, length, refl, sym, ap, ◌∙◌, subst, arith, append_assoc, append-nil, length-append}
 use Rattle.sealed.specs.declared.value.Sealed.{Sealed}
 use Rattle.sealed.specs.Blob.{Lost}
 use Rattle.sealed.specs.Sealed.{StandsFor, absent_in}
@@ -65,10 +64,6 @@ all_bytes first now pieces collects none b lost stands =
     sym (append-nil (joined pieces)) ∙ ap (λ xs. joined pieces ++ xs) (sym (nothing_ahead now none b)) ∙ collects.bytes b lost stands
 
 -- ---- why there was no memory
-pub on_err : {A E : Type 0} (r : Result A E) {P : Type 0} → P → OnErr r P
-on_err (Ok a) p = tt
-on_err (Err e) p = p
-
 or_right : (a b : Bool) → b ≡ true → (a || b) ≡ true
 or_right true b e = refl
 or_right false b e = e

@@ -66,8 +66,8 @@ module _ {A : Type 0} (items : List A) (row : A → List (Option (List ℕ))) (j
   row_kept same = map-set row items j new ∙ ap (slice_set (map row items) j) (same ∙ sym row_at) ∙ set-get_or (map row items) j []
 
 -- ---- the value
-last_of : (a : Bool) (g f : ℕ) → (a && (g == f)) ≡ true → g ≡ f
-last_of a g f e = grind (arith, common_steps)
+last_bytes : (a : Bool) (g f : ℕ) → (a && (g == f)) ≡ true → g ≡ f
+last_bytes a g f e = grind (arith, common_steps)
 
 sized_of : (s : Sealed) (f : ℕ) (x : Option (List ℕ)) → f < fragment_count s.code → ((y : List ℕ) → x ≡ Some y → length y ≡ s.width)
     → (b : Bool) (i g : ℕ) (y : List ℕ) → (b ≡ true → g ≡ f) → cond b x (fragment_at s.stripes i g) ≡ Some y → (g < fragment_count s.code) × (length y ≡ s.width)
@@ -82,7 +82,7 @@ shape_kept s j f x stripes count inside long at =
       wide = s.shaped.wide;
       count = count ∙ s.shaped.count;
       few = (let few = s.shaped.few in omega arith);
-      sized = λ i g y found. sized_of s f x inside long ((i == j) && (g == f)) i g y (last_of (i == j) g f) (sym (at i g) ∙ found);
+      sized = λ i g y found. sized_of s f x inside long ((i == j) && (g == f)) i g y (last_bytes (i == j) g f) (sym (at i g) ∙ found);
     }
 
 -- whichever way a call ends
@@ -146,6 +146,6 @@ with_stands s t b lost j f bytes changed stands own =
     changed.fragments i g
     ∙ ap (λ o. cond ((i == j) && (g == f)) (Some bytes) o) (stands.fragments i g hi hg)
     ∙ some_or_none ((i == j) && (g == f)) (lost_in lost i g) (Some bytes) whole
-    (λ e. ap (λ x. Some x) (own ∙ ap (λ k. fragment s.code s.width b k f) (sym (first_of i j (g == f) e)) ∙ ap (λ h. fragment s.code s.width b i h) (sym (last_of (i == j) g f e))))
+    (λ e. ap (λ x. Some x) (own ∙ ap (λ k. fragment s.code s.width b k f) (sym (first_of i j (g == f) e)) ∙ ap (λ h. fragment s.code s.width b i h) (sym (last_bytes (i == j) g f e))))
     ∙ ap (λ e. cond (not e && lost_in lost i g) None whole) (sym (tied_pairs i g j f))
     ∙ ap (λ e. cond e None whole) (sym (set.contains-remove pairs_total lost (j, f) (i, g))))

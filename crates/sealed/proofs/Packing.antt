@@ -1,18 +1,20 @@
 -- Stripes as they are sealed, and those that stand in the place of some.
-use Rattle.std.proofs.Common.{◌≡◌, ℕ, ◌+◌, ◌-◌, ◌*◌, ◌<◌, ◌≤◌, [], List, length, get_or, Option, None, Some, cond, refl, sym, ap, ap₂, ◌∙◌, subst, arith, inl, inr}
+use Rattle.std.proofs.Common.{◌≡◌, ℕ, ◌+◌, ◌-◌, ◌*◌, ◌<◌, ◌≤◌, [], List, length, get_or, Option, None, Some, Result, Ok, Err, OnErr, cond, refl, sym, ap, ap₂, ◌∙◌, subst, arith, inl, inr}
 use Rattle.std.specs.Option.{option_map}
 use Rattle.std.specs.Prelude.{slice_range, slice_set, ◌&&◌, ◌==◌}
 use Rattle.std.proofs.Math.Nat.{mul-le-mul_right}
 use Rattle.std.proofs.lemmas.Bool.{cases_lt, cases_eq}
 use Rattle.std.proofs.lemmas.Grind.{common_steps}
-use Rattle.std.proofs.lemmas.List.{ext_get_or, get_or_past, get_or_default, length-set, get_or-set_same, get_or-set_other, set-get_or}
+use Rattle.std.proofs.lemmas.List.{ext_get_or, get_or_past, length-set, get_or-set_same, get_or-set_other, set-get_or}
 use Rattle.std.proofs.lemmas.List.FromFn.{length-map-range_with_len, get_or-map-range_with_len}
 use Rattle.lrc_code.specs.declared.Code.{Code}
 use Rattle.lrc_code.specs.declared.Code.TheVariants.{Wide, Small}
 use Rattle.lrc_code.specs.Code.{data_count, fragment_count}
 use Rattle.sealed.specs.Layout.{stripe_size}
 use Rattle.sealed.specs.Stripes.{Stripes, fragment_at}
-use Rattle.sealed.specs.Packed.{held_by, parities_by, part_of, parts_of, packed, ArePacked, own_or, laid_over}
+use Rattle.sealed.specs.declared.packed.Parts.{Parts}
+use Rattle.sealed.specs.declared.packed.Packed.TheInside.{Inside as Packed}
+use Rattle.sealed.specs.Packed.{data_bytes, last_bytes, parity_bytes, held_by, parities_by, part_of, parts_of, packed, ArePacked, own_or, laid_over}
 use Rattle.sealed.proofs.Counting.{few_fragments, parity_count}
 use Rattle.sealed.proofs.Ranges.{length_of_range}
 use Rattle.sealed.proofs.Changing.{set_at}
@@ -87,6 +89,51 @@ module _ (code : Code) (w : ℕ) (blob last parities : List ℕ) (count : ℕ) w
       ap (λ (row : List (Option (List ℕ))). get_or row f None) (packed_row j l)
       ∙ part_at code w (held_by (stripe_size code w) blob last j) (parities_by w parities j) f
 
+-- what holds, holds of each error
+pub on_err : {A E : Type 0} (r : Result A E) {P : Type 0} → P → OnErr r P
+on_err (Ok a) p = tt
+on_err (Err e) p = p
+
+-- ---- where a value has its lists
+abbrev pub blob_at : Packed → List ℕ
+blob_at p = data_bytes (λ a. a.value) p.parts p.joined.items (stripe_size p.code p.width)
+
+abbrev pub last_at : Packed → List ℕ
+last_at p = last_bytes (λ a. a.value) p.parts
+
+abbrev pub parities_at : Packed → List ℕ
+parities_at p = parity_bytes (λ a. a.value) p.parts p.joined.items (stripe_size p.code p.width)
+
+pub stripe_holds : (p : Packed) (d v : ℕ) → v ≡ p.width → d ≡ data_count p.code → d * v ≡ stripe_size p.code p.width
+stripe_holds p d v wide counted = ap₂ (λ a b. a * b) counted wide
+
+pub blob_here : (p : Packed) (joined : List ℕ) (size : ℕ) → joined ≡ p.joined.items → size ≡ stripe_size p.code p.width → data_bytes (λ a. a.value) p.parts joined size ≡ blob_at p
+blob_here p joined size same is = ap₂ (λ (xs : List ℕ) (n : ℕ). data_bytes (λ a. a.value) p.parts xs n) same is
+
+pub parities_here_at : (p : Packed) (joined : List ℕ) (size : ℕ) → joined ≡ p.joined.items → size ≡ stripe_size p.code p.width
+    → parity_bytes (λ a. a.value) p.parts joined size ≡ parities_at p
+parities_here_at p joined size same is = ap₂ (λ (xs : List ℕ) (n : ℕ). parity_bytes (λ a. a.value) p.parts xs n) same is
+
+module _ {A : Type 0} (inner : A → Parts) where
+  -- equal parts have equal lists
+  pub blob_alike : (a b : Option A) (joined : List ℕ) (size : ℕ) → option_map inner a ≡ option_map inner b → data_bytes inner a joined size ≡ data_bytes inner b joined size
+  blob_alike None None joined size e = refl
+  blob_alike None (Some b) joined size e = absurd (let no : None ≡ Some (inner b) = e in cc)
+  blob_alike (Some a) None joined size e = absurd (let no : Some (inner a) ≡ None = e in cc)
+  blob_alike (Some a) (Some b) joined size e = let same : Some (inner a) ≡ Some (inner b) = e in let is : inner a ≡ inner b = cc in ap (λ (p : Parts). p.blob) is
+
+  pub last_alike : (a b : Option A) → option_map inner a ≡ option_map inner b → last_bytes inner a ≡ last_bytes inner b
+  last_alike None None e = refl
+  last_alike None (Some b) e = absurd (let no : None ≡ Some (inner b) = e in cc)
+  last_alike (Some a) None e = absurd (let no : Some (inner a) ≡ None = e in cc)
+  last_alike (Some a) (Some b) e = let same : Some (inner a) ≡ Some (inner b) = e in let is : inner a ≡ inner b = cc in ap (λ (p : Parts). p.last) is
+
+  pub parities_alike : (a b : Option A) (joined : List ℕ) (size : ℕ) → option_map inner a ≡ option_map inner b → parity_bytes inner a joined size ≡ parity_bytes inner b joined size
+  parities_alike None None joined size e = refl
+  parities_alike None (Some b) joined size e = absurd (let no : None ≡ Some (inner b) = e in cc)
+  parities_alike (Some a) None joined size e = absurd (let no : Some (inner a) ≡ None = e in cc)
+  parities_alike (Some a) (Some b) joined size e = let same : Some (inner a) ≡ Some (inner b) = e in let is : inner a ≡ inner b = cc in ap (λ (p : Parts). p.parities) is
+
 -- the slots of stripe j, by its number
 module _ (code : Code) (w : ℕ) (blob last parities : List ℕ) (count : ℕ) (are : ArePacked code w blob last parities count) (stripes : Stripes)
     (seen : packed code w blob last parities count ≡ stripes) (j : ℕ) (below : j < length stripes) (v d : ℕ) (wide : v ≡ w) (counted : d ≡ data_count code) where
@@ -143,25 +190,25 @@ module _ (code : Code) (w : ℕ) (blob last parities : List ℕ) (count : ℕ) (
 
 -- ---- stripes in the place of some
 module _ {A : Type 0} (row : A → List (Option (List ℕ))) where
-  pub laid_count : (own : List (Option A)) (stripes : Stripes) → length (laid_over row own stripes) ≡ length own
+  pub laid_count : (own : List (Option A)) (stripes : Stripes) → length (laid_over row own stripes) ≡ length stripes
   unfolding laid_over
-  laid_count own stripes = length-map-range_with_len (λ j. own_or row (get_or own j None) (get_or stripes j [])) 0 (length own)
+  laid_count own stripes = length-map-range_with_len (λ j. own_or row (get_or own j None) (get_or stripes j [])) 0 (length stripes)
 
-  pub laid_row : (own : List (Option A)) (stripes : Stripes) (j : ℕ) → j < length own → get_or (laid_over row own stripes) j [] ≡ own_or row (get_or own j None) (get_or stripes j [])
+  pub laid_row : (own : List (Option A)) (stripes : Stripes) (j : ℕ) → j < length stripes → get_or (laid_over row own stripes) j [] ≡ own_or row (get_or own j None) (get_or stripes j [])
   unfolding laid_over
-  laid_row own stripes j l = get_or-map-range_with_len (λ j. own_or row (get_or own j None) (get_or stripes j [])) 0 (length own) j j [] l (omega arith)
+  laid_row own stripes j l = get_or-map-range_with_len (λ j. own_or row (get_or own j None) (get_or stripes j [])) 0 (length stripes) j j [] l (omega arith)
 
-  pub laid_seen : (own : List (Option A)) (stripes seen : Stripes) → laid_over row own stripes ≡ seen → (j : ℕ) → j < length own → (found : Option A) → found ≡ get_or own j found
+  pub laid_seen : (own : List (Option A)) (stripes seen : Stripes) → laid_over row own stripes ≡ seen → (j : ℕ) → j < length stripes → (found : Option A) → found ≡ get_or own j None
       → get_or seen j [] ≡ own_or row found (get_or stripes j [])
   laid_seen own stripes seen same j l found at =
-      sym (ap (λ (t : Stripes). get_or t j []) same) ∙ laid_row own stripes j l ∙ ap (λ (o : Option A). own_or row o (get_or stripes j [])) (get_or_default own j None found l ∙ sym at)
+      sym (ap (λ (t : Stripes). get_or t j []) same) ∙ laid_row own stripes j l ∙ ap (λ (o : Option A). own_or row o (get_or stripes j [])) (sym at)
 
   -- none of them has one of its own
-  pub laid_none : (own : List (Option A)) (stripes : Stripes) → length own ≡ length stripes → ((j : ℕ) → j < length own → get_or own j None ≡ None) → laid_over row own stripes ≡ stripes
-  laid_none own stripes long none =
-      ext_get_or [] (laid_over row own stripes) stripes (laid_count own stripes ∙ long)
-      (λ j l. let inside : j < length own = (let e = laid_count own stripes in omega arith) in
-      laid_row own stripes j inside ∙ ap (λ (o : Option A). own_or row o (get_or stripes j [])) (none j inside))
+  pub laid_none : (stripes : Stripes) → laid_over row [] stripes ≡ stripes
+  laid_none stripes =
+      ext_get_or [] (laid_over row [] stripes) stripes (laid_count [] stripes)
+      (λ j l. let inside : j < length stripes = (let e = laid_count [] stripes in omega arith) in
+      laid_row [] stripes j inside ∙ ap (λ (o : Option A). own_or row o (get_or stripes j [])) (get_or_past [] j None (omega arith)))
 
   own_alike : (a b : Option A) (stripe : List (Option (List ℕ))) → option_map row a ≡ option_map row b → own_or row a stripe ≡ own_or row b stripe
   own_alike None None stripe e = refl
@@ -170,29 +217,28 @@ module _ {A : Type 0} (row : A → List (Option (List ℕ))) where
   own_alike (Some a) (Some b) stripe e = let same : Some (row a) ≡ Some (row b) = e in cc
 
   -- they have the same ones of their own
-  pub laid_alike : (own other : List (Option A)) (stripes : Stripes) → length own ≡ length other
-      → ((j : ℕ) → j < length own → option_map row (get_or own j None) ≡ option_map row (get_or other j None)) → laid_over row own stripes ≡ laid_over row other stripes
-  laid_alike own other stripes long alike =
-      let count : length (laid_over row own stripes) ≡ length own = laid_count own stripes in
-      let count_other : length (laid_over row other stripes) ≡ length other = laid_count other stripes in
+  pub laid_alike : (own other : List (Option A)) (stripes : Stripes) → ((j : ℕ) → option_map row (get_or own j None) ≡ option_map row (get_or other j None))
+      → laid_over row own stripes ≡ laid_over row other stripes
+  laid_alike own other stripes alike =
+      let count : length (laid_over row own stripes) ≡ length stripes = laid_count own stripes in
+      let count_other : length (laid_over row other stripes) ≡ length stripes = laid_count other stripes in
       ext_get_or [] (laid_over row own stripes) (laid_over row other stripes) (omega arith)
       (λ j l.
       laid_row own stripes j (omega arith)
-      ∙ own_alike (get_or own j None) (get_or other j None) (get_or stripes j []) (alike j (omega arith))
+      ∙ own_alike (get_or own j None) (get_or other j None) (get_or stripes j []) (alike j)
       ∙ sym (laid_row other stripes j (omega arith)))
 
   -- one of them gets one of its own
-  pub laid_set : (own : List (Option A)) (stripes : Stripes) (j : ℕ) (new : A) → j < length own
+  pub laid_set : (own : List (Option A)) (stripes : Stripes) (j : ℕ) (new : A) → j < length own → j < length stripes
       → laid_over row (slice_set own j (Some new)) stripes ≡ slice_set (laid_over row own stripes) j (row new)
-  laid_set own stripes j new here =
+  laid_set own stripes j new here below =
       let old : Stripes = laid_over row own stripes in
       let now : List (Option A) = slice_set own j (Some new) in
-      let long : length now ≡ length own = length-set own j (Some new) in
-      let count : length old ≡ length own = laid_count own stripes in
-      let count_now : length (laid_over row now stripes) ≡ length now = laid_count now stripes in
+      let count : length old ≡ length stripes = laid_count own stripes in
+      let count_now : length (laid_over row now stripes) ≡ length stripes = laid_count now stripes in
       let count_set : length (slice_set old j (row new)) ≡ length old = length-set old j (row new) in
       let here_at : get_or (laid_over row now stripes) j [] ≡ get_or (slice_set old j (row new)) j [] =
-      laid_row now stripes j (omega arith)
+      laid_row now stripes j below
       ∙ ap (λ (o : Option A). own_or row o (get_or stripes j [])) (get_or-set_same own j (Some new) None here)
       ∙ sym (get_or-set_same old j (row new) [] (omega arith)) in
       ext_get_or [] (laid_over row now stripes) (slice_set old j (row new)) (omega arith)
@@ -206,16 +252,16 @@ module _ {A : Type 0} (row : A → List (Option (List ℕ))) where
       ])
 
   -- and one slot of it changes
-  pub laid_change : (own : List (Option A)) (stripes : Stripes) (j f : ℕ) (new : A) (x : Option (List ℕ)) → j < length own
+  pub laid_change : (own : List (Option A)) (stripes : Stripes) (j f : ℕ) (new : A) (x : Option (List ℕ)) → j < length own → j < length stripes
       → f < length (get_or (laid_over row own stripes) j []) → row new ≡ slice_set (get_or (laid_over row own stripes) j []) f x
       → (i g : ℕ) → fragment_at (laid_over row (slice_set own j (Some new)) stripes) i g ≡ cond ((i == j) && (g == f)) x (fragment_at (laid_over row own stripes) i g)
-  laid_change own stripes j f new x here inside changed i g =
+  laid_change own stripes j f new x here below inside changed i g =
       let old : Stripes = laid_over row own stripes in
-      ap (λ (t : Stripes). fragment_at t i g) (laid_set own stripes j new here ∙ ap (slice_set old j) changed)
+      ap (λ (t : Stripes). fragment_at t i g) (laid_set own stripes j new here below ∙ ap (slice_set old j) changed)
       ∙ set_at old j f i g x (let count = laid_count own stripes in omega arith) inside
 
   -- or none does
-  pub laid_same : (own : List (Option A)) (stripes : Stripes) (j : ℕ) (new : A) → j < length own → row new ≡ get_or (laid_over row own stripes) j []
+  pub laid_same : (own : List (Option A)) (stripes : Stripes) (j : ℕ) (new : A) → j < length own → j < length stripes → row new ≡ get_or (laid_over row own stripes) j []
       → laid_over row (slice_set own j (Some new)) stripes ≡ laid_over row own stripes
-  laid_same own stripes j new here same =
-      laid_set own stripes j new here ∙ ap (slice_set (laid_over row own stripes) j) same ∙ set-get_or (laid_over row own stripes) j []
+  laid_same own stripes j new here below same =
+      laid_set own stripes j new here below ∙ ap (slice_set (laid_over row own stripes) j) same ∙ set-get_or (laid_over row own stripes) j []

@@ -155,7 +155,7 @@ module _ (code : Code) (w : ℕ) (blob last parities : List ℕ) (count : ℕ) (
 
 -- stripes with no handles of their own are those of the packed ones
 pub laid_byte : {A : Type 0} (row : A → List (Option (List ℕ))) (own : List (Option A)) (stripes seen : Stripes) → laid_over row own stripes ≡ seen → (code : Code) (w k : ℕ)
-    → stripe_of code w k < length own → get_or own (stripe_of code w k) None ≡ None → byte_in code w seen k ≡ byte_in code w stripes k
+    → stripe_of code w k < length stripes → get_or own (stripe_of code w k) None ≡ None → byte_in code w seen k ≡ byte_in code w stripes k
 laid_byte row own stripes seen same code w k inside none =
     let j = stripe_of code w k in
     ap (λ (t : Stripes). byte_in code w t k) (sym same)

@@ -1,5 +1,5 @@
 -- The result of sealing: stripes without lost fragments.
-use Rattle.std.proofs.Common.{◌≡◌, ℕ, zero, suc, ◌+◌, ◌-◌, ◌*◌, ◌/◌, ◌%◌, ◌<◌, ◌≤◌, ◌++◌, ◌∷◌, [], List, length, get_or, map, take, None, Some, Bor, cond, sym, ap, ap₂, ◌∙◌, subst, arith, inl, inr}
+use Rattle.std.proofs.Common.{◌≡◌, ℕ, zero, suc, ◌+◌, ◌-◌, ◌*◌, ◌/◌, ◌%◌, ◌<◌, ◌≤◌, ◌++◌, ◌∷◌, [], List, length, get_or, map, take, drop, None, Some, Bor, cond, sym, ap, ap₂, ◌∙◌, subst, arith, inl, inr}
 use Rattle.std.specs.Prelude.{All, slice_index, slice_index_or, slice_range}
 use Rattle.std.specs.FinSet as set
 use Rattle.std.proofs.lemmas.Bool.{cases_lt}
@@ -15,7 +15,7 @@ use Rattle.lrc_code.proofs.Columns.{column_data}
 use Rattle.lrc_code.proofs.Parities.{quarters_joined}
 use Rattle.sealed.specs.Layout.{stripe_size}
 use Rattle.sealed.specs.Stripes.{Stripes, fragment_at}
-use Rattle.sealed.specs.Packed.{held_by, parities_by, part_of, packed, AreParitiesOf, ArePackedOf, AreWhole}
+use Rattle.sealed.specs.Packed.{held_by, parities_by, part_of, packed, AreParitiesOf, ArePackedOf, AreWhole, IsPadded}
 use Rattle.sealed.specs.Blob.{data_at, fragment, nothing, lost_in, pair_cmp}
 use Rattle.sealed.proofs.Fragments.{byte_or_zero, fragments_are, fragments_only}
 use Rattle.sealed.proofs.Counting.{few_data, parity_count}
@@ -234,6 +234,20 @@ packed_more code w b blob more parities four j long more_long parities_long same
           (λ i l. subst (λ h. AreParitiesOf code w h (parities_by w parities i)) (sym (kept i l)) (old.encoded i l))
           (subst (λ h. AreParitiesOf code w h four) (sym here) are);
     }
+
+-- a single stripe, with its parities after it
+pub joined_packed : (code : Code) (w : ℕ) (b joined : List ℕ) → IsPadded b (take (stripe_size code w) joined) → length (take (stripe_size code w) joined) ≡ stripe_size code w
+    → AreParitiesOf code w (take (stripe_size code w) joined) (drop (stripe_size code w) joined)
+    → ArePackedOf code w b (take (stripe_size code w) joined) [] (drop (stripe_size code w) joined) 1
+joined_packed code w b joined padded long are =
+    let size : ℕ = stripe_size code w in
+    let none : ArePackedOf code w b [] [] [] 0 = record {
+      hold = λ j l. absurd (omega arith);
+      same = λ j i l h. absurd (omega arith);
+      encoded = λ j l. absurd (omega arith);
+    } in
+    packed_more code w b [] (take size joined) [] (drop size joined) 0 (omega arith) long (omega arith)
+    (λ i l. padded.same i ∙ ap (λ k. get_or b k 0) (let e : i ≡ size * 0 + i = omega arith in e)) are none
 
 -- ---- the sealed value
 none_is_no_some : (x : List ℕ) → None ≡ Some x → ⊥

@@ -1,11 +1,28 @@
 -- The stripes of a blob as they are sealed: slices of the blob's bytes and of the parities of all its stripes.
-use Rattle.std.specs.Prelude.{◌≡◌, ℕ, ◌+◌, ◌-◌, ◌*◌, ◌<◌, ◌≤◌, List, Option, None, Some, [], map, length, nat_lt, slice_range, slice_index_or, if◌then◌else◌}
+use Rattle.std.specs.Prelude.{◌≡◌, ℕ, ◌+◌, ◌-◌, ◌*◌, ◌<◌, ◌≤◌, List, Option, None, Some, [], map, length, nat_lt, slice_range, slice_index_or, take, drop, if◌then◌else◌}
 use Rattle.std.specs.List.{range_with_len}
 use Rattle.lrc_code.specs.declared.Code.{Code}
 use Rattle.lrc_code.specs.Code.{data_count, fragment_count}
+use Rattle.sealed.specs.declared.packed.Parts.{Parts}
 use Rattle.sealed.specs.Layout.{stripe_size}
 use Rattle.sealed.specs.Stripes.{Stripes, fragment_at}
 use Rattle.sealed.specs.Blob.{fragment}
+
+-- the blob's bytes: those of the parts, or else the first bytes of the others, of which a stripe
+-- holds so many
+abbrev pub data_bytes : {A : Type 0} → (A → Parts) → Option A → List ℕ → ℕ → List ℕ
+data_bytes inner (Some parts) joined size = (inner parts).blob
+data_bytes inner None joined size = take size joined
+
+-- those of a last, partial stripe: there are none without parts
+abbrev pub last_bytes : {A : Type 0} → (A → Parts) → Option A → List ℕ
+last_bytes inner (Some parts) = (inner parts).last
+last_bytes inner None = []
+
+-- and the parities: what follows the first bytes
+abbrev pub parity_bytes : {A : Type 0} → (A → Parts) → Option A → List ℕ → ℕ → List ℕ
+parity_bytes inner (Some parts) joined size = (inner parts).parities
+parity_bytes inner None joined size = drop size joined
 
 -- the bytes that stripe j holds: those of the blob, or the padded last ones if the blob does not
 -- fill the stripe
@@ -68,6 +85,7 @@ abbrev pub own_or : {A : Type 0} → (A → List (Option (List ℕ))) → Option
 own_or row (Some own) stripe = row own
 own_or row None stripe = stripe
 
--- the stripes of a list, with each one replaced that has one of its own
+-- the stripes of a list, with each one replaced that has one of its own. The list of those may be
+-- shorter
 unfoldable pub laid_over : {A : Type 0} → (A → List (Option (List ℕ))) → List (Option A) → Stripes → Stripes
-laid_over row own stripes = map (λ j. own_or row (slice_index_or own j None) (slice_index_or stripes j [])) (range_with_len 0 (length own))
+laid_over row own stripes = map (λ j. own_or row (slice_index_or own j None) (slice_index_or stripes j [])) (range_with_len 0 (length stripes))

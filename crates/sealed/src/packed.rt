@@ -1,62 +1,95 @@
 //! The stripes of a blob as `seal` makes them.
 ghost use Rattle.std.specs.Prelude.{◌≡◌, ◌+◌, ◌*◌, ◌/◌, ◌%◌, ◌<◌, ◌≤◌, ◌&&◌, ◌⊎◌, ℕ, None, Some};
-ghost use Rattle.std.specs.Prelude.{[], length, nat_lt, is_none, slice_index_or, IfOk};
+ghost use Rattle.std.specs.Prelude.{[], length, nat_lt, is_none, slice_index_or, take, drop, IfOk};
 ghost use Rattle.std.specs.Option.{option_map};
 ghost use Rattle.lrc_code.specs.Code.{fragment_count, is_lost};
 ghost use Rattle.sealed.specs.Layout.{stripe_size};
 ghost use Rattle.sealed.specs.Stripes.{fragment_at};
 ghost use Rattle.sealed.specs.Packed.{packed, held_by, parities_by, part_of, ArePacked};
+ghost use Rattle.sealed.specs.Packed.{data_bytes, last_bytes, parity_bytes};
 ghost use Rattle.sealed.specs.Runs.{IsDataFrom};
 
 use crate::{Stripe, Width};
 use bytes::Bytes;
 use lrc_code::{Code, LostSet, NoMemory};
+use std::alloc::Global;
 use std::marker::Model;
+use std::sync::Arc;
 
 /// The stripes of a blob without lost fragments. None of them has handles of its own: a fragment is
-/// a slice of the blob's bytes or of the parities. Contracts see the fragments of each.
+/// a slice of the blob's bytes or of the parities. A small blob has both in one vector. Contracts
+/// see the fragments of each.
 #[derive(Drop)]
 pub(crate) struct Packed {
     code: Code,
+    count: u16,
     width: Width,
-    count: usize,
-    blob: Bytes,
-    last: Bytes,
-    parities: Bytes,
+    joined: Vec<u8>,
+    parts: Option<Arc<Parts>>,
+}
+
+/// The bytes of a blob, those of its last, partial stripe, padded with zeros, and the parities of
+/// all its stripes.
+#[derive(Drop)]
+pub(crate) struct Parts {
+    pub(crate) blob: Bytes,
+    pub(crate) last: Bytes,
+    pub(crate) parities: Bytes,
 }
 
 impl Model for Packed {
     ghost use Rattle.std.specs.Prelude.{List, Option, ℕ};
-    ghost use Rattle.sealed.specs.Packed.{packed, ArePacked};
+    ghost use Rattle.sealed.specs.Layout.{stripe_size};
+    ghost use Rattle.sealed.specs.Packed.{packed, ArePacked, data_bytes, last_bytes, parity_bytes};
 
     ghost Value = { List (List (Option (List ℕ))) };
 
-    ghost view = { λ p. packed p.code p.width p.blob p.last p.parities p.count };
+    ghost view = { λ p. packed p.code p.width
+        (data_bytes (λ a. a.value) p.parts p.joined.items (stripe_size p.code p.width))
+        (last_bytes (λ a. a.value) p.parts)
+        (parity_bytes (λ a. a.value) p.parts p.joined.items (stripe_size p.code p.width)) p.count };
 
-    ghost invariant = { λ p. ArePacked p.code p.width p.blob p.last p.parities p.count };
+    ghost invariant = { λ p. ArePacked p.code p.width
+        (data_bytes (λ a. a.value) p.parts p.joined.items (stripe_size p.code p.width))
+        (last_bytes (λ a. a.value) p.parts)
+        (parity_bytes (λ a. a.value) p.parts p.joined.items (stripe_size p.code p.width)) p.count };
 }
 
 impl Packed {
-    /// `count` stripes of a blob's bytes. `last` holds the bytes of a last, partial stripe, padded
-    /// with zeros, and `parities` those of all stripes.
-    pub(crate) fn new(
+    /// `count` stripes in these parts. `NoMemory` if memory runs out.
+    pub(crate) fn apart(
+        alloc: Global,
         code: Code,
         width: Width,
-        blob: Bytes,
-        last: Bytes,
-        parities: Bytes,
+        parts: Parts,
         count: usize,
-    ) -> Packed
-        requires { ArePacked code width blob last parities count }
-        ensures { result ≡ packed code width blob last parities count }
+    ) -> Result<Packed, NoMemory>
+        requires { ArePacked code width parts.blob parts.last parts.parities count }
+        ensures { IfOk result (λ p.
+            p ≡ packed code width parts.blob parts.last parts.parities count) }
+    {
+        Ok(Packed {
+            code,
+            count: count as u16,
+            width,
+            joined: Vec::new(alloc),
+            parts: Some(Arc::new(alloc, parts)?),
+        })
+    }
+
+    /// A single stripe: the bytes that it holds, and then its parities.
+    pub(crate) fn joined(code: Code, width: Width, joined: Vec<u8>) -> Packed
+        requires { ArePacked code width (take (stripe_size code width) joined.items) []
+            (drop (stripe_size code width) joined.items) 1 }
+        ensures { result ≡ packed code width (take (stripe_size code width) joined.items) []
+            (drop (stripe_size code width) joined.items) 1 }
     {
         Packed {
             code,
+            count: 1,
             width,
-            count,
-            blob,
-            last,
-            parities,
+            joined,
+            parts: None,
         }
     }
 
@@ -65,7 +98,7 @@ impl Packed {
     pub(crate) fn len(&self) -> usize
         ensures { result ≡ length self.now }
     {
-        self.count
+        usize::from(self.count)
     }
 
     /// The bytes of a fragment, or `None` for a slot that the code does not use.
@@ -77,12 +110,14 @@ impl Packed {
         let w = self.width.get() as usize;
         let data = usize::from(self.code.data_fragments());
         if f < data {
-            let held = held_in(self.blob.as_slice(), self.last.as_slice(), data * w, j);
+            let blob = blob_in(&self.parts, self.joined.as_slice(), data * w);
+            let held = held_in(blob, last_in(&self.parts), data * w, j);
             return Some(&held[w * f..w * f + w]);
         }
         let k = f - data;
         if k < 4 {
-            let parities = parities_in(self.parities.as_slice(), w, j);
+            let all = all_parities_in(&self.parts, self.joined.as_slice(), data * w);
+            let parities = parities_in(all, w, j);
             return Some(&parities[w * k..w * k + w]);
         }
         None
@@ -99,29 +134,30 @@ impl Packed {
         }
     }
 
-    /// A stripe with handles of its own, which share the bytes. `NoMemory` if memory runs out.
-    pub(crate) fn stripe(&self, j: usize) -> Result<Stripe, NoMemory>
+    /// A stripe with handles of its own. They share the bytes, or those of a small blob are copied.
+    /// `NoMemory` if memory runs out.
+    pub(crate) fn stripe(&self, alloc: Global, j: usize) -> Result<Stripe, NoMemory>
         requires { j < length self.now }
         ensures { IfOk result (λ s. s.fragments ≡ slice_index_or self.now j []) }
     {
         let w = self.width.get() as usize;
         let size = usize::from(self.code.data_fragments()) * w;
-        let held = shared_held(&self.blob, &self.last, size, j)?;
-        let parities = shared_parities(&self.parities, w, j)?;
+        let joined = self.joined.as_slice();
+        let held = shared_held(alloc, &self.parts, joined, size, j)?;
+        let parities = shared_parities(alloc, &self.parts, joined, size, w, j)?;
         handles(self.code, w, &held, &parities)
     }
 
-    /// A copy that shares the bytes.
-    pub(crate) fn share(&self) -> Result<Packed, NoMemory>
+    /// A copy that shares the bytes, or has a copy of those of a small blob.
+    pub(crate) fn share(&self, alloc: Global) -> Result<Packed, NoMemory>
         ensures { IfOk result (λ p. p ≡ self.now) }
     {
         Ok(Packed {
             code: self.code,
-            width: self.width,
             count: self.count,
-            blob: self.blob.clone()?,
-            last: self.last.clone()?,
-            parities: self.parities.clone()?,
+            width: self.width,
+            joined: Vec::from_slice(alloc, self.joined.as_slice())?,
+            parts: one_more(&self.parts)?,
         })
     }
 
@@ -139,7 +175,50 @@ impl Packed {
             return &[];
         }
         let size = usize::from(code.data_fragments()) * width.get() as usize;
-        run_in(self.blob.as_slice(), self.last.as_slice(), size, start, end)
+        let blob = blob_in(&self.parts, self.joined.as_slice(), size);
+        run_in(blob, last_in(&self.parts), size, start, end)
+    }
+}
+
+/// One more owner of the parts, if there are any.
+fn one_more(parts: &Option<Arc<Parts>>) -> Result<Option<Arc<Parts>>, NoMemory>
+    ensures { IfOk result (λ p. option_map (λ a. a.value) p
+        ≡ option_map (λ a. a.value) parts.now) }
+{
+    match parts {
+        Some(parts) => Ok(Some(Arc::try_clone(parts)?)),
+        None => Ok(None),
+    }
+}
+
+/// The bytes of the blob: those of the parts, or else the first `size` ones of `joined`.
+fn blob_in<'a>(parts: &'a Option<Arc<Parts>>, joined: &'a [u8], size: usize) -> &'a [u8]
+    ensures { result.now ≡ data_bytes (λ a. a.value) parts.now joined.now size }
+{
+    match parts {
+        Some(parts) => parts.blob.as_slice(),
+        None => &joined[..size.min(joined.len())],
+    }
+}
+
+/// The bytes of a last, partial stripe of the parts. There are none without parts.
+fn last_in(parts: &Option<Arc<Parts>>) -> &[u8]
+    ensures { result.now ≡ last_bytes (λ a. a.value) parts.now }
+{
+    match parts {
+        Some(parts) => parts.last.as_slice(),
+        None => &[],
+    }
+}
+
+/// The parities of all stripes: those of the parts, or else what follows the first `size` bytes of
+/// `joined`.
+fn all_parities_in<'a>(parts: &'a Option<Arc<Parts>>, joined: &'a [u8], size: usize) -> &'a [u8]
+    ensures { result.now ≡ parity_bytes (λ a. a.value) parts.now joined.now size }
+{
+    match parts {
+        Some(parts) => parts.parities.as_slice(),
+        None => &joined[size.min(joined.len())..],
     }
 }
 
@@ -177,8 +256,29 @@ pub(crate) fn held_in<'a>(blob: &'a [u8], last: &'a [u8], size: usize, j: usize)
     &blob[start..start + size]
 }
 
-/// One more owner of those bytes.
-fn shared_held(blob: &Bytes, last: &Bytes, size: usize, j: usize) -> Result<Bytes, NoMemory>
+/// One more owner of those bytes, or of a copy of them.
+fn shared_held(
+    alloc: Global,
+    parts: &Option<Arc<Parts>>,
+    joined: &[u8],
+    size: usize,
+    j: usize,
+) -> Result<Bytes, NoMemory>
+    requires { size * j ≤ length (data_bytes (λ a. a.value) parts.now joined.now size) }
+    ensures { IfOk result (λ held. held ≡ held_by size
+        (data_bytes (λ a. a.value) parts.now joined.now size) (last_bytes (λ a. a.value) parts.now) j) }
+{
+    match parts {
+        Some(parts) => held_part(&parts.blob, &parts.last, size, j),
+        None => {
+            let blob = &joined[..size.min(joined.len())];
+            Ok(Bytes::copy_from_slice(alloc, held_in(blob, &[], size, j))?)
+        }
+    }
+}
+
+/// One more owner of the bytes that stripe `j` holds.
+fn held_part(blob: &Bytes, last: &Bytes, size: usize, j: usize) -> Result<Bytes, NoMemory>
     requires { size * j ≤ length blob.now }
     ensures { IfOk result (λ held. held ≡ held_by size blob.now last.now j) }
 {
@@ -199,8 +299,33 @@ fn parities_in(parities: &[u8], w: usize, j: usize) -> &[u8]
     &parities[4 * w * j..4 * w * j + 4 * w]
 }
 
-/// One more owner of those bytes.
-fn shared_parities(parities: &Bytes, w: usize, j: usize) -> Result<Bytes, NoMemory>
+/// One more owner of those bytes, or of a copy of them.
+fn shared_parities(
+    alloc: Global,
+    parts: &Option<Arc<Parts>>,
+    joined: &[u8],
+    size: usize,
+    w: usize,
+    j: usize,
+) -> Result<Bytes, NoMemory>
+    requires width { w ≤ 65536 }
+    requires few { j < 4096 }
+    requires inside { 4 * w * j + 4 * w
+        ≤ length (parity_bytes (λ a. a.value) parts.now joined.now size) }
+    ensures { IfOk result (λ four. four ≡ parities_by w
+        (parity_bytes (λ a. a.value) parts.now joined.now size) j) }
+{
+    match parts {
+        Some(parts) => parities_part(&parts.parities, w, j),
+        None => {
+            let parities = &joined[size.min(joined.len())..];
+            Ok(Bytes::copy_from_slice(alloc, parities_in(parities, w, j))?)
+        }
+    }
+}
+
+/// One more owner of the four parities of stripe `j`.
+fn parities_part(parities: &Bytes, w: usize, j: usize) -> Result<Bytes, NoMemory>
     requires width { w ≤ 65536 }
     requires few { j < 4096 }
     requires inside { 4 * w * j + 4 * w ≤ length parities.now }

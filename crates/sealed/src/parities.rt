@@ -57,7 +57,7 @@ pub(crate) fn push_parities(
 }
 
 /// Writes the four parities of the stripe that holds these bytes, one after the other.
-fn write_parities(code: Code, w: usize, held: &[u8], parities: &mut [u8])
+pub(crate) fn write_parities(code: Code, w: usize, held: &[u8], parities: &mut [u8])
     requires width { w ≤ 65536 }
     requires long { length held.now ≡ stripe_size code w }
     requires room { length parities.old ≡ 4 * w }

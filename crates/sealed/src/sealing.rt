@@ -1,24 +1,30 @@
 //! Sealing: cutting a blob into stripes.
-ghost use Rattle.std.specs.Prelude.{◌≡◌, ◌⊎◌, ◌<◌, ◌≤◌, ◌*◌, ◌↔◌, ℕ, All, [], length, IfOk, IfErr};
+ghost use Rattle.std.specs.Prelude.{◌≡◌, ◌⊎◌, ◌<◌, ◌≤◌, ◌*◌, ◌↔◌, ℕ, All, [], length, take, drop};
+ghost use Rattle.std.specs.Prelude.{IfOk, IfErr};
 ghost use Rattle.sealed.specs.Layout.{stripe_count, stripe_size};
 ghost use Rattle.sealed.specs.Blob.{nothing};
-ghost use Rattle.sealed.specs.Packed.{ArePackedOf, AreWhole};
+ghost use Rattle.sealed.specs.Packed.{ArePackedOf, AreParitiesOf, AreWhole, IsPadded};
 ghost use Rattle.sealed.specs.Sealed.{StandsFor};
 
-use crate::packed::Packed;
+use crate::packed::{Packed, Parts};
 use crate::padding::{last_held, push_padded};
-use crate::parities::{all_parities, push_parities};
+use crate::parities::{all_parities, push_parities, write_parities};
 use crate::{Fault, Sealed, Stripes, Width, count_stripes};
 use bytes::Bytes;
 use lrc_code::{Code, NoMemory};
 use std::alloc::Global;
+
+/// A blob of a single stripe lies in one allocation with its parities if its fragments have at most
+/// this many bytes: a copy of it then takes less time than the handles of its fragments.
+const JOINED_WIDTH: u32 = 512;
 
 /// Cuts a blob into stripes of LRC(12,2,2) with fragments of `width` bytes. Every fragment is
 /// present, and the version is 0.
 ///
 /// The data fragments share the memory of `bytes`, except those of a last, partial stripe, which
 /// lie in a copy that is padded with zeros. If `bytes` fill no stripe, all lie in that copy, and
-/// `bytes` are released. One allocation holds the parities of all stripes.
+/// `bytes` are released. One allocation holds the parities of all stripes; that of a small blob
+/// of one stripe holds its bytes too.
 ///
 /// `TooLong` if the blob needs more than 4,096 stripes; it has then not allocated. `NoMemory` if
 /// memory runs out.
@@ -109,8 +115,13 @@ fn all_stripes(
     let last = last_held(alloc, &bytes, size)?;
     let parities = all_parities(alloc, code, w, bytes.as_slice(), last.as_slice(), count)?;
     let parities = Bytes::from_vec(parities)?;
-    let packed = Packed::new(code, width, bytes, last, parities, count);
-    Stripes::from_packed(alloc, packed)
+    let parts = Parts {
+        blob: bytes,
+        last,
+        parities,
+    };
+    let packed = Packed::apart(alloc, code, width, parts, count)?;
+    Ok(Stripes::from_packed(alloc, packed))
 }
 
 /// The stripes of a copy of a blob, without lost fragments.
@@ -126,12 +137,59 @@ fn stripes_of_copy(
     ensures wide { 1 ≤ width }
     ensures ok { IfOk result (λ s. AreWhole code width bytes.now count s) }
 {
+    if count == 1 && width.get() <= JOINED_WIDTH {
+        return stripe_of_copy(alloc, code, width, bytes);
+    }
     let w = width.get() as usize;
     let (blob, parities) = copy_and_encode(alloc, code, w, bytes, count)?;
     let blob = Bytes::from_vec(blob)?;
     let parities = Bytes::from_vec(parities)?;
-    let packed = Packed::new(code, width, blob, Bytes::new(), parities, count);
-    Stripes::from_packed(alloc, packed)
+    let parts = Parts {
+        blob,
+        last: Bytes::new(),
+        parities,
+    };
+    let packed = Packed::apart(alloc, code, width, parts, count)?;
+    Ok(Stripes::from_packed(alloc, packed))
+}
+
+/// The single stripe of a copy of a small blob, without lost fragments, in one allocation.
+fn stripe_of_copy(
+    alloc: Global,
+    code: Code,
+    width: Width,
+    bytes: &[u8],
+) -> Result<Stripes, NoMemory>
+    requires count { stripe_count code width (length bytes.now) ≡ 1 }
+    requires bytes { All (λ x. x < 256) bytes.now }
+    ensures wide { 1 ≤ width }
+    ensures ok { IfOk result (λ s. AreWhole code width bytes.now 1 s) }
+{
+    let w = width.get() as usize;
+    let joined = join_and_encode(alloc, code, w, bytes)?;
+    let packed = Packed::joined(code, width, joined);
+    Ok(Stripes::from_packed(alloc, packed))
+}
+
+/// A copy of a blob's bytes, padded with zeros to a stripe, and then its parities.
+fn join_and_encode(alloc: Global, code: Code, w: usize, bytes: &[u8]) -> Result<Vec<u8>, NoMemory>
+    requires width { w ≤ 65536 }
+    requires few { length bytes.now ≤ stripe_size code w }
+    ensures padded { IfOk result (λ made.
+        IsPadded bytes.now (take (stripe_size code w) made.items)) }
+    ensures long { IfOk result (λ made.
+        length (take (stripe_size code w) made.items) ≡ stripe_size code w) }
+    ensures parities { IfOk result (λ made.
+        AreParitiesOf code w (take (stripe_size code w) made.items)
+        (drop (stripe_size code w) made.items)) }
+{
+    let size = usize::from(code.data_fragments()) * w;
+    let mut joined = Vec::with_capacity(alloc, size + 4 * w)?;
+    push_padded(&mut joined, bytes, size)?;
+    joined.resize(size + 4 * w, 0)?;
+    let (held, parities) = joined.split_at_mut(size);
+    write_parities(code, w, held, parities);
+    Ok(joined)
 }
 
 /// A copy of a blob's bytes, padded with zeros to `count` stripes, and the parities of each.

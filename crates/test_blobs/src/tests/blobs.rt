@@ -170,6 +170,19 @@ fn who_shares_a_stripe_keeps_it(rt: HostRuntime) -> Result<(), Fail> {
 }
 
 #[test]
+fn who_shares_a_small_blob_has_a_copy(rt: HostRuntime) -> Result<(), Fail> {
+    let alloc = rt.alloc();
+    let mut first = sealed(&rt, alloc, Bytes::from_static(b"HELLO"), 1);
+    assert!(rt; 0 < count_stripes(first.code, first.width, first.len));
+    let second = first.without(alloc, 0, 1).expect(&rt, "memory");
+    take_out(&rt, alloc, &mut first, 0, 15);
+    assert!(rt; fragment(&rt, &first, 0, 1) == b"E".as_slice());
+    assert!(rt; fragment(&rt, &second, 0, 0) == b"H".as_slice());
+    assert!(rt; fragment(&rt, &second, 0, 15) == [0x5fu8].as_slice());
+    Ok(())
+}
+
+#[test]
 fn a_stripe_filled_up_has_a_loss(rt: HostRuntime) -> Result<(), Fail> {
     let alloc = rt.alloc();
     let mut value = sealed(&rt, alloc, Bytes::from_static(b"ABCDEFGHIJKLHELLO"), 1);

@@ -1,6 +1,5 @@
 use Rattle.std.proofs.Common.{◌≡◌, ℕ, ◌+◌, ◌*◌, ◌<◌, ◌∙◌, List, length, sym, ap, ap₂, subst, arith}
 use Rattle.std.specs.Prelude.{slice_index_or}
-use Rattle.std.proofs.lemmas.Result.{IfOk-weaker}
 use Rattle.sealed.specs.Layout.{stripe_size, stripe_count}
 use Rattle.sealed.specs.Packed.{packed, held_by, parities_by, AreParitiesOf, ArePackedOf, AreWhole}
 use Rattle.sealed.proofs.Places.{stripe_begins}
@@ -30,4 +29,4 @@ returns-clause-ok c =
     } in
     let whole : AreWhole code c.args.width b c.args.count (packed code c.args.width b last parities c.args.count) =
     subst (λ n. AreWhole code n b c.args.count (packed code n b last parities c.args.count)) wide (packed_whole code w b b last parities c.args.count c.requires.bytes are) in
-    IfOk-weaker c.from_packed.result _ _ (λ s same. subst (AreWhole code c.args.width b c.args.count) (sym (same ∙ c.new-packed.ensures)) whole) c.from_packed.ensures
+    subst (AreWhole code c.args.width b c.args.count) (sym (c.from_packed.ensures ∙ c.in_ok-packed.ensures)) whole

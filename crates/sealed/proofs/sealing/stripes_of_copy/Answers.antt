@@ -1,5 +1,4 @@
 use Rattle.std.proofs.Common.{◌≡◌, ℕ, ◌∙◌, List, [], sym, subst}
-use Rattle.std.proofs.lemmas.Result.{IfOk-weaker}
 use Rattle.sealed.specs.Packed.{packed, ArePackedOf, AreWhole}
 use Rattle.sealed.proofs.Whole.{packed_whole}
 use Rattle.sealed.proofs.sealing.stripes_of_copy.Goals as goal
@@ -19,4 +18,4 @@ returns-clause-ok c =
     let whole : AreWhole code c.args.width b count (packed code c.args.width blob c.new.result parities count) =
     subst (λ last. AreWhole code c.args.width b count (packed code c.args.width blob last parities count)) (sym c.new.ensures)
     (subst (λ n. AreWhole code n b count (packed code n blob [] parities count)) wide (packed_whole code w b blob [] parities count c.requires.bytes are)) in
-    IfOk-weaker c.from_packed.result _ _ (λ s same. subst (AreWhole code c.args.width b count) (sym (same ∙ c.new-packed.ensures)) whole) c.from_packed.ensures
+    subst (AreWhole code c.args.width b count) (sym (c.from_packed.ensures ∙ c.in_ok-packed.ensures)) whole

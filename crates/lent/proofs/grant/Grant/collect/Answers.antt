@@ -4,7 +4,8 @@ use Rattle.sealed.specs.declared.value.Sealed.{Sealed}
 use Rattle.sealed.specs.Sealed.{StandsFor}
 use Rattle.lent.specs.Cut.{cut as cut_of}
 use Rattle.lent.specs.Walk.{HasAbsent}
-use Rattle.lent.proofs.Collecting.{Collects, one_more, at_end, all_bytes, absent_ahead, one_part_more, on_err}
+use Rattle.sealed.proofs.Packing.{on_err}
+use Rattle.lent.proofs.Collecting.{Collects, one_more, at_end, all_bytes, absent_ahead, one_part_more}
 use Rattle.lent.proofs.grant.Grant.collect.Goals as goal
 
 pub loop-walk-preserved : goal.loop-walk-preserved

@@ -9,7 +9,7 @@ use Rattle.lrc_code.specs.Code.{is_lost}
 use Rattle.sealed.specs.Stripes.{Stripes, fragment_at}
 use Rattle.sealed.specs.Packed.{packed, part_of, held_by, parities_by}
 use Rattle.sealed.specs.Layout.{stripe_size}
-use Rattle.sealed.proofs.Packing.{packed_count, packed_at}
+use Rattle.sealed.proofs.Packing.{packed_count, packed_at, blob_at, last_at, parities_at}
 use Rattle.sealed.proofs.packed.Packed.lost.Goals as goal
 
 none_of_wide : (w : ℕ) (held parities : List ℕ) (f : ℕ) → (ltb f 16 && is_none (part_of Wide w held parities f)) ≡ false
@@ -44,11 +44,11 @@ seen_at code w blob last parities count stripes seen j f l =
 pub returns-in-Wide : goal.returns-in-Wide
 returns-in-Wide c j f l =
     let p = c.self.inside in
-    let at = seen_at Wide p.width p.blob p.last p.parities p.count c.args.self.now (ap (λ code. packed code p.width p.blob p.last p.parities p.count) (sym c.in-Wide.is) ∙ c.self.view_is) j f l in
+    let at = seen_at Wide p.width (blob_at p) (last_at p) (parities_at p) p.count c.args.self.now (ap (λ code. packed code p.width (blob_at p) (last_at p) (parities_at p) p.count) (sym c.in-Wide.is) ∙ c.self.view_is) j f l in
     c.empty.ensures f ∙ sym (ap (λ o. ltb f 16 && is_none o) at ∙ none_of_wide _ _ _ f)
 
 pub returns-in-Small : goal.returns-in-Small
 returns-in-Small c j f l =
     let p = c.self.inside in
-    let at = seen_at Small p.width p.blob p.last p.parities p.count c.args.self.now (ap (λ code. packed code p.width p.blob p.last p.parities p.count) (sym c.in-Small.is) ∙ c.self.view_is) j f l in
+    let at = seen_at Small p.width (blob_at p) (last_at p) (parities_at p) p.count c.args.self.now (ap (λ code. packed code p.width (blob_at p) (last_at p) (parities_at p) p.count) (sym c.in-Small.is) ∙ c.self.view_is) j f l in
     c.of_bits.ensures f ∙ six_of_small _ _ _ f ∙ sym (ap (λ o. ltb f 16 && is_none o) at)
