@@ -1,16 +1,18 @@
 #!/usr/bin/env python3
 """The server of examples/server_resp beside redis-server, by redis-benchmark.
 
-    bench/servers.py SERVER [--seconds 60] [--only compare|degraded|memory|longest] [--size BYTES]
+    bench/servers.py SERVER [--seconds 60] [--size BYTES]
+                            [--only compare|degraded|memory|longest|memcached]
 
 SERVER is the built program. Prints, for values of 64 bytes, 4 KiB and 1 MiB, SET and GET: requests
 a second, processor time of the server a request, and the latency at 99.9 % of the requests, each as
 a ratio to redis-server's, which runs in turn on the same machine under the same load. The server
 has one thread, as redis-server has for requests, and then four. Then, with one thread, GET with 1
-to 4 fragments of each stripe lost, the resident bytes of a value of 64 bytes, and the longest
-request in so many seconds of SETs over 300,000 keys. --only measures one of these, and --size
-compares values of one size. It needs redis-server and redis-tools of Debian, and a machine that
-does nothing else.
+to 4 fragments of each stripe lost, the resident bytes of a value of 64 bytes, the longest request
+in so many seconds of SETs over 300,000 keys, and memcached's processor time a request and bytes a
+value, with one thread too. --only measures one of these, and --size compares values of one size. It
+needs redis-server, redis-tools, memcached and libmemcached-tools of Debian, and a machine that does
+nothing else.
 """
 
 import argparse
@@ -19,11 +21,13 @@ import os
 import re
 import socket
 import subprocess
+import tempfile
 import time
 
 TURNS, CLIENTS, KEYS = 7, 16, 300_000
 LOADS = ((64, 60_000), (4096, 40_000), (1 << 20, 600))
 TICKS = os.sysconf("SC_CLK_TCK")
+MEMCACHED = "memcached -p 7404 -t 1 -m 4096 -I 2m -U 0 -u nobody".split(), 7404
 
 
 @contextlib.contextmanager
@@ -86,8 +90,8 @@ def words_of(kind, size):
 
 
 def width_for(size):
-    """The bytes of a fragment: a small value has one stripe, a large one little padding."""
-    return min(8192, max(8, -(-size // 12)))
+    """The bytes of a fragment: a small value fills a stripe, and a large one has little padding."""
+    return min(8192, -(-size // 12))
 
 
 def best(rows):
@@ -155,12 +159,56 @@ def lose(port, fragment):
 
 
 def memory(server):
-    for name, (command, port) in commands(server, 8).items():
+    for name, (command, port) in commands(server, width_for(64)).items():
         with running(command, port) as process:
             before = resident_bytes(process)
             load(process, port, words_of("SET", 64), 4 * KEYS, keys=KEYS)
             size = int(ask(port, "DBSIZE"))
             print(f"{name}: {(resident_bytes(process) - before) / size:.0f} bytes a value of 64")
+
+
+def load_memcached(process, kind, size, count, window=1):
+    """The seconds of memcached, and the numbers of SETs and GETs. Each client first stores as many
+    thousands of keys as its window."""
+    share = {"SET": (1.0, 0.0), "GET": (0.0, 1.0)}[kind]
+    with tempfile.NamedTemporaryFile("w", suffix=".cfg") as file:
+        file.write(f"key\n16 16 1\nvalue\n{size} {size} 1\ncmd\n0 {share[0]}\n1 {share[1]}\n")
+        file.flush()
+        words = ["-F", file.name, "-T", "2", "-c", str(CLIENTS), "-w", f"{window}k"]
+        before = processor_seconds(process)
+        printed = subprocess.run(
+            ["memcaslap", "-s", f"127.0.0.1:{MEMCACHED[1]}", *words, "-x", str(count)],
+            stdout=subprocess.PIPE,
+            text=True,
+            check=True,
+        ).stdout
+    done = [int(re.search(rf"cmd_{word}: (\d+)", printed)[1]) for word in ("set", "get")]
+    return processor_seconds(process) - before, *done
+
+
+def memcached():
+    redis, port = commands("", 8)["redis"]
+    for size, count in LOADS[:2]:
+        with running(redis, port) as other, running(*MEMCACHED) as process:
+            load(other, port, words_of("SET", size), count)
+            took = {"SET": [], "GET": []}
+            for _ in range(TURNS):
+                seconds, sets, _ = load_memcached(process, "SET", size, count)
+                theirs = load(other, port, words_of("SET", size), count)[1]
+                took["SET"].append((seconds / sets * 1e6, theirs))
+                seconds, stored, gets = load_memcached(process, "GET", size, 4 * count)
+                theirs = load(other, port, words_of("GET", size), count)[1]
+                rest = seconds * 1e6 - stored * min(took["SET"])[0]
+                took["GET"].append((rest / gets, theirs))
+        for kind, pairs in took.items():
+            ours, theirs = (min(each) for each in zip(*pairs))
+            share = f"{ours / theirs:4.2f} of the processor time ({ours:.1f} us)"
+            print(f"{size:7} {kind}, memcached: {share}", flush=True)
+    with running(*MEMCACHED) as process:
+        before = resident_bytes(process)
+        _, sets, _ = load_memcached(process, "SET", 64, KEYS, window=KEYS // CLIENTS // 1000)
+        size = (resident_bytes(process) - before) / sets
+        print(f"memcached: {size:.0f} bytes a value of 64")
 
 
 def ask(port, word):
@@ -170,7 +218,7 @@ def ask(port, word):
 
 
 def longest(server, seconds):
-    for name, (command, port) in commands(server, 8).items():
+    for name, (command, port) in commands(server, width_for(64)).items():
         with running(command, port) as process:
             end, most = time.monotonic() + seconds, 0.0
             while time.monotonic() < end:
@@ -182,7 +230,7 @@ def main():
     parser = argparse.ArgumentParser(description=__doc__.splitlines()[0])
     parser.add_argument("server")
     parser.add_argument("--seconds", type=int, default=60)
-    parser.add_argument("--only", choices=("compare", "degraded", "memory", "longest"))
+    parser.add_argument("--only", choices=("compare", "degraded", "memory", "longest", "memcached"))
     parser.add_argument("--size", type=int, choices=[size for size, _ in LOADS])
     given = parser.parse_args()
     parts = {
@@ -190,6 +238,7 @@ def main():
         "degraded": lambda: degraded(given.server),
         "memory": lambda: memory(given.server),
         "longest": lambda: longest(given.server, given.seconds),
+        "memcached": memcached,
     }
     for name, measure in parts.items():
         if given.only in (None, name):
