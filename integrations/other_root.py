@@ -11,9 +11,9 @@ import harness
 ENVIRONMENT = "env", "-i", "PATH=/usr/sbin:/usr/bin:/sbin:/bin", "LRC_LIBRARIES=/libraries"
 
 
-def run(description, packages, work, needed):
-    """As harness.run, with the root as `options.root`, where the file `needed` has to be. What is
-    mounted ends with the program."""
+def run(description, packages, work, integration, needed):
+    """As harness.run, with the root as `options.root`, which roots.sh has left for the integration:
+    it has the file `needed`. What is mounted ends with the program."""
     if "LRC_MOUNTS" not in os.environ:
         os.environ["LRC_MOUNTS"] = "own"
         os.execvp("unshare", ["unshare", "--mount", "--propagation", "private", *sys.argv])
@@ -28,7 +28,7 @@ def run(description, packages, work, needed):
         if not os.path.exists(f"{options.root}/{each}"):
             parser.error(
                 f"{options.root} has no {each}; name a root that "
-                "`LRC_ROOTS=FOLDER integrations/roots.sh INTEGRATION SUITE` has left"
+                f"`LRC_ROOTS=FOLDER integrations/roots.sh {integration} SUITE` has left in FOLDER"
             )
     for kind, at in (["-t", "proc", "proc"], "proc"), (["--bind", "/dev"], "dev"):
         subprocess.run(["mount", *kind, f"{options.root}/{at}"], check=True)

@@ -109,4 +109,4 @@ def upgrade(cluster, report):
 
 
 if __name__ == "__main__":
-    sys.exit(other_root.run(__doc__, cluster_test.PACKAGES, work, "usr/bin/ceph-osd"))
+    sys.exit(other_root.run(__doc__, cluster_test.PACKAGES, work, "ceph", "usr/bin/ceph-osd"))

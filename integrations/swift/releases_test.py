@@ -17,25 +17,11 @@ HERE = os.path.dirname(os.path.abspath(__file__))
 sys.path[:0] = [HERE, os.path.dirname(HERE)]
 import cluster_test  # noqa: E402
 import other_root  # noqa: E402
-from cluster import Client, Cluster  # noqa: E402
+from cluster import SERVERS, Client, Cluster  # noqa: E402
 from cluster_test import segments  # noqa: E402
-from fragments import (  # noqa: E402
-    LRC,
-    MIB,
-    REPLICATED,
-    SMALL,
-    Away,
-    contents,
-    count_gets,
-    installed,
-    partition_of,
-    payload,
-    proxy_beside,
-    reconstruct,
-    replace_devices,
-    text_of,
-    with_cluster,
-)
+from fragments import LRC, MIB, REPLICATED, SMALL, Away, contents, count_gets  # noqa: E402
+from fragments import installed, partition_of, payload, proxy_beside  # noqa: E402
+from fragments import reconstruct, replace_devices, text_of, with_cluster  # noqa: E402
 
 SIZES = (1, 5 * MIB + 13)
 LOST = {LRC: ((), (3, 9, 14, 15)), SMALL: ((), (0, 1, 8))}
@@ -98,6 +84,13 @@ def upgrade(cluster, other, number):
     other.wait_for(cluster.object_ports[number])
 
 
+def check_roots(report, other, when):
+    """All that was started from the other root runs there."""
+    roots = [os.readlink(f"/proc/{each.pid}/root") for each in other.processes.values()]
+    name = f"{when}: a proxy and {len(roots) - 1} of {SERVERS} object servers run in the other root"
+    report.check(name, set(roots) == {other.root}, ", ".join(sorted(set(roots))))
+
+
 def check_rebuilt(report, cluster, rebuilders, when):
     """What the proxy of one root has put, the reconstructor of the other rebuilds. The headers have
     the version of liberasurecode that has written them."""
@@ -135,9 +128,11 @@ def check(report, folder, options, cluster, client):
         for upgraded, when in ((), "before"), ((0, 1, 2), "meanwhile"), ((3, 4), "afterwards"):
             for number in upgraded:
                 upgrade(cluster, other, number)
+            check_roots(report, other, when)
             check_both(report, cluster, clients, when)
             check_rebuilt(report, cluster, rebuilders, when)
 
 
 if __name__ == "__main__":
-    sys.exit(other_root.run(__doc__, cluster_test.PACKAGES, work, "usr/bin/swift-proxy-server"))
+    needed = "usr/bin/swift-proxy-server"
+    sys.exit(other_root.run(__doc__, cluster_test.PACKAGES, work, "swift", needed))

@@ -352,20 +352,24 @@ class LargeCaller(Caller):
         return prefix, segments
 
     def put_static(self, path):
+        """Whether it is done."""
         _, segments = self.put_segments(path)
-        if segments:
-            manifest = [
-                {"path": f"/{segment}", "etag": etag_of(version), "size_bytes": version[0]}
-                for segment, version in segments.items()
-            ]
-            body = json.dumps(manifest).encode()
-            self.send(path, tuple(segments.values()), body, "?multipart-manifest=put")
+        if not segments:
+            return False
+        manifest = [
+            {"path": f"/{segment}", "etag": etag_of(version), "size_bytes": version[0]}
+            for segment, version in segments.items()
+        ]
+        body = json.dumps(manifest).encode()
+        return self.send(path, tuple(segments.values()), body, "?multipart-manifest=put")
 
     def put_dynamic(self, path):
-        """Once the segments are listed, since the object is what the listing says."""
+        """Once the segments are listed, since the object is what the listing says. Whether it is
+        done."""
         prefix, segments = self.put_segments(path)
-        if segments and self.is_listed(prefix, segments):
-            self.send(path, tuple(segments.values()), **{"X-Object-Manifest": prefix})
+        if not segments or not self.is_listed(prefix, segments):
+            return False
+        return self.send(path, tuple(segments.values()), **{"X-Object-Manifest": prefix})
 
     def is_listed(self, prefix, segments):
         container, _, name = prefix.partition("/")
@@ -396,7 +400,21 @@ def disturb(cluster, dice):
     return what
 
 
+def check_large(report, cluster, client, most=10):
+    """Both kinds of objects in segments, before the storm. A loaded machine may refuse some."""
+    caller, good = LargeCaller(cluster, CLIENTS), []
+    kinds = {caller.put_static: "x-static-large-object", caller.put_dynamic: "x-object-manifest"}
+    for policy in caller.policies:
+        for put, header in kinds.items():
+            path = f"{policy.name}/{header}"
+            is_done = any(put(path) for _ in range(most))
+            is_right = is_done and is_as_known(client, path, caller.known[path])
+            good.append(is_right and header in client.call("HEAD", path)[1])
+    report.check(f"{len(good)} objects in segments, static and dynamic, come back", all(good))
+
+
 def check_storm(report, cluster, client, name):
+    check_large(report, cluster, client)
     callers = [Caller(cluster, number) for number in range(CLIENTS)]
     callers.append(LargeCaller(cluster, CLIENTS))
     cluster.spawn_reconstructor()
