@@ -44,7 +44,9 @@ def main():
         for name, crates in sorted(shared.items())
         if name not in SAME and not crates <= TABLES
     ]
-    wrong += [f"no two crates share {name}, which is in SAME" for name in SAME if name not in shared]
+    wrong += [
+        f"{name} is in SAME, and no two crates share it" for name in SAME if name not in shared
+    ]
     print("\n".join([*wrong, f"{len(shared)} shared names, {len(wrong)} wrong"]))
     return 1 if wrong else 0
 
