@@ -6,13 +6,13 @@
 
 SERVER is the built program. Prints, for values of 64 bytes, 4 KiB and 1 MiB, SET and GET: requests
 a second, processor time of the server a request, and the latency at 99.9 % of the requests, each as
-a ratio to redis-server's, which runs in turn on the same machine under the same load. The server
-has one thread, as redis-server has for requests, and then four. Then, with one thread, GET with 1
-to 4 fragments of each stripe lost, the resident bytes of a value of 64 bytes, the longest request
-in so many seconds of SETs over 300,000 keys, and memcached's processor time a request and bytes a
-value, with one thread too. --only measures one of these, and --size compares values of one size. It
-needs redis-server, redis-tools, memcached and libmemcached-tools of Debian, and a machine that does
-nothing else.
+a ratio to redis-server's, which runs in turn on the same machine under the same load, each the
+median of nine turns. The server has one thread, as redis-server has for requests, and then four.
+Then, with one thread, GET with 1 to 4 fragments of each stripe lost, the resident bytes of a value
+of 64 bytes, the longest request in so many seconds of SETs over 300,000 keys, and memcached's
+processor time a request and bytes a value, with one thread too. --only measures one of these, and
+--size compares values of one size. It needs redis-server, redis-tools, memcached and
+libmemcached-tools of Debian, and a machine that does nothing else.
 """
 
 import argparse
@@ -20,11 +20,12 @@ import contextlib
 import os
 import re
 import socket
+import statistics
 import subprocess
 import tempfile
 import time
 
-TURNS, CLIENTS, KEYS = 7, 16, 300_000
+TURNS, CLIENTS, KEYS = 9, 16, 300_000
 LOADS = ((64, 60_000), (4096, 40_000), (1 << 20, 600))
 TICKS = os.sysconf("SC_CLK_TCK")
 MEMCACHED = "memcached -p 7404 -t 1 -m 4096 -I 2m -U 0 -u nobody".split(), 7404
@@ -94,10 +95,9 @@ def width_for(size):
     return min(8192, -(-size // 12))
 
 
-def best(rows):
-    """The greatest rate, and the least of each other figure, of several turns."""
-    rates, *others = zip(*rows)
-    return (max(rates), *(min(each) for each in others))
+def middle(rows):
+    """The median of each figure of several turns."""
+    return tuple(map(statistics.median, zip(*rows)))
 
 
 def measured(server, size, count, kind):
@@ -115,7 +115,7 @@ def measured(server, size, count, kind):
             for name, (process, port) in there.items():
                 found = load(process, port, words_of(kind, size), count, clients)
                 rows.setdefault(name, []).append(found)
-    return {name: best(found) for name, found in rows.items()}
+    return {name: middle(found) for name, found in rows.items()}
 
 
 def compare(server, sizes):
@@ -140,12 +140,16 @@ def degraded(server):
         command, port = commands(server, width_for(size))["1 thread"]
         with running(command, port) as process:
             load(process, port, words_of("SET", size), 20_000, keys=1000)
-            healthy = load(process, port, words_of("GET", size), count)[1]
+            healthy = get_time(process, port, size, count)
             for fragment in (0, 1, 6, 7):
                 lose(port, fragment)
-                took = min(load(process, port, words_of("GET", size), count)[1] for _ in range(3))
-                share = took / healthy
+                share = get_time(process, port, size, count) / healthy
                 print(f"{size:8} GET, fragment {fragment} lost too: {share:.2f} of healthy")
+
+
+def get_time(process, port, size, count):
+    """Microseconds of the server for a GET."""
+    return middle([load(process, port, words_of("GET", size), count) for _ in range(TURNS)])[1]
 
 
 def lose(port, fragment):
@@ -198,10 +202,10 @@ def memcached():
                 took["SET"].append((seconds / sets * 1e6, theirs))
                 seconds, stored, gets = load_memcached(process, "GET", size, 4 * count)
                 theirs = load(other, port, words_of("GET", size), count)[1]
-                rest = seconds * 1e6 - stored * min(took["SET"])[0]
+                rest = seconds * 1e6 - stored * middle(took["SET"])[0]
                 took["GET"].append((rest / gets, theirs))
         for kind, pairs in took.items():
-            ours, theirs = (min(each) for each in zip(*pairs))
+            ours, theirs = middle(pairs)
             share = f"{ours / theirs:4.2f} of the processor time ({ours:.1f} us)"
             print(f"{size:7} {kind}, memcached: {share}", flush=True)
     with running(*MEMCACHED) as process:
