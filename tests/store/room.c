@@ -1,6 +1,6 @@
 /* What a blob takes of the heap: its stripes of sixteen (or ten) fragments, and little more. A put
  * leaves no second copy of the last stripe, be it from an array or from a buffer that fills no
- * stripe. */
+ * stripe. A small blob is one allocation with its parities, and has no list before a loss. */
 #include "store_test.h"
 #include <malloc.h>
 
@@ -48,7 +48,26 @@ static void takes(void store(lrc_slot *slot, size_t len, uint32_t data), size_t 
     lrc_slot_release(&slot);
 }
 
+/* What each of many blobs of 64 bytes takes, with its name in a tree that is half full, as names in
+ * order leave it. A list by stripe would take 32 bytes more, and parities of their own 144. */
+static void takes_little(void) {
+    enum { BLOBS = 1000, BYTES = 64, NARROW = 6, MOST = 370 };
+    lrc_slot slot = LRC_SLOT_EMPTY;
+    EXPECT(lrc_store_open_unjournaled(NARROW, &slot), LRC_STORE_DONE);
+    const size_t before = in_use();
+    for (int i = 0; i < BLOBS; i++) {
+        uint64_t version = 0;
+        char name[16];
+        const int len = snprintf(name, sizeof name, "blob%d", i);
+        EXPECT(lrc_store_put(&slot, (uint8_t *)name, (size_t)len, blob, BYTES, 12, &version),
+               LRC_STORE_DONE);
+    }
+    EXPECT(in_use() - before <= (size_t)BLOBS * MOST, 1);
+    lrc_slot_release(&slot);
+}
+
 int main(void) {
+    takes_little();
     for (uint32_t data = 6; data <= 12; data += 6) {
         const size_t stripe = (size_t)data * WIDTH;
         const size_t lens[] = {1,      stripe - WIDTH + 1, stripe - 1,
