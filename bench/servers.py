@@ -19,6 +19,7 @@ import argparse
 import contextlib
 import os
 import re
+import shutil
 import socket
 import statistics
 import subprocess
@@ -29,6 +30,12 @@ TURNS, CLIENTS, KEYS = 9, 16, 300_000
 LOADS = ((64, 60_000), (4096, 40_000), (1 << 20, 600))
 TICKS = os.sysconf("SC_CLK_TCK")
 MEMCACHED = "memcached -p 7404 -t 1 -m 4096 -I 2m -U 0 -u nobody".split(), 7404
+NEEDED = {
+    "redis-server": "redis-server",
+    "redis-benchmark": "redis-tools",
+    "memcached": "memcached",
+    "memcaslap": "libmemcached-tools",
+}
 
 
 @contextlib.contextmanager
@@ -230,6 +237,14 @@ def longest(server, seconds):
             print(f"{name}: the longest of the SETs in {seconds} s took {most:.2f} ms")
 
 
+def check_programs(parser, server):
+    if not os.access(server, os.X_OK):
+        parser.error(f"{server} is no program; build it as examples/server_resp/README.md says")
+    missing = [package for word, package in NEEDED.items() if not shutil.which(word)]
+    if missing:
+        parser.error(f"first `apt-get install {' '.join(missing)}`")
+
+
 def main():
     parser = argparse.ArgumentParser(description=__doc__.splitlines()[0])
     parser.add_argument("server")
@@ -237,6 +252,7 @@ def main():
     parser.add_argument("--only", choices=("compare", "degraded", "memory", "longest", "memcached"))
     parser.add_argument("--size", type=int, choices=[size for size, _ in LOADS])
     given = parser.parse_args()
+    check_programs(parser, given.server)
     parts = {
         "compare": lambda: compare(given.server, [given.size or size for size, _ in LOADS]),
         "degraded": lambda: degraded(given.server),
