@@ -47,8 +47,8 @@ fn has_size(size: u32, set: u32) -> bool
 fn is_counted(code: Code, size: u32, set: u32) -> bool
     requires { set < 65536 }
     ensures value { result ≡ is_counted code size set }
-    ensures recoverable { IsTrue result → (f : ℕ) → f < fragment_count code → Open code (is_lost set) f
-        → ⊥ }
+    ensures recoverable { IsTrue result → (f : ℕ) → f < fragment_count code
+        → Open code (is_lost set) f → ⊥ }
 {
     has_size(size, set) && is_whole(code, set as u16)
 }
