@@ -4,7 +4,7 @@ use Rattle.std.proofs.lemmas.Simd.{Each1-get_or, below_from_Fits, length-zip2, g
 use lib.Lanes.{zip2, Each1, chunk}
 use Rattle.gf256.specs.Field.{product}
 use Rattle.kernels.proofs.GroupLemmas.{twice_is}
-use Rattle.kernels.specs.declared.blocks.TheConstants.{LANES}
+use Rattle.kernels.specs.declared.lanes.TheConstants.{LANES}
 
 abbrev pub wrapped_add : ℕ → ℕ → ℕ
 wrapped_add a b = (a + b) % 256

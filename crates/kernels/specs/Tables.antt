@@ -1,7 +1,7 @@
 -- Tables of products.
 use Rattle.std.specs.Prelude.{◌≡◌, ℕ, ◌*◌, ◌%◌, ◌<◌, List, [], length, slice_index, slice_index_or}
 use Rattle.gf256.specs.Field.{product}
-use Rattle.kernels.specs.declared.blocks.TheConstants.{LANES}
+use Rattle.kernels.specs.declared.lanes.TheConstants.{LANES}
 
 -- table i has the products of coefficient i with the lower halves of bytes, or with the upper ones, once in each sixteen lanes
 abbrev pub AreLow : List ℕ → List (List ℕ) → Type 0

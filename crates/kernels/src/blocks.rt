@@ -4,10 +4,8 @@ ghost use Rattle.gf256.specs.Field.{product};
 ghost use Rattle.kernels.specs.Doublings.{third_apart, fourth_apart};
 
 use crate::factor::Factor;
+use crate::lanes::LANES;
 use std::simd::prelude::*;
-
-/// How many bytes are worked on at once: 32, or 64 for AVX-512. The proofs hold for both.
-pub const LANES: usize = 32;
 
 /// `LANES` bytes, in the lanes of a vector.
 pub type Block = Simd<u8, LANES>;

@@ -5,8 +5,9 @@ ghost use Rattle.std.specs.Prelude.{bit_xor, All, EachIndex};
 ghost use Rattle.kernels.specs.Lists.{combined, bytes_at};
 ghost use Rattle.kernels.specs.Tables.{AreLow, AreHigh};
 
-use crate::blocks::{Block, LANES, load, store, sum_2};
+use crate::blocks::{Block, load, store, sum_2};
 use crate::factor::{Factor, look_up};
+use crate::lanes::LANES;
 use gf256::add_scaled;
 
 /// The sum of the blocks from `at` on: the products with coefficient `i` stand in the tables `i`.

@@ -4,7 +4,8 @@ ghost use Rattle.kernels.specs.Doublings.{sum_of_6, with_bit_0, with_bit_1, with
 ghost use Rattle.kernels.specs.Lists.{xor_sum, bytes_at, list_at};
 ghost use Rattle.kernels.specs.Parities.{AreParitiesOfTwelve};
 
-use crate::blocks::{Block, LANES, fourth_each, load, store, sum_3, sum_4, third_each};
+use crate::blocks::{Block, fourth_each, load, store, sum_3, sum_4, third_each};
+use crate::lanes::LANES;
 use crate::place::parities;
 
 /// The block of list `f` from `at` on.

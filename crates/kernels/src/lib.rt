@@ -9,9 +9,11 @@ mod combine;
 mod factor;
 mod groups;
 mod halves;
+mod lanes;
 mod place;
 
-pub use blocks::{Block, LANES, fourth_each, load, store, sum_2, third_each};
+pub use blocks::{Block, fourth_each, load, store, sum_2, third_each};
 pub use combine::combine_lists;
 pub use factor::Factor;
 pub use groups::{GroupSums, load_from, sums_of, write_parities};
+pub use lanes::LANES;

@@ -2,7 +2,7 @@
 use Rattle.std.proofs.Common.{◌≡◌, ℕ, ◌+◌, ◌-◌, ◌<◌, ◌≤◌, List, ◌++◌, length, take, get_or, sym, ap, ◌∙◌, subst, arith, inl, inr, length-take-le, get_or-take}
 use Rattle.std.proofs.lemmas.Bool.{cases_lt}
 use Rattle.std.proofs.lemmas.List.{get_or_append_left, get_or-append-add}
-use Rattle.kernels.specs.declared.blocks.TheConstants.{LANES}
+use Rattle.kernels.specs.declared.lanes.TheConstants.{LANES}
 
 -- a fact of each place that is written stays where the bytes stay, and holds of the next block
 pub written_more : (P : ℕ → ℕ → Type 0) (old new : List ℕ) (done at : ℕ) → at ≤ done → ((k : ℕ) → k < done → P k (get_or old k 0)) → ((k : ℕ) → k < at → get_or new k 0 ≡ get_or old k 0)

@@ -9,7 +9,7 @@ use Rattle.kernels.proofs.Sums.{xor_sum_same, xor_sum-xor, xor_sum_zero}
 use Rattle.syndromes.specs.declared.formulas.Formula.{Formula}
 use Rattle.syndromes.specs.Syndromes.{wide_syndrome, column_at, sum_by, HasSums, HasRoom}
 use Rattle.syndromes.specs.Formulas.{IsFormula, IsNoneOr, share_of, addend}
-use Rattle.kernels.specs.declared.blocks.TheConstants.{LANES}
+use Rattle.kernels.specs.declared.lanes.TheConstants.{LANES}
 
 pub xor_back : (a b : ℕ) → bit_xor (bit_xor a b) b ≡ a
 xor_back a b = xor_assoc a b b ∙ ap (bit_xor a) (xor_self b) ∙ xor_zero_r a

@@ -3,7 +3,7 @@ use Rattle.std.proofs.lemmas.Simd.{Each1-get_or, below_from_Fits}
 use lib.Lanes.{Each1}
 use Rattle.gf256.specs.Field.{product}
 use Rattle.kernels.proofs.GroupLemmas.{fourth_by_products}
-use Rattle.kernels.specs.declared.blocks.TheConstants.{LANES}
+use Rattle.kernels.specs.declared.lanes.TheConstants.{LANES}
 use Rattle.kernels.proofs.blocks.fourth_each.Goals as goal
 
 byte : (x : List ℕ) (k : ℕ) → k < LANES → length x ≡ LANES → Each1 (Fits w8) x → get_or x k 0 < 256

@@ -1,6 +1,6 @@
 use Rattle.std.proofs.lemmas.Simd.{get_or-chunk}
 use Rattle.kernels.proofs.BlocksLemmas.{chunk-lt}
-use Rattle.kernels.specs.declared.blocks.TheConstants.{LANES}
+use Rattle.kernels.specs.declared.lanes.TheConstants.{LANES}
 use Rattle.kernels.proofs.blocks.load.Goals as goal
 
 pub returns-clause-lanes : goal.returns-clause-lanes

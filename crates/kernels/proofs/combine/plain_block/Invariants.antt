@@ -1,7 +1,7 @@
 use Rattle.std.proofs.Common.{◌≡◌, ℕ, ◌<◌, ◌+◌, get_or}
 use Rattle.kernels.specs.Lists.{xor_sum}
 use Rattle.kernels.proofs.CombineLemmas.{products}
-use Rattle.kernels.specs.declared.blocks.TheConstants.{LANES}
+use Rattle.kernels.specs.declared.lanes.TheConstants.{LANES}
 use Rattle.kernels.proofs.combine.plain_block.Given as goal
 
 abbrev pub invariant-loop-i : goal.invariant-loop-i

@@ -1,7 +1,7 @@
 use Rattle.std.proofs.Common.{◌≡◌, ℕ, ◌<◌, ◌+◌, ◌-◌, List, map, length, get_or, ◌∙◌, arith}
 use Rattle.kernels.specs.Lists.{bytes_at, combined}
 use Rattle.kernels.proofs.GroupLemmas.{facts_more}
-use Rattle.kernels.specs.declared.blocks.TheConstants.{LANES}
+use Rattle.kernels.specs.declared.lanes.TheConstants.{LANES}
 use Rattle.kernels.proofs.combine.plain_blocks.Goals as goal
 
 -- at place k the list has the sum

@@ -5,7 +5,7 @@ use Rattle.kernels.specs.Lists.{xor_sum}
 use Rattle.kernels.proofs.CombineLemmas.{products, xor_sum_none, xor_sum_more}
 use Rattle.kernels.proofs.FactorLemmas.{product_from_tables}
 use Rattle.kernels.proofs.GroupLemmas.{source_is}
-use Rattle.kernels.specs.declared.blocks.TheConstants.{LANES}
+use Rattle.kernels.specs.declared.lanes.TheConstants.{LANES}
 use Rattle.kernels.proofs.combine.sum_two.Goals as goal
 
 pub loop-i-init : goal.loop-i-init

@@ -1,6 +1,6 @@
 use Rattle.std.proofs.Common.{◌≡◌, ℕ, ◌<◌, ◌*◌, ◌%◌, [], length, get_or}
 use Rattle.gf256.specs.Field.{product}
-use Rattle.kernels.specs.declared.blocks.TheConstants.{LANES}
+use Rattle.kernels.specs.declared.lanes.TheConstants.{LANES}
 use Rattle.kernels.proofs.combine.tables_of.Given as goal
 
 abbrev pub invariant-loop-i : goal.invariant-loop-i

@@ -1,6 +1,6 @@
 use Rattle.std.proofs.Common.{refl, ◌/◌}
 use Rattle.gf256.proofs.LanesLemmas.{lows_ok, highs_ok, length-looked_up, get_or-looked_up, lane-lt}
-use Rattle.kernels.specs.declared.blocks.TheConstants.{LANES}
+use Rattle.kernels.specs.declared.lanes.TheConstants.{LANES}
 use Rattle.kernels.proofs.factor.look_up.Goals as goal
 
 pub swizzle : goal.swizzle

@@ -1,7 +1,7 @@
 use Rattle.std.proofs.Common.{◌≡◌, ◌+◌, ◌-◌, length, map, [], ◌∷◌, arith}
 use Rattle.kernels.specs.Parities.{AreParitiesOfTwelve}
 use Rattle.kernels.proofs.GroupLemmas.{parities_more, at_last}
-use Rattle.kernels.specs.declared.blocks.TheConstants.{LANES}
+use Rattle.kernels.specs.declared.lanes.TheConstants.{LANES}
 use Rattle.kernels.proofs.groups.encode_lists.Goals as goal
 
 pub loop-at-preserved : goal.loop-at-preserved

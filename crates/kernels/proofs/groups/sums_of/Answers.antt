@@ -1,7 +1,7 @@
 use Rattle.std.proofs.Common.{◌≡◌, ◌+◌, ℕ, ◌<◌, List, [], ◌∷◌, bit_xor, get_or, map, ap, ◌∙◌, subst}
 use Rattle.kernels.specs.Lists.{bytes_at}
 use Rattle.kernels.proofs.GroupLemmas.{each_of_six, read_six, bit_0_same, bit_1_same, bit_2_same, six_same}
-use Rattle.kernels.specs.declared.blocks.TheConstants.{LANES}
+use Rattle.kernels.specs.declared.lanes.TheConstants.{LANES}
 use Rattle.kernels.proofs.groups.sums_of.Goals.{After-sum_3-2}
 use Rattle.kernels.proofs.groups.sums_of.Goals as goal
 

@@ -3,7 +3,7 @@ use lib.Lanes.{Each1}
 use Rattle.kernels.specs.Lists.{bytes_at}
 use Rattle.kernels.proofs.GroupLemmas.{twelve, third_same, fourth_same}
 use Rattle.one_pass.proofs.Parities.{parity_by_groups}
-use Rattle.kernels.specs.declared.blocks.TheConstants.{LANES}
+use Rattle.kernels.specs.declared.lanes.TheConstants.{LANES}
 use Rattle.one_pass.proofs.columns.columns_at.Goals as goal
 
 fits : (c : goal.After-fourth_of) (k : ℕ) → k < LANES → Each1 (λ x. x < 256) (twelve (map (λ s. s.now) c.args.sources.now) (c.args.at + k))

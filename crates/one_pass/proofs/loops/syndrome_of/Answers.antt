@@ -4,7 +4,7 @@ use lib.Lanes.{Each1}
 use Rattle.kernels.specs.Lists.{combined, bytes_at}
 use Rattle.one_pass.specs.Weights.{unit}
 use Rattle.one_pass.proofs.Units.{unit_combined}
-use Rattle.kernels.specs.declared.blocks.TheConstants.{LANES}
+use Rattle.kernels.specs.declared.lanes.TheConstants.{LANES}
 use Rattle.one_pass.proofs.loops.syndrome_of.Goals.{in-0, in-1, in-2, in_default}
 use Rattle.one_pass.proofs.loops.syndrome_of.Goals as goal
 

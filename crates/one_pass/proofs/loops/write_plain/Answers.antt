@@ -5,7 +5,7 @@ use Rattle.one_pass.specs.Syndromes.{syndromes_at}
 use Rattle.one_pass.specs.Weights.{lane, unit}
 use Rattle.one_pass.proofs.Patterns.{AreLanes, plain_taken}
 use Rattle.one_pass.proofs.Written.{written_more}
-use Rattle.kernels.specs.declared.blocks.TheConstants.{LANES}
+use Rattle.kernels.specs.declared.lanes.TheConstants.{LANES}
 use Rattle.one_pass.proofs.loops.write_plain.Goals as goal
 
 pub each-preserved : goal.each-preserved

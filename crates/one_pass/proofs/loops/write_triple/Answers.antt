@@ -6,7 +6,7 @@ use Rattle.one_pass.specs.Weights.{lane, weighed, unit}
 use Rattle.one_pass.specs.Patterns.{group}
 use Rattle.one_pass.proofs.Patterns.{AreLanes, plain_taken, weighed_taken, takes_group, below_four}
 use Rattle.one_pass.proofs.Written.{written_more}
-use Rattle.kernels.specs.declared.blocks.TheConstants.{LANES}
+use Rattle.kernels.specs.declared.lanes.TheConstants.{LANES}
 use Rattle.one_pass.proofs.loops.write_triple.Goals as goal
 
 pub each-preserved : goal.each-preserved

@@ -3,7 +3,7 @@ use Rattle.std.proofs.lemmas.Simd.{get_or-replicate}
 use Rattle.gf256.specs.Field.{product}
 use Rattle.one_pass.specs.Weights.{weight_in, lane}
 use Rattle.one_pass.proofs.Units.{sum_of_four}
-use Rattle.kernels.specs.declared.blocks.TheConstants.{LANES}
+use Rattle.kernels.specs.declared.lanes.TheConstants.{LANES}
 use Rattle.one_pass.proofs.weights.Weights.sums_at.Goals as goal
 
 pub returns : goal.returns
