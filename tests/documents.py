@@ -38,7 +38,6 @@ WALKS, FORMS = ("A script", "A put", "A degraded read"), ("Forms",)
 STEP = re.compile(r"( *)(\w+)::(\w+(?:::\w+)?) +(\w+\.rt) +\S")
 NAME = re.compile(r"`(\w+)::(\w+(?:::\w+)?)`")
 TYPE = re.compile(r"^pub(?:\(\w+\))? (?:struct|enum) (\w+)", re.M)
-MOST_LINES, LONGEST = 110, 100
 CHECKED_CLAUSES = ("README.md", "docs/theorem.md", "docs/proof.md", "docs/codes.md")
 
 
@@ -240,9 +239,6 @@ def wrong_walks(name, text, code):
 
 
 def wrong_readme(text):
-    lines = text.splitlines()
-    if len(lines) > MOST_LINES:
-        yield f"README.md has {len(lines)} lines, and may have {MOST_LINES}"
     figures = FIGURE.findall(text)
     shown = read(os.path.join(TOP, "docs", "performance.md"))
     results = sorted(glob.glob(os.path.join(TOP, "bench", "results", "*.txt")))

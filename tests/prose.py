@@ -2,9 +2,8 @@
 """Holds the documents to the rules of CONTRIBUTING.md for prose: tests/prose.py
 
 No date, hash, clock time or earlier build; no phrase that the rules replace; lines of at most 100
-characters and sentences of at most 25 words. Tables, code and pages that a script writes may be
-longer. What is written by hand in docs/ has at most 1,600 lines, without the code, which
-tests/documents.py compares with programs, and the section that bench/sharded.py writes.
+characters and sentences of at most 40 words. Tables, code and pages that a script writes may be
+longer. A full stop ends a sentence; a colon or a semicolon does not.
 """
 
 import os
@@ -16,7 +15,7 @@ from sources import TOP, read
 sys.path.insert(0, os.path.join(TOP, "tools"))
 import reference  # noqa: E402
 
-LONGEST, MOST_WORDS, MOST_LINES = 100, 25, 1600
+LONGEST, MOST_WORDS = 100, 40
 # Pages that a script writes, and the table that tests/promises.py holds to the code.
 MADE = {*reference.PAGES, "docs/promises.md"}
 DIARY = [
@@ -43,7 +42,6 @@ PHRASES = [
     r"\bcomes? to the same\b",
     r"\bby itself\b",
 ]
-WRITTEN = re.compile(r"^```.*?^```$|^## Threads on a sharded store\n.*?(?=^## |\Z)", re.S | re.M)
 UNSEEN = re.compile(r"```.*?```|^\|.*$|^    .*$|^#.*$|^!\[.*$", re.S | re.M)
 
 
@@ -74,7 +72,7 @@ def wrong_lines(name, text):
 
 def long_sentences(name, text):
     words = UNSEEN.sub("", text)
-    for sentence in re.split(r"(?<=[.:;!?])\s+|\n\s*\n|\n\s*(?:-|\d+\.) ", words):
+    for sentence in re.split(r"(?<=[.!?])\s+|\n\s*\n|\n\s*(?:-|\d+\.) ", words):
         count = len(sentence.split())
         if count > MOST_WORDS:
             yield f"{name}: {count} words: {' '.join(sentence.split())[:90]}"
@@ -89,15 +87,7 @@ def main():
             wrong += wrong_lines(name, text)
         if name not in MADE:
             wrong += long_sentences(name, text)
-    by_hand = [name for name in names if name.startswith("docs/") and name not in MADE]
-    lines = sum(WRITTEN.sub("", texts[name]).count("\n") for name in by_hand)
-    if lines > MOST_LINES:
-        wrong.append(f"docs/ has {lines} lines that are written by hand, and may have {MOST_LINES}")
-    print(
-        *wrong,
-        f"{len(names)} documents, {lines} lines by hand in docs/, {len(wrong)} wrong",
-        sep="\n",
-    )
+    print(*wrong, f"{len(names)} documents, {len(wrong)} wrong", sep="\n")
     return 1 if wrong else 0
 
 
