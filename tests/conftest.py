@@ -1,6 +1,7 @@
 """Has pytest run all tests but those of `rt ci`, so that `pytest -k TEXT` takes those whose name
-has the text. Each `test_of` of a shell script is a test, and so is each check of tests/programs.sh.
-tests/release.sh is one test, as its parts need those before them."""
+has the text. Each `test_of` of a shell script is a test, and so is each check of
+tests/parts.sh and tests/programs.sh. tests/release.sh is one test, as its parts need those before
+them."""
 
 import os
 import re
@@ -34,8 +35,8 @@ class Script(pytest.File):
     def collect(self):
         text = self.path.read_text(encoding="utf-8")
         command = [str(self.path)]
-        if self.path.name == "programs.sh":
-            for names in re.findall(r"^for each in ([\w ]+); do\s*part python3", text, re.M):
+        if self.path.name in ("parts.sh", "programs.sh"):
+            for names in re.findall(r"^ *for each in ([\w ]+); do\s*part python3", text, re.M):
                 for name in names.split():
                     command = ["python3", os.path.join(HERE, f"{name}.py")]
                     yield Command.from_parent(self, name=name, command=command)
