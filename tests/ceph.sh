@@ -30,7 +30,7 @@ decoded_by_tool() {
         echo "Ceph: skipped: its tool encodes only data (Ceph 20.2, of isa too)"
         return
     fi
-    head -c 1000000 /dev/urandom > "$work/object"
+    seq 200000 | head -c 1000000 > "$work/object"
     tool plugins encode "$profile" 4096 "$(seq -s, 0 15)" "$work/object"
     for lost in 0 6 7 15 "0 1" "0 8" "0 1 2" "0 1 2 8" "0 1 8 9" "0 1 6 14" "6 7 14 15"; do
         set=$(seq 0 15 | grep -vxF "$(tr ' ' '\n' <<< "$lost")" | paste -sd,)

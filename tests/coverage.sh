@@ -58,7 +58,8 @@ c_sources() {
     done
     run waits "$work"/{edges_waits,wait}.o "${wrapped[@]}" "${store[@]}" --
     run waiting "$work"/{store_waiting,wait}.o --
-    run pooled "$work"/{store_pool,pool}.o -Wl,--wrap=malloc,--wrap=calloc "${store[@]}" --
+    run pooled "$work"/{store_pool,pool}.o \
+        -Wl,--wrap=malloc,--wrap=calloc,--wrap=pthread_cond_clockwait "${store[@]}" --
     run sharded "$work"/{store_shards,of_shards,pool}.o \
         -Wl,--wrap=malloc,--wrap=calloc,--wrap=lrc_store_numbers_wait "${store[@]}" --
     run whole "$work"/{store_versions,get}.o "${store[@]}" --
@@ -76,7 +77,7 @@ c_sources() {
 
 cpp_headers() {
     of_cpp random_coder tests/edges/coder.cpp
-    run random_coder "$work/random_coder.o" "${coder[@]}" -- 2
+    run random_coder "$work/random_coder.o" "${coder[@]}" -- 40
     for each in tests/store/bindings tests/edges/bindings bindings/cpp/store; do
         [ -e $each.cpp ] || continue
         of_cpp "${each//\//_}" $each.cpp

@@ -3,18 +3,24 @@
 # deadlines, forks, signals, cancelled threads, and reads and writes of the program that fail.
 # LRC_LIBRARIES names the folder of the libraries.
 #
-#     tests/edges.sh [SECONDS]    of each random run, 30 if not given; SEED=.. repeats one
+#     tests/edges.sh [SECONDS]
+#
+# Each random run makes a fixed number of rounds from a fixed seed, or lasts for so many seconds.
+# SEED=.. names another seed, and SEED=fresh draws one, which the run prints.
 set -u
 cd "$(dirname "$0")/.." || exit
 # shellcheck source=tests/runner.sh
 . tests/runner.sh
 # shellcheck source=tests/libraries.sh
 . tests/libraries.sh
-seconds=${1:-30}
+seconds=${1:-}
 store=$LRC_LIBRARIES/liblrc_store.a
 coder=$LRC_LIBRARIES/liblrc_coder.a
 warnings=(-Wall -Wextra -Wconversion -Wshadow -Werror -I include -I tests/store)
 wrapped=("-Wl,--wrap=malloc" "-Wl,--wrap=realloc")
+
+# length ROUNDS: how long a random run is
+length() { if [ -n "$seconds" ]; then echo "${seconds}s"; else echo "$1"; fi; }
 
 # random NAME FLAG..: the program of random calls
 random() {
@@ -27,7 +33,7 @@ held() {
         -lpthread -lrt -o "$work/$1" && timeout 300 "$work/$1"
 }
 
-calls() { random calls "${wrapped[@]}" -Wl,--wrap=free "$store" && "$work/calls" "$seconds"; }
+calls() { random calls "${wrapped[@]}" -Wl,--wrap=free "$store" && "$work/calls" "$(length 400)"; }
 
 # The coder's code for each level that the processor has, in turn.
 coder_calls() {
@@ -35,11 +41,11 @@ coder_calls() {
     read -ra levels <<< "$(tests/levels.sh)"
     random coder "$coder" || return
     for each in "${levels[@]}"; do
-        LRC_CODER_CPU=$each "$work/coder" $((seconds / ${#levels[@]} + 1)) || return
+        LRC_CODER_CPU=$each "$work/coder" "$(length 400)" || return
     done
 }
 
-shards() { random shards "$store" && "$work/shards" "$((seconds / 3 + 1))"; }
+shards() { random shards "$store" && "$work/shards" "$(length 200)"; }
 
 # Programs of one thread each, side by side.
 one_thread() {
@@ -52,7 +58,7 @@ one_thread() {
 }
 
 threads() {
-    random threads "${wrapped[@]}" -Wl,--wrap=free "$store" && "$work/threads" "$seconds" "$@"
+    random threads "${wrapped[@]}" -Wl,--wrap=free "$store" && "$work/threads" "$(length 20)" "$@"
 }
 
 # The sources of the libraries without the proved code.

@@ -102,7 +102,8 @@ waiting() {
 
 # pool WORDS FLAG..: its test, with these words
 pool() {
-    program gcc gnu11 tests/store/pool.c -Wl,--wrap=malloc,--wrap=calloc "${@:2}" \
+    program gcc gnu11 tests/store/pool.c \
+        -Wl,--wrap=malloc,--wrap=calloc,--wrap=pthread_cond_clockwait "${@:2}" \
         && "$work/program" ${1:+"$1"}
 }
 

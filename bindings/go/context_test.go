@@ -3,12 +3,14 @@ package lrcstore
 import (
 	"context"
 	"errors"
+	"runtime"
+	"strings"
 	"testing"
 	"time"
 )
 
 // prompt is how soon a call has to return once its context ends.
-const prompt = 5 * time.Second
+const prompt = time.Minute
 
 // calls are all methods of a store that take a context.
 var calls = map[string]func(s *Store, ctx context.Context) error{
@@ -77,6 +79,18 @@ func expectSoon(t *testing.T, want error, call func() error) {
 		}
 	case <-time.After(prompt):
 		t.Fatalf("waits, want %v", want)
+	}
+}
+
+// untilOthersWait returns when no goroutine but this one runs or could run, in several looks.
+func untilOthersWait() {
+	stacks := make([]byte, 1<<20)
+	for looks := 0; looks < 10; looks++ {
+		time.Sleep(time.Millisecond)
+		text := string(stacks[:runtime.Stack(stacks, true)])
+		if strings.Count(text, " [running") != 1 || strings.Contains(text, " [runnable") {
+			looks = -1
+		}
 	}
 }
 
@@ -180,10 +194,11 @@ func TestCloseWaits(t *testing.T) {
 	go func() { waiting <- second(s.Put(context.Background(), "a", nil)) }()
 	go func() { closed <- s.Close() }()
 	expectSoon(t, ErrClosed, func() error { return <-waiting })
+	untilOthersWait()
 	select {
 	case err := <-closed:
 		t.Fatalf("closed while calls are under way: %v", err)
-	case <-time.After(20 * time.Millisecond):
+	default:
 	}
 	free()
 	expectSoon(t, nil, func() error { return <-closed })

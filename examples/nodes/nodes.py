@@ -23,7 +23,7 @@ from lrcstore import coder
 
 DATA, ALL = 12, 16
 WIDTH = 65536  # the bytes of a fragment
-PATIENCE = 10  # seconds for a request
+PATIENCE = 60  # seconds for a request
 CHECK = 4  # the bytes of a checksum
 
 

@@ -1,6 +1,6 @@
 // Random calls of all functions of lrc_store.h by one thread, each compared with the model: its
 // status, each output, each byte. In every other round, allocations are refused inside of calls.
-// Where a call has a waiting form, either is called. calls SECONDS; SEED=.. repeats a run. Link it
+// Where a call has a waiting form, either is called. calls LENGTH, as random_run.hpp says. Link it
 // with -Wl,--wrap=malloc,--wrap=realloc,--wrap=free.
 #include "calls_of_versions.hpp"
 
@@ -13,7 +13,7 @@ public:
     // A few thousand calls, after which nothing is left allocated.
     void round(bool with_refusals) {
         refuses = with_refusals;
-        for (uint64_t left = 200 + random.below(4000); left > 0 && !run.is_over(); left--) step();
+        for (uint64_t left = 200 + random.below(4000); left > 0; left--) step();
         refuses = false;
         for (Held &each : held)
             if (each.holds != Holds::session) release(each);
@@ -189,6 +189,6 @@ int main(int words, char **word) {
     const Run run("calls", words, word);
     World world(run);
     long rounds = 0;
-    for (; !run.is_over(); rounds++) world.round(rounds % 2 == 1);
+    for (; !run.is_over(rounds); rounds++) world.round(rounds % 2 == 1);
     std::printf("calls: %ld calls of the store in %ld rounds, 0 wrong\n", world.calls, rounds);
 }

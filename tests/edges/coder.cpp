@@ -1,6 +1,6 @@
 // Random calls of all functions of lrc_coder.h, each compared with the model: its status by the
 // header's conditions, each target, each byte. Fragments and targets end before a page without
-// access, or begin at odd addresses. coder SECONDS; SEED=.. repeats a run.
+// access, or begin at odd addresses. coder LENGTH, as random_run.hpp says.
 #include "coder.hpp"
 
 namespace {
@@ -238,7 +238,7 @@ private:
 int main(int words, char **word) {
     const Run run("coder", words, word);
     Calls calls(run);
-    while (!run.is_over())
-        for (int i = 0; i < 200; i++) calls.step();
+    for (long rounds = 0; !run.is_over(rounds); rounds++)
+        for (int i = 0; i < 1000; i++) calls.step();
     std::printf("coder: %ld calls on %s, 0 wrong\n", calls.calls, lrc_coder_cpu());
 }

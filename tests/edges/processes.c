@@ -1,5 +1,6 @@
 /* What the headers say of forks, signal handlers, cancelled threads and abandoned sessions. Link
  * both libraries, with -Wl,--wrap=malloc -Wl,--wrap=realloc. */
+#include "asleep.h"
 #include "hold.h"
 
 #include "lrc_coder.h"
@@ -51,8 +52,8 @@ static uint32_t read_fox(lrc_slot *slot) {
 
 /* ---- A forked child */
 
-/* The status with which a child ends, or 1000 and more if a signal ended it. An alarm ends it after
- * 20 seconds. */
+/* The status with which a child ends, or 1000 and more if a signal ended it, as an alarm does that
+ * hangs. */
 static int status_of_child(pid_t child) {
     int status = 0;
     EXPECT(waitpid(child, &status, 0), child);
@@ -90,11 +91,11 @@ static void fork_beside_a_call(long passes) {
     child = fork();
     if (child == 0) {
         int64_t took = milliseconds();
-        alarm(20);
+        alarm(100);
         for (int64_t timeout = 0; timeout < 50; timeout += 24)
             if (stat_fox(&shared.slot, &version, timeout) != LRC_STORE_BUSY) _exit(2);
         took = milliseconds() - took;
-        _exit(version != UNTOUCHED ? 3 : took < 72 || took > 5000 ? 4 : !allowed_is_right());
+        _exit(version != UNTOUCHED ? 3 : took < 72 || took > 60000 ? 4 : !allowed_is_right());
     }
     EXPECT(status_of_child(child), 0);
     hold_end(&shared.hold);
@@ -112,7 +113,7 @@ static void fork_alone(void) {
     prepare(&shared);
     child = fork();
     if (child == 0) {
-        alarm(20);
+        alarm(100);
         EXPECT(read_fox(&shared.slot), LRC_STORE_DONE);
         EXPECT(lrc_store_delete(&shared.slot, NAME("fox"), &version), LRC_STORE_DONE);
         finish(&shared, 3);
@@ -145,7 +146,8 @@ static void handle_signals(int flags) {
 struct caller {
     lrc_slot slot;
     atomic_int *stop;
-    long calls, bad;
+    atomic_long calls;
+    long bad;
 };
 
 static void *make_calls(void *argument) {
@@ -174,14 +176,14 @@ static void handlers_beside_calls(void) {
     handle_signals(0);
     EXPECT(lrc_store_split(&shared.slot, 2, &caller.slot), LRC_STORE_DONE);
     EXPECT(pthread_create(&thread, NULL, make_calls, &caller), 0);
-    for (const int64_t end = milliseconds() + 20000; milliseconds() < end && handled < 20000;) {
+    for (const int64_t end = milliseconds() + 20000;
+         (milliseconds() < end && handled < 20000) || handled <= 100 || caller.calls <= 100;) {
         pthread_kill(thread, SIGUSR1);
         for (volatile int turn = 0; turn < 2000; turn++) continue;
     }
     stop = 1;
     EXPECT(pthread_join(thread, NULL), 0);
     EXPECT(caller.bad + wrong_in_handler, 0);
-    EXPECT(caller.calls > 100 && handled > 100, 1);
     EXPECT(lrc_store_join(&shared.slot, &caller.slot), LRC_STORE_DONE);
     EXPECT(lrc_store_join(&shared.slot, &shared.hold.slot), LRC_STORE_DONE);
     lrc_slot_release(&shared.slot);
@@ -208,7 +210,7 @@ static void signals_beside_a_wait(long passes) {
     EXPECT(stat_fox(&shared.slot, &version, 60), LRC_STORE_BUSY);
     took = milliseconds() - took;
     EXPECT(timer_delete(timer), 0);
-    EXPECT(took >= 60 && took < 5000, 1);
+    EXPECT(took >= 60 && took < 60000, 1);
     EXPECT(version, UNTOUCHED);
     hold_end(&shared.hold);
     EXPECT(stat_fox(&shared.slot, &version, 0), LRC_STORE_DONE);
@@ -235,7 +237,7 @@ static void cancel_a_wait(long passes) {
     EXPECT(lrc_store_split(&shared.slot, 2, &other), LRC_STORE_DONE);
     hold_start(&shared.hold, passes, -1);
     EXPECT(pthread_create(&thread, NULL, wait_for_ever, &other), 0);
-    sleep_ms(20);
+    until_others_sleep();
     EXPECT(pthread_cancel(thread), 0);
     EXPECT(pthread_join(thread, &result), 0);
     EXPECT(result == PTHREAD_CANCELED, 1);

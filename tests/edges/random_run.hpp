@@ -1,5 +1,5 @@
-// What the random tests share: a seed that is printed and can be given again as SEED, the time that
-// they take, and the report of a difference.
+// What the random tests share: the seed, which is printed, how long they run, and the report of a
+// difference. SEED names a seed, and SEED=fresh draws one. Without it the seed is always the same.
 #ifndef EDGES_RANDOM_RUN_HPP
 #define EDGES_RANDOM_RUN_HPP
 
@@ -50,20 +50,24 @@ template <class... Values> std::string joined(const Values &...values) {
     return text.str().substr(0, text.str().size() - 1);
 }
 
-// One run of a test: its seed, and when it ends.
+// One run of a test: its seed, and its length. That is a number of rounds, as `20`, so that each
+// run makes the same calls however fast the machine is, or of seconds, as `20s`.
 class Run {
 public:
     const uint64_t seed;
 
     Run(const char *test, int words, char **word)
         : seed(drawn_seed()), name(test), started(Clock::now()),
-          length(words > 1 ? std::atof(word[1]) : 1) {
-        std::printf("%s: SEED=%llu, %.0f s\n", test, static_cast<unsigned long long>(seed), length);
+          length(words > 1 ? std::atof(word[1]) : 1),
+          has_seconds(words > 1 && std::string(word[1]).back() == 's') {
+        std::printf("%s: SEED=%llu, %.0f %s\n", test, static_cast<unsigned long long>(seed), length,
+                    has_seconds ? "s" : "rounds");
         std::fflush(stdout);
     }
 
     double elapsed() const { return std::chrono::duration<double>(Clock::now() - started).count(); }
-    bool is_over() const { return elapsed() >= length; }
+    // Whether the run is over after so many rounds.
+    bool is_over(long rounds) const { return (has_seconds ? elapsed() : double(rounds)) >= length; }
 
     // Reports a difference and ends the program. After the first one the model is behind.
     [[noreturn]] void differ(const std::string &call, const std::string &what,
@@ -81,10 +85,13 @@ private:
     const char *const name;
     const Clock::time_point started;
     const double length;
+    const bool has_seconds;
 
     static uint64_t drawn_seed() {
         const char *const given = std::getenv("SEED");
-        return given ? std::strtoull(given, nullptr, 0) : std::random_device{}();
+        if (!given) return 1;
+        return given == std::string("fresh") ? std::random_device{}()
+                                             : std::strtoull(given, nullptr, 0);
     }
 };
 

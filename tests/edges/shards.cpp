@@ -1,5 +1,5 @@
 // Random calls of a store of several shards by one thread, each compared with a model for each
-// shard: its status, each output, each byte. shards SECONDS; SEED=.. repeats a run.
+// shard: its status, each output, each byte. shards LENGTH, as random_run.hpp says.
 #include "model.hpp"
 #include "random_run.hpp"
 
@@ -35,7 +35,7 @@ public:
     }
 
     void round() {
-        for (uint64_t left = 100 + random.below(1000); left > 0 && !run.is_over(); left--) step();
+        for (uint64_t left = 100 + random.below(1000); left > 0; left--) step();
         uint64_t entries = 0, kept = 0;
         uint32_t lawful = 0;
         for (const model::Store &each : models) kept += each.journal.size();
@@ -221,6 +221,6 @@ int main(int words, char **word) {
     const Run run("shards", words, word);
     Random random(run.seed);
     unsigned rounds = 0;
-    for (; !run.is_over(); rounds++) World(run, random).round();
+    for (; !run.is_over(rounds); rounds++) World(run, random).round();
     std::printf("shards: %u rounds, 0 wrong\n", rounds);
 }

@@ -2,7 +2,8 @@
 // replies. Afterwards the journal is replayed by the model: each entry has the model's reply, and
 // each session's entries are its calls, in its order. Each read has the bytes of its version.
 //
-//     threads SECONDS [handed]; SEED=.. repeats a run as far as the scheduler allows
+//     threads LENGTH [handed], as random_run.hpp says; SEED=.. repeats a run as far as the
+//     scheduler allows
 //
 // With `handed`, threads take sessions from a queue, hand them on after some calls, split and join
 // them, and read and release what other threads lent. In every other round allocations are refused.
@@ -56,7 +57,6 @@ private:
     const Run &run;
     const Plan plan;
     const bool is_handed;
-    const double end = run.elapsed() + 1.5;
     lrc_slot first = LRC_SLOT_EMPTY;
     std::atomic<uint32_t> labels{0};
     std::atomic<long> handed_lendings{0};
@@ -64,8 +64,6 @@ private:
     Queue<Lent> lent;
     std::vector<Session> joined;
     std::mutex joining;
-
-    bool is_over() const { return run.elapsed() >= end; }
 
     // A new session with a label of its own. It is empty if there is no place for it.
     Session split_off(lrc_slot *from) {
@@ -87,7 +85,7 @@ private:
     void keep(unsigned number) {
         Caller caller(run, plan, number);
         Session session = *sessions.take();
-        while (!is_over() && !caller.is_full) {
+        for (unsigned left = plan.calls; left > 0 && !caller.is_full; left--) {
             caller.call(session);
             while (std::optional<Lent> old = caller.lent_longer_than(20)) caller.check(*old);
         }
@@ -99,11 +97,12 @@ private:
     void hand_on(unsigned number) {
         Caller caller(run, plan, number);
         Random &random = caller.random;
-        while (!is_over() && !caller.is_full) {
+        for (unsigned count = 0; count < plan.calls && !caller.is_full;) {
             std::optional<Session> session = sessions.take();
             if (!session) session = spent.take();
             if (!session) continue;
-            for (uint64_t left = 1 + random.below(40); left > 0; left--) caller.call(*session);
+            for (uint64_t left = 1 + random.below(40); left > 0; left--, count++)
+                caller.call(*session);
             while (std::optional<Lent> made = caller.lent_longer_than(0)) lent.push(*made);
             while (std::optional<Lent> other = lent.take(20)) {
                 caller.check(*other);
@@ -161,7 +160,7 @@ int main(int words, char **word) {
     const Run run(test, words, word);
     Random random(run.seed);
     long rounds = 0, entries = 0, lendings = 0;
-    for (; !run.is_over(); rounds++) {
+    for (; !run.is_over(rounds); rounds++) {
         Round round(run, random, rounds % 2 == 1, is_handed);
         round();
         entries += round.entries;

@@ -19,6 +19,7 @@ inline void expect(const Run &run, uint64_t got, uint64_t want, const char *what
 // What the threads of a round do.
 struct Plan {
     static constexpr uint32_t limit = 150000;
+    static constexpr unsigned calls = 20000; // that each thread makes
     uint64_t seed;
     uint32_t width;
     unsigned threads, names;

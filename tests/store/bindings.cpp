@@ -5,6 +5,7 @@
 #include <algorithm>
 #include <atomic>
 #include <chrono>
+#include <cstdlib>
 #include <fstream>
 #include <iostream>
 #include <memory>
@@ -24,6 +25,7 @@ template <class Got, class Wanted> void expect(int line, const Got &got, const W
     if (got == wanted) return;
     std::cerr << "bindings.cpp:" << line << ": " << got << ", expected " << wanted << '\n';
     wrong++;
+    if (std::getenv("LRC_FIRST_FAILURE")) std::_Exit(1);
 }
 #define EXPECT(got, wanted) expect(__LINE__, got, wanted)
 
@@ -425,7 +427,7 @@ void mends() {
 // 100 threads by the 64 sessions of a pool.
 void threads_by_a_pool() {
     session first = session::open(4, 10000);
-    first.set_timeout(std::chrono::seconds(10));
+    first.set_timeout(longest);
     lrc::pool pool(std::move(first));
     std::vector<std::thread> threads;
     for (unsigned number = 0; number < 100; number++)
@@ -466,7 +468,7 @@ void pools() {
 // 8 threads by a store of 16 shards, of which two mend.
 void threads_by_shards() {
     lrc::sharded_store store(4, 16, 1000);
-    store.set_timeout(std::chrono::seconds(10));
+    store.set_timeout(longest);
     std::vector<std::thread> threads;
     for (unsigned number = 0; number < 8; number++)
         threads.emplace_back([&store, number] {

@@ -451,7 +451,9 @@ class Threads(unittest.TestCase):
 
 def main():
     tests = unittest.defaultTestLoader.loadTestsFromNames(["bindings", "waiting", "declarations"])
-    ran = unittest.TextTestRunner(verbosity=0).run(tests)
+    ran = unittest.TextTestRunner(
+        verbosity=0, failfast="LRC_FIRST_FAILURE" in os.environ
+    ).run(tests)
     print(f"Python: {ran.testsRun} tests, {len(ran.failures) + len(ran.errors)} failed")
     return 0 if ran.wasSuccessful() else 1
 

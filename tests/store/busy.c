@@ -1,17 +1,33 @@
 /* Waiting forms of a store that is busy for ever, and the calls of a sharded one that wait. They
  * are loaded before liblrc_store.so, by LD_PRELOAD. Without a deadline a form returns
- * LRC_STORE_NO_PASS, which no real one does. */
+ * LRC_STORE_NO_PASS, which no real one does. A signal ends a wait. */
 #define _GNU_SOURCE
 #include "lrc_store.h"
 
+#include <stdatomic.h>
 #include <string.h>
 #include <time.h>
 
+/* How many threads wait now. If a test sets `busy_is_over`, they return LRC_STORE_NO_PASS. */
+extern atomic_int busy_callers, busy_is_over;
+atomic_int busy_callers, busy_is_over;
+
+static int64_t now_us(void) {
+    struct timespec now;
+    clock_gettime(CLOCK_MONOTONIC, &now);
+    return (int64_t)now.tv_sec * 1000000 + now.tv_nsec / 1000;
+}
+
 static uint32_t busy(int64_t timeout_ms) {
-    const struct timespec pause = {timeout_ms / 1000, timeout_ms % 1000 * 1000000};
+    const struct timespec pause = {0, 1000000};
+    const int64_t end = now_us() + timeout_ms * 1000;
+    int is_interrupted = 0;
     if (timeout_ms < 0) return LRC_STORE_NO_PASS;
-    nanosleep(&pause, NULL);
-    return LRC_STORE_BUSY;
+    busy_callers++;
+    while (now_us() < end && !busy_is_over && !is_interrupted)
+        is_interrupted = nanosleep(&pause, NULL) != 0;
+    busy_callers--;
+    return busy_is_over ? LRC_STORE_NO_PASS : LRC_STORE_BUSY;
 }
 
 #define WAITS(function, ...)                                                                       \

@@ -1,6 +1,7 @@
 /* Mendings: one plan that many threads work off. Link with library/store_mend.c, and with
  * --wrap=calloc,--wrap=lrc_store_plan_part_wait. With a word it cancels no thread, after which
  * ThreadSanitizer reports an error of its own. */
+#include "asleep.h"
 #include "store_test.h"
 #include <pthread.h>
 #include <stdatomic.h>
@@ -8,7 +9,7 @@
 #include <time.h>
 #include <unistd.h>
 
-enum { WIDTH = 4, STRIPES = 700, LOST_EACH = 3, WORKERS = 8, SLOW_MS = 20000 };
+enum { WIDTH = 4, STRIPES = 700, LOST_EACH = 3, WORKERS = 8, SLOW_MS = 60000 };
 
 static atomic_int refuses_memory;
 
@@ -231,7 +232,7 @@ static void cancels(void) {
     struct worker first = planner(&slot, mending), second = planner(&slot, mending);
     start_planning(&first);
     EXPECT(pthread_create(&second.thread, NULL, work, &second), 0);
-    usleep(20000);
+    until_others_sleep();
     pthread_cancel(first.thread);
     pthread_join(first.thread, NULL);
     plans_for_ever = 0;

@@ -1,6 +1,8 @@
 #!/usr/bin/env python3
 """The Python package `lrcstore` over a store that is busy for ever: busy.c is loaded before it."""
 
+import contextlib
+import ctypes
 import signal
 import threading
 import time
@@ -28,6 +30,48 @@ CALLS = {
 }
 
 
+# How many threads wait in busy.c, and whether they return.
+CALLERS, IS_OVER = (
+    ctypes.c_int.in_dll(ctypes.CDLL(None), name) for name in ("busy_callers", "busy_is_over")
+)
+
+
+def until(condition):
+    """Waits until something is so."""
+    end = time.monotonic() + FOREVER
+    while not condition():
+        if time.monotonic() > end:
+            raise TimeoutError
+        time.sleep(0.001)
+
+
+def sleeps(thread, looks=20):
+    """Whether a thread sleeps in the kernel, by several looks in a row."""
+    for _ in range(looks):
+        with open(f"/proc/self/task/{thread.native_id}/stat", encoding="ascii") as file:
+            if file.read().rsplit(")", 1)[1].split()[0] != "S":
+                return False
+        time.sleep(0.001)
+    return True
+
+
+@contextlib.contextmanager
+def signal_in_call():
+    """Sends this thread a signal when it waits in busy.c."""
+    here = threading.get_ident()
+
+    def send():
+        until(lambda: CALLERS.value > 0)
+        signal.pthread_kill(here, signal.SIGALRM)
+
+    sender = threading.Thread(target=send)
+    sender.start()
+    try:
+        yield
+    finally:
+        sender.join()
+
+
 class Interrupted(Exception):
     pass
 
@@ -52,11 +96,10 @@ class BusyForEver(unittest.TestCase):
 
     def test_a_signal_ends_each_call(self):
         signal.signal(signal.SIGALRM, interrupt)
-        self.store.timeout = FOREVER / 10
+        self.store.timeout = FOREVER
         for name, call in CALLS.items():
             if name != "mend":
-                signal.setitimer(signal.ITIMER_REAL, 0.02)
-                with self.subTest(name), self.assertRaises(Interrupted):
+                with self.subTest(name), self.assertRaises(Interrupted), signal_in_call():
                     call(self.store)
 
     def test_a_mend_has_no_deadline_of_its_own(self):
@@ -64,51 +107,50 @@ class BusyForEver(unittest.TestCase):
             self.store.mend()
         self.assertIs(caught.exception.status, Status.NO_PASS)  # what busy.c says then
 
-    def test_other_threads_run_and_the_store_stays_open(self):
-        ended, counted = threading.Event(), 0
-        self.store.timeout = 0.3
-
-        def wait():
-            self.assertRaises(Busy, self.store.stat, "a")
-            ended.set()
-
-        thread = threading.Thread(target=wait)
+    def start(self, call, *arguments):
+        """A thread that makes a call, which fails. It is in the call when this returns."""
+        self.store.timeout = FOREVER
+        thread = threading.Thread(target=self.assertRaises, args=(StoreError, call, *arguments))
         thread.start()
-        time.sleep(0.05)
+        until(lambda: CALLERS.value > 0)
+        return thread
+
+    def end(self, *threads):
+        IS_OVER.value = 1
+        for thread in threads:
+            thread.join()
+        IS_OVER.value = 0
+
+    def test_other_threads_run_and_the_store_stays_open(self):
+        thread = self.start(self.store.stat, "a")  # this thread sees it in the call, so it runs
         with self.assertRaises(StoreError) as caught:
             self.store.close()
         self.assertIs(caught.exception.status, Status.NOT_ALONE)
-        while not ended.is_set():
-            counted += 1
-            time.sleep(0.001)
-        thread.join()
-        self.assertGreater(counted, 5)
+        self.assertTrue(thread.is_alive())
+        self.end(thread)
         self.assertEqual(self.store.close(), (0, False))
 
     def test_one_call_at_a_time_uses_a_version(self):
-        held, ended, longest = self.store.hold("held"), threading.Event(), 0.0
-        self.store.timeout = 1
+        held, returned = self.store.hold("held"), []
 
-        def wait():
-            self.assertRaises(Busy, self.store.install, held, 0, 1, b"abcd")
-            ended.set()
-
-        thread = threading.Thread(target=wait)
-        thread.start()
-        while not ended.is_set():
-            began = time.monotonic()
+        def ask():
             self.assertRaises(StoreError, held.shape)  # what busy.c holds has no shape
-            longest = max(longest, time.monotonic() - began)
-        thread.join()
-        self.assertGreater(longest, 0.5)
+            returned.append("shape")
+
+        thread = self.start(self.store.install, held, 0, 1, b"abcd")
+        other = threading.Thread(target=ask)
+        other.start()
+        until(lambda: returned or sleeps(other))
+        self.assertEqual(returned, [])
+        self.end(thread, other)
+        self.assertEqual(returned, ["shape"])
 
     def test_a_handler_cannot_use_the_version_of_the_call_that_it_interrupts(self):
         held = self.store.hold("held")
-        self.store.timeout = FOREVER / 10
+        self.store.timeout = FOREVER
         for call in (held.shape, held.read, lambda: held.lost(0), lambda: held.fragment(0, 0)):
             signal.signal(signal.SIGALRM, lambda *_, use=call: use())
-            signal.setitimer(signal.ITIMER_REAL, 0.02)
-            with self.assertRaises(RuntimeError) as caught:
+            with self.assertRaises(RuntimeError) as caught, signal_in_call():
                 self.store.install(held, 0, 1, b"abcd")
             self.assertIn("uses the version", str(caught.exception))
             self.assertRaises(StoreError, call)

@@ -1,11 +1,13 @@
-/* The pool of the sessions of a store. Link with --wrap=malloc and --wrap=calloc. */
+/* The pool of the sessions of a store. Link with --wrap=malloc, --wrap=calloc and
+ * --wrap=pthread_cond_clockwait. */
+#include "asleep.h"
 #include "store_test.h"
 #include <pthread.h>
 #include <stdatomic.h>
 #include <time.h>
 #include <unistd.h>
 
-enum { SESSIONS = 64, THREADS = 100, TURNS = 50, ROUNDS = 300, SLACK_US = 1500000 };
+enum { SESSIONS = 64, THREADS = 100, TURNS = 50, ROUNDS = 300, SLACK_US = 60000000 };
 
 /* Whether memory is refused. */
 static atomic_int refuses_memory;
@@ -18,6 +20,23 @@ void *__real_calloc(size_t count, size_t size);
 void *__wrap_calloc(size_t count, size_t size);
 void *__wrap_calloc(size_t count, size_t size) {
     return refuses_memory ? NULL : __real_calloc(count, size);
+}
+
+/* Whether a thread that waits is cancelled when its session has come, before it goes on. */
+static atomic_int cancels_at_wake;
+
+int __real_pthread_cond_clockwait(pthread_cond_t *came, pthread_mutex_t *mutex, clockid_t by,
+                                  const struct timespec *end);
+int __wrap_pthread_cond_clockwait(pthread_cond_t *came, pthread_mutex_t *mutex, clockid_t by,
+                                  const struct timespec *end);
+int __wrap_pthread_cond_clockwait(pthread_cond_t *came, pthread_mutex_t *mutex, clockid_t by,
+                                  const struct timespec *end) {
+    const int status = __real_pthread_cond_clockwait(came, mutex, by, end);
+    if (cancels_at_wake) {
+        pthread_cancel(pthread_self());
+        pthread_testcancel();
+    }
+    return status;
 }
 
 static int64_t now_us(void) {
@@ -155,7 +174,7 @@ static void *wait_for_session(void *argument) {
 static pthread_t waiting(struct waiter *waiter) {
     pthread_t thread;
     EXPECT(pthread_create(&thread, NULL, wait_for_session, waiter), 0);
-    usleep(30000);
+    until_others_sleep();
     EXPECT(waiter->is_done, 0);
     return thread;
 }
@@ -191,6 +210,26 @@ static void lines_up(void) {
     lrc_pool_give(pool, taken[9]);
     EXPECT(lrc_pool_take(pool, &none, 0), LRC_STORE_DONE);
     EXPECT(none == taken[9], 1);
+    for (int i = 0; i < SESSIONS; i++) lrc_pool_give(pool, taken[i]);
+    closed(pool, SESSIONS);
+}
+
+/* A session comes to a thread that is cancelled before it goes on: it goes back. */
+static void cancels_when_it_came(void) {
+    lrc_pool *pool = opened();
+    lrc_slot *taken[SESSIONS];
+    struct waiter waiter = {pool, NULL, 0};
+    pthread_t thread;
+    lends_each_once(pool, taken);
+    thread = waiting(&waiter);
+    cancels_at_wake = 1;
+    lrc_pool_give(pool, taken[0]);
+    joined(thread, 1);
+    cancels_at_wake = 0;
+    EXPECT(waiter.got == NULL, 1);
+    taken[0] = NULL;
+    EXPECT(lrc_pool_take(pool, &taken[0], 0), LRC_STORE_DONE);
+    if (!taken[0]) return;
     for (int i = 0; i < SESSIONS; i++) lrc_pool_give(pool, taken[i]);
     closed(pool, SESSIONS);
 }
@@ -251,15 +290,17 @@ static void serves_more_threads_than_sessions(void) {
     closed(shared, 2 * THREADS * TURNS);
 }
 
-/* With a word it does not refuse memory to the library, which may be a shared object. */
+/* With a word it does not stand in for functions that the library calls: it may be a shared
+ * object. */
 int main(int words, char **word) {
     (void)word;
-    alarm(10); /* a call that never returns ends the test */
+    alarm(60); /* a call that never returns ends the test */
     refuses();
     lends_one();
     if (words < 2) refuses_without_memory();
     lends_all();
     lines_up();
+    if (words < 2) cancels_when_it_came();
     cancels();
     serves_more_threads_than_sessions();
     return report("pool");

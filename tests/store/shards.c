@@ -1,4 +1,5 @@
 /* A store of several shards. Link with --wrap of malloc, calloc and lrc_store_numbers_wait. */
+#include "asleep.h"
 #include "store_test.h"
 #include <pthread.h>
 #include <stdatomic.h>
@@ -332,7 +333,7 @@ struct blocked {
 
 static void *give_later(void *argument) {
     const struct blocked *blocked = argument;
-    usleep(30000);
+    until_others_sleep();
     lrc_pool_give(blocked->pool, blocked->session);
     return NULL;
 }
@@ -380,7 +381,7 @@ static void gives_back_when_cancelled(void) {
 /* With a word it cancels no thread. With the word `shared` it refuses no memory either, as the
  * library may be a shared object. */
 int main(int words, char **word) {
-    alarm(10); /* a call that never returns ends the test */
+    alarm(60); /* a call that never returns ends the test */
     tells_the_shard();
     refuses_options();
     serves_threads();

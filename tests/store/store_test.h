@@ -1,9 +1,11 @@
-/* What the tests of the store in C share: expectations, names, and bytes to store. */
+/* What the tests of the store in C share: expectations, names, and bytes to store. With
+ * LRC_FIRST_FAILURE a test ends at its first failure. */
 #ifndef STORE_TEST_H
 #define STORE_TEST_H
 #include "lrc_store.h"
 #include <inttypes.h>
 #include <stdio.h>
+#include <stdlib.h>
 #include <string.h>
 
 /* a name and its length, as two arguments */
@@ -19,6 +21,7 @@ static inline void expect(const char *file, int line, const char *what, uint64_t
         fprintf(stderr, "%s:%d: %s is %" PRIu64 ", expected %" PRIu64 "\n", file, line, what, got,
                 want);
         wrong++;
+        if (getenv("LRC_FIRST_FAILURE")) _Exit(1);
     }
 }
 

@@ -1,12 +1,13 @@
 /* The waiting forms of library/store_wait.c over functions that record their arguments. Link with
  * that file, and without the library. */
+#include "asleep.h"
 #include "store_test.h"
 #include <pthread.h>
 #include <stdatomic.h>
 #include <time.h>
 #include <unistd.h>
 
-enum { MOST = 9, OTHER_STATUS = 7, ROOM = 16, SLACK_US = 1500000, LAST = 99 };
+enum { MOST = 9, OTHER_STATUS = 7, ROOM = 16, SLACK_US = 60000000, LAST = 99 };
 
 #define ARGUMENTS(...) ((const uint64_t[MOST]){__VA_ARGS__})
 #define AT(pointer) ((uint64_t)(uintptr_t)(pointer))
@@ -39,7 +40,7 @@ static __thread int stays;
 static uint32_t called(const uint64_t *arguments) {
     if (stays) {
         is_inside = 1;
-        while (!is_let_go) usleep(100);
+        while (!is_let_go) usleep(1000);
         return OTHER_STATUS;
     }
     memcpy(seen, arguments, sizeof seen);
@@ -314,7 +315,7 @@ static pthread_t take_turn(int64_t *timeout_ms) {
     pthread_t thread;
     is_inside = is_let_go = 0;
     EXPECT(pthread_create(&thread, NULL, stay_in_call, timeout_ms), 0);
-    while (!is_inside) usleep(100);
+    while (!is_inside) usleep(1000);
     calls = busy = 0;
     return thread;
 }
@@ -342,7 +343,7 @@ static void turns(void) {
     has_session = 1;
     EXPECT(calls, 3);
     EXPECT(pthread_create(&waiter, NULL, wait_for_turn, slots), 0);
-    usleep(60000);
+    until_others_sleep();
     EXPECT(calls, 3);
     let_go(holder);
     EXPECT(pthread_join(waiter, &status), 0);
@@ -357,19 +358,20 @@ static void cancels(void) {
     pthread_t holder = take_turn(&forever), waiter;
     void *status = NULL;
     EXPECT(pthread_create(&waiter, NULL, wait_for_turn, slots), 0);
-    usleep(20000);
+    until_others_sleep();
     EXPECT(pthread_cancel(waiter), 0);
     EXPECT(pthread_join(waiter, &status), 0);
     EXPECT(status == PTHREAD_CANCELED, 1);
     let_go(holder);
+    calls = 0;
     busy = ~0u;
     EXPECT(pthread_create(&waiter, NULL, wait_for_turn, slots), 0);
-    usleep(20000);
+    while (calls < 20) usleep(1000); /* with the turn, and past the attempts without a sleep */
     EXPECT(pthread_cancel(waiter), 0);
     EXPECT(pthread_join(waiter, &status), 0);
     EXPECT(status == PTHREAD_CANCELED, 1);
     busy = 0;
-    EXPECT(trim(1000), OTHER_STATUS);
+    EXPECT(trim(60000), OTHER_STATUS);
 }
 
 /* A long call is tried before its turn, a short one is not. */

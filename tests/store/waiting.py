@@ -19,6 +19,7 @@ from recorder import Recorder  # noqa: E402
 BUSY = Status.BUSY
 STRIPES = 4096
 FOREVER = 60  # seconds that no test takes
+INTERRUPTS = 1000  # at any place of a call
 
 # The calls that wait, with the waiting form that each calls first.
 CALLS = {
@@ -278,14 +279,14 @@ class TwoThreads(unittest.TestCase):
                 found.append(error)
 
         signal.signal(signal.SIGALRM, handler)
-        signal.setitimer(signal.ITIMER_REAL, 0.02)
-        with Recorder(8 * [BUSY]):
+        with Recorder([BUSY]) as record:
+            record.after_stat = [lambda: signal.raise_signal(signal.SIGALRM)]
             self.session.stat("a")
         signal.signal(signal.SIGALRM, signal.SIG_IGN)
         self.assertEqual(len(found), 1)
 
     def test_an_interrupt_leaves_nothing_behind(self):
-        count, end, armed = 0, time.monotonic() + 1, []
+        count, end, armed = 0, time.monotonic() + FOREVER, []
 
         def handler(*_):
             if armed:
@@ -297,7 +298,7 @@ class TwoThreads(unittest.TestCase):
         signal.signal(signal.SIGALRM, handler)
         signal.setitimer(signal.ITIMER_REAL, 0.001, 0.0007)
         with dropped:
-            while time.monotonic() < end:
+            while count < INTERRUPTS and time.monotonic() < end:
                 try:
                     armed.append(True)
                     while armed:
@@ -309,7 +310,7 @@ class TwoThreads(unittest.TestCase):
                     count += 1
         signal.signal(signal.SIGALRM, signal.SIG_IGN)
         signal.setitimer(signal.ITIMER_REAL, 0)
-        self.assertGreater(count, 10)
+        self.assertEqual(count, INTERRUPTS)
         self.assertEqual(self.session.get("a"), b"HELLO")
         self.assertTrue(self.session.close().is_checked)
 

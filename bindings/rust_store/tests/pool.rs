@@ -17,7 +17,7 @@ fn pool(timeout: Option<Duration>) -> Pool {
 
 #[test]
 fn threads_take_turns() {
-    let (pool, stored) = (pool(Some(Duration::from_secs(10))), AtomicU64::new(0));
+    let (pool, stored) = (pool(Some(Duration::from_secs(60))), AtomicU64::new(0));
     thread::scope(|scope| {
         for number in 0..THREADS {
             let (pool, stored) = (&pool, &stored);
