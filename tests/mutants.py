@@ -7,12 +7,19 @@
 A block of tests/mutants/*.txt is a mutant: the text `old` stands once in a file and becomes `new`.
 The mutant is built in a copy of the tree, and the named test has to fail there. It also has to pass
 in a copy without a mutant. A mutant that survives, does not build or no longer applies is a
-failure. --only takes those that have the text. LRC_LIBRARIES names the folder of the libraries.
-The last line counts.
+failure. --only takes those that have the text, and --times prints for each test what it and its
+mutants take of the processors. LRC_LIBRARIES names the folder of the libraries. The last line
+counts.
+
+What a mutant does not touch is built once: of the objects of a test, each copy makes those anew
+that are made of the mutant's file, as the compiler lists them. With a mutant, a test ends at its
+first failure (LRC_FIRST_FAILURE).
 """
 
 import argparse
 import concurrent.futures
+import contextlib
+import functools
 import glob
 import os
 import shutil
@@ -20,6 +27,7 @@ import signal
 import subprocess
 import sys
 import tempfile
+import threading
 import time
 from typing import NamedTuple
 
@@ -42,10 +50,9 @@ STORE = "-Wl,--allow-multiple-definition $LRC_LIBRARIES/liblrc_store.a -lpthread
 CODER = "$LRC_LIBRARIES/liblrc_coder.a"
 TEXTS = "library/store_text.c library/coder_text.c"
 BACKEND = "integrations/liberasurecode"
-SHARDS = (
-    "tests/store/shards.c library/store_shards.c library/store_pool.c"
-    f" -Wl,--wrap=malloc,--wrap=calloc,--wrap=lrc_store_numbers_wait {STORE} -o program"
-)
+SHARDS = ["tests/store/shards.c", "library/store_shards.c", "library/store_pool.c"]
+OF_SHARDS = f"-Wl,--wrap=malloc,--wrap=calloc,--wrap=lrc_store_numbers_wait {STORE}"
+VERSIONS = ["tests/store/versions.c", "library/store_get.c"]
 SANITIZED = "-g -fsanitize=address,undefined"
 LIBERASURECODE = (
     "/usr/include/liberasurecode/erasurecode_backend.h",
@@ -54,36 +61,64 @@ LIBERASURECODE = (
 CEPH = ("ceph-osd", "ceph-osd", "/usr/include/rados/librados.h", "librados-dev")
 CEPH += ("/usr/include/rados/buffer.h", "libradospp-dev")
 CEPH_20 = "CEPH_VERSION=20.2.4"
+# How long a command may take that should pass, and the status of one whose test does not build.
+PATIENCE, NOT_BUILT = 600, 99
 # Installing takes the program as it is: one that knows its version.
 PROGRAM = "crates/lrcstore/out/lrcstore"
 
 
+@functools.lru_cache(maxsize=None)
+def levels():
+    """The levels of this processor."""
+    printed = subprocess.run([f"{HERE}/levels.sh"], stdout=subprocess.PIPE, text=True)
+    return printed.stdout.split()
+
+
 class Test(NamedTuple):
-    """How a test is built, and how it is run. What `prepare` makes is made once. `needs` has a
-    command or a file and its package, in turn, and `level` that of the processor."""
+    """How a test is built, and how it is run. What `prepare` makes is made once, and so is the
+    whole build for mutants of files that are not in `reads`. `needs` has a command or a file and
+    its package, in turn, and `level` that of the processor."""
 
     build: str
     run: str
     prepare: str = "true"
-    seconds: int = 60
     needs: tuple = ()
     level: str = "v2"
+    reads: tuple = ("",)
 
     def missing(self):
         """The packages that are not here, and what the processor lacks."""
         pairs = zip(self.needs[::2], self.needs[1::2])
         lacks = [package for it, package in pairs if not (shutil.which(it) or os.path.exists(it))]
-        printed = subprocess.run([f"{HERE}/levels.sh"], stdout=subprocess.PIPE, text=True).stdout
-        return lacks + [f"x86-64-{self.level}"] * (self.level not in printed.split())
+        return lacks + [f"x86-64-{self.level}"] * (self.level not in levels())
+
+
+def objects(compile_one, *sources):
+    """Makes the object of each source that is not there, and lists what it is made of."""
+    made = [(source, os.path.basename(source).split(".")[0]) for source in sources]
+    return " && ".join(
+        f"{{ [ -e {name}.o ] || {compile_one} -MMD -c {source} -o {name}.o; }}"
+        for source, name in made
+    )
+
+
+def program(compile_one, sources, linked):
+    """Builds a program of the objects of its sources, and of what else is linked."""
+    names = " ".join(os.path.basename(source).split(".")[0] + ".o" for source in sources)
+    return f"{objects(compile_one, *sources)} && {compile_one} {names} {linked} -o program"
 
 
 def store_program(file, words="", **others):
     """A test of the store's library in C or C++, with the sources of its waiting forms."""
     wrap = WRAP + (",--wrap=free" if file.endswith(".cpp") else "")
-    compile_one = CPP if file.endswith(".cpp") else C
+    forms = objects(C, "library/store_wait.c", "library/store_get.c")
     return Test(
-        f"{C} -c library/store_wait.c -o wait.o && {C} -c library/store_get.c -o get.o"
-        f" && {compile_one} tests/{file} wait.o get.o {wrap} {STORE} -o program",
+        f"{forms} && "
+        + program(
+            CPP if file.endswith(".cpp") else C,
+            [f"tests/{file}"],
+            f"store_wait.o store_get.o {wrap} {STORE}",
+        ),
         f"./program {words}",
         **others,
     )
@@ -111,41 +146,53 @@ def choice(level):
 
 
 def rust_crate(folder):
-    """The tests of a Rust crate."""
-    command = f"cd bindings/{folder} && cargo test --quiet --offline"
-    return Test(f"{command} --no-run", command, needs=("cargo", "cargo"))
+    """The tests of a Rust crate, one program after the other, and then those of its documents."""
+    tests = sorted(glob.glob(os.path.join(TOP, "bindings", folder, "tests", "*.rs")))
+    names = [f"--test {os.path.basename(path)[:-3]}" for path in tests]
+    command = f"cd bindings/{folder}"
+    for target in ("--lib", *names):
+        words = f"cargo test --quiet --offline {target}"
+        command += f" && {{ {words} --no-run || exit {NOT_BUILT}; }} && {words}"
+    return Test(
+        f"cd bindings/{folder} && cargo build --quiet --offline",
+        f"{command} && cargo test --quiet --offline --doc",
+        needs=("cargo", "cargo"),
+    )
 
 
 TESTS = {
     "waiting": Test(
-        f"{C} tests/store/waiting.c library/store_wait.c -o program", "./program", seconds=10
+        program(C, ["tests/store/waiting.c", "library/store_wait.c"], "-lpthread"), "./program"
     ),
     "pool": Test(
-        f"{C} tests/store/pool.c library/store_pool.c -Wl,--wrap=malloc,--wrap=calloc {STORE}"
-        " -o program",
+        program(
+            C,
+            ["tests/store/pool.c", "library/store_pool.c"],
+            f"-Wl,--wrap=malloc,--wrap=calloc,--wrap=pthread_cond_clockwait {STORE}",
+        ),
         "./program",
     ),
-    "shards": Test(f"{C} {SHARDS}", "./program"),
-    "shards_sanitized": Test(f"{C} {SANITIZED} {SHARDS}", "./program uncancelled"),
-    "versions": Test(
-        f"{C} tests/store/versions.c library/store_get.c {STORE} -o program", "./program"
+    "shards": Test(program(C, SHARDS, OF_SHARDS), "./program"),
+    "shards_sanitized": Test(
+        program(f"{C} {SANITIZED}", SHARDS, OF_SHARDS), "./program uncancelled"
     ),
-    "versions_sanitized": Test(
-        f"{C} {SANITIZED} tests/store/versions.c library/store_get.c {STORE} -o program",
-        "./program",
-    ),
-    "names": Test(f"{C} tests/store/names.c library/store_name.c -o program", "./program"),
+    "versions": Test(program(C, VERSIONS, STORE), "./program"),
+    "versions_sanitized": Test(program(f"{C} {SANITIZED}", VERSIONS, STORE), "./program"),
+    "names": Test(program(C, ["tests/store/names.c", "library/store_name.c"], ""), "./program"),
     "mending": Test(
-        f"{C} tests/store/mending.c library/store_mend.c library/store_wait.c"
-        f" -Wl,--wrap=calloc,--wrap=lrc_store_plan_part_wait {STORE} -o program",
+        program(
+            C,
+            ["tests/store/mending.c", "library/store_mend.c", "library/store_wait.c"],
+            f"-Wl,--wrap=calloc,--wrap=lrc_store_plan_part_wait {STORE}",
+        ),
         "./program",
     ),
-    "waits": store_program("edges/waits.c", seconds=25),
-    "calls": store_program("edges/calls.cpp", "4"),
+    "waits": store_program("edges/waits.c"),
+    "calls": store_program("edges/calls.cpp", "40"),
     "threads": store_program("edges/threads.cpp", "4"),
     "numbers": Test(
-        f"{copy_of_open('first')} && {copy_of_open('second')}"
-        f" && {C} tests/edges/numbers.c first.o second.o -o program",
+        f"{copy_of_open('first')} && {copy_of_open('second')} && "
+        + program(C, ["tests/edges/numbers.c"], "first.o second.o"),
         "./program",
     ),
     "texts": Test(
@@ -155,12 +202,10 @@ TESTS = {
     ),
     "choice": choice("v3"),
     "choice_v4": choice("v4"),
-    "coder": Test(f"{CPP} tests/edges/coder.cpp {CODER} -o program", "./program 3"),
-    "cpp": Test(f"{CPP} tests/store/bindings.cpp {STORE} -o program", "./program", seconds=120),
+    "coder": Test(program(CPP, ["tests/edges/coder.cpp"], CODER), "./program 60"),
+    "cpp": Test(program(CPP, ["tests/store/bindings.cpp"], STORE), "./program"),
     "cpp_sanitized": Test(
-        f"{CPP} {SANITIZED} tests/store/bindings.cpp {STORE} -o program",
-        "./program",
-        seconds=120,
+        program(f"{CPP} {SANITIZED}", ["tests/store/bindings.cpp"], STORE), "./program"
     ),
     "install": Test(
         "true",
@@ -168,26 +213,25 @@ TESTS = {
         prepare=f"mkdir -p $(dirname {PROGRAM}) && printf '#!/bin/sh\\necho lrcstore 0.1.0\\n'"
         f" > {PROGRAM} && chmod +x {PROGRAM}",
     ),
-    "release": Test("true", "python3 tests/release/modules.py", seconds=120),
-    "python_coder": Test("true", "python3 tests/library/bindings.py", seconds=120),
-    "python_store": Test("true", "python3 tests/store/bindings.py", seconds=120),
+    "release": Test("true", "python3 tests/release/modules.py -f"),
+    "python_coder": Test("true", "python3 tests/library/bindings.py -f"),
+    "python_store": Test("true", "python3 tests/store/bindings.py"),
     "python_package": Test(
         "tools/python_extension.py --libraries $LRC_LIBRARIES --rpath $LRC_LIBRARIES"
         f" --to bindings/python/lrcstore && {C} -shared -fPIC tests/store/busy.c -o busy.so",
-        "python3 tests/store/package.py native"
-        " && LD_PRELOAD=./busy.so python3 tests/store/package_busy.py",
-        seconds=60,
+        "python3 tests/store/package.py native -f"
+        " && LD_PRELOAD=./busy.so python3 tests/store/package_busy.py -f",
         needs=(python_extension.header(), "python3-dev"),
+        reads=("include/", "library/", "tools/", "tests/", "bindings/python/lrcstore/_native.c"),
     ),
-    "python_sessions": Test("true", "python3 tests/store/package.py ctypes", seconds=60),
+    "python_sessions": Test("true", "python3 tests/store/package.py ctypes -f"),
     "rust_coder": rust_crate("rust"),
     "rust_store": rust_crate("rust_store"),
     "go_store": Test(
         f"{C} -shared -fPIC tests/store/busy.c -o busy.so"
         " && tests/store/go.sh test -c -o ../../program .",
-        "./program -test.timeout 50s"
-        " && LRC_BUSY=1 LD_PRELOAD=./busy.so ./program -test.timeout 50s -test.run TestBusy",
-        seconds=120,
+        "./program -test.failfast && LRC_BUSY=1 LD_PRELOAD=./busy.so ./program -test.failfast"
+        " -test.run TestBusy",
         needs=("go", "golang-go"),
     ),
     "liberasurecode": Test(
@@ -269,15 +313,27 @@ def apply_all(mutants):
     return bool(wrong)
 
 
-def succeeds(command, tree, seconds):
-    """Whether a command in the tree ends with status 0 in this time."""
+def end(run, took):
+    """Ends a command whose time is over, with all that it has started."""
+    took.append("too long")
+    with contextlib.suppress(ProcessLookupError):
+        os.killpg(run.pid, signal.SIGKILL)
+
+
+def succeeds(command, tree, seconds, **others):
+    """Whether a command in the tree ends with status 0 in this time, or None if a test that it
+    builds does not build. Gives also what it took of the processors."""
     environment = dict(
         os.environ,
         PYTHONDONTWRITEBYTECODE="1",
         PYTHONPATH="bindings/python",
-        CARGO_TARGET_DIR=os.path.join(tree, "cargo"),
+        CARGO_TARGET_DIR=tree + ".cargo",
+        CARGO_INCREMENTAL="0",
+        CARGO_PROFILE_DEV_DEBUG="0",
+        CARGO_PROFILE_TEST_DEBUG="0",
         LRC_STORE_SO=os.path.join(os.environ["LRC_LIBRARIES"], "liblrc_store.so"),
         LRC_CODER_SO=os.path.join(os.environ["LRC_LIBRARIES"], "liblrc_coder.so"),
+        **others,
     )
     with open(os.path.join(tree, "printed"), "w", encoding="utf-8") as printed:
         run = subprocess.Popen(
@@ -289,12 +345,15 @@ def succeeds(command, tree, seconds):
             stderr=subprocess.STDOUT,
             start_new_session=True,
         )
-        try:
-            return run.wait(timeout=seconds) == 0
-        except subprocess.TimeoutExpired:
-            os.killpg(run.pid, signal.SIGKILL)
-            run.wait()
-            return False
+    took_long = []
+    timer = threading.Timer(seconds, end, (run, took_long))
+    timer.start()
+    _, status, used = os.wait4(run.pid, 0)
+    timer.cancel()
+    run.returncode = status
+    is_built = not (os.WIFEXITED(status) and os.WEXITSTATUS(status) == NOT_BUILT)
+    succeeded = (status == 0 and not took_long) if is_built else None
+    return succeeded, used.ru_utime + used.ru_stime
 
 
 def last_lines(tree):
@@ -302,60 +361,119 @@ def last_lines(tree):
         return "".join(printed.readlines()[-5:])
 
 
-def trial(base, name, mutant=None):
-    """Tries a mutant by its test, or the test without one. Returns what is wrong, or None, and the
-    seconds that it took."""
-    started, test = time.monotonic(), TESTS[name]
-    with tempfile.TemporaryDirectory(dir=os.path.dirname(base)) as folder:
-        tree = os.path.join(folder, "tree")
-        shutil.copytree(base, tree, symlinks=True)
-        wrong = plant(mutant, tree) if mutant else None
-        if not wrong and not succeeds(test.build, tree, 240):
-            wrong = f"does not build: {last_lines(tree)}"
-        if not wrong and mutant and succeeds(test.run, tree, test.seconds):
-            wrong = "survives"
-        # twice, since others run beside it
-        if not mutant and not wrong and not any(
-            succeeds(test.run, tree, test.seconds) for _ in range(2)
-        ):
-            wrong = f"fails without a mutant: {last_lines(tree)}"
-    return wrong, time.monotonic() - started
+def forget(mutant, tree):
+    """Removes the objects that are made of a mutant's file."""
+    for path in glob.glob(os.path.join(tree, "*.d")):
+        with open(path, encoding="utf-8") as listed:
+            if mutant.file in listed.read().split():
+                os.remove(path[:-2] + ".o")
 
 
-def base_in(folder, names):
-    """A copy of the tree, with what the tests have prepared."""
-    base = os.path.join(folder, "base")
+def fault_of(mutant, tree, base):
+    """Tries a mutant by its test, which may take much longer than without it. Returns what is
+    wrong, or None, and the seconds that it took of the processors."""
+    test, built = TESTS[mutant.test], 0
+    wrong = plant(mutant, tree)
+    if wrong:
+        return wrong, 0
+    if mutant.file.startswith(test.reads):
+        forget(mutant, tree)
+        builds, built = succeeds(test.build, tree, PATIENCE)
+        if not builds:
+            return f"does not build: {last_lines(tree)}", built
+    command = f"ulimit -t {10 + 5 * int(base.ran)}; {test.run}"
+    survives, ran = succeeds(command, tree, 60 + 10 * base.clock, LRC_FIRST_FAILURE="1")
+    if survives is None:
+        return f"does not build: {last_lines(tree)}", built + ran
+    return "survives" if survives else None, built + ran
+
+
+def trial(mutant, base):
+    """The same in a copy of the tree in which the test is built, once that is there."""
+    if base.exception():
+        return None, 0
+    built = base.result().tree
+    folder = tempfile.mkdtemp(dir=os.path.dirname(built))
+    tree = os.path.join(folder, "tree")
+    # both commands take a quarter of what Python's functions take
+    subprocess.run(["cp", "-a", built, tree], check=True)
+    try:
+        return fault_of(mutant, tree, base.result())
+    finally:
+        subprocess.run(["rm", "-rf", folder], check=True)
+
+
+def copy_to(base):
+    """Copies what tests need of the repository."""
     for part in COPIED:
         source, there = os.path.join(TOP, part), os.path.join(base, part)
         if os.path.isdir(source):
             shutil.copytree(source, there, ignore=NOT_COPIED)
         else:
+            os.makedirs(os.path.dirname(there), exist_ok=True)
             shutil.copy(source, there)
-    for name in names:
-        if not succeeds(TESTS[name].prepare, base, 240):
-            sys.exit(f"{name}: {last_lines(base)}")
-    return base
+
+
+class BaseFails(Exception):
+    """A test that fails without a mutant. None of its mutants is tried then."""
+
+
+class Base(NamedTuple):
+    """A copy of the tree in which a test is built, what that took of the processors, and what the
+    test itself took of them and by the clock."""
+
+    tree: str
+    took: float
+    ran: float
+    clock: float
+
+
+def base_of(name, folder):
+    """Builds a test in a copy of the tree, and runs it there. It has to pass."""
+    test, base, took = TESTS[name], os.path.join(folder, name), 0.0
+    copy_to(base)
+    for command in (test.prepare, test.build):
+        passes, seconds = succeeds(command, base, PATIENCE)
+        took += seconds
+        if not passes:
+            raise BaseFails(f"does not build: {last_lines(base)}")
+    built = os.path.join(folder, f"{name}.built")
+    shutil.copytree(base, built, symlinks=True)
+    began = time.monotonic()
+    passes, seconds = succeeds(test.run, base, PATIENCE)
+    if not passes:
+        raise BaseFails(f"fails without a mutant: {last_lines(base)}")
+    return Base(built, took, seconds, time.monotonic() - began)
 
 
 def try_all(mutants, jobs, has_times):
-    """Tries the mutants, and their tests without one. Returns how many were rejected, and what was
-    wrong how often."""
+    """Tries the mutants, and their tests without one. Returns how many were rejected, and how often
+    something was wrong."""
     names = sorted({it.test for it in mutants})
-    rejected = wrong = 0
+    rejected, wrong, took = 0, 0, dict.fromkeys(names, 0.0)
     with tempfile.TemporaryDirectory() as folder, concurrent.futures.ThreadPoolExecutor(
         jobs
     ) as pool:
-        base = base_in(folder, names)
-        tried = {pool.submit(trial, base, name): f"test {name}" for name in names}
-        tried |= {pool.submit(trial, base, it.test, it): it for it in mutants}
+        bases = {name: pool.submit(base_of, name, folder) for name in names}
+        tried = {pool.submit(trial, it, bases[it.test]): it for it in mutants}
+        for name, base in bases.items():
+            try:
+                took[name] += base.result().took + base.result().ran
+            except BaseFails as fails:
+                print(f"test {name}: {fails}", flush=True)
+                wrong += 1
         for done in concurrent.futures.as_completed(tried):
-            what, seconds = done.result()
+            (what, seconds), it = done.result(), tried[done]
+            took[it.test] += seconds
             if has_times:
-                print(f"{seconds:6.1f} s {tried[done]}")
+                print(f"{seconds:6.1f} s of the processors: {it}")
             if what:
-                print(f"{tried[done]}: {what}", flush=True)
-            rejected += not what and isinstance(tried[done], Mutant)
+                print(f"{it}: {what}", flush=True)
+            rejected += not what and not bases[it.test].exception()
             wrong += bool(what)
+    if has_times:
+        for name, seconds in sorted(took.items(), key=lambda row: -row[1]):
+            print(f"{seconds:6.1f} s of the processors: test {name} and its mutants")
     return rejected, wrong
 
 
@@ -363,7 +481,7 @@ def arguments():
     parser = argparse.ArgumentParser(description=__doc__.splitlines()[0])
     parser.add_argument("--jobs", type=int, default=os.cpu_count())
     parser.add_argument("--only", default="", help="those whose file, test or text has this")
-    parser.add_argument("--times", action="store_true", help="the seconds of each")
+    parser.add_argument("--times", action="store_true", help="what each test takes")
     parser.add_argument("--applies", action="store_true", help="only see that they apply")
     return parser.parse_args()
 
@@ -379,7 +497,7 @@ def main():
             "LRC_LIBRARIES has to name a folder that tools/libraries.py --to FOLDER has filled"
         )
     os.environ["LRC_LIBRARIES"] = os.path.abspath(os.environ["LRC_LIBRARIES"])
-    lacks = {it.test: TESTS[it.test].missing() for it in mutants}
+    lacks = {name: TESTS[name].missing() for name in sorted({it.test for it in mutants})}
     left = [it for it in mutants if not lacks[it.test]]
     rejected, wrong = try_all(left, given.jobs, given.times)
     shown = "; ".join(f"{name}: no {' '.join(all_of)}" for name, all_of in lacks.items() if all_of)

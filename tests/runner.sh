@@ -1,7 +1,8 @@
 # shellcheck shell=bash
 # What the test scripts share: `test_of` runs a test, or skips it and names what it lacks; `summary`
 # is the last line. The script that sources this file stands at the top of the repository. No test
-# installs anything: tests/setup.sh does. LRC_TEST names one test, and the others are left out.
+# installs anything: tests/setup.sh does. LRC_TEST names one test, and the others are left out. With
+# LRC_FIRST_FAILURE the script ends at the first failure.
 work=$(mktemp -d)
 trap 'rm -rf "$work"' EXIT
 passed=0
@@ -26,6 +27,7 @@ test_of() {
     else
         failed=$((failed + 1))
         echo "failed: $name"
+        [ -z "${LRC_FIRST_FAILURE:-}" ] || exit 1
     fi
 }
 
