@@ -41,5 +41,5 @@ else
     skip 1 "release.sh, as LRC_BUILT names no folder of tools/package.py"
 fi
 side_by_side "${parts[@]}"
-part tests/mutants.py --jobs "$(nproc)"
+part tests/mutants.py --jobs "$((2 * $(nproc)))" # some wait in vain
 sum_up
