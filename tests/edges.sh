@@ -33,7 +33,7 @@ held() {
         -lpthread -lrt -o "$work/$1" && timeout 300 "$work/$1"
 }
 
-calls() { random calls "${wrapped[@]}" -Wl,--wrap=free "$store" && "$work/calls" "$(length 400)"; }
+calls() { random calls "${wrapped[@]}" -Wl,--wrap=free "$store" && "$work/calls" "$(length 600)"; }
 
 # The coder's code for each level that the processor has, in turn.
 coder_calls() {
@@ -45,7 +45,7 @@ coder_calls() {
     done
 }
 
-shards() { random shards "$store" && "$work/shards" "$(length 200)"; }
+shards() { random shards "$store" && "$work/shards" "$(length 400)"; }
 
 # Programs of one thread each, side by side.
 one_thread() {
@@ -58,7 +58,7 @@ one_thread() {
 }
 
 threads() {
-    random threads "${wrapped[@]}" -Wl,--wrap=free "$store" && "$work/threads" "$(length 20)" "$@"
+    random threads "${wrapped[@]}" -Wl,--wrap=free "$store" && "$work/threads" "$(length 40)" "$@"
 }
 
 # The sources of the libraries without the proved code.

@@ -247,7 +247,7 @@ TESTS = {
     ),
     "swift": Test("true", "python3 integrations/swift/test_module.py"),
     "ceph": Test(
-        "work=$PWD && . integrations/ceph/programs.sh && plugins plugins -O0",
+        "rm -rf plugins && work=$PWD && . integrations/ceph/programs.sh && plugins plugins -O0",
         "./plugin_test plugins tests/corpus",
         prepare="work=$PWD && . integrations/ceph/programs.sh && program plugin_test -O0",
         needs=CEPH,
