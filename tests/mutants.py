@@ -382,7 +382,7 @@ def fault_of(mutant, tree, base):
         if not builds:
             return f"does not build: {last_lines(tree)}", built
     command = f"ulimit -t {10 + 5 * int(base.ran)}; {test.run}"
-    survives, ran = succeeds(command, tree, 60 + 10 * base.clock, LRC_FIRST_FAILURE="1")
+    survives, ran = succeeds(command, tree, 60 + 5 * base.clock, LRC_FIRST_FAILURE="1")
     if survives is None:
         return f"does not build: {last_lines(tree)}", built + ran
     return "survives" if survives else None, built + ran
