@@ -130,7 +130,8 @@ enum {
     LRC_STORE_OCCUPIED = 15,     /* the slot that the function fills is not empty */
     LRC_STORE_BAD_ARGUMENT = 16, /* a limit not in 1 to 1,048,576; a number of shards not in 1 to
                                   * 64; a number of data fragments other than 12 and 6; slots of two
-                                  * stores; or bytes that are not as many as a fragment has */
+                                  * stores; bytes that are not as many as a fragment has; or, in C++
+                                  * and Rust, a name of another shard than a lease */
     LRC_STORE_NOT_ALONE = 17,    /* the store has other sessions */
     LRC_STORE_NOT_REBUILT = 18,  /* out of memory for rebuilding lost fragments, or for the list of
                                   * pieces of lrc_store_lend; the history has the call, `version` is
@@ -431,15 +432,16 @@ uint32_t lrc_pool_close(lrc_pool *pool, lrc_slot *slot);
 typedef struct lrc_shards lrc_shards;
 
 typedef struct {
-    size_t size;     /* sizeof(lrc_options); later versions may have more options */
-    uint32_t width;  /* the bytes of a fragment */
-    uint32_t shards; /* 1 to 64 */
-    uint32_t limit;  /* how many entries the journal of each shard may have; 0 for no journals */
+    size_t size;       /* sizeof(lrc_options); later versions may have more options */
+    uint32_t width;    /* the bytes of a fragment */
+    uint32_t shards;   /* 1 to 64 */
+    uint32_t limit;    /* how many entries the journal of each shard may have; 0 for no journals */
+    uint32_t reserved; /* 0 */
 } lrc_options;
 
 /* Opens a store. LRC_STORE_BAD_WIDTH and LRC_STORE_NO_MEMORY as lrc_store_open.
  * LRC_STORE_BAD_ARGUMENT for a limit or a number of shards that is out of range, and for options
- * that this version does not know: a greater `size` with other bytes than 0 behind `limit`. */
+ * that this version does not know: other bytes than 0 behind `limit`, up to `size`. */
 uint32_t lrc_shards_open(const lrc_options *options, lrc_shards **shards);
 
 /* Writes the pool of the shard of a name. LRC_STORE_BAD_NAME if it is none. */
@@ -462,7 +464,9 @@ uint32_t lrc_shards_trim(lrc_shards *shards, uint64_t keep, uint64_t *discarded,
 uint32_t lrc_shards_mend(lrc_shards *shards, uint64_t *repaired, int64_t timeout_ms);
 
 /* Closes the store and frees it. `entries` and `lawful` are those of lrc_store_close, of all
- * journals. LRC_STORE_NOT_ALONE if a session is lent. No thread may use the store meanwhile or
+ * journals. LRC_STORE_NOT_ALONE if a session is lent: the store is as before. LRC_STORE_EMPTY if a
+ * session was released or replaced while it was lent: the store is freed all the same, `entries`
+ * are those of the other shards, and `lawful` is 2. No thread may use the store meanwhile or
  * afterwards. */
 uint32_t lrc_shards_close(lrc_shards *shards, uint64_t *entries, uint32_t *lawful);
 

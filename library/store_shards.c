@@ -9,7 +9,7 @@
 #include <stdatomic.h>
 #include <stdlib.h>
 
-enum { MOST_SHARDS = 64, LAWFUL = 1 };
+enum { MOST_SHARDS = 64, LAWFUL = 1, UNCHECKED = 2 };
 
 struct lrc_shards {
     uint32_t count;
@@ -20,7 +20,7 @@ struct lrc_shards {
 /* Whether the caller knows no option that this version lacks. */
 static int are_known(const lrc_options *options) {
     const unsigned char *bytes = (const unsigned char *)options;
-    if (options->size < sizeof *options) return 0;
+    if (options->size < sizeof *options || options->reserved) return 0;
     for (size_t i = sizeof *options; i < options->size; i++)
         if (bytes[i]) return 0;
     return 1;
@@ -177,20 +177,31 @@ uint32_t lrc_shards_mend(lrc_shards *shards, uint64_t *repaired, int64_t timeout
     return status;
 }
 
+/* Closes a shard, of which no session is lent, and frees it. LRC_STORE_EMPTY if a session was not
+ * given back, so that the others have not all places of the store. */
+static uint32_t close_shard(lrc_pool *pool, uint64_t *entries, uint32_t *lawful) {
+    lrc_slot slot = LRC_SLOT_EMPTY;
+    uint64_t of_shard = 0;
+    uint32_t of_journal = LAWFUL, status = lrc_pool_close(pool, &slot);
+    if (status == LRC_STORE_DONE) status = lrc_store_close(&slot, &of_shard, &of_journal);
+    lrc_slot_release(&slot); /* if it could not be closed */
+    *entries += of_shard;
+    *lawful = status == LRC_STORE_DONE ? of_journal : UNCHECKED;
+    return status == LRC_STORE_DONE ? LRC_STORE_DONE : LRC_STORE_EMPTY;
+}
+
 uint32_t lrc_shards_close(lrc_shards *shards, uint64_t *entries, uint32_t *lawful) {
+    uint32_t status = LRC_STORE_DONE;
     for (uint32_t shard = 0; shard < shards->count; shard++)
         if (pool_is_busy(shards->pools[shard])) return LRC_STORE_NOT_ALONE;
     *entries = 0;
     *lawful = LAWFUL;
     for (uint32_t shard = 0; shard < shards->count; shard++) {
-        lrc_slot slot = LRC_SLOT_EMPTY;
-        uint64_t of_shard = 0;
-        uint32_t of_journal = LAWFUL;
-        lrc_pool_close(shards->pools[shard], &slot);
-        lrc_store_close(&slot, &of_shard, &of_journal);
-        *entries += of_shard;
+        uint32_t of_journal;
+        const uint32_t closed = close_shard(shards->pools[shard], entries, &of_journal);
+        if (closed != LRC_STORE_DONE) status = closed;
         if (of_journal != LAWFUL) *lawful = of_journal;
     }
     free(shards);
-    return LRC_STORE_DONE;
+    return status;
 }

@@ -111,7 +111,7 @@ static inline lrc_reply store_numbers(lrc_shards *shards, lrc_numbers *numbers,
 
 static inline uint32_t store_open(uint32_t width, uint32_t shards, uint32_t limit,
                                   lrc_shards **opened) {
-    const lrc_options options = {sizeof options, width, shards, limit};
+    const lrc_options options = {sizeof options, width, shards, limit, 0};
     return lrc_shards_open(&options, opened);
 }
 

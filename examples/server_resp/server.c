@@ -541,7 +541,7 @@ static int usage(void) {
 
 int main(int count, char **words) {
     static struct worker workers[MOST_THREADS];
-    lrc_options options = {sizeof options, 0, SHARDS, 0};
+    lrc_options options = {sizeof options, 0, SHARDS, 0, 0};
     lrc_shards *shards;
     const long processors = sysconf(_SC_NPROCESSORS_ONLN);
     long threads = processors < MOST_THREADS ? processors : MOST_THREADS;

@@ -34,7 +34,7 @@ uint32_t __wrap_lrc_store_numbers_wait(lrc_slot *slot, lrc_numbers *numbers, int
 }
 
 static lrc_options of(uint32_t width, uint32_t shards, uint32_t limit) {
-    return (lrc_options){sizeof(lrc_options), width, shards, limit};
+    return (lrc_options){sizeof(lrc_options), width, shards, limit, 0};
 }
 
 static lrc_shards *opened(uint32_t shards, uint32_t limit) {
@@ -103,7 +103,12 @@ static void refuses_options(void) {
     refused(of(4, 2, 1048577), LRC_STORE_BAD_ARGUMENT);
     options.known.size = sizeof options.known - 1;
     refused(options.known, LRC_STORE_BAD_ARGUMENT);
+    options.known.size = sizeof options.known;
+    options.known.reserved = 1;
+    refused(options.known, LRC_STORE_BAD_ARGUMENT);
     options.known.size = sizeof options;
+    refused(options.known, LRC_STORE_BAD_ARGUMENT);
+    options.known.reserved = 0;
     for (int i = 0; i < 2; i++) {
         options.later[i] = 1u << 31;
         EXPECT(lrc_shards_open(&options.known, &made), LRC_STORE_BAD_ARGUMENT);
@@ -112,6 +117,51 @@ static void refuses_options(void) {
     EXPECT(made == NULL, 1);
     EXPECT(lrc_shards_open(&options.known, &made), LRC_STORE_DONE);
     closed(made, 0, 2);
+}
+
+/* The options have no byte that is not looked at. */
+static void has_no_padding(void) {
+    EXPECT(sizeof(lrc_options), offsetof(lrc_options, reserved) + sizeof(uint32_t));
+}
+
+/* Lends a session of a shard, puts a blob on it, and releases it. Puts `other` in its place. */
+static void lose_session(lrc_shards *shards, uint32_t shard, lrc_slot *other) {
+    lrc_pool *pool = NULL;
+    lrc_slot *session = NULL;
+    uint64_t version;
+    EXPECT(lrc_shards_at(shards, shard, &pool), LRC_STORE_DONE);
+    EXPECT(lrc_pool_take(pool, &session, 0), LRC_STORE_DONE);
+    EXPECT(lrc_store_put(session, NAME("a"), (const uint8_t *)"HELLO", 5, 12, &version),
+           LRC_STORE_DONE);
+    lrc_slot_release(session);
+    *session = *other;
+    other->at = NULL;
+    lrc_pool_give(pool, session);
+}
+
+/* A store of which a lent session was released, or replaced by one of another store, says so at its
+ * end, and is freed. The journals of the other shards count. */
+static void closes_without_a_session(void) {
+    for (uint32_t lost = 0; lost < 3; lost++) {
+        lrc_shards *shards = opened(3, 10);
+        lrc_slot none = LRC_SLOT_EMPTY, other = LRC_SLOT_EMPTY;
+        uint64_t entries = 1234;
+        uint32_t lawful = 1234;
+        for (uint32_t shard = 0; shard < 3; shard++) {
+            lrc_pool *pool = NULL;
+            lrc_slot *session = NULL;
+            uint64_t version, len, stripes, fragments;
+            EXPECT(lrc_shards_at(shards, shard, &pool), LRC_STORE_DONE);
+            EXPECT(lrc_pool_take(pool, &session, 0), LRC_STORE_DONE);
+            lrc_store_stat(session, NAME("a"), &version, &len, &stripes, &fragments);
+            lrc_pool_give(pool, session);
+        }
+        if (lost == 1) EXPECT(lrc_store_open(4, 10, &other), LRC_STORE_DONE);
+        lose_session(shards, lost, lost == 1 ? &other : &none);
+        EXPECT(lrc_shards_close(shards, &entries, &lawful), LRC_STORE_EMPTY);
+        EXPECT(entries, 2);
+        EXPECT(lawful, 2);
+    }
 }
 
 /* If memory runs out anywhere, all shards that were opened are freed, and nothing is written. */
@@ -383,6 +433,8 @@ int main(int words, char **word) {
     alarm(10); /* a call that never returns ends the test */
     tells_the_shard();
     refuses_options();
+    has_no_padding();
+    closes_without_a_session();
     serves_threads();
     mends_from_different_shards();
     trims();

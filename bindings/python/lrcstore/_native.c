@@ -570,7 +570,7 @@ static PyObject *calls_open(store_calls *self, PyObject *const *words, Py_ssize_
     if (words[1] != Py_None && limit == 0) limit = UINT32_MAX;
     if (!self->shards) {
         const lrc_options options = {sizeof options, (uint32_t)width, (uint32_t)shards,
-                                     (uint32_t)limit};
+                                     (uint32_t)limit, 0};
         status = lrc_shards_open(&options, &self->shards);
     }
     return reply(status, &call, 0);
