@@ -30,6 +30,7 @@ sys.path.append(os.path.join(TOP, "tools"))
 import python_extension  # noqa: E402
 
 COPIED = ("include", "library", "bindings", "integrations", "packaging", "tests", "tools", "docs")
+COPIED += ("examples",)
 COPIED += ("README.md", "CHANGELOG.md", "crates/test_vectors/data", "crates/command_line/src")
 COPIED += ("crates/coder_c/src", "crates/store_c/src", "crates.txt")
 NOT_COPIED = shutil.ignore_patterns("__pycache__", "target", "*.so", "out")
@@ -179,6 +180,7 @@ TESTS = {
         seconds=60,
         needs=(python_extension.header(), "python3-dev"),
     ),
+    "http": Test("true", "python3 tests/services/http_server.py", seconds=60),
     "python_sessions": Test("true", "python3 tests/store/package.py ctypes", seconds=60),
     "rust_coder": rust_crate("rust"),
     "rust_store": rust_crate("rust_store"),
