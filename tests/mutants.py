@@ -180,6 +180,14 @@ TESTS = {
         seconds=60,
         needs=(python_extension.header(), "python3-dev"),
     ),
+    "resp": Test(
+        f"{C} examples/server_resp/server.c {STORE} -o program",
+        "python3 tests/services/resp_server.py ./program OneThread FewFiles Words",
+    ),
+    "resp_sanitized": Test(
+        f"{C} {SANITIZED} examples/server_resp/server.c {STORE} -o program",
+        "python3 tests/services/resp_server.py ./program OneThread",
+    ),
     "http": Test("true", "python3 tests/services/http_server.py", seconds=60),
     "python_sessions": Test("true", "python3 tests/store/package.py ctypes", seconds=60),
     "rust_coder": rust_crate("rust"),
