@@ -113,7 +113,7 @@ def choice(level):
 
 def rust_crate(folder):
     """The tests of a Rust crate."""
-    command = f"cd bindings/{folder} && cargo test --quiet --offline"
+    command = f"cd {folder} && cargo test --quiet --offline"
     return Test(f"{command} --no-run", command, needs=("cargo", "cargo"))
 
 
@@ -190,8 +190,9 @@ TESTS = {
     ),
     "http": Test("true", "python3 tests/services/http_server.py", seconds=60),
     "python_sessions": Test("true", "python3 tests/store/package.py ctypes", seconds=60),
-    "rust_coder": rust_crate("rust"),
-    "rust_store": rust_crate("rust_store"),
+    "rust_coder": rust_crate("bindings/rust"),
+    "rust_store": rust_crate("bindings/rust_store"),
+    "cache": rust_crate("examples/cache"),
     "go_store": Test(
         f"{C} -shared -fPIC tests/store/busy.c -o busy.so"
         " && tests/store/go.sh test -c -o ../../program .",
