@@ -54,6 +54,7 @@ LIBERASURECODE = (
 )
 CEPH = ("ceph-osd", "ceph-osd", "/usr/include/rados/librados.h", "librados-dev")
 CEPH += ("/usr/include/rados/buffer.h", "libradospp-dev")
+FUSE = ("/usr/lib/python3/dist-packages/fusepy.py", "python3-fusepy", "/dev/fuse", "FUSE")
 CEPH_20 = "CEPH_VERSION=20.2.4"
 # Installing takes the program as it is: one that knows its version.
 PROGRAM = "crates/lrcstore/out/lrcstore"
@@ -180,13 +181,18 @@ TESTS = {
         seconds=60,
         needs=(python_extension.header(), "python3-dev"),
     ),
+    "mount": Test(
+        "true",
+        "/usr/bin/python3 tests/services/mount.py",
+        needs=(*FUSE, "fusermount", "fuse3"),
+    ),
     "resp": Test(
         f"{C} examples/server_resp/server.c {STORE} -o program",
         "python3 tests/services/resp_server.py ./program OneThread FewFiles Words",
     ),
     "resp_sanitized": Test(
         f"{C} {SANITIZED} examples/server_resp/server.c {STORE} -o program",
-        "python3 tests/services/resp_server.py ./program OneThread",
+        "python3 tests/services/resp_server.py ./program OneThread.test_large_values_on_their_way",
     ),
     "http": Test("true", "python3 tests/services/http_server.py", seconds=60),
     "python_sessions": Test("true", "python3 tests/store/package.py ctypes", seconds=60),

@@ -259,36 +259,35 @@ mod tests {
         assert_eq!(cache.store.numbers().unwrap().blobs, cache.bytes() / OF_100);
     }
 
-    /// Threads put, get and remove the same keys: what counts is what there is.
-    #[test]
-    fn the_memory_of_shared_keys_is_known() {
-        let cache = Cache::new(16, 30_000).unwrap();
-        thread::scope(|scope| {
-            for thread in 0..8u64 {
-                let cache = &cache;
-                scope.spawn(move || {
-                    let mut state = thread * 77 + 1;
-                    for _ in 0..4000 {
-                        state = state.wrapping_mul(6364136223846793005).wrapping_add(1);
-                        let (key, len) =
-                            ([(state >> 33) as u8 % 20], (state >> 41) as usize % 1500);
-                        match state >> 61 {
-                            0..=3 => cache.put(&key, &vec![7; len]).unwrap(),
-                            4 => drop(cache.remove(&key).unwrap()),
-                            _ => drop(cache.get(&key).unwrap()),
-                        }
-                    }
-                });
-            }
-        });
-        let (mut blobs, mut bytes) = (0, 0);
-        for key in 0..20u8 {
-            if let Some(value) = cache.get(&[key]).unwrap() {
-                blobs += 1;
-                bytes += cache.bytes_of(value.len() as u64);
+    /// Puts, gets and removes values of 8 keys.
+    fn work(cache: &Cache, mut state: u64) {
+        for _ in 0..30 {
+            state = state.wrapping_mul(6364136223846793005).wrapping_add(1);
+            let (key, len) = ([(state >> 33) as u8 % 8], (state >> 41) as usize % 1500);
+            match state >> 61 {
+                0..=4 => cache.put(&key, &vec![7; len]).unwrap(),
+                5 => drop(cache.remove(&key).unwrap()),
+                _ => drop(cache.get(&key).unwrap()),
             }
         }
-        assert_eq!(cache.bytes(), bytes);
-        assert_eq!(cache.store.numbers().unwrap().blobs, blobs);
+    }
+
+    /// Threads change the same values: what counts is what there is.
+    #[test]
+    fn the_memory_of_shared_keys_is_known() {
+        let cache = Cache::new(16, 8_000).unwrap();
+        for round in 0..400 {
+            thread::scope(|scope| {
+                for thread in 0..6u64 {
+                    let cache = &cache;
+                    scope.spawn(move || work(cache, (round * 6 + thread) << 20));
+                }
+            });
+            let values = (0..8u8).filter_map(|key| cache.get(&[key]).unwrap());
+            let bytes: Vec<u64> = values.map(|it| cache.bytes_of(it.len() as u64)).collect();
+            assert_eq!(cache.bytes(), bytes.iter().sum::<u64>());
+            let blobs = cache.store.numbers().unwrap().blobs;
+            assert_eq!(blobs, bytes.len() as u64);
+        }
     }
 }
