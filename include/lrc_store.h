@@ -347,10 +347,12 @@ void lrc_store_name(const uint8_t *key, size_t key_len, uint8_t *name);
 const char *lrc_store_cpu(void);
 
 /* ---- Waiting forms. Each repeats its function while the status is LRC_STORE_BUSY. Those of a
- * store take turns, as at a mutex: a thread that waits sleeps, and is woken for its turn. A
- * function without `_wait` takes no turn. If `timeout_ms` is 0 or more, a form returns
- * LRC_STORE_BUSY once so many milliseconds have passed since the call. With 0 it makes one
- * attempt. If `timeout_ms` is negative, it has no deadline. No waiting thread has precedence. */
+ * store take turns, as at a mutex: a thread that waits sleeps, and is woken for its turn. No store
+ * waits for the turn of another one. A function without `_wait` takes no turn. If `timeout_ms` is 0
+ * or more, a form returns LRC_STORE_BUSY once so many milliseconds have passed since the call. With
+ * 0 it makes one attempt. It looks at the clock between two attempts, so a put that is being
+ * encoded, or a copy, ends first. If `timeout_ms` is negative, it has no deadline. No waiting
+ * thread has precedence. */
 uint32_t lrc_store_put_wait(lrc_slot *slot, const uint8_t *name, size_t name_len,
                             const uint8_t *blob, size_t blob_len, uint32_t data_fragments,
                             uint64_t *version, int64_t timeout_ms);
@@ -374,7 +376,7 @@ uint32_t lrc_store_stat_wait(lrc_slot *slot, const uint8_t *name, size_t name_le
                              uint64_t *version, uint64_t *len, uint64_t *stripes, uint64_t *lost,
                              int64_t timeout_ms);
 /* It trims in parts of 512 entries, between which other threads call, and at most 1,048,576 in all.
- * If a part is refused after others, `discarded` gets how many entries these had. */
+ * If a part is refused after others, or the deadline passes between two, `discarded` gets how many entries these had. */
 uint32_t lrc_store_trim_wait(lrc_slot *slot, uint64_t keep, uint64_t *discarded,
                              int64_t timeout_ms);
 uint32_t lrc_store_plan_wait(lrc_slot *slot, lrc_slot *other, uint64_t *items, int64_t timeout_ms);

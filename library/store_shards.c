@@ -79,6 +79,7 @@ uint32_t lrc_shards_find(lrc_shards *shards, const uint8_t *name, size_t name_le
 struct call {
     uint32_t (*run)(lrc_slot *session, struct call *call, int64_t timeout_ms);
     uint64_t keep, count;
+    int64_t of_step_ms;
     lrc_numbers numbers;
 };
 
@@ -93,21 +94,14 @@ static void give_back(void *argument) {
 }
 
 /* Makes a call on a session of the pool, which gets it back also if the thread is cancelled. */
-static uint32_t call_on(lrc_pool *pool, struct call *call, int64_t timeout_ms) {
+static uint32_t call_on(lrc_pool *pool, struct call *call, int64_t deadline) {
     struct lent lent = {pool, NULL};
-    uint32_t status = lrc_pool_take(pool, &lent.session, timeout_ms);
+    uint32_t status = lrc_pool_take(pool, &lent.session, left_ms(deadline));
     if (status != LRC_STORE_DONE) return status;
     pthread_cleanup_push(give_back, &lent);
-    status = call->run(lent.session, call, timeout_ms);
+    status = call->run(lent.session, call, left_ms(deadline));
     pthread_cleanup_pop(1);
     return status;
-}
-
-/* How many milliseconds are left until the deadline, rounded up. */
-static int64_t left_ms(int64_t deadline) {
-    if (deadline == NEVER) return -1;
-    const int64_t left = deadline - now_ns();
-    return left > 0 ? (left - 1) / NS_OF_MS + 1 : 0;
 }
 
 static uint64_t sum(uint64_t a, uint64_t b) { return a > UINT64_MAX - b ? UINT64_MAX : a + b; }
@@ -129,7 +123,7 @@ uint32_t lrc_shards_numbers(lrc_shards *shards, lrc_numbers *numbers, int64_t ti
     const int64_t deadline = deadline_after(timeout_ms);
     struct call call = {.run = add_numbers};
     for (uint32_t shard = 0; shard < shards->count; shard++) {
-        const uint32_t status = call_on(shards->pools[shard], &call, left_ms(deadline));
+        const uint32_t status = call_on(shards->pools[shard], &call, deadline);
         if (status != LRC_STORE_DONE) return status;
     }
     *numbers = call.numbers;
@@ -149,14 +143,17 @@ uint32_t lrc_shards_trim(lrc_shards *shards, uint64_t keep, uint64_t *discarded,
     struct call call = {.run = trim, .keep = keep};
     uint32_t status = LRC_STORE_DONE;
     for (uint32_t shard = 0; status == LRC_STORE_DONE && shard < shards->count; shard++)
-        status = call_on(shards->pools[shard], &call, left_ms(deadline));
+        status =
+            is_over(deadline) ? LRC_STORE_BUSY : call_on(shards->pools[shard], &call, deadline);
     if (status == LRC_STORE_DONE || call.count) *discarded = call.count;
     return status;
 }
 
+/* Each step of it has the whole timeout. */
 static uint32_t mend(lrc_slot *session, struct call *call, int64_t timeout_ms) {
     uint64_t repaired = 0;
-    const uint32_t status = lrc_store_mend_wait(session, &repaired, timeout_ms);
+    (void)timeout_ms;
+    const uint32_t status = lrc_store_mend_wait(session, &repaired, call->of_step_ms);
     call->count += repaired;
     return status;
 }
@@ -169,10 +166,11 @@ static uint32_t first_shard(lrc_shards *shards) {
 
 uint32_t lrc_shards_mend(lrc_shards *shards, uint64_t *repaired, int64_t timeout_ms) {
     const uint32_t first = first_shard(shards);
-    struct call call = {.run = mend};
+    struct call call = {.run = mend, .of_step_ms = timeout_ms};
     uint32_t status = LRC_STORE_DONE;
     for (uint32_t i = 0; status == LRC_STORE_DONE && i < shards->count; i++)
-        status = call_on(shards->pools[(first + i) % shards->count], &call, timeout_ms);
+        status =
+            call_on(shards->pools[(first + i) % shards->count], &call, deadline_after(timeout_ms));
     if (status == LRC_STORE_DONE || call.count) *repaired = call.count;
     return status;
 }

@@ -10,6 +10,8 @@ enum { SESSIONS = 64, SHARDS = 16, THREADS = 4, NAMES = 200, LOST = 3, BLOB = 10
 static atomic_int granted = -1;
 /* Whether the numbers of a shard never come, until the thread is cancelled. */
 static atomic_int is_held, holds_numbers;
+/* That of the last numbers of a shard. */
+static _Atomic int64_t last_timeout_ms;
 
 static int is_refused(void) { return granted >= 0 && granted-- == 0; }
 
@@ -26,6 +28,7 @@ void *__wrap_calloc(size_t count, size_t size) {
 uint32_t __real_lrc_store_numbers_wait(lrc_slot *slot, lrc_numbers *numbers, int64_t timeout_ms);
 uint32_t __wrap_lrc_store_numbers_wait(lrc_slot *slot, lrc_numbers *numbers, int64_t timeout_ms);
 uint32_t __wrap_lrc_store_numbers_wait(lrc_slot *slot, lrc_numbers *numbers, int64_t timeout_ms) {
+    last_timeout_ms = timeout_ms;
     while (holds_numbers) {
         is_held = 1;
         usleep(1000); /* a cancellation point */
@@ -405,6 +408,28 @@ static void waits_without_a_deadline(void) {
     closed(shards, 0, 2);
 }
 
+/* The wait for a session and the call on it have one deadline together. */
+static void has_one_deadline(void) {
+    lrc_shards *shards = opened(1, 0);
+    lrc_slot *sessions[SESSIONS];
+    struct blocked blocked = {NULL, NULL};
+    lrc_numbers numbers;
+    pthread_t thread;
+    EXPECT(lrc_shards_at(shards, 0, &blocked.pool), LRC_STORE_DONE);
+    block(blocked.pool, sessions, 1);
+    blocked.session = sessions[0];
+    EXPECT(pthread_create(&thread, NULL, give_later, &blocked), 0);
+    EXPECT(lrc_shards_numbers(shards, &numbers, 5000), LRC_STORE_DONE);
+    EXPECT(last_timeout_ms > 0 && last_timeout_ms < 4990, 1);
+    EXPECT(pthread_join(thread, NULL), 0);
+    EXPECT(lrc_shards_numbers(shards, &numbers, -7), LRC_STORE_DONE);
+    EXPECT(last_timeout_ms, -1);
+    EXPECT(lrc_shards_numbers(shards, &numbers, 0), LRC_STORE_DONE);
+    EXPECT(last_timeout_ms, 0);
+    for (int i = 1; i < SESSIONS; i++) lrc_pool_give(blocked.pool, sessions[i]);
+    closed(shards, 0, 2);
+}
+
 static void *count_for_ever(void *argument) {
     lrc_numbers numbers;
     (void)argument;
@@ -440,6 +465,7 @@ int main(int words, char **word) {
     trims();
     waits_for_a_shard();
     waits_without_a_deadline();
+    has_one_deadline();
     if (words < 2 || strcmp(word[1], "shared") != 0) refuses_without_memory();
     if (words < 2) gives_back_when_cancelled();
     return report("shards");
