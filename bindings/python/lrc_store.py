@@ -104,6 +104,10 @@ class _Slice(ctypes.Structure):
     _fields_ = [("at", ctypes.c_void_p), ("len", ctypes.c_size_t)]
 
 
+class _Buffer(ctypes.Structure):
+    _fields_ = [("at", ctypes.c_void_p), ("len", ctypes.c_size_t)]
+
+
 class _Entry(ctypes.Structure):
     _fields_ = [
         ("name", _Slice),
@@ -143,6 +147,9 @@ DECLARED = {
     "lrc_store_close": [_SLOT, _OUT, ctypes.POINTER(_U32)],
     "lrc_store_close_to": [_SLOT, _SLOT, _OUT, _OUT, ctypes.POINTER(_U32)],
     "lrc_slot_entry": [_SLOT, _SIZE, ctypes.POINTER(_Entry)],
+    "lrc_slot_reserve": [_SIZE, _SLOT],
+    "lrc_slot_buffer": [_SLOT, ctypes.POINTER(_Buffer)],
+    "lrc_store_put_from_wait": [*_NAMED, _SLOT, _U32, _OUT, _MS],
     "lrc_store_put_wait": [*_NAMED, _ADDRESS, _SIZE, _U32, _OUT, _MS],
     "lrc_store_read_wait": [*_NAMED, _U64, _ADDRESS, _SIZE, _OUT, _OUT, _OUT, _MS],
     "lrc_store_lend_wait": [*_NAMED, _U64, _U64, _SLOT, _OUT, _OUT, _MS],
@@ -248,6 +255,16 @@ def _view(what: str, data: Buffer) -> memoryview:
         hint = ": encode it" if isinstance(data, str) else ""
         found = f"{what} is of type {type(data).__name__}, expected contiguous bytes{hint}"
         raise TypeError(found) from error
+
+
+def _copy_of(view: memoryview) -> _Slot:
+    """A slot with a copy of these bytes, which a put takes without a further one."""
+    copy, buffer = _Slot(), _Buffer(ctypes.cast(_NOTHING, ctypes.c_void_p), 0)
+    _check(_library.lrc_slot_reserve(len(view), copy), "put")
+    _check(_library.lrc_slot_buffer(copy, buffer), "put")
+    if buffer.len:
+        memoryview((ctypes.c_char * buffer.len).from_address(buffer.at)).cast("B")[:] = view
+    return copy
 
 
 def _pinned(view: memoryview) -> Any:
@@ -537,17 +554,28 @@ class Session:
         status: int = self._use.alone(run)
         return status
 
-    def _wait(self, function: str, *arguments: object) -> int:
-        """The status of a waiting form, which is called for slices of the timeout."""
-        call = getattr(_library, function)
+    def _wait(
+        self,
+        function: str,
+        *arguments: object,
+        later: Callable[[], Tuple[str, Tuple[object, ...]]] | None = None,
+    ) -> int:
+        """The status of a waiting form, which is called for slices of the timeout.
+
+        `later` gives the function and the arguments of all slices but the first.
+        """
         end = math.inf if self._timeout is None else time.monotonic() + self._timeout
 
         def attempts() -> int:
+            call, words, is_first = getattr(_library, function), arguments, True
             while True:
                 left = max(0.0, min(_SLICE_SECONDS, end - time.monotonic()))
-                status: int = call(self._slot, *arguments, math.ceil(left * 1000))
+                status: int = call(self._slot, *words, math.ceil(left * 1000))
                 if status != Status.BUSY or time.monotonic() >= end:
                     return status
+                if is_first and later:
+                    name, words = later()
+                    call, is_first = getattr(_library, name), False
 
         return self._alone(attempts)
 
@@ -616,7 +644,14 @@ class Session:
         _number("data_fragments", data_fragments, 32)
         source = _pinned(view) if not view.readonly else bytes(blob)
         words = *_named(name), source, len(view), data_fragments, version
-        _check(self._wait("lrc_store_put_wait", *words), "put", name, len(view), data_fragments)
+
+        def copied() -> Tuple[str, Tuple[object, ...]]:
+            """The put of a copy, which is encoded once, however many slices there are."""
+            copy = _copy_of(view)
+            return "lrc_store_put_from_wait", (*_named(name), copy, data_fragments, version)
+
+        status = self._wait("lrc_store_put_wait", *words, later=copied)
+        _check(status, "put", name, len(view), data_fragments)
         return version.value
 
     def read(self, name: str, start: int, length: int) -> Grant:

@@ -17,6 +17,7 @@ import lrc_store  # noqa: E402
 PYTHON = {
     ctypes.POINTER(lrc_store._Slot): "* slot",
     ctypes.POINTER(lrc_store._Slice): "* slice",
+    ctypes.POINTER(lrc_store._Buffer): "* buffer",
     ctypes.POINTER(lrc_store._Entry): "* entry",
     ctypes.POINTER(lrc_store._Numbers): "* numbers",
     ctypes.POINTER(lrc_store._Shape): "* shape",
@@ -68,7 +69,7 @@ class Declarations(unittest.TestCase):
     def test_structures(self):
         for name, rust, python in (
             ("slice", "Slice", lrc_store._Slice),
-            ("buffer", "RawBuffer", None),
+            ("buffer", "RawBuffer", lrc_store._Buffer),
             ("slot", "Slot", lrc_store._Slot),
             ("entry", "RawEntry", lrc_store._Entry),
             ("numbers", "RawNumbers", lrc_store._Numbers),
