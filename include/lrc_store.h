@@ -376,7 +376,8 @@ uint32_t lrc_store_stat_wait(lrc_slot *slot, const uint8_t *name, size_t name_le
                              uint64_t *version, uint64_t *len, uint64_t *stripes, uint64_t *lost,
                              int64_t timeout_ms);
 /* It trims in parts of 512 entries, between which other threads call, and at most 1,048,576 in all.
- * If a part is refused after others, or the deadline passes between two, `discarded` gets how many entries these had. */
+ * If a part is refused after others, or the deadline passes between two, `discarded` gets how many
+ * entries these had. */
 uint32_t lrc_store_trim_wait(lrc_slot *slot, uint64_t keep, uint64_t *discarded,
                              int64_t timeout_ms);
 uint32_t lrc_store_plan_wait(lrc_slot *slot, lrc_slot *other, uint64_t *items, int64_t timeout_ms);
