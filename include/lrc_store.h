@@ -1,6 +1,7 @@
 /* lrc_store.h: an in-memory blob store that the threads of a process share. It keeps each blob
  * in a Local Reconstruction Code, so it can read and repair blobs while fragments are lost. Link
- * liblrc_store. The functions down to lrc_slot_release are proved; the others are plain C.
+ * liblrc_store. The functions down to lrc_slot_release are proved; the others are plain C, and so
+ * is the number that lrc_store_open and lrc_store_open_unjournaled give to a store.
  *
  * Slots. An lrc_slot holds one thing or nothing: a session of a store, a lent range, the rest of
  * a plan of repairs, a buffer, a version of a blob, or the journal of a closed store. Initialise
@@ -221,11 +222,12 @@ uint32_t lrc_store_lend(lrc_slot *slot, const uint8_t *name, size_t name_len, ui
 uint32_t lrc_slot_slices(lrc_slot *slot, lrc_slice *slices, size_t capacity, uint64_t *count);
 
 /* Writes runs of a lent range into `runs`, from the byte `from` of the range on, in order, as many
- * as there are and at most `capacity`. A run has all bytes that lie one behind another in memory,
- * so it joins pieces. A blob that never lost a fragment is one run, or two if lrc_store_put_from
- * stored it. Before the call each element of `runs` is a valid slice. `count` gets the number of
- * written runs. If that is `capacity`, there may be further runs, behind the bytes of these. It is
- * 0 if the range ends at `from` or before. The runs are valid as long as the pieces are. */
+ * as there are and at most `capacity`. A run joins pieces that lie one behind another in memory. A
+ * blob that never lost a fragment is one run, or two if lrc_store_put_from stored it: tests show
+ * that for some blobs, and no clause says where a run ends. Before the call each element of `runs`
+ * is a valid slice. `count` gets the number of written runs. If that is `capacity`, there may be
+ * further runs, behind the bytes of these. It is 0 if the range ends at `from` or before. The runs
+ * are valid as long as the pieces are. */
 uint32_t lrc_slot_runs(lrc_slot *slot, uint64_t from, lrc_slice *runs, size_t capacity,
                        uint64_t *count);
 
@@ -257,7 +259,8 @@ uint32_t lrc_store_plan(lrc_slot *slot, lrc_slot *other, uint64_t *items);
 
 /* Puts a part of such a plan into `other`: the first `most` of its items if `other` is empty, or
  * those behind the part that it holds, of which no item may be left. `items` gets their number: if
- * it is below `most`, no other part is behind. So a long plan can be made in steps, between which
+ * it is below `most`, no other part is behind. `most` is at least 1, and a plan in `other` is of
+ * this store: neither is checked. So a long plan can be made in steps, between which
  * other threads call. */
 uint32_t lrc_store_plan_part(lrc_slot *slot, lrc_slot *other, uint64_t most, uint64_t *items);
 
@@ -267,7 +270,8 @@ uint32_t lrc_store_plan_part(lrc_slot *slot, lrc_slot *other, uint64_t most, uin
  * another function. */
 uint32_t lrc_slot_items(lrc_slot *slot, lrc_item *items, size_t capacity, uint64_t *count);
 
-/* Repairs the next fragment of the plan in `other`, and returns the status of lrc_store_repair.
+/* Repairs the next fragment of the plan in `other`, and returns the status of lrc_store_repair. The
+ * plan is of this store, which is not checked: with another one, names of this store are repaired.
  * After LRC_STORE_BUSY, LRC_STORE_NO_MEMORY and LRC_STORE_JOURNAL_FULL the fragment stays the
  * next one. After any other status the next call takes the next fragment. */
 uint32_t lrc_store_mend_step(lrc_slot *slot, lrc_slot *other, uint64_t *version);
@@ -311,10 +315,11 @@ uint32_t lrc_slot_fragment(lrc_slot *slot, uint64_t stripe, uint64_t fragment, l
 
 /* Repairs a lost fragment of the name of the version in `other`, which stays there, with a copy of
  * the bytes. The caller ensures that the fragment has these bytes in that version. They may come
- * from another device or another machine. If the name still has the version, nothing is rebuilt. If
- * it has another one by now, that is repaired from its own fragments. The statuses and the journal
- * entry are those of lrc_store_repair. So it returns LRC_STORE_UNRECOVERABLE if the remaining
- * fragments do not determine the lost one, although its bytes are given.
+ * from another device or another machine. If the name still has the version, the fragment takes
+ * them, though no clause excludes that it is rebuilt. If it has another one by now, that is
+ * repaired from its own fragments. The statuses and the journal entry are those of
+ * lrc_store_repair. So it returns LRC_STORE_UNRECOVERABLE if the remaining fragments do not
+ * determine the lost one, although its bytes are given.
  *
  * Nothing is done on LRC_STORE_BAD_ARGUMENT, if the slots are of two stores or `len` is not the
  * store's width, and on LRC_STORE_NO_FRAGMENT, if the version has no such fragment. */
@@ -426,9 +431,10 @@ uint32_t lrc_pool_close(lrc_pool *pool, lrc_slot *slot);
 
 /* ---- A store of several shards, for threads that come and go. Any threads may share it. Each
  * shard is a store with a critical section of its own, and holds the names that lrc_store_shard
- * gives it. So calls of names of different shards never wait for each other. The calls of all
- * threads have the replies of one sequential store over all names. A version is the number of a put
- * at its shard.
+ * gives it. So calls of names of different shards never wait for each other. The calls of each
+ * shard have the replies of one sequential store. An interleaving of them is legal for one store
+ * over all names; it need not keep the order in which a thread called different shards. A version
+ * is the number of a put at its shard.
  *
  * A thread finds the pool of a name's shard, takes a session, makes calls of names of this shard on
  * it, and gives it back to the pool. */
