@@ -503,8 +503,8 @@ static int receive_some(struct client *client) {
     return 1;
 }
 
-/* Serves a client whose socket is ready. It gets no further command before its replies are sent,
- * but for those that it sent with them, up to MOST_UNSENT bytes of replies. Returns 0 once it is
+/* Serves a client whose socket is ready. It receives no further command before its replies are
+ * sent. Of those that it has, it runs some, until MOST_UNSENT bytes wait. Returns 0 once it is
  * over. */
 static int serve(struct client *client) {
     if (client->has_more && !client->out.len)
