@@ -133,7 +133,7 @@ int main(int count, char **words) {
     const size_t len = count > 1 ? (size_t)atoi(words[1]) : 64;
     const size_t names = count > 2 ? (size_t)atoi(words[2]) : 1;
     const uint32_t width = len < 96 ? 8 : (uint32_t)(len + 11) / 12;
-    const lrc_options options = {sizeof options, width, SHARDS, 0};
+    const lrc_options options = {sizeof options, width, SHARDS, 0, 0};
     struct worker *workers = calloc(MOST_THREADS, sizeof *workers);
     lrc_slot plain = LRC_SLOT_EMPTY;
     lrc_shards *shards = NULL;

@@ -228,5 +228,15 @@ static inline uint32_t lrc_decode_arrays(size_t data_fragments, size_t len,
 
 #ifdef __cplusplus
 }
+#else
+/* The addresses of what is read may be of const uint8_t or of uint8_t: C, unlike C++, converts no
+ * uint8_t ** to const uint8_t *const *. */
+#define LRC_ADDRESSES(of) ((const uint8_t *const *)(of) + 0 * sizeof((of)[0][0]))
+#define lrc_encode_arrays(data_fragments, len, data, parities)                                     \
+    lrc_encode_arrays(data_fragments, len, LRC_ADDRESSES(data), parities)
+#define lrc_rebuild_arrays(data_fragments, len, fragments, fragment, target)                       \
+    lrc_rebuild_arrays(data_fragments, len, LRC_ADDRESSES(fragments), fragment, target)
+#define lrc_decode_arrays(data_fragments, len, fragments, targets)                                 \
+    lrc_decode_arrays(data_fragments, len, LRC_ADDRESSES(fragments), targets)
 #endif
 #endif

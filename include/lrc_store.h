@@ -1,6 +1,7 @@
 /* lrc_store.h: an in-memory blob store that the threads of a process share. It keeps each blob
  * in a Local Reconstruction Code, so it can read and repair blobs while fragments are lost. Link
- * liblrc_store. The functions down to lrc_slot_release are proved; the others are plain C.
+ * liblrc_store. The functions down to lrc_slot_release are proved; the others are plain C, and so
+ * is the number that lrc_store_open and lrc_store_open_unjournaled give to a store.
  *
  * Slots. An lrc_slot holds one thing or nothing: a session of a store, a lent range, the rest of
  * a plan of repairs, a buffer, a version of a blob, or the journal of a closed store. Initialise
@@ -130,7 +131,8 @@ enum {
     LRC_STORE_OCCUPIED = 15,     /* the slot that the function fills is not empty */
     LRC_STORE_BAD_ARGUMENT = 16, /* a limit not in 1 to 1,048,576; a number of shards not in 1 to
                                   * 64; a number of data fragments other than 12 and 6; slots of two
-                                  * stores; or bytes that are not as many as a fragment has */
+                                  * stores; bytes that are not as many as a fragment has; or, in C++
+                                  * and Rust, a name of another shard than a lease */
     LRC_STORE_NOT_ALONE = 17,    /* the store has other sessions */
     LRC_STORE_NOT_REBUILT = 18,  /* out of memory for rebuilding lost fragments, or for the list of
                                   * pieces of lrc_store_lend; the history has the call, `version` is
@@ -220,11 +222,12 @@ uint32_t lrc_store_lend(lrc_slot *slot, const uint8_t *name, size_t name_len, ui
 uint32_t lrc_slot_slices(lrc_slot *slot, lrc_slice *slices, size_t capacity, uint64_t *count);
 
 /* Writes runs of a lent range into `runs`, from the byte `from` of the range on, in order, as many
- * as there are and at most `capacity`. A run has all bytes that lie one behind another in memory,
- * so it joins pieces. A blob that never lost a fragment is one run, or two if lrc_store_put_from
- * stored it. Before the call each element of `runs` is a valid slice. `count` gets the number of
- * written runs. If that is `capacity`, there may be further runs, behind the bytes of these. It is
- * 0 if the range ends at `from` or before. The runs are valid as long as the pieces are. */
+ * as there are and at most `capacity`. A run joins pieces that lie one behind another in memory. A
+ * blob that never lost a fragment is one run, or two if lrc_store_put_from stored it: tests show
+ * that for some blobs, and no clause says where a run ends. Before the call each element of `runs`
+ * is a valid slice. `count` gets the number of written runs. If that is `capacity`, there may be
+ * further runs, behind the bytes of these. It is 0 if the range ends at `from` or before. The runs
+ * are valid as long as the pieces are. */
 uint32_t lrc_slot_runs(lrc_slot *slot, uint64_t from, lrc_slice *runs, size_t capacity,
                        uint64_t *count);
 
@@ -256,7 +259,8 @@ uint32_t lrc_store_plan(lrc_slot *slot, lrc_slot *other, uint64_t *items);
 
 /* Puts a part of such a plan into `other`: the first `most` of its items if `other` is empty, or
  * those behind the part that it holds, of which no item may be left. `items` gets their number: if
- * it is below `most`, no other part is behind. So a long plan can be made in steps, between which
+ * it is below `most`, no other part is behind. `most` is at least 1, and a plan in `other` is of
+ * this store: neither is checked. So a long plan can be made in steps, between which
  * other threads call. */
 uint32_t lrc_store_plan_part(lrc_slot *slot, lrc_slot *other, uint64_t most, uint64_t *items);
 
@@ -266,7 +270,8 @@ uint32_t lrc_store_plan_part(lrc_slot *slot, lrc_slot *other, uint64_t most, uin
  * another function. */
 uint32_t lrc_slot_items(lrc_slot *slot, lrc_item *items, size_t capacity, uint64_t *count);
 
-/* Repairs the next fragment of the plan in `other`, and returns the status of lrc_store_repair.
+/* Repairs the next fragment of the plan in `other`, and returns the status of lrc_store_repair. The
+ * plan is of this store, which is not checked: with another one, names of this store are repaired.
  * After LRC_STORE_BUSY, LRC_STORE_NO_MEMORY and LRC_STORE_JOURNAL_FULL the fragment stays the
  * next one. After any other status the next call takes the next fragment. */
 uint32_t lrc_store_mend_step(lrc_slot *slot, lrc_slot *other, uint64_t *version);
@@ -310,10 +315,11 @@ uint32_t lrc_slot_fragment(lrc_slot *slot, uint64_t stripe, uint64_t fragment, l
 
 /* Repairs a lost fragment of the name of the version in `other`, which stays there, with a copy of
  * the bytes. The caller ensures that the fragment has these bytes in that version. They may come
- * from another device or another machine. If the name still has the version, nothing is rebuilt. If
- * it has another one by now, that is repaired from its own fragments. The statuses and the journal
- * entry are those of lrc_store_repair. So it returns LRC_STORE_UNRECOVERABLE if the remaining
- * fragments do not determine the lost one, although its bytes are given.
+ * from another device or another machine. If the name still has the version, the fragment takes
+ * them, though no clause excludes that it is rebuilt. If it has another one by now, that is
+ * repaired from its own fragments. The statuses and the journal entry are those of
+ * lrc_store_repair. So it returns LRC_STORE_UNRECOVERABLE if the remaining fragments do not
+ * determine the lost one, although its bytes are given.
  *
  * Nothing is done on LRC_STORE_BAD_ARGUMENT, if the slots are of two stores or `len` is not the
  * store's width, and on LRC_STORE_NO_FRAGMENT, if the version has no such fragment. */
@@ -346,10 +352,12 @@ void lrc_store_name(const uint8_t *key, size_t key_len, uint8_t *name);
 const char *lrc_store_cpu(void);
 
 /* ---- Waiting forms. Each repeats its function while the status is LRC_STORE_BUSY. Those of a
- * store take turns, as at a mutex: a thread that waits sleeps, and is woken for its turn. A
- * function without `_wait` takes no turn. If `timeout_ms` is 0 or more, a form returns
- * LRC_STORE_BUSY once so many milliseconds have passed since the call. With 0 it makes one
- * attempt. If `timeout_ms` is negative, it has no deadline. No waiting thread has precedence. */
+ * store take turns, as at a mutex: a thread that waits sleeps, and is woken for its turn. No store
+ * waits for the turn of another one. A function without `_wait` takes no turn. If `timeout_ms` is 0
+ * or more, a form returns LRC_STORE_BUSY once so many milliseconds have passed since the call. With
+ * 0 it makes one attempt. It looks at the clock between two attempts, so a put that is being
+ * encoded, or a copy, ends first. If `timeout_ms` is negative, it has no deadline. No waiting
+ * thread has precedence. */
 uint32_t lrc_store_put_wait(lrc_slot *slot, const uint8_t *name, size_t name_len,
                             const uint8_t *blob, size_t blob_len, uint32_t data_fragments,
                             uint64_t *version, int64_t timeout_ms);
@@ -373,7 +381,8 @@ uint32_t lrc_store_stat_wait(lrc_slot *slot, const uint8_t *name, size_t name_le
                              uint64_t *version, uint64_t *len, uint64_t *stripes, uint64_t *lost,
                              int64_t timeout_ms);
 /* It trims in parts of 512 entries, between which other threads call, and at most 1,048,576 in all.
- * If a part is refused after others, `discarded` gets how many entries these had. */
+ * If a part is refused after others, or the deadline passes between two, `discarded` gets how many
+ * entries these had. */
 uint32_t lrc_store_trim_wait(lrc_slot *slot, uint64_t keep, uint64_t *discarded,
                              int64_t timeout_ms);
 uint32_t lrc_store_plan_wait(lrc_slot *slot, lrc_slot *other, uint64_t *items, int64_t timeout_ms);
@@ -422,24 +431,26 @@ uint32_t lrc_pool_close(lrc_pool *pool, lrc_slot *slot);
 
 /* ---- A store of several shards, for threads that come and go. Any threads may share it. Each
  * shard is a store with a critical section of its own, and holds the names that lrc_store_shard
- * gives it. So calls of names of different shards never wait for each other. The calls of all
- * threads have the replies of one sequential store over all names. A version is the number of a put
- * at its shard.
+ * gives it. So calls of names of different shards never wait for each other. The calls of each
+ * shard have the replies of one sequential store. An interleaving of them is legal for one store
+ * over all names; it need not keep the order in which a thread called different shards. A version
+ * is the number of a put at its shard.
  *
  * A thread finds the pool of a name's shard, takes a session, makes calls of names of this shard on
  * it, and gives it back to the pool. */
 typedef struct lrc_shards lrc_shards;
 
 typedef struct {
-    size_t size;     /* sizeof(lrc_options); later versions may have more options */
-    uint32_t width;  /* the bytes of a fragment */
-    uint32_t shards; /* 1 to 64 */
-    uint32_t limit;  /* how many entries the journal of each shard may have; 0 for no journals */
+    size_t size;       /* sizeof(lrc_options); later versions may have more options */
+    uint32_t width;    /* the bytes of a fragment */
+    uint32_t shards;   /* 1 to 64 */
+    uint32_t limit;    /* how many entries the journal of each shard may have; 0 for no journals */
+    uint32_t reserved; /* 0 */
 } lrc_options;
 
 /* Opens a store. LRC_STORE_BAD_WIDTH and LRC_STORE_NO_MEMORY as lrc_store_open.
  * LRC_STORE_BAD_ARGUMENT for a limit or a number of shards that is out of range, and for options
- * that this version does not know: a greater `size` with other bytes than 0 behind `limit`. */
+ * that this version does not know: other bytes than 0 behind `limit`, up to `size`. */
 uint32_t lrc_shards_open(const lrc_options *options, lrc_shards **shards);
 
 /* Writes the pool of the shard of a name. LRC_STORE_BAD_NAME if it is none. */
@@ -462,7 +473,9 @@ uint32_t lrc_shards_trim(lrc_shards *shards, uint64_t keep, uint64_t *discarded,
 uint32_t lrc_shards_mend(lrc_shards *shards, uint64_t *repaired, int64_t timeout_ms);
 
 /* Closes the store and frees it. `entries` and `lawful` are those of lrc_store_close, of all
- * journals. LRC_STORE_NOT_ALONE if a session is lent. No thread may use the store meanwhile or
+ * journals. LRC_STORE_NOT_ALONE if a session is lent: the store is as before. LRC_STORE_EMPTY if a
+ * session was released or replaced while it was lent: the store is freed all the same, `entries`
+ * are those of the other shards, and `lawful` is 2. No thread may use the store meanwhile or
  * afterwards. */
 uint32_t lrc_shards_close(lrc_shards *shards, uint64_t *entries, uint32_t *lawful);
 

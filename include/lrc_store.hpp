@@ -114,7 +114,7 @@ public:
     }
 
 private:
-    friend class session;
+    friend class calls;
     friend class version;
 
     // Takes `count` pieces and all runs from the slot.
@@ -179,7 +179,7 @@ public:
     }
 
 private:
-    friend class session;
+    friend class calls;
     slot held;
     uint64_t put_number = 0, len = 0;
 };
@@ -196,7 +196,7 @@ public:
     size_t size() const { return bytes.len; }
 
 private:
-    friend class session;
+    friend class calls;
     static inline uint8_t none = 0;
     slot reserved;
     const size_t reserved_len;
@@ -235,8 +235,209 @@ struct closed {
     bool is_checked;
 };
 
+// The calls of a session, for one thread at a time. A session is one, and so is what a lease lends:
+// that cannot be moved, joined or closed.
+class calls {
+public:
+    calls(const calls &) = delete;
+    calls &operator=(const calls &) = delete;
+
+    // How long a call waits for the critical section at a time. It then throws store_error with
+    // LRC_STORE_BUSY. Without a timeout, as at first, it waits until it gets in.
+    void set_timeout(std::optional<std::chrono::milliseconds> timeout) {
+        wait_ms = detail::wait_of(timeout);
+    }
+
+    // Stores a buffer without a copy. After an error the same bytes can be put again.
+    uint64_t put(std::string_view name, buffer &blob, uint32_t data_fragments = 12) {
+        uint64_t version = 0;
+        blob.bytes = lrc_buffer{&buffer::none, 0};
+        detail::check(named(name,
+                            [&](const uint8_t *at, size_t name_len) {
+                                return lrc_store_put_from_wait(held.get(), at, name_len,
+                                                               blob.reserved.get(), data_fragments,
+                                                               &version, wait_ms);
+                            }),
+                      "put", name, blob.reserved_len, data_fragments);
+        return version;
+    }
+
+    uint64_t put(std::string_view name, std::string_view blob, uint32_t data_fragments = 12) {
+        uint64_t version = 0;
+        detail::check(named(name,
+                            [&](const uint8_t *at, size_t name_len) {
+                                return lrc_store_put_wait(held.get(), at, name_len,
+                                                          detail::bytes(blob), blob.size(),
+                                                          data_fragments, &version, wait_ms);
+                            }),
+                      "put", name, blob.size(), data_fragments);
+        return version;
+    }
+
+    // Lends `len` bytes of a blob, from the byte `start` on.
+    grant read(std::string_view name, uint64_t start, uint64_t len) {
+        grant made;
+        uint64_t count = 0;
+        detail::check(named(name,
+                            [&](const uint8_t *at, size_t name_len) {
+                                return lrc_store_lend_wait(held.get(), at, name_len, start, len,
+                                                           made.lent.get(), &made.number, &count,
+                                                           wait_ms);
+                            }),
+                      "read", name, start, len);
+        made.take(count);
+        return made;
+    }
+
+    // Copies `len` bytes of a blob, from the byte `start` on, into `target`. Returns the version.
+    uint64_t read_into(std::string_view name, uint64_t start, void *target, size_t len) {
+        uint64_t version = 0;
+        detail::check(copy(name, start, target, len, &version), "read_into", name, start, len);
+        return version;
+    }
+
+    // A copy of the whole blob, all of one version. It asks for the length and reads, and does so
+    // again if a put came between.
+    std::string get(std::string_view name) {
+        for (;;) {
+            const shape asked = shape_for("get", name);
+            std::string blob(asked.len, '\0');
+            uint64_t version = 0;
+            const uint32_t status = copy(name, 0, blob.data(), blob.size(), &version);
+            if (status == LRC_STORE_OUT_OF_RANGE) continue;
+            detail::check(status, "get", name);
+            if (version == asked.version) return blob;
+        }
+    }
+
+    // Holds the version that the blob has now.
+    version hold(std::string_view name) {
+        version made;
+        detail::check(named(name,
+                            [&](const uint8_t *at, size_t name_len) {
+                                return lrc_store_hold_wait(held.get(), at, name_len,
+                                                           made.held.get(), &made.put_number,
+                                                           &made.len, wait_ms);
+                            }),
+                      "hold", name);
+        return made;
+    }
+
+    // Repairs a fragment with bytes that it has in a version, such as one of another machine.
+    // Returns the version of the repaired blob.
+    uint64_t install(version &known, uint64_t stripe, uint64_t fragment, std::string_view whole) {
+        uint64_t number = 0;
+        detail::check(lrc_store_install_wait(held.get(), known.held.get(), stripe, fragment,
+                                             detail::bytes(whole), whole.size(), &number, wait_ms),
+                      "install", stripe, fragment, whole.size());
+        return number;
+    }
+
+    // The numbers of the store, such as those of its blobs and of its lost fragments.
+    lrc_numbers numbers() {
+        lrc_numbers found{};
+        detail::check(lrc_store_numbers_wait(held.get(), &found, wait_ms), "numbers");
+        return found;
+    }
+
+    uint64_t lose(std::string_view name, uint64_t stripe, uint64_t fragment) {
+        uint64_t version = 0;
+        detail::check(named(name,
+                            [&](const uint8_t *at, size_t name_len) {
+                                return lrc_store_lose_wait(held.get(), at, name_len, stripe,
+                                                           fragment, &version, wait_ms);
+                            }),
+                      "lose", name, stripe, fragment);
+        return version;
+    }
+
+    uint64_t repair(std::string_view name, uint64_t stripe, uint64_t fragment) {
+        uint64_t version = 0;
+        detail::check(named(name,
+                            [&](const uint8_t *at, size_t name_len) {
+                                return lrc_store_repair_wait(held.get(), at, name_len, stripe,
+                                                             fragment, &version, wait_ms);
+                            }),
+                      "repair", name, stripe, fragment);
+        return version;
+    }
+
+    uint64_t remove(std::string_view name) {
+        uint64_t version = 0;
+        detail::check(named(name,
+                            [&](const uint8_t *at, size_t name_len) {
+                                return lrc_store_delete_wait(held.get(), at, name_len, &version,
+                                                             wait_ms);
+                            }),
+                      "remove", name);
+        return version;
+    }
+
+    shape stat(std::string_view name) { return shape_for("stat", name); }
+
+    uint64_t trim(uint64_t keep) {
+        uint64_t discarded = 0;
+        detail::check(lrc_store_trim_wait(held.get(), keep, &discarded, wait_ms), "trim", keep);
+        return discarded;
+    }
+
+    // Repairs all lost fragments that can be rebuilt, and returns their number. Throws mend_error.
+    uint64_t mend() {
+        uint64_t repaired = 0;
+        const uint32_t status = lrc_store_mend_wait(held.get(), &repaired, wait_ms);
+        return detail::mended(status, repaired);
+    }
+
+protected:
+    calls() = default;
+    calls(calls &&) = default;
+    calls &operator=(calls &&) = default;
+    ~calls() = default;
+
+private:
+    // The status of a call of a name. It is not made if the calls are of another shard.
+    template <class Call> uint32_t named(std::string_view name, const Call &call) {
+        uint32_t found = shard;
+        const uint32_t status =
+            shards ? lrc_store_shard(detail::bytes(name), name.size(), shards, &found)
+                   : uint32_t{LRC_STORE_DONE};
+        if (status != LRC_STORE_DONE) return status;
+        return found == shard ? call(detail::bytes(name), name.size())
+                              : uint32_t{LRC_STORE_BAD_ARGUMENT};
+    }
+
+    uint32_t copy(std::string_view name, uint64_t start, void *target, size_t len,
+                  uint64_t *version) {
+        uint64_t lent = 0, built = 0;
+        uint8_t none = 0;
+        return named(name, [&](const uint8_t *at, size_t name_len) {
+            return lrc_store_read_wait(held.get(), at, name_len, start,
+                                       target ? static_cast<uint8_t *>(target) : &none, len,
+                                       version, &lent, &built, wait_ms);
+        });
+    }
+
+    shape shape_for(const char *call, std::string_view name) {
+        shape found{};
+        detail::check(named(name,
+                            [&](const uint8_t *at, size_t name_len) {
+                                return lrc_store_stat_wait(held.get(), at, name_len, &found.version,
+                                                           &found.len, &found.stripes, &found.lost,
+                                                           wait_ms);
+                            }),
+                      call, name);
+        return found;
+    }
+
+    friend class session;
+    friend class pool;
+    slot held;
+    int64_t wait_ms = -1;
+    uint32_t shard = 0, shards = 0; // of how many; 0 if they may call any name
+};
+
 // A session of a store, for one thread at a time.
-class session {
+class session : public calls {
 public:
     // Opens a store without a journal and returns its first session. Its fragments have `width`
     // bytes.
@@ -251,12 +452,6 @@ public:
         session made;
         detail::check(lrc_store_open(width, limit, made.held.get()), "open", width, limit);
         return made;
-    }
-
-    // How long a call waits for the critical section at a time. It then throws store_error with
-    // LRC_STORE_BUSY. Without a timeout, as at first, it waits until it gets in.
-    void set_timeout(std::optional<std::chrono::milliseconds> timeout) {
-        wait_ms = detail::wait_of(timeout);
     }
 
     // Splits off a session, with the label `who` in the journal and with this session's timeout.
@@ -291,155 +486,20 @@ public:
         return made;
     }
 
-    // Stores a buffer without a copy. After an error the same bytes can be put again.
-    uint64_t put(std::string_view name, buffer &blob, uint32_t data_fragments = 12) {
-        uint64_t version = 0;
-        blob.bytes = lrc_buffer{&buffer::none, 0};
-        detail::check(lrc_store_put_from_wait(held.get(), detail::bytes(name), name.size(),
-                                              blob.reserved.get(), data_fragments, &version,
-                                              wait_ms),
-                      "put", name, blob.reserved_len, data_fragments);
-        return version;
-    }
-
-    uint64_t put(std::string_view name, std::string_view blob, uint32_t data_fragments = 12) {
-        uint64_t version = 0;
-        detail::check(lrc_store_put_wait(held.get(), detail::bytes(name), name.size(),
-                                         detail::bytes(blob), blob.size(), data_fragments, &version,
-                                         wait_ms),
-                      "put", name, blob.size(), data_fragments);
-        return version;
-    }
-
-    // Lends `len` bytes of a blob, from the byte `start` on.
-    grant read(std::string_view name, uint64_t start, uint64_t len) {
-        grant made;
-        uint64_t count = 0;
-        detail::check(lrc_store_lend_wait(held.get(), detail::bytes(name), name.size(), start, len,
-                                          made.lent.get(), &made.number, &count, wait_ms),
-                      "read", name, start, len);
-        made.take(count);
-        return made;
-    }
-
-    // Copies `len` bytes of a blob, from the byte `start` on, into `target`. Returns the version.
-    uint64_t read_into(std::string_view name, uint64_t start, void *target, size_t len) {
-        uint64_t version = 0;
-        detail::check(copy(name, start, target, len, &version), "read_into", name, start, len);
-        return version;
-    }
-
-    // A copy of the whole blob, all of one version. It asks for the length and reads, and does so
-    // again if a put came between.
-    std::string get(std::string_view name) {
-        for (;;) {
-            const shape asked = shape_for("get", name);
-            std::string blob(asked.len, '\0');
-            uint64_t version = 0;
-            const uint32_t status = copy(name, 0, blob.data(), blob.size(), &version);
-            if (status == LRC_STORE_OUT_OF_RANGE) continue;
-            detail::check(status, "get", name);
-            if (version == asked.version) return blob;
-        }
-    }
-
-    // Holds the version that the blob has now.
-    version hold(std::string_view name) {
-        version made;
-        detail::check(lrc_store_hold_wait(held.get(), detail::bytes(name), name.size(),
-                                          made.held.get(), &made.put_number, &made.len, wait_ms),
-                      "hold", name);
-        return made;
-    }
-
-    // Repairs a fragment with bytes that it has in a version, such as one of another machine.
-    // Returns the version of the repaired blob.
-    uint64_t install(version &known, uint64_t stripe, uint64_t fragment, std::string_view whole) {
-        uint64_t number = 0;
-        detail::check(lrc_store_install_wait(held.get(), known.held.get(), stripe, fragment,
-                                             detail::bytes(whole), whole.size(), &number, wait_ms),
-                      "install", stripe, fragment, whole.size());
-        return number;
-    }
-
-    // The numbers of the store, such as those of its blobs and of its lost fragments.
-    lrc_numbers numbers() {
-        lrc_numbers found{};
-        detail::check(lrc_store_numbers_wait(held.get(), &found, wait_ms), "numbers");
-        return found;
-    }
-
-    uint64_t lose(std::string_view name, uint64_t stripe, uint64_t fragment) {
-        uint64_t version = 0;
-        detail::check(lrc_store_lose_wait(held.get(), detail::bytes(name), name.size(), stripe,
-                                          fragment, &version, wait_ms),
-                      "lose", name, stripe, fragment);
-        return version;
-    }
-
-    uint64_t repair(std::string_view name, uint64_t stripe, uint64_t fragment) {
-        uint64_t version = 0;
-        detail::check(lrc_store_repair_wait(held.get(), detail::bytes(name), name.size(), stripe,
-                                            fragment, &version, wait_ms),
-                      "repair", name, stripe, fragment);
-        return version;
-    }
-
-    uint64_t remove(std::string_view name) {
-        uint64_t version = 0;
-        detail::check(
-            lrc_store_delete_wait(held.get(), detail::bytes(name), name.size(), &version, wait_ms),
-            "remove", name);
-        return version;
-    }
-
-    shape stat(std::string_view name) { return shape_for("stat", name); }
-
-    uint64_t trim(uint64_t keep) {
-        uint64_t discarded = 0;
-        detail::check(lrc_store_trim_wait(held.get(), keep, &discarded, wait_ms), "trim", keep);
-        return discarded;
-    }
-
-    // Repairs all lost fragments that can be rebuilt, and returns their number. Throws mend_error.
-    uint64_t mend() {
-        uint64_t repaired = 0;
-        const uint32_t status = lrc_store_mend_wait(held.get(), &repaired, wait_ms);
-        return detail::mended(status, repaired);
-    }
-
     // The slot, for calls of lrc_store.h that have no other form here. It has to keep a session of
     // this store.
     lrc_slot *native_handle() { return held.get(); }
 
 private:
-    uint32_t copy(std::string_view name, uint64_t start, void *target, size_t len,
-                  uint64_t *version) {
-        uint64_t lent = 0, built = 0;
-        uint8_t none = 0;
-        return lrc_store_read_wait(held.get(), detail::bytes(name), name.size(), start,
-                                   target ? static_cast<uint8_t *>(target) : &none, len, version,
-                                   &lent, &built, wait_ms);
-    }
-
-    shape shape_for(const char *call, std::string_view name) {
-        shape found{};
-        detail::check(lrc_store_stat_wait(held.get(), detail::bytes(name), name.size(),
-                                          &found.version, &found.len, &found.stripes, &found.lost,
-                                          wait_ms),
-                      call, name);
-        return found;
-    }
-
     friend class pool;
-    slot held;
-    int64_t wait_ms = -1;
 };
 
 // The sessions of a store, for threads that come and go. Any threads may share it.
 class pool {
 public:
-    // A session that is lent to a thread until this ends. Do not close it, nor join it.
+    // A session that is lent to a thread until this ends. It gives the session's calls. If a
+    // sharded_store lends it, these are of names of the shard for which it was taken, and others
+    // throw store_error with LRC_STORE_BAD_ARGUMENT.
     class lease {
     public:
         lease(lease &&) = delete;
@@ -447,21 +507,26 @@ public:
             std::swap(*lent.held.get(), *place);
             lrc_pool_give(from, place);
         }
-        session *operator->() { return &lent; }
-        session &operator*() { return lent; }
+        calls *operator->() { return &lent; }
+        calls &operator*() { return lent; }
 
     private:
         friend class pool;
         friend class sharded_store;
-        lease(lrc_pool *lender, lrc_slot *session_place, int64_t wait_ms)
+        class lent_calls : public calls {};
+
+        lease(lrc_pool *lender, lrc_slot *session_place, int64_t wait_ms, uint32_t shard = 0,
+              uint32_t shards = 0)
             : from(lender), place(session_place) {
             std::swap(*lent.held.get(), *place);
             lent.wait_ms = wait_ms;
+            lent.shard = shard;
+            lent.shards = shards;
         }
 
         lrc_pool *const from;
         lrc_slot *const place;
-        session lent;
+        lent_calls lent;
     };
 
     // The sessions that can be split off this one, and this one. They have its timeout.
@@ -525,12 +590,14 @@ public:
 
     // Lends a session of the shard of a name, for calls of names of this shard.
     pool::lease take(std::string_view name) {
-        lrc_pool *shard = nullptr;
+        lrc_pool *pool_of_shard = nullptr;
         lrc_slot *place = nullptr;
-        detail::check(lrc_shards_find(held, detail::bytes(name), name.size(), &shard), "take",
+        uint32_t shard = 0;
+        detail::check(lrc_store_shard(detail::bytes(name), name.size(), count, &shard), "take",
                       name);
-        detail::check(lrc_pool_take(shard, &place, wait_ms), "take", name);
-        return pool::lease(shard, place, wait_ms);
+        detail::check(lrc_shards_at(held, shard, &pool_of_shard), "take", name);
+        detail::check(lrc_pool_take(pool_of_shard, &place, wait_ms), "take", name);
+        return pool::lease(pool_of_shard, place, wait_ms, shard, count);
     }
 
     // The numbers of all shards together.
@@ -554,24 +621,27 @@ public:
         return detail::mended(status, repaired);
     }
 
-    // Throws store_error with LRC_STORE_NOT_ALONE if a session is lent. The store cannot be used
-    // afterwards.
+    // Throws store_error with LRC_STORE_NOT_ALONE if a session is lent. Otherwise the store cannot
+    // be used afterwards.
     closed close() {
         closed report{};
         uint32_t lawful = 0;
-        detail::check(lrc_shards_close(held, &report.entries, &lawful), "close");
+        const uint32_t status = lrc_shards_close(held, &report.entries, &lawful);
+        if (status != LRC_STORE_NOT_ALONE) held = nullptr;
+        detail::check(status, "close");
         report.is_checked = lawful == 1;
-        held = nullptr;
         return report;
     }
 
 private:
     uint32_t open(uint32_t width, uint32_t shards, uint32_t limit) {
-        const lrc_options options{sizeof(lrc_options), width, shards, limit};
+        const lrc_options options{sizeof(lrc_options), width, shards, limit, 0};
+        count = shards;
         return lrc_shards_open(&options, &held);
     }
 
     lrc_shards *held = nullptr;
+    uint32_t count = 0;
     int64_t wait_ms = -1;
 };
 

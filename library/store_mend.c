@@ -134,7 +134,7 @@ static uint32_t draw(lrc_mending *mending, lrc_slot *session, struct ticket *tic
     for (;;) {
         uint32_t status = draw_at_hand(mending, ticket, deadline);
         if (status != LRC_STORE_EMPTY) return status;
-        status = plan(mending, session, timeout_ms);
+        status = plan(mending, session, left_ms(deadline));
         if (status != LRC_STORE_DONE) return status;
     }
 }

@@ -9,7 +9,7 @@
 #include <stdatomic.h>
 #include <stdlib.h>
 
-enum { MOST_SHARDS = 64, LAWFUL = 1 };
+enum { MOST_SHARDS = 64, LAWFUL = 1, UNCHECKED = 2 };
 
 struct lrc_shards {
     uint32_t count;
@@ -20,7 +20,7 @@ struct lrc_shards {
 /* Whether the caller knows no option that this version lacks. */
 static int are_known(const lrc_options *options) {
     const unsigned char *bytes = (const unsigned char *)options;
-    if (options->size < sizeof *options) return 0;
+    if (options->size < sizeof *options || options->reserved) return 0;
     for (size_t i = sizeof *options; i < options->size; i++)
         if (bytes[i]) return 0;
     return 1;
@@ -79,6 +79,7 @@ uint32_t lrc_shards_find(lrc_shards *shards, const uint8_t *name, size_t name_le
 struct call {
     uint32_t (*run)(lrc_slot *session, struct call *call, int64_t timeout_ms);
     uint64_t keep, count;
+    int64_t of_step_ms;
     lrc_numbers numbers;
 };
 
@@ -93,21 +94,14 @@ static void give_back(void *argument) {
 }
 
 /* Makes a call on a session of the pool, which gets it back also if the thread is cancelled. */
-static uint32_t call_on(lrc_pool *pool, struct call *call, int64_t timeout_ms) {
+static uint32_t call_on(lrc_pool *pool, struct call *call, int64_t deadline) {
     struct lent lent = {pool, NULL};
-    uint32_t status = lrc_pool_take(pool, &lent.session, timeout_ms);
+    uint32_t status = lrc_pool_take(pool, &lent.session, left_ms(deadline));
     if (status != LRC_STORE_DONE) return status;
     pthread_cleanup_push(give_back, &lent);
-    status = call->run(lent.session, call, timeout_ms);
+    status = call->run(lent.session, call, left_ms(deadline));
     pthread_cleanup_pop(1);
     return status;
-}
-
-/* How many milliseconds are left until the deadline, rounded up. */
-static int64_t left_ms(int64_t deadline) {
-    if (deadline == NEVER) return -1;
-    const int64_t left = deadline - now_ns();
-    return left > 0 ? (left - 1) / NS_OF_MS + 1 : 0;
 }
 
 static uint64_t sum(uint64_t a, uint64_t b) { return a > UINT64_MAX - b ? UINT64_MAX : a + b; }
@@ -129,7 +123,7 @@ uint32_t lrc_shards_numbers(lrc_shards *shards, lrc_numbers *numbers, int64_t ti
     const int64_t deadline = deadline_after(timeout_ms);
     struct call call = {.run = add_numbers};
     for (uint32_t shard = 0; shard < shards->count; shard++) {
-        const uint32_t status = call_on(shards->pools[shard], &call, left_ms(deadline));
+        const uint32_t status = call_on(shards->pools[shard], &call, deadline);
         if (status != LRC_STORE_DONE) return status;
     }
     *numbers = call.numbers;
@@ -149,14 +143,17 @@ uint32_t lrc_shards_trim(lrc_shards *shards, uint64_t keep, uint64_t *discarded,
     struct call call = {.run = trim, .keep = keep};
     uint32_t status = LRC_STORE_DONE;
     for (uint32_t shard = 0; status == LRC_STORE_DONE && shard < shards->count; shard++)
-        status = call_on(shards->pools[shard], &call, left_ms(deadline));
+        status =
+            is_over(deadline) ? LRC_STORE_BUSY : call_on(shards->pools[shard], &call, deadline);
     if (status == LRC_STORE_DONE || call.count) *discarded = call.count;
     return status;
 }
 
+/* Each step of it has the whole timeout. */
 static uint32_t mend(lrc_slot *session, struct call *call, int64_t timeout_ms) {
     uint64_t repaired = 0;
-    const uint32_t status = lrc_store_mend_wait(session, &repaired, timeout_ms);
+    (void)timeout_ms;
+    const uint32_t status = lrc_store_mend_wait(session, &repaired, call->of_step_ms);
     call->count += repaired;
     return status;
 }
@@ -169,28 +166,40 @@ static uint32_t first_shard(lrc_shards *shards) {
 
 uint32_t lrc_shards_mend(lrc_shards *shards, uint64_t *repaired, int64_t timeout_ms) {
     const uint32_t first = first_shard(shards);
-    struct call call = {.run = mend};
+    struct call call = {.run = mend, .of_step_ms = timeout_ms};
     uint32_t status = LRC_STORE_DONE;
     for (uint32_t i = 0; status == LRC_STORE_DONE && i < shards->count; i++)
-        status = call_on(shards->pools[(first + i) % shards->count], &call, timeout_ms);
+        status =
+            call_on(shards->pools[(first + i) % shards->count], &call, deadline_after(timeout_ms));
     if (status == LRC_STORE_DONE || call.count) *repaired = call.count;
     return status;
 }
 
+/* Closes a shard, of which no session is lent, and frees it. LRC_STORE_EMPTY if a session was not
+ * given back, so that the others have not all places of the store. */
+static uint32_t close_shard(lrc_pool *pool, uint64_t *entries, uint32_t *lawful) {
+    lrc_slot slot = LRC_SLOT_EMPTY;
+    uint64_t of_shard = 0;
+    uint32_t of_journal = LAWFUL, status = lrc_pool_close(pool, &slot);
+    if (status == LRC_STORE_DONE) status = lrc_store_close(&slot, &of_shard, &of_journal);
+    lrc_slot_release(&slot); /* if it could not be closed */
+    *entries += of_shard;
+    *lawful = status == LRC_STORE_DONE ? of_journal : UNCHECKED;
+    return status == LRC_STORE_DONE ? LRC_STORE_DONE : LRC_STORE_EMPTY;
+}
+
 uint32_t lrc_shards_close(lrc_shards *shards, uint64_t *entries, uint32_t *lawful) {
+    uint32_t status = LRC_STORE_DONE;
     for (uint32_t shard = 0; shard < shards->count; shard++)
         if (pool_is_busy(shards->pools[shard])) return LRC_STORE_NOT_ALONE;
     *entries = 0;
     *lawful = LAWFUL;
     for (uint32_t shard = 0; shard < shards->count; shard++) {
-        lrc_slot slot = LRC_SLOT_EMPTY;
-        uint64_t of_shard = 0;
-        uint32_t of_journal = LAWFUL;
-        lrc_pool_close(shards->pools[shard], &slot);
-        lrc_store_close(&slot, &of_shard, &of_journal);
-        *entries += of_shard;
+        uint32_t of_journal;
+        const uint32_t closed = close_shard(shards->pools[shard], entries, &of_journal);
+        if (closed != LRC_STORE_DONE) status = closed;
         if (of_journal != LAWFUL) *lawful = of_journal;
     }
     free(shards);
-    return LRC_STORE_DONE;
+    return status;
 }

@@ -21,7 +21,8 @@ static const char *const texts[] = {
     [LRC_STORE_OCCUPIED] = "the slot to be filled is not empty",
     [LRC_STORE_BAD_ARGUMENT] = "the limit is not in 1 to 1,048,576, the shards are not 1 to 64, "
                                "the data fragments are not 12 or 6, the slots are of two stores, "
-                               "or the bytes are not as many as a fragment has",
+                               "the bytes are not as many as a fragment has, or the name is of "
+                               "another shard",
     [LRC_STORE_NOT_ALONE] = "the store has other sessions: join them first",
     [LRC_STORE_NOT_REBUILT] = "out of memory for rebuilding lost fragments",
     [LRC_STORE_NOTHING_LEFT] = "the plan has no further item, the journal no such entry, or the "

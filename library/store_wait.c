@@ -8,14 +8,15 @@
  * A call that may copy, rebuild or encode much is first tried without the turn, so that other
  * threads need not wait for that.
  *
- * The turns lie in a table, by the store's number. Two stores may share one, which costs time
- * alone. */
+ * The turns lie in a table. A store has one while a thread has or wants it, and no two stores have
+ * the same, so a call never waits for one of another store. */
 #define _GNU_SOURCE
 #include "deadline.h"
 #include "lrc_store.h"
 #include "mend.h"
 
 #include <pthread.h>
+#include <stdatomic.h>
 #include <string.h>
 #include <time.h>
 
@@ -39,38 +40,67 @@ enum { MOST_ENTRIES = 1 << 20 };
 /* A thread that waits for its turn can be cancelled once in this time. */
 enum { SLICE_NS = 50 * NS_OF_MS };
 
-enum { TURN_BITS = 8, CACHE_LINE = 64 };
+enum { TURN_BITS = 10, TURNS = 1 << TURN_BITS, USER_BITS = 16, CACHE_LINE = 64 };
 
-static struct { _Alignas(CACHE_LINE) pthread_mutex_t mutex; } turns[1 << TURN_BITS];
+/* A turn, and the store that has it: a mark of the store, and in the lowest bits how many threads
+ * have or want it. If there are none, any store can have it. */
+static struct turn {
+    _Alignas(CACHE_LINE) pthread_mutex_t mutex;
+    _Atomic uint64_t store;
+} turns[TURNS];
 
 /* Runs before all constructors of C++. */
 __attribute__((constructor(101))) static void make_turns(void) {
-    for (unsigned i = 0; i < 1 << TURN_BITS; i++) pthread_mutex_init(&turns[i].mutex, NULL);
+    for (unsigned i = 0; i < TURNS; i++) pthread_mutex_init(&turns[i].mutex, NULL);
 }
 
 static int64_t least(int64_t a, int64_t b) { return a < b ? a : b; }
 
-/* The turn of the slot's store, or NULL if it holds no session: its call then refuses it. */
-static pthread_mutex_t *turn_of(lrc_slot *slot) {
-    uint64_t number = 0;
-    if (lrc_slot_number(slot, &number) != LRC_STORE_DONE) return NULL;
+static uint64_t users_of(uint64_t store) { return store & ((UINT64_C(1) << USER_BITS) - 1); }
+
+/* The turn of a store, which counts a thread more, or NULL if other stores have all turns. */
+static struct turn *enter(uint64_t number) {
     /* multiplied, so that numbers in a row lie apart */
-    return &turns[number * UINT64_C(0x9E3779B97F4A7C15) >> (64 - TURN_BITS)].mutex;
+    const uint64_t spread = number * UINT64_C(0x9E3779B97F4A7C15), mark = spread - users_of(spread);
+    for (unsigned i = 0; i < TURNS; i++) {
+        struct turn *turn = &turns[((spread >> (64 - TURN_BITS)) + i) % TURNS];
+        uint64_t store = turn->store;
+        while (!users_of(store) || store - users_of(store) == mark)
+            if (atomic_compare_exchange_weak(&turn->store, &store, mark + users_of(store) + 1))
+                return turn;
+    }
+    return NULL;
 }
 
-/* Takes the turn. Returns 0 if the deadline passes before. */
-static int takes(pthread_mutex_t *turn, int64_t deadline) {
-    if (pthread_mutex_trylock(turn) == 0) return 1;
+static void leave(void *turn) { atomic_fetch_sub(&((struct turn *)turn)->store, 1); }
+
+/* Locks a turn that another thread has. Returns 0 if the deadline passes before. */
+static int locks(struct turn *turn, int64_t deadline) {
     for (;;) {
         const int64_t slice = least(deadline, now_ns() + SLICE_NS);
         const struct timespec end = {slice / NS_OF_S, slice % NS_OF_S};
-        if (pthread_mutex_clocklock(turn, CLOCK_MONOTONIC, &end) == 0) return 1;
+        if (pthread_mutex_clocklock(&turn->mutex, CLOCK_MONOTONIC, &end) == 0) return 1;
         if (slice == deadline) return 0;
         pthread_testcancel();
     }
 }
 
-static void give_back(void *turn) { pthread_mutex_unlock(turn); }
+/* Takes the turn of a store, unless there is none. Returns 0 if the deadline passes before. */
+static int takes(uint64_t number, int64_t deadline, struct turn **taken) {
+    struct turn *turn = *taken = enter(number);
+    int is_locked;
+    if (!turn || pthread_mutex_trylock(&turn->mutex) == 0) return 1;
+    pthread_cleanup_push(leave, turn);
+    is_locked = locks(turn, deadline);
+    pthread_cleanup_pop(!is_locked);
+    return is_locked;
+}
+
+static void give_back(void *turn) {
+    if (!turn) return;
+    pthread_mutex_unlock(&((struct turn *)turn)->mutex);
+    leave(turn);
+}
 
 static void spin(void) {
     for (unsigned i = 0; i < PAUSES; i++) {
@@ -83,7 +113,7 @@ static void spin(void) {
 }
 
 /* Sleeps. A thread that is cancelled meanwhile gives the turn back. */
-static void nap(pthread_mutex_t *turn, int64_t length_ns) {
+static void nap(struct turn *turn, int64_t length_ns) {
     const struct timespec pause = {0, (long)length_ns};
     pthread_cleanup_push(give_back, turn);
     nanosleep(&pause, NULL);
@@ -91,7 +121,7 @@ static void nap(pthread_mutex_t *turn, int64_t length_ns) {
 }
 
 /* Waits before the next attempt, with the turn. Returns 0 if the deadline has passed. */
-static int waits(pthread_mutex_t *turn, unsigned attempt, int64_t deadline) {
+static int waits(struct turn *turn, unsigned attempt, int64_t deadline) {
     const int64_t left_ns = deadline == NEVER ? NEVER : deadline - now_ns();
     int64_t length_ns = SHORTEST_NS;
     if (left_ns <= 0) return 0;
@@ -104,30 +134,43 @@ static int waits(pthread_mutex_t *turn, unsigned attempt, int64_t deadline) {
     return 1;
 }
 
-/* Makes a call in its turn. With a timeout of 0 it makes it once, without the turn. `tries` times
- * it makes it before. */
-#define REPEAT(tries, call)                                                                        \
+/* Makes a call in its turn, up to a deadline. If it is to wait for none, or the slot holds no
+ * session, it makes it once, without the turn. `tries` times it makes it before. */
+#define REPEAT_UNTIL(deadline, tries, call)                                                        \
     uint32_t status = LRC_STORE_BUSY;                                                              \
-    pthread_mutex_t *turn = turn_of(slot);                                                         \
-    if (!turn || timeout_ms == 0) return (call);                                                   \
-    const int64_t deadline = deadline_after(timeout_ms);                                           \
+    struct turn *turn;                                                                             \
+    uint64_t number = 0;                                                                           \
+    if ((deadline) == AT_ONCE || lrc_slot_number(slot, &number) != LRC_STORE_DONE) return (call);  \
     for (unsigned left = (tries); left > 0; left--) {                                              \
-        if ((status = (call)) != LRC_STORE_BUSY) return status;                                    \
+        if ((status = (call)) != LRC_STORE_BUSY || is_over(deadline)) return status;               \
         spin();                                                                                    \
     }                                                                                              \
-    if (!takes(turn, deadline)) return LRC_STORE_BUSY;                                             \
+    if (!takes(number, deadline, &turn)) return LRC_STORE_BUSY;                                    \
     for (unsigned attempt = 0; (status = (call)) == LRC_STORE_BUSY; attempt++)                     \
         if (!waits(turn, attempt, deadline)) break;                                                \
     give_back(turn);                                                                               \
     return status
 
+/* The same with the timeout of a form, whose clock begins here. */
+#define REPEAT(tries, call)                                                                        \
+    const int64_t deadline = deadline_after(timeout_ms);                                           \
+    REPEAT_UNTIL(deadline, tries, call)
+
 /* How often a call that copies so many bytes is tried first. */
 static unsigned tries_for(uint64_t len) { return len < LONG_BYTES ? 0 : TRIES; }
+
+/* A buffer is encoded once: after a first attempt the slot keeps what that made. */
+static uint32_t put_from(lrc_slot *slot, const uint8_t *name, size_t name_len, lrc_slot *other,
+                         uint32_t data_fragments, uint64_t *version, int64_t deadline) {
+    REPEAT_UNTIL(deadline, 1,
+                 lrc_store_put_from(slot, name, name_len, other, data_fragments, version));
+}
 
 uint32_t lrc_store_put_from_wait(lrc_slot *slot, const uint8_t *name, size_t name_len,
                                  lrc_slot *other, uint32_t data_fragments, uint64_t *version,
                                  int64_t timeout_ms) {
-    REPEAT(1, lrc_store_put_from(slot, name, name_len, other, data_fragments, version));
+    return put_from(slot, name, name_len, other, data_fragments, version,
+                    deadline_after(timeout_ms));
 }
 
 static void release(void *slot) { lrc_slot_release(slot); }
@@ -135,7 +178,7 @@ static void release(void *slot) { lrc_slot_release(slot); }
 /* Puts a copy that a slot keeps, so that what was encoded is not encoded again. */
 static uint32_t put_again(lrc_slot *slot, const uint8_t *name, size_t name_len, const uint8_t *blob,
                           size_t blob_len, uint32_t data_fragments, uint64_t *version,
-                          int64_t timeout_ms) {
+                          int64_t deadline) {
     lrc_slot copy = LRC_SLOT_EMPTY;
     lrc_buffer buffer = {(uint8_t *)"", 0};
     uint32_t status = lrc_slot_reserve(blob_len, &copy);
@@ -144,8 +187,9 @@ static uint32_t put_again(lrc_slot *slot, const uint8_t *name, size_t name_len, 
     status = lrc_slot_buffer(&copy, &buffer);
     if (status == LRC_STORE_DONE) {
         memcpy(buffer.at, blob, blob_len);
-        status = lrc_store_put_from_wait(slot, name, name_len, &copy, data_fragments, version,
-                                         timeout_ms);
+        status = is_over(deadline)
+                     ? LRC_STORE_BUSY
+                     : put_from(slot, name, name_len, &copy, data_fragments, version, deadline);
     }
     pthread_cleanup_pop(1); /* releases the copy */
     return status;
@@ -154,10 +198,11 @@ static uint32_t put_again(lrc_slot *slot, const uint8_t *name, size_t name_len, 
 uint32_t lrc_store_put_wait(lrc_slot *slot, const uint8_t *name, size_t name_len,
                             const uint8_t *blob, size_t blob_len, uint32_t data_fragments,
                             uint64_t *version, int64_t timeout_ms) {
+    const int64_t deadline = deadline_after(timeout_ms);
     const uint32_t status =
         lrc_store_put(slot, name, name_len, blob, blob_len, data_fragments, version);
-    if (status != LRC_STORE_BUSY || timeout_ms == 0) return status;
-    return put_again(slot, name, name_len, blob, blob_len, data_fragments, version, timeout_ms);
+    if (status != LRC_STORE_BUSY || deadline == AT_ONCE || is_over(deadline)) return status;
+    return put_again(slot, name, name_len, blob, blob_len, data_fragments, version, deadline);
 }
 
 uint32_t lrc_store_read_wait(lrc_slot *slot, const uint8_t *name, size_t name_len, uint64_t start,
@@ -211,15 +256,8 @@ uint32_t lrc_store_install_wait(lrc_slot *slot, lrc_slot *other, uint64_t stripe
     REPEAT(tries_for(len), lrc_store_install(slot, other, stripe, fragment, bytes, len, version));
 }
 
-/* How many milliseconds are left, rounded up, of those that a call may wait. */
-static int64_t left_of(int64_t timeout_ms, int64_t deadline) {
-    if (timeout_ms <= 0 || deadline == NEVER) return timeout_ms;
-    const int64_t left_ns = deadline - now_ns();
-    return left_ns > 0 ? (left_ns - 1) / NS_OF_MS + 1 : 0;
-}
-
-static uint32_t trim_part(lrc_slot *slot, uint64_t keep, uint64_t *discarded, int64_t timeout_ms) {
-    REPEAT(0, lrc_store_trim_part(slot, keep, TRIMMED_AT_ONCE, discarded));
+static uint32_t trim_part(lrc_slot *slot, uint64_t keep, uint64_t *discarded, int64_t deadline) {
+    REPEAT_UNTIL(deadline, 0, lrc_store_trim_part(slot, keep, TRIMMED_AT_ONCE, discarded));
 }
 
 uint32_t lrc_store_trim_wait(lrc_slot *slot, uint64_t keep, uint64_t *discarded,
@@ -230,9 +268,11 @@ uint32_t lrc_store_trim_wait(lrc_slot *slot, uint64_t keep, uint64_t *discarded,
     uint32_t status;
     for (;;) {
         part = 0;
-        status = trim_part(slot, keep, &part, left_of(timeout_ms, deadline));
+        status = trim_part(slot, keep, &part, deadline);
         all += part;
         if (part < TRIMMED_AT_ONCE || all >= MOST_ENTRIES) break;
+        status = LRC_STORE_BUSY;
+        if (is_over(deadline)) break;
         nanosleep(&pause, NULL);
     }
     if (status == LRC_STORE_DONE || all) *discarded = all;

@@ -38,6 +38,7 @@ sys.path.append(os.path.join(TOP, "tools"))
 import python_extension  # noqa: E402
 
 COPIED = ("include", "library", "bindings", "integrations", "packaging", "tests", "tools", "docs")
+COPIED += ("examples",)
 COPIED += ("README.md", "CHANGELOG.md", "crates/test_vectors/data", "crates/command_line/src")
 COPIED += ("crates/coder_c/src", "crates/store_c/src", "crates.txt")
 NOT_COPIED = shutil.ignore_patterns("__pycache__", "target", "*.so", "out")
@@ -60,6 +61,7 @@ LIBERASURECODE = (
 )
 CEPH = ("ceph-osd", "ceph-osd", "/usr/include/rados/librados.h", "librados-dev")
 CEPH += ("/usr/include/rados/buffer.h", "libradospp-dev")
+FUSE = ("/usr/lib/python3/dist-packages/fusepy.py", "python3-fusepy", "/dev/fuse", "FUSE")
 CEPH_20 = "CEPH_VERSION=20.2.4"
 # How long a command may take that should pass, and the status of one whose test does not build.
 PATIENCE, NOT_BUILT = 600, 99
@@ -147,14 +149,14 @@ def choice(level):
 
 def rust_crate(folder):
     """The tests of a Rust crate, one program after the other, and then those of its documents."""
-    tests = sorted(glob.glob(os.path.join(TOP, "bindings", folder, "tests", "*.rs")))
+    tests = sorted(glob.glob(os.path.join(TOP, folder, "tests", "*.rs")))
     names = [f"--test {os.path.basename(path)[:-3]}" for path in tests]
-    command = f"cd bindings/{folder}"
+    command = f"cd {folder}"
     for target in ("--lib", *names):
         words = f"cargo test --quiet --offline {target}"
         command += f" && {{ {words} --no-run || exit {NOT_BUILT}; }} && {words}"
     return Test(
-        f"cd bindings/{folder} && cargo build --quiet --offline",
+        f"cd {folder} && cargo build --quiet --offline",
         f"{command} && cargo test --quiet --offline --doc",
         needs=("cargo", "cargo"),
     )
@@ -224,9 +226,24 @@ TESTS = {
         needs=(python_extension.header(), "python3-dev"),
         reads=("include/", "library/", "tools/", "tests/", "bindings/python/lrcstore/_native.c"),
     ),
+    "mount": Test(
+        "true",
+        "/usr/bin/python3 tests/services/mount.py",
+        needs=(*FUSE, "fusermount", "fuse3"),
+    ),
+    "resp": Test(
+        f"{C} examples/server_resp/server.c {STORE} -o program",
+        "python3 tests/services/resp_server.py ./program OneThread FewFiles Words",
+    ),
+    "resp_sanitized": Test(
+        f"{C} {SANITIZED} examples/server_resp/server.c {STORE} -o program",
+        "python3 tests/services/resp_server.py ./program OneThread.test_large_values_on_their_way",
+    ),
+    "http": Test("true", "python3 tests/services/http_server.py"),
     "python_sessions": Test("true", "python3 tests/store/package.py ctypes -f"),
-    "rust_coder": rust_crate("rust"),
-    "rust_store": rust_crate("rust_store"),
+    "rust_coder": rust_crate("bindings/rust"),
+    "rust_store": rust_crate("bindings/rust_store"),
+    "cache": rust_crate("examples/cache"),
     "go_store": Test(
         f"{C} -shared -fPIC tests/store/busy.c -o busy.so"
         " && tests/store/go.sh test -c -o ../../program .",

@@ -39,7 +39,7 @@ static void *mend(void *repaired) {
 }
 
 int main(void) {
-    const lrc_options options = {sizeof options, 4, 16, 0}; /* 16 shards, no journals */
+    const lrc_options options = {sizeof options, 4, 16, 0, 0}; /* 16 shards, no journals */
     uint64_t repaired[2] = {0, 0}, entries;
     uint32_t lawful;
     uint8_t text[12];

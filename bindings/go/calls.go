@@ -44,9 +44,22 @@ func (s *Store) PutIn(ctx context.Context, code Code, name string,
 
 func (s *Store) put(ctx context.Context, op string, code Code, name string,
 	blob []byte) (uint64, error) {
+	var copied *C.lrc_slot // once the store was busy: it is encoded once, however long the wait
+	defer func() {
+		if copied != nil {
+			C.free_slot(copied)
+		}
+	}()
 	return s.version(ctx, op, name, func(ms int64) reply {
-		return C.store_put(s.shards, name, address(blob), C.size_t(len(blob)), C.uint32_t(code),
+		if copied != nil {
+			return C.store_put_from(s.shards, name, copied, C.uint32_t(code), C.int64_t(ms))
+		}
+		r := C.store_put(s.shards, name, address(blob), C.size_t(len(blob)), C.uint32_t(code),
 			C.int64_t(ms))
+		if Status(r.status) == ErrBusy {
+			copied = C.copy_of(address(blob), C.size_t(len(blob)))
+		}
+		return r
 	})
 }
 

@@ -5,6 +5,7 @@
 #include "lrc_store.h"
 
 #include <stdlib.h>
+#include <string.h>
 
 /* The status of a call, and the numbers that it wrote. The others are 0. */
 typedef struct {
@@ -23,6 +24,7 @@ typedef struct {
     lrc_pool *pool = NULL;                                                                         \
     lrc_slot *slot = NULL;                                                                         \
     reply.status = (find);                                                                         \
+    /* Go lets no more calls in than there are sessions, so that none waits here */                \
     if (reply.status == LRC_STORE_DONE) reply.status = lrc_pool_take(pool, &slot, timeout_ms);     \
     if (reply.status != LRC_STORE_DONE) return reply;                                              \
     reply.status = (call);                                                                         \
@@ -37,6 +39,11 @@ static inline lrc_reply store_put(lrc_shards *shards, _GoString_ name, const uin
                                   size_t len, uint32_t data_fragments, int64_t timeout_ms) {
     if (!len) blob = (const uint8_t *)"";
     AT_NAME(lrc_store_put_wait(slot, NAME, blob, len, data_fragments, &reply.version, timeout_ms));
+}
+
+static inline lrc_reply store_put_from(lrc_shards *shards, _GoString_ name, lrc_slot *copy,
+                                       uint32_t data_fragments, int64_t timeout_ms) {
+    AT_NAME(lrc_store_put_from_wait(slot, NAME, copy, data_fragments, &reply.version, timeout_ms));
 }
 
 static inline lrc_reply store_read(lrc_shards *shards, _GoString_ name, uint64_t start,
@@ -111,7 +118,7 @@ static inline lrc_reply store_numbers(lrc_shards *shards, lrc_numbers *numbers,
 
 static inline uint32_t store_open(uint32_t width, uint32_t shards, uint32_t limit,
                                   lrc_shards **opened) {
-    const lrc_options options = {sizeof options, width, shards, limit};
+    const lrc_options options = {sizeof options, width, shards, limit, 0};
     return lrc_shards_open(&options, opened);
 }
 
@@ -139,6 +146,20 @@ static inline lrc_slot *new_slot(void) { return calloc(1, sizeof(lrc_slot)); }
 static inline void free_slot(lrc_slot *slot) {
     lrc_slot_release(slot);
     free(slot);
+}
+
+/* A slot with a copy of the bytes, which a put takes without a further one. NULL if out of memory.
+ */
+static inline lrc_slot *copy_of(const uint8_t *bytes, size_t len) {
+    lrc_slot *copy = new_slot();
+    lrc_buffer buffer = {(uint8_t *)"", 0};
+    if (!copy || lrc_slot_reserve(len, copy) != LRC_STORE_DONE) {
+        free(copy);
+        return NULL;
+    }
+    lrc_slot_buffer(copy, &buffer);
+    if (buffer.len) memcpy(buffer.at, bytes, buffer.len);
+    return copy;
 }
 
 /* Writes runs of a lent range from the byte `from` on, and returns their number. */

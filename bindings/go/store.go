@@ -2,7 +2,8 @@
 // keeps each blob in a Local Reconstruction Code, so it can read and repair blobs while fragments
 // are lost.
 //
-// All calls together have the replies of one sequential store. A name has 1 to 32 bytes of a-z,
+// The calls of each shard together have the replies of one sequential store, by tests: nothing is
+// proved of this package. A name has 1 to 32 bytes of a-z,
 // 0-9, '.', '_' and '-'. Stripes and fragments count from 0.
 //
 // A call waits for the store until its context ends. It then returns ctx.Err(), and has changed

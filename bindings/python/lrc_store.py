@@ -15,6 +15,7 @@ import functools
 import math
 import os
 import struct
+import threading
 import time
 from typing import Any, Callable, List, NamedTuple, Tuple, Union
 
@@ -81,7 +82,7 @@ class OutOfMemory(StoreError, MemoryError):
 
 
 class SessionInUse(RuntimeError):
-    """A session was used while a call of it had not returned."""
+    """A session, or a version, was used while a call of it had not returned."""
 
 
 _ERRORS = {
@@ -100,6 +101,10 @@ class _Slot(ctypes.Structure):
 
 
 class _Slice(ctypes.Structure):
+    _fields_ = [("at", ctypes.c_void_p), ("len", ctypes.c_size_t)]
+
+
+class _Buffer(ctypes.Structure):
     _fields_ = [("at", ctypes.c_void_p), ("len", ctypes.c_size_t)]
 
 
@@ -142,6 +147,9 @@ DECLARED = {
     "lrc_store_close": [_SLOT, _OUT, ctypes.POINTER(_U32)],
     "lrc_store_close_to": [_SLOT, _SLOT, _OUT, _OUT, ctypes.POINTER(_U32)],
     "lrc_slot_entry": [_SLOT, _SIZE, ctypes.POINTER(_Entry)],
+    "lrc_slot_reserve": [_SIZE, _SLOT],
+    "lrc_slot_buffer": [_SLOT, ctypes.POINTER(_Buffer)],
+    "lrc_store_put_from_wait": [*_NAMED, _SLOT, _U32, _OUT, _MS],
     "lrc_store_put_wait": [*_NAMED, _ADDRESS, _SIZE, _U32, _OUT, _MS],
     "lrc_store_read_wait": [*_NAMED, _U64, _ADDRESS, _SIZE, _OUT, _OUT, _OUT, _MS],
     "lrc_store_lend_wait": [*_NAMED, _U64, _U64, _SLOT, _OUT, _OUT, _MS],
@@ -249,6 +257,16 @@ def _view(what: str, data: Buffer) -> memoryview:
         raise TypeError(found) from error
 
 
+def _copy_of(view: memoryview) -> _Slot:
+    """A slot with a copy of these bytes, which a put takes without a further one."""
+    copy, buffer = _Slot(), _Buffer(ctypes.cast(_NOTHING, ctypes.c_void_p), 0)
+    _check(_library.lrc_slot_reserve(len(view), copy), "put")
+    _check(_library.lrc_slot_buffer(copy, buffer), "put")
+    if buffer.len:
+        memoryview((ctypes.c_char * buffer.len).from_address(buffer.at)).cast("B")[:] = view
+    return copy
+
+
 def _pinned(view: memoryview) -> Any:
     """The address of a writable buffer, which stays in place as long as this lives."""
     return ctypes.byref(ctypes.c_char.from_buffer(view) if len(view) else ctypes.c_char())
@@ -348,69 +366,123 @@ def _runs(lent: _Slot) -> List[Tuple[int, ...]]:
     return runs
 
 
-class Grant:
-    """A lent range of a blob: `bytes(grant)` copies it, and `runs` are read-only memoryviews.
+class _Range:
+    """A lent range in its slot, with the places of its bytes. They are valid as long as it lives,
+    so who uses them has a reference to it."""
 
-    Its memory is freed when the grant and the last of the views are gone.
-    """
-
-    def __init__(self, lent: _Slot, version: int, count: int) -> None:
-        self.version = version
-        self._lent: _Slot | None = lent
-        self._slices, self._count = _slices(count + 1), count
+    def __init__(self, lent: _Slot, count: int) -> None:
+        self._lent, self._slices, self._count = lent, _slices(count + 1), count
         _check(_library.lrc_slot_slices(lent, self._slices, count, _U64()), "read")
-        self._runs = _runs(lent)
+        self.places = _runs(lent)
 
     @functools.cached_property
     def pieces(self) -> List[memoryview]:
-        """The pieces of the range, in order, each of one fragment."""
         return [self._view(*place) for place in _places(self._slices, self._count)]
 
     @functools.cached_property
     def runs(self) -> List[memoryview]:
-        """The bytes of the range, in order: those that lie one behind another in memory are a run.
-
-        A blob that never lost a fragment is one run.
-        """
-        return [self._view(*place) for place in self._runs]
+        return [self._view(*place) for place in self.places]
 
     def _view(self, at: int, length: int) -> memoryview:
         array: Any = (ctypes.c_uint8 * length).from_address(at)
         array.owner = self._lent
         return memoryview(array).cast("B").toreadonly()
 
+
+class Grant:
+    """A lent range of a blob: `bytes(grant)` copies it, and `runs` are read-only memoryviews.
+
+    Any thread may use it. Its memory is freed when the grant and the last of the views are gone, or
+    at the end of a `with` block, once no thread copies it and no view is left. Then it raises
+    ValueError.
+    """
+
+    def __init__(self, lent: _Slot, version: int, count: int) -> None:
+        self.version = version
+        self._range: _Range | None = _Range(lent, count)
+
+    def _lent(self) -> _Range:
+        """The range, for a caller who keeps it while using it: another thread may end the grant."""
+        found = self._range
+        if found is None:
+            raise ValueError("the grant has ended: use it inside its with block")
+        return found
+
+    @property
+    def pieces(self) -> List[memoryview]:
+        """The pieces of the range, in order, each of one fragment."""
+        return self._lent().pieces
+
+    @property
+    def runs(self) -> List[memoryview]:
+        """The bytes of the range, in order: those that lie one behind another in memory are a run.
+
+        A blob that never lost a fragment is one run.
+        """
+        return self._lent().runs
+
     def __bytes__(self) -> bytes:
-        return b"".join([ctypes.string_at(at, length) for at, length in self._runs])
+        lent = self._lent()
+        return b"".join([ctypes.string_at(at, length) for at, length in lent.places])
 
     def __enter__(self) -> Grant:
         return self
 
     def __exit__(self, *_: object) -> None:
-        self._runs, self.runs, self.pieces = [], [], []
-        self._lent = None
+        self._range = None
+
+
+class _Use:
+    """The calls of a slot that have not returned: one at a time."""
+
+    def __init__(self, refusal: str) -> None:
+        self._refusal = refusal
+        self._inside: set[object] = set()
+
+    def alone(self, run: Callable[[], Any]) -> Any:
+        """Makes a call of the library, unless another of this slot has not returned.
+
+        The exception of a signal handler may come at any place, and leaves nothing behind.
+        """
+        call = object()
+        try:
+            self._inside.add(call)
+            if len(self._inside) > 1:
+                raise SessionInUse(self._refusal)
+            return run()
+        finally:
+            self._inside.discard(call)
 
 
 class Version:
-    """A version of a blob that is held, for one thread at a time.
+    """A version of a blob that is held. Any thread may call it.
 
     It stays as it is while this lives, whatever happens to the blob and to the store. Its calls
-    take no lock and make no journal entry.
+    take no lock of the store and make no journal entry. A signal handler that interrupts a call of
+    it gets SessionInUse.
     """
 
     def __init__(self, held: _Slot, number: int, size: int) -> None:
         self._held, self.number, self.size = held, number, size
+        self._lock = threading.RLock()  # a signal handler runs in a thread that may have it
+        self._use = _Use("a call of the version, which a signal has interrupted, has not returned")
+
+    def _alone(self, run: Callable[[], Any]) -> Any:
+        """Makes calls of the library, once those of other threads have returned."""
+        with self._lock:
+            return self._use.alone(run)
 
     def shape(self) -> VersionShape:
         """Its shape. The lost fragments are counted through all stripes."""
         found = _Shape()
-        _check(_library.lrc_slot_shape(self._held, found), "shape")
+        _check(self._alone(lambda: _library.lrc_slot_shape(self._held, found)), "shape")
         return VersionShape(*(getattr(found, field) for field in VersionShape._fields))
 
     def lost(self, stripe: int) -> List[int]:
         """The fragments of a stripe that were lost when it was held."""
-        found = ctypes.c_uint16()
+        found, wanted = ctypes.c_uint16(), _number("stripe", stripe)
         _check(
-            _library.lrc_slot_lost(self._held, _number("stripe", stripe), found), "lost", stripe
+            self._alone(lambda: _library.lrc_slot_lost(self._held, wanted, found)), "lost", stripe
         )
         return [fragment for fragment in range(16) if found.value >> fragment & 1]
 
@@ -418,16 +490,23 @@ class Version:
         """Lends `length` bytes, from the byte `start` on."""
         lent, pieces = _Slot(), _U64()
         wanted = _number("start", start), _number("length", length)
-        _check(_library.lrc_slot_lend(self._held, *wanted, lent, pieces), "read", start, length)
+        status = self._alone(lambda: _library.lrc_slot_lend(self._held, *wanted, lent, pieces))
+        _check(status, "read", start, length)
         return Grant(lent, self.number, pieces.value)
 
     def fragment(self, stripe: int, fragment: int) -> bytes:
         """A copy of a fragment of a stripe, data or parity."""
-        (found,) = _slices(1)
         place = _number("stripe", stripe), _number("fragment", fragment)
-        status = _library.lrc_slot_fragment(self._held, *place, found)
+
+        def copied() -> Tuple[int, bytes]:
+            (found,) = _slices(1)
+            status = _library.lrc_slot_fragment(self._held, *place, found)
+            return status, ctypes.string_at(found.at, found.len)
+
+        status, whole = self._alone(copied)
         _check(status, "fragment", stripe, fragment)
-        return ctypes.string_at(found.at, found.len)
+        found: bytes = whole
+        return found
 
 
 def _entry(held: _Slot, index: int) -> Entry:
@@ -454,7 +533,7 @@ class Session:
     def __init__(self, slot: _Slot) -> None:
         self._slot = slot
         self._timeout: float | None = None
-        self._inside: set[object] = set()  # of each call that has not returned
+        self._use = _Use("a call of the session has not returned: split off another one")
 
     @property
     def timeout(self) -> float | None:
@@ -471,31 +550,32 @@ class Session:
         self._timeout = seconds
 
     def _alone(self, run: Callable[[], Any]) -> int:
-        """The status of a call of the library, unless another of this session has not returned.
+        """The status of a call of the library, unless another of this session has not returned."""
+        status: int = self._use.alone(run)
+        return status
 
-        The exception of a signal handler may come at any place, and leaves nothing behind.
+    def _wait(
+        self,
+        function: str,
+        *arguments: object,
+        later: Callable[[], Tuple[str, Tuple[object, ...]]] | None = None,
+    ) -> int:
+        """The status of a waiting form, which is called for slices of the timeout.
+
+        `later` gives the function and the arguments of all slices but the first.
         """
-        call = object()
-        try:
-            self._inside.add(call)
-            if len(self._inside) > 1:
-                raise SessionInUse("a call of the session has not returned: split off another one")
-            status: int = run()
-            return status
-        finally:
-            self._inside.discard(call)
-
-    def _wait(self, function: str, *arguments: object) -> int:
-        """The status of a waiting form, which is called for slices of the timeout."""
-        call = getattr(_library, function)
         end = math.inf if self._timeout is None else time.monotonic() + self._timeout
 
         def attempts() -> int:
+            call, words, is_first = getattr(_library, function), arguments, True
             while True:
                 left = max(0.0, min(_SLICE_SECONDS, end - time.monotonic()))
-                status: int = call(self._slot, *arguments, math.ceil(left * 1000))
+                status: int = call(self._slot, *words, math.ceil(left * 1000))
                 if status != Status.BUSY or time.monotonic() >= end:
                     return status
+                if is_first and later:
+                    name, words = later()
+                    call, is_first = getattr(_library, name), False
 
         return self._alone(attempts)
 
@@ -564,7 +644,14 @@ class Session:
         _number("data_fragments", data_fragments, 32)
         source = _pinned(view) if not view.readonly else bytes(blob)
         words = *_named(name), source, len(view), data_fragments, version
-        _check(self._wait("lrc_store_put_wait", *words), "put", name, len(view), data_fragments)
+
+        def copied() -> Tuple[str, Tuple[object, ...]]:
+            """The put of a copy, which is encoded once, however many slices there are."""
+            copy = _copy_of(view)
+            return "lrc_store_put_from_wait", (*_named(name), copy, data_fragments, version)
+
+        status = self._wait("lrc_store_put_wait", *words, later=copied)
+        _check(status, "put", name, len(view), data_fragments)
         return version.value
 
     def read(self, name: str, start: int, length: int) -> Grant:
@@ -624,7 +711,7 @@ class Session:
         version, source = _U64(), bytes(_view("the fragment", whole))
         place = _number("stripe", stripe), _number("fragment", fragment)
         words = known._held, *place, source, len(source), version
-        status = self._wait("lrc_store_install_wait", *words)
+        status = known._alone(lambda: self._wait("lrc_store_install_wait", *words))
         _check(status, "install", stripe, fragment, len(source))
         return version.value
 

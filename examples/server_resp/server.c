@@ -3,10 +3,11 @@
  *
  *     server PORT WIDTH [THREADS]
  *
- * Port 0 stands for any. It prints its port once it serves. Each of its threads, as many as
- * processors if that is left out, serves many connections by a session of each shard. It knows
- * PING, ECHO, SET, GET, STRLEN, EXISTS, DEL, DBSIZE, INFO, COMMAND, CONFIG and QUIT; and of its own
- * LOSE key stripe fragment, and MEND. */
+ * Port 0 stands for any. It prints its port once it serves, and ends at SIGINT and SIGTERM. Each of
+ * its threads, as many as processors if that is left out, serves many connections by a session of
+ * each shard. It knows PING, ECHO, SET, GET, STRLEN, EXISTS, DEL, DBSIZE, INFO, COMMAND, CONFIG GET
+ * and QUIT; and of its own LOSE key stripe fragment, and MEND. A command with other words than
+ * these take, such as an option of SET or a second key of DEL, is refused and does nothing. */
 #define _GNU_SOURCE
 #include "lrc_store.h"
 
@@ -14,13 +15,18 @@
 #include <errno.h>
 #include <inttypes.h>
 #include <netinet/tcp.h>
+#include <poll.h>
 #include <pthread.h>
+#include <signal.h>
 #include <stdio.h>
 #include <stdlib.h>
 #include <string.h>
 #include <strings.h>
 #include <sys/epoll.h>
+#include <sys/eventfd.h>
+#include <sys/signalfd.h>
 #include <sys/socket.h>
+#include <time.h>
 #include <unistd.h>
 
 enum { MOST_WORDS = 8, READ_AT_ONCE = 65536, MOST_BYTES = 64 << 20, RUNS = 16, SHARDS = 16 };
@@ -28,6 +34,12 @@ enum { MOST_WORDS = 8, READ_AT_ONCE = 65536, MOST_BYTES = 64 << 20, RUNS = 16, S
 enum { MOST_THREADS = 32, EVENTS_AT_ONCE = 64 };
 /* From how many bytes on a value is received into memory of the store. */
 enum { LARGE = 65536 };
+/* With so many bytes of replies that are not sent, a client gets no further command. */
+enum { MOST_UNSENT = 1 << 20 };
+/* A line such as "$5" has at most so many bytes. */
+enum { MOST_LINE = 32 };
+/* How long the server waits to accept if it can have no further file. */
+enum { PAUSE_NS = 100000000 };
 
 struct bytes {
     char *at;
@@ -39,11 +51,15 @@ struct word {
     size_t len;
 };
 
-/* A thread: its epoll instance, and its session of each shard, once it had to do with the shard. */
+/* A thread: its epoll instance, what wakes it to end, its session of each shard, once it had to do
+ * with the shard, and its clients, which the thread that accepts adds. */
 struct worker {
-    int events;
+    pthread_t thread;
+    int events, wake;
     lrc_shards *shards;
     lrc_slot *sessions[SHARDS];
+    pthread_mutex_t mutex; /* of the list */
+    struct client *clients;
 };
 
 /* The name of a key, and the session of its shard. */
@@ -66,11 +82,12 @@ static const lrc_buffer NO_BUFFER = {(uint8_t *)"", 0};
 struct client {
     int socket;
     struct worker *worker;
+    struct client *next, *before; /* in the worker's list */
     struct bytes in, out;
     struct value value;
-    size_t passed;  /* bytes of the input to leave out: the line end of a large value */
-    size_t sent;    /* of `out` */
-    int is_sending; /* whether it waits until more of `out` can be sent */
+    size_t sent;   /* of `out` */
+    int has_more;  /* whether commands of `in` wait until replies are sent */
+    int is_paused; /* whether it waits until the socket takes more, and receives nothing */
     int is_over;
 };
 
@@ -85,6 +102,13 @@ static int reserve(struct bytes *bytes, size_t more) {
     bytes->at = at;
     bytes->room = room;
     return 1;
+}
+
+/* Frees what an idle client would keep of a large command or reply. */
+static void shrink(struct bytes *bytes) {
+    if (bytes->len || bytes->room <= READ_AT_ONCE) return;
+    free(bytes->at);
+    *bytes = (struct bytes){NULL, 0, 0};
 }
 
 static void append(struct client *client, const void *at, size_t len) {
@@ -201,16 +225,24 @@ static void delete (struct client *client, const struct key *key, const struct w
     (void)words;
 }
 
-static uint64_t number_in(struct word word) {
-    char text[24] = "";
-    memcpy(text, word.at, word.len < sizeof text ? word.len : sizeof text - 1);
-    return strtoull(text, NULL, 10);
+/* Whether a word is a number of decimal digits, which is written. */
+static int is_number(struct word word, uint64_t *number) {
+    *number = 0;
+    for (size_t i = 0; i < word.len; i++) {
+        const unsigned digit = (unsigned char)word.at[i] - '0';
+        if (digit > 9 || *number > (UINT64_MAX - digit) / 10) return 0;
+        *number = 10 * *number + digit;
+    }
+    return word.len > 0;
 }
 
 static void lose(struct client *client, const struct key *key, const struct word *words) {
-    uint64_t version;
-    say_status(client, lrc_store_lose_wait(key->session, key->name, sizeof key->name,
-                                           number_in(words[2]), number_in(words[3]), &version, -1));
+    uint64_t version, stripe, fragment;
+    if (is_number(words[2], &stripe) && is_number(words[3], &fragment))
+        say_status(client, lrc_store_lose_wait(key->session, key->name, sizeof key->name, stripe,
+                                               fragment, &version, -1));
+    else
+        say(client, "-ERR a stripe or a fragment is no number\r\n");
 }
 
 static void mend(struct client *client, const struct word *words) {
@@ -250,19 +282,27 @@ static void inform(struct client *client, const struct word *words) {
     say_bulk(client, text, (size_t)len);
 }
 
-static void pong(struct client *client, const struct word *words) {
-    (void)words;
-    say(client, "+PONG\r\n");
-}
-
 static void echo(struct client *client, const struct word *words) {
     say_bulk(client, words[1].at, words[1].len);
 }
 
-/* What clients ask for when they connect, and can do without. */
+static void pong(struct client *client, const struct word *words) {
+    if (words[1].at)
+        echo(client, words);
+    else
+        say(client, "+PONG\r\n");
+}
+
+static int is_word(struct word word, const char *text) {
+    return strlen(text) == word.len && !strncasecmp(text, word.at, word.len);
+}
+
+/* What clients ask for when they connect, and can do without: COMMAND [DOCS], CONFIG GET. */
 static void list_nothing(struct client *client, const struct word *words) {
-    (void)words;
-    say(client, "*0\r\n");
+    if (!words[1].at || is_word(words[1], "DOCS") || is_word(words[1], "GET"))
+        say(client, "*0\r\n");
+    else
+        say(client, "-ERR unknown command\r\n");
 }
 
 static void quit(struct client *client, const struct word *words) {
@@ -274,24 +314,24 @@ static void quit(struct client *client, const struct word *words) {
 /* A command of a key has the second function, which gets a session of the key's shard. */
 static const struct command {
     const char *word;
-    size_t words; /* with its own, at least */
+    size_t least, most; /* words, with its own */
     void (*run)(struct client *client, const struct word *words);
     void (*run_at)(struct client *client, const struct key *key, const struct word *words);
 } commands[] = {
-    {"GET", 2, NULL, get},
-    {"SET", 3, NULL, set},
-    {"DEL", 2, NULL, delete},
-    {"STRLEN", 2, NULL, tell_length},
-    {"EXISTS", 2, NULL, tell_presence},
-    {"LOSE", 4, NULL, lose},
-    {"MEND", 1, mend, NULL},
-    {"DBSIZE", 1, count_keys, NULL},
-    {"INFO", 1, inform, NULL},
-    {"PING", 1, pong, NULL},
-    {"ECHO", 2, echo, NULL},
-    {"COMMAND", 1, list_nothing, NULL},
-    {"CONFIG", 1, list_nothing, NULL},
-    {"QUIT", 1, quit, NULL},
+    {"GET", 2, 2, NULL, get},
+    {"SET", 3, 3, NULL, set},
+    {"DEL", 2, 2, NULL, delete},
+    {"STRLEN", 2, 2, NULL, tell_length},
+    {"EXISTS", 2, 2, NULL, tell_presence},
+    {"LOSE", 4, 4, NULL, lose},
+    {"MEND", 1, 1, mend, NULL},
+    {"DBSIZE", 1, 1, count_keys, NULL},
+    {"INFO", 1, 1, inform, NULL},
+    {"PING", 1, 2, pong, NULL},
+    {"ECHO", 2, 2, echo, NULL},
+    {"COMMAND", 1, MOST_WORDS, list_nothing, NULL},
+    {"CONFIG", 3, MOST_WORDS, list_nothing, NULL},
+    {"QUIT", 1, 1, quit, NULL},
 };
 
 /* The name of a key, and the worker's session of its shard, which it takes once and keeps. */
@@ -308,25 +348,21 @@ static uint32_t find_key(struct worker *worker, struct word word, struct key *ke
     return status;
 }
 
-static int is_word(struct word word, const char *text) {
-    return strlen(text) == word.len && !strncasecmp(text, word.at, word.len);
-}
-
 static void run(struct client *client, const struct word *words, size_t count) {
-    for (size_t i = 0; i < sizeof commands / sizeof *commands; i++) {
-        const struct command *command = &commands[i];
-        if (!is_word(words[0], command->word) || count < command->words) continue;
-        struct key key;
-        const uint32_t status = command->run ? 0 : find_key(client->worker, words[1], &key);
-        if (status)
-            say_error(client, status);
-        else if (command->run)
-            command->run(client, words);
-        else
-            command->run_at(client, &key, words);
-        return;
-    }
-    say(client, "-ERR unknown command, or too few words\r\n");
+    struct key key;
+    uint32_t status;
+    const struct command *command = commands, *end = commands + sizeof commands / sizeof *commands;
+    while (command < end && !is_word(words[0], command->word)) command++;
+    if (command == end)
+        say(client, "-ERR unknown command\r\n");
+    else if (count < command->least || count > command->most)
+        say(client, "-ERR wrong number of words: this server has no options\r\n");
+    else if (command->run)
+        command->run(client, words);
+    else if ((status = find_key(client->worker, words[1], &key)))
+        say_error(client, status);
+    else
+        command->run_at(client, &key, words);
 }
 
 /* ---- the protocol */
@@ -336,9 +372,9 @@ static void run(struct client *client, const struct word *words, size_t count) {
 static int64_t number_line(char kind, const char **at, const char *end) {
     const char *line = *at, *last = memchr(line, '\n', (size_t)(end - line));
     int64_t number = 0;
-    if (!last) return end - line > 32 ? -2 : -1;
-    if (*line++ != kind || line == last) return -2;
-    for (; line < last && *line != '\r'; line++) {
+    if (!last) return end - line > MOST_LINE ? -2 : -1;
+    if (last - line < 3 || *line != kind || last[-1] != '\r') return -2;
+    while (++line < last - 1) {
         if (*line < '0' || *line > '9' || number > MOST_BYTES) return -2;
         number = 10 * number + (*line - '0');
     }
@@ -367,6 +403,7 @@ static int64_t command_in(const char *from, const char *end, struct text *text) 
         if (len < 0 || len > MOST_BYTES) return -1;
         text->words[text->count] = (struct word){at, (size_t)len};
         if (end - at < len + 2) return 0;
+        if (memcmp(at + len, "\r\n", 2)) return -1;
         at += len + 2;
     }
     return at - from;
@@ -388,33 +425,44 @@ static int is_begun(struct client *client, const struct text *text, const char *
     return 1;
 }
 
-/* Stores a value that is all there, with its line end. */
+/* Ends a client that sends something else than commands, once the reply is sent. */
+static void end_protocol(struct client *client) {
+    say(client, "-ERR protocol\r\n");
+    client->is_over = 1;
+}
+
+/* Stores a value that is all there, if its line end follows. */
 static void store(struct client *client, struct value *value) {
     uint64_t version;
-    say_status(client,
-               lrc_store_put_from_wait(value->key.session, value->key.name, sizeof value->key.name,
-                                       &value->slot, 12, &version, -1));
+    if (memcmp(client->in.at, "\r\n", 2))
+        end_protocol(client);
+    else
+        say_status(client,
+                   lrc_store_put_from_wait(value->key.session, value->key.name,
+                                           sizeof value->key.name, &value->slot, 12, &version, -1));
     lrc_slot_release(&value->slot);
     value->buffer = NO_BUFFER;
     value->filled = 0;
 }
 
-/* Runs all whole commands of the input, and keeps the rest. */
+/* Runs the whole commands of the input, up to so many replies, and keeps the rest. */
 static void run_all(struct client *client) {
-    const size_t passed = client->passed < client->in.len ? client->passed : client->in.len;
-    const char *at = client->in.at + passed, *end = client->in.at + client->in.len;
+    const char *at = client->in.at, *end = client->in.at + client->in.len;
     struct text text;
     int64_t len = 1;
-    client->passed -= passed;
-    if (client->value.buffer.len && !client->passed) store(client, &client->value);
-    while (at < end && len > 0 && !client->is_over) {
+    if (client->value.buffer.len) {
+        if (client->in.len < 2) return;
+        store(client, &client->value);
+        at += 2;
+    }
+    while (at < end && len > 0 && !client->is_over && client->out.len < MOST_UNSENT) {
         len = command_in(at, end, &text);
         if (len > 0) run(client, text.words, text.count);
-        if (len < 0) say(client, "-ERR protocol\r\n");
-        if (len < 0) client->is_over = 1;
+        if (len < 0) end_protocol(client);
         if (len == 0 && is_begun(client, &text, end)) at = end;
         at += len > 0 ? len : 0;
     }
+    client->has_more = at < end && len > 0 && !client->is_over;
     client->in.len = (size_t)(end - at);
     memmove(client->in.at, at, client->in.len);
 }
@@ -448,7 +496,6 @@ static int receive_some(struct client *client) {
     if (count == 0) return 0;
     if (is_large) {
         value->filled += (size_t)count;
-        if (value->filled == value->buffer.len) client->passed = 2;
     } else {
         client->in.len += (size_t)count;
         run_all(client);
@@ -456,20 +503,40 @@ static int receive_some(struct client *client) {
     return 1;
 }
 
-/* Serves a client whose socket is ready. It gets no further command before its replies are sent.
- * Returns 0 once it is over. */
+/* Serves a client whose socket is ready. It receives no further command before its replies are
+ * sent. Of those that it has, it runs some, until MOST_UNSENT bytes wait. Returns 0 once it is
+ * over. */
 static int serve(struct client *client) {
-    if (!client->is_sending && !receive_some(client)) return 0;
+    if (client->has_more && !client->out.len)
+        run_all(client);
+    else if (!client->is_paused && !receive_some(client))
+        return 0;
     if (!send_some(client)) return 0;
-    const int is_sending = client->out.len > 0;
-    if (client->is_over && !is_sending) return 0;
-    if (is_sending == client->is_sending) return 1;
-    struct epoll_event event = {.events = is_sending ? EPOLLOUT : EPOLLIN, .data.ptr = client};
-    client->is_sending = is_sending;
+    shrink(&client->in);
+    shrink(&client->out);
+    if (client->is_over && !client->out.len) return 0;
+    const int is_paused = client->out.len || client->has_more;
+    if (is_paused == client->is_paused) return 1;
+    struct epoll_event event = {.events = is_paused ? EPOLLOUT : EPOLLIN, .data.ptr = client};
+    client->is_paused = is_paused;
     return !epoll_ctl(client->worker->events, EPOLL_CTL_MOD, client->socket, &event);
 }
 
+static void begin(struct client *client) {
+    struct worker *worker = client->worker;
+    pthread_mutex_lock(&worker->mutex);
+    client->next = worker->clients;
+    if (client->next) client->next->before = client;
+    worker->clients = client;
+    pthread_mutex_unlock(&worker->mutex);
+}
+
 static void end(struct client *client) {
+    struct worker *worker = client->worker;
+    pthread_mutex_lock(&worker->mutex);
+    if (client->next) client->next->before = client->before;
+    *(client->before ? &client->before->next : &worker->clients) = client->next;
+    pthread_mutex_unlock(&worker->mutex);
     close(client->socket);
     lrc_slot_release(&client->value.slot);
     free(client->in.at);
@@ -477,21 +544,25 @@ static void end(struct client *client) {
     free(client);
 }
 
-/* Serves the clients of a worker, in turn. */
+/* Serves the clients of a worker, in turn, until it is woken to end. */
 static void *work(void *argument) {
     const struct worker *worker = argument;
     struct epoll_event events[EVENTS_AT_ONCE];
     for (;;) {
         const int count = epoll_wait(worker->events, events, EVENTS_AT_ONCE, -1);
         if (count < 0 && errno != EINTR) return NULL;
-        for (int i = 0; i < count; i++)
+        for (int i = 0; i < count; i++) {
+            if (!events[i].data.ptr) return NULL;
             if (!serve(events[i].data.ptr)) end(events[i].data.ptr);
+        }
     }
 }
 
-/* Accepts a client, for a worker. */
+/* Accepts a client, for a worker. If there can be no further file, or no memory, it waits a while
+ * for others to end. */
 static void accept_one(int listener, struct worker *worker) {
-    const int one = 1, socket = accept(listener, NULL, NULL);
+    const struct timespec pause = {0, PAUSE_NS};
+    const int one = 1, socket = accept4(listener, NULL, NULL, SOCK_CLOEXEC);
     struct client *client = socket < 0 ? NULL : calloc(1, sizeof *client);
     if (client) {
         struct epoll_event event = {.events = EPOLLIN, .data.ptr = client};
@@ -500,23 +571,43 @@ static void accept_one(int listener, struct worker *worker) {
                                   .worker = worker,
                                   .value.slot = LRC_SLOT_EMPTY,
                                   .value.buffer = NO_BUFFER};
+        begin(client);
         if (!epoll_ctl(worker->events, EPOLL_CTL_ADD, socket, &event)) return;
+        end(client);
+    } else if (socket >= 0) {
+        close(socket);
     }
-    free(client);
-    if (socket >= 0) close(socket);
+    if (socket >= 0 || errno == EMFILE || errno == ENFILE || errno == ENOBUFS || errno == ENOMEM)
+        nanosleep(&pause, NULL);
 }
 
-/* Starts so many workers. Returns how many there are. */
-static int start(struct worker workers[MOST_THREADS], int threads, lrc_shards *shards) {
-    int count = 0;
-    for (; count < threads; count++) {
-        pthread_t thread;
-        workers[count] = (struct worker){.events = epoll_create1(EPOLL_CLOEXEC), .shards = shards};
-        if (workers[count].events < 0) return count;
-        if (pthread_create(&thread, NULL, work, &workers[count])) return count;
-        pthread_detach(thread);
-    }
-    return count;
+/* Starts a worker. Returns 0 if it cannot. */
+static int start(struct worker *worker, lrc_shards *shards) {
+    struct epoll_event event = {.events = EPOLLIN, .data.ptr = NULL};
+    *worker = (struct worker){.events = epoll_create1(EPOLL_CLOEXEC),
+                              .wake = eventfd(0, EFD_CLOEXEC),
+                              .shards = shards,
+                              .mutex = PTHREAD_MUTEX_INITIALIZER};
+    if (worker->events >= 0 && worker->wake >= 0 &&
+        !epoll_ctl(worker->events, EPOLL_CTL_ADD, worker->wake, &event) &&
+        !pthread_create(&worker->thread, NULL, work, worker))
+        return 1;
+    close(worker->events);
+    close(worker->wake);
+    return 0;
+}
+
+/* Ends a worker: its connections, and its sessions. */
+static void stop(struct worker *worker) {
+    lrc_pool *pool;
+    eventfd_write(worker->wake, 1);
+    pthread_join(worker->thread, NULL);
+    while (worker->clients) end(worker->clients);
+    for (uint32_t shard = 0; shard < SHARDS; shard++)
+        if (worker->sessions[shard] && !lrc_shards_at(worker->shards, shard, &pool))
+            lrc_pool_give(pool, worker->sessions[shard]);
+    close(worker->events);
+    close(worker->wake);
 }
 
 /* A socket that listens on a port of the loopback address, or -1. Prints the port. */
@@ -524,7 +615,7 @@ static int listen_on(uint16_t port) {
     struct sockaddr_in address = {
         .sin_family = AF_INET, .sin_port = htons(port), .sin_addr.s_addr = htonl(INADDR_LOOPBACK)};
     socklen_t len = sizeof address;
-    const int one = 1, listener = socket(AF_INET, SOCK_STREAM, 0);
+    const int one = 1, listener = socket(AF_INET, SOCK_STREAM | SOCK_CLOEXEC, 0);
     setsockopt(listener, SOL_SOCKET, SO_REUSEADDR, &one, sizeof one);
     if (bind(listener, (struct sockaddr *)&address, len) || listen(listener, 511) ||
         getsockname(listener, (struct sockaddr *)&address, &len))
@@ -534,31 +625,70 @@ static int listen_on(uint16_t port) {
     return listener;
 }
 
+/* Accepts clients for the workers, in turn, until a signal comes. */
+static void serve_all(int listener, int signals, struct worker *workers, unsigned count) {
+    struct pollfd ready[] = {{listener, POLLIN, 0}, {signals, POLLIN, 0}};
+    for (unsigned next = 0; !ready[1].revents; next++)
+        if (poll(ready, 2, -1) > 0 && ready[0].revents)
+            accept_one(listener, &workers[next % count]);
+}
+
+/* Lets SIGINT and SIGTERM be read from a file, which it returns, or -1. */
+static int signals_as_file(void) {
+    sigset_t ending;
+    sigemptyset(&ending);
+    sigaddset(&ending, SIGINT);
+    sigaddset(&ending, SIGTERM);
+    pthread_sigmask(SIG_BLOCK, &ending, NULL);
+    return signalfd(-1, &ending, SFD_CLOEXEC);
+}
+
 static int usage(void) {
     fprintf(stderr, "usage: server PORT WIDTH [THREADS], at most %d\n", MOST_THREADS);
     return 2;
 }
 
-int main(int count, char **words) {
+/* Whether a word of the command line is a number of at most `most`, which is written. */
+static int is_given(const char *text, uint64_t most, uint64_t *number) {
+    return is_number((struct word){text, strlen(text)}, number) && *number <= most;
+}
+
+/* Serves until a signal comes. Returns the status of the process. */
+static int serve_store(uint16_t port, unsigned threads, lrc_shards *shards) {
     static struct worker workers[MOST_THREADS];
-    lrc_options options = {sizeof options, 0, SHARDS, 0};
+    const int signals = signals_as_file(), listener = signals < 0 ? -1 : listen_on(port);
+    unsigned started = 0;
+    while (listener >= 0 && started < threads && start(&workers[started], shards)) started++;
+    if (!started) {
+        perror("server");
+        return 1;
+    }
+    serve_all(listener, signals, workers, started);
+    close(listener);
+    close(signals);
+    while (started > 0) stop(&workers[--started]);
+    return 0;
+}
+
+int main(int count, char **words) {
+    lrc_options options = {sizeof options, 0, SHARDS, 0, 0};
     lrc_shards *shards;
+    uint64_t port, width, entries;
     const long processors = sysconf(_SC_NPROCESSORS_ONLN);
-    long threads = processors < MOST_THREADS ? processors : MOST_THREADS;
-    if (count < 3 || count > 4) return usage();
-    if (count == 4) threads = strtol(words[3], NULL, 10);
-    if (threads < 1 || threads > MOST_THREADS) return usage();
-    options.width = (uint32_t)strtoul(words[2], NULL, 10);
+    uint64_t threads = processors < 1              ? 1
+                       : processors < MOST_THREADS ? (uint64_t)processors
+                                                   : MOST_THREADS;
+    uint32_t lawful;
+    if (count < 3 || count > 4 || !is_given(words[1], UINT16_MAX, &port) ||
+        !is_given(words[2], UINT32_MAX, &width))
+        return usage();
+    if (count == 4 && (!is_given(words[3], MOST_THREADS, &threads) || !threads)) return usage();
+    options.width = (uint32_t)width;
     const uint32_t status = lrc_shards_open(&options, &shards);
     if (status) {
         fprintf(stderr, "server: %s\n", lrc_store_text(status));
         return 1;
     }
-    const int listener = listen_on((uint16_t)strtoul(words[1], NULL, 10));
-    const int started = listener < 0 ? 0 : start(workers, (int)threads, shards);
-    if (!started) {
-        perror("server");
-        return 1;
-    }
-    for (unsigned next = 0;; next++) accept_one(listener, &workers[next % (unsigned)started]);
+    const int ended = serve_store((uint16_t)port, (unsigned)threads, shards);
+    return lrc_shards_close(shards, &entries, &lawful) ? 1 : ended;
 }

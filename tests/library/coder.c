@@ -467,8 +467,23 @@ static void test_threads(void) {
     puts("threads: four rebuilt from one stripe");
 }
 
+/* Arrays of addresses that are not const, as a program has of its own buffers. */
+static void test_own_buffers(void) {
+    uint8_t fragments[16][4] = {"ABCD", "EFGH", "IJKL"}, rebuilt[4], *disk[16], *targets[16] = {0};
+    for (int f = 0; f < 16; f++) disk[f] = fragments[f];
+    CHECK(lrc_encode_arrays(WIDE, 4, disk, disk + WIDE) == LRC_DONE);
+    disk[1] = NULL;
+    CHECK(lrc_rebuild_arrays(WIDE, 4, disk, 1, rebuilt) == LRC_DONE);
+    CHECK(memcmp(rebuilt, "EFGH", 4) == 0);
+    memset(rebuilt, 0, 4);
+    targets[1] = rebuilt;
+    CHECK(lrc_decode_arrays(WIDE, 4, disk, targets) == LRC_DONE);
+    CHECK(memcmp(rebuilt, "EFGH", 4) == 0);
+}
+
 int main(void) {
     test_letters();
+    test_own_buffers();
     test_lost_sets(WIDE, 65536, 2265, 1568);
     test_lost_sets(SMALL, 1024, 356, 180);
     test_encode_add(WIDE);

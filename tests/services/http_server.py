@@ -2,8 +2,10 @@
 """examples/server_http: http_server.py, with the package `lrcstore` on PYTHONPATH."""
 
 import http.client
+import itertools
 import os
 import signal
+import socket
 import subprocess
 import sys
 import threading
@@ -44,6 +46,14 @@ class Server:
         found = reply.status, reply.headers, reply.read()
         client.close()
         return found
+
+    def exchange(self, request, ends=False):
+        """All that the server sends to these bytes until it closes the connection."""
+        with socket.create_connection(("127.0.0.1", self.port), PATIENCE) as client:
+            client.sendall(request)
+            if ends:
+                client.shutdown(socket.SHUT_WR)
+            return client.makefile("rb").read()
 
     def metric(self, name):
         text = self.ask("GET", "/metrics")[2].decode()
@@ -107,6 +117,54 @@ class Objects(unittest.TestCase):
         self.assertEqual(ask("GET", "/a")[0], 503)
         self.assertEqual(ask("GET", "/a", Range="bytes=0-191")[2], self.blob[:192])
 
+    def refuses(self, status, request, ends=False):
+        """A request is refused. The object at /a stays, and no byte counts as another request."""
+        reply = self.server.exchange(request, ends)
+        self.assertEqual(reply.split(b" ")[1], str(status).encode(), (request, reply))
+        self.assertIn(b"\r\nConnection: close\r\n", reply)
+        self.assertEqual(reply.count(b"HTTP/1.1 "), 1, request)
+        self.assertEqual(self.server.ask("GET", "/a")[2], self.blob, request)
+
+    def test_bodies_that_are_refused(self):
+        self.server.ask("PUT", "/a", self.blob)
+        put, chunk = b"PUT /a HTTP/1.1\r\n", b"5\r\nhello\r\n0\r\n\r\n"
+        delete = b"DELETE /a HTTP/1.1\r\n\r\n"
+        self.refuses(411, put + b"Transfer-Encoding: chunked\r\n\r\n" + chunk)
+        self.refuses(411, put + b"Transfer-Encoding: gzip\r\nContent-Length: 3\r\n\r\nabc")
+        self.refuses(411, put + b"\r\n")
+        self.refuses(400, put + b"Content-Length: 1000\r\n\r\nonly this", ends=True)
+        self.refuses(400, put + b"Content-Length: 1\r\nContent-Length: 2\r\n\r\nab")
+        for length in (b"-1", b"abc", b"1_0", b"+1", b"1180591620717411303424", b""):
+            self.refuses(400, put + b"Content-Length: " + length + b"\r\n\r\nabc")
+        self.refuses(413, put + b"Content-Length: 10000000000000\r\n\r\nabc")
+        for method in (b"GET /a", b"HEAD /a", b"DELETE /a", b"POST /a?lose=0.0"):
+            words = method + b" HTTP/1.1\r\nContent-Length: %d\r\n\r\n" % len(delete)
+            self.refuses(400, words + delete)
+            self.refuses(411, method + b" HTTP/1.1\r\nTransfer-Encoding: chunked\r\n\r\n" + chunk)
+        self.refuses(400, b"GET http://[x/ HTTP/1.1\r\n\r\n")
+        self.assertEqual(self.server.metric("lost"), "0")
+
+    def test_a_body_is_refused_before_it_is_sent(self):
+        self.server.ask("PUT", "/a", self.blob)
+        expect = b"PUT /a HTTP/1.1\r\nExpect: 100-continue\r\n"
+        self.refuses(411, expect + b"Transfer-Encoding: chunked\r\n\r\n")
+        self.refuses(413, expect + b"Content-Length: 10000000000000\r\n\r\n")
+        reply = self.server.exchange(expect + b"Connection: close\r\nContent-Length: 1\r\n\r\nx")
+        self.assertIn(b"100 Continue", reply)
+        self.assertIn(b"201 Created", reply)
+        self.assertEqual(self.server.ask("GET", "/a")[2], b"x")
+
+    def test_requests_in_a_row(self):
+        put = b"PUT /%d HTTP/1.1\r\nContent-Length: 3\r\n\r\nab%d"
+        rest = b"GET /1 HTTP/1.1\r\nConnection: close\r\n\r\n"
+        reply = self.server.exchange(put % (1, 1) + put % (2, 2) + rest)
+        self.assertEqual((reply.count(b"201 Created"), reply[-3:]), (2, b"ab1"))
+
+    def test_numbers_that_are_too_long(self):
+        self.server.ask("PUT", "/a", self.blob)
+        self.assertEqual(self.server.ask("GET", "/a", Range=f"bytes={'9' * 5000}-")[0], 200)
+        self.assertEqual(self.server.ask("POST", f"/a?lose={'9' * 5000}.0")[0], 400)
+
     def test_metrics(self):
         server = self.server
         server.ask("PUT", "/a", self.blob)
@@ -116,6 +174,51 @@ class Objects(unittest.TestCase):
         found = [server.metric(name) for name in ("blobs", "bytes", "lost", "errors_total")]
         self.assertEqual(found, ["2", "2000", "1", "0"])
         self.assertEqual(server.metric("requests_total"), "9")
+
+
+class Versions(unittest.TestCase):
+    def test_headers_and_bytes_are_of_one_version(self):
+        with Server("--width", "16", "--scrub", "3600") as server:
+            ends, wrong, seen = threading.Event(), [], {}
+
+            def put():
+                for turn in itertools.count(1):
+                    if ends.is_set():
+                        return
+                    server.ask("PUT", "/a", bytes([turn % 251]) * (turn % 7 * 300 + 1))
+
+            server.ask("PUT", "/a", b"x")
+            writer = threading.Thread(target=put)
+            writer.start()
+            for _ in range(150):
+                status, headers, body = server.ask("GET", "/a")
+                if status != 200 or len(set(body)) != 1:
+                    wrong.append(status)
+                if seen.setdefault(headers["ETag"], body) != body:
+                    wrong.append(headers["ETag"])
+            ends.set()
+            writer.join()
+            self.assertEqual(wrong, [])
+            self.assertGreater(len(seen), 5)
+
+
+class Ends(unittest.TestCase):
+    def test_a_reply_under_way_is_sent(self):
+        with Server("--width", "65536", "--scrub", "3600") as server:
+            blob = bytes_of(1000) * 20_000
+            server.ask("PUT", "/a", blob)
+            idle = socket.create_connection(("127.0.0.1", server.port), PATIENCE)
+            client = http.client.HTTPConnection("127.0.0.1", server.port, timeout=PATIENCE)
+            client.request("GET", "/a")
+            reply = client.getresponse()
+            start = reply.read(1000)
+            server.process.send_signal(signal.SIGTERM)
+            time.sleep(1.5)  # longer than it takes to leave its loop
+            self.assertEqual(start + reply.read(), blob)
+            self.assertEqual(idle.recv(1), b"")
+            client.close()
+            idle.close()
+        self.assertEqual(server.status, 0)
 
 
 class Failures(unittest.TestCase):

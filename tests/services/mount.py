@@ -118,7 +118,7 @@ class Files(unittest.TestCase):
             file.write(b"second")
             file.flush()
             os.rename(self.path("b"), self.path("c"))
-            self.assertEqual(self.read("c"), b"second")
+            self.assertEqual(self.read("c"), b"")  # it was never closed
             os.unlink(self.path("c"))
             file.seek(0)
             self.assertEqual(file.read(), b"second")
@@ -127,6 +127,73 @@ class Files(unittest.TestCase):
             file.write(b"other")
             os.unlink(self.path("a"))
         self.assertEqual(os.listdir(self.mounted.folder), [])
+
+    def test_a_reader_has_one_version(self):
+        first, second = b"a" * 600_000, b"b" * 500_000
+        self.write("a", first)
+        with open(self.path("a"), "rb", 0) as reader:
+            found = reader.read(100_000)
+            self.write("a", second)
+            while part := reader.read(100_000):
+                found += part
+        self.assertEqual(found, first)
+        self.assertEqual(self.read("a"), second)
+
+    def test_a_file_that_is_written_is_not_read(self):
+        """Neither before it is closed, nor because a reader closes it."""
+        self.write("a", b"stored")
+        for mode in ("wb", "r+b", "ab"):
+            with open(self.path("a"), mode, 0) as writer:
+                writer.write(b"written")
+                for _ in range(2):
+                    self.assertEqual(self.read("a"), b"stored")
+                descriptor = os.dup(writer.fileno())
+            os.close(descriptor)
+            self.assertIn(b"written", self.read("a"))
+            self.write("a", b"stored")
+        with open(self.path("b"), "wb", 0) as writer:
+            writer.write(b"written")
+            self.assertEqual(self.read("b"), b"")
+
+    def test_a_deleted_file_is_not_stored(self):
+        self.write("a", b"first")
+        self.write("b", b"second")
+        with open(self.path("b"), "wb", 0) as writer:
+            writer.write(b"third")
+            os.rename(self.path("a"), self.path("b"))
+        self.assertEqual((self.read("b"), os.listdir(self.mounted.folder)), (b"first", ["b"]))
+        os.rename(self.path("b"), self.path("b"))
+        self.assertEqual(self.read("b"), b"first")
+
+    def test_a_file_that_is_too_long_is_refused_before_it_is_made(self):
+        self.write("a", b"stored")
+        longest = 12 * 16 * 4096
+        for length in (longest + 1, 300_000_000_000, 2**62):
+            self.fails(errno.EFBIG, os.truncate, self.path("a"), length)
+        with open(self.path("a"), "r+b", 0) as file:
+            self.fails(errno.EFBIG, file.truncate, 2**40)
+            file.seek(2**40)
+            self.fails(errno.EFBIG, file.write, b"x")
+        self.assertEqual(self.read("a"), b"stored")
+        os.truncate(self.path("a"), longest)
+        self.assertEqual(self.read("a"), b"stored".ljust(longest, b"\0"))
+
+    def test_attributes(self):
+        """What `cp -p` keeps."""
+        self.write("A", b"upper case")
+        self.write("a", b"lower case")
+        path = self.path("a")
+        os.chmod(path, 0o640)
+        os.utime(path, (1000, 2000))
+        os.chown(path, -1, -1)
+        found = os.stat(path)
+        self.assertEqual(found.st_mode & 0o7777, 0o640)
+        self.assertEqual((found.st_atime, found.st_mtime), (1000, 2000))
+        self.assertEqual((found.st_uid, found.st_gid), (os.getuid(), os.getgid()))
+        subprocess.run(["cp", "-p", path, self.path("b")], check=True)
+        self.assertEqual(os.stat(self.path("b")).st_mtime, 2000)
+        self.assertEqual((self.read("A"), self.read("b")), (b"upper case", b"lower case"))
+        self.fails(errno.ENOTSUP, os.setxattr, path, "user.other", b"x")
 
     def test_fragments_fail(self):
         self.write("a", bytes_of(1000))

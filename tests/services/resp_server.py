@@ -1,15 +1,20 @@
 #!/usr/bin/env python3
 """examples/server_resp: resp_server.py PROGRAM"""
 
+import os
 import random
+import resource
 import socket
+import struct
 import subprocess
 import sys
 import threading
+import time
 import unittest
 
 PROGRAM = sys.argv.pop(1)
 PATIENCE = 60  # seconds that no step takes
+os.environ["ASAN_OPTIONS"] = "quarantine_size_mb=1"  # else freed memory counts as in use
 
 
 def bytes_of(length, seed=0):
@@ -20,6 +25,11 @@ def encoded(*words):
     """A command of the protocol."""
     parts = [word if isinstance(word, bytes) else str(word).encode() for word in words]
     return b"*%d\r\n" % len(parts) + b"".join(b"$%d\r\n%s\r\n" % (len(it), it) for it in parts)
+
+
+def processor_seconds(process):
+    with open(f"/proc/{process.pid}/stat", encoding="ascii") as numbers:
+        return sum(map(int, numbers.read().split()[13:15])) / os.sysconf("SC_CLK_TCK")
 
 
 class Client:
@@ -58,11 +68,21 @@ class Server(unittest.TestCase):
         self.client = Client(self.port)
 
     def tearDown(self):
-        self.client.close()
+        """The server ends with its connections open. A sanitizer then tells what leaked."""
         self.assertIsNone(self.process.poll(), "the server ended")
         self.process.terminate()
-        self.process.wait(PATIENCE)
+        self.assertEqual(self.process.wait(PATIENCE), 0)
+        self.assertEqual(self.client.file.read(), b"")
+        self.client.close()
         self.process.stdout.close()
+
+    def resident(self):
+        """The server's memory in use, in mebibytes."""
+        with open(f"/proc/{self.process.pid}/statm", encoding="ascii") as numbers:
+            return int(numbers.read().split()[1]) // 256
+
+    def processor_seconds(self):
+        return processor_seconds(self.process)
 
     def refused(self, text, *words):
         reply = self.client.ask(*words)
@@ -94,10 +114,44 @@ class Server(unittest.TestCase):
         self.assertEqual(ask("DBSIZE"), 0)
         for word in ("NONE", "GETS", "SE"):
             self.refused("unknown command", word, "a", "b")
-        for words in (("GET",), ("SET", "a"), ("LOSE", "a", "0")):
-            self.refused("too few words", *words)
-        self.assertEqual(ask("QUIT"), b"OK")
-        self.assertEqual(self.client.file.read(), b"")
+        self.assertEqual(ask("PING", b"a\r\nb"), b"a\r\nb")
+        self.assertEqual((ask("COMMAND"), ask("INFO")[:10]), ([], b"# lrcstore"))
+        for words in (("CONFIG", "SET", "save", ""), ("COMMAND", "COUNT")):
+            self.refused("unknown command", *words)
+        other = Client(self.port)
+        self.assertEqual((other.ask("QUIT"), other.file.read()), (b"OK", b""))
+        other.close()
+
+    def test_what_it_does_not_do_is_refused(self):
+        """An option, or a further key, is not ignored: the command would mean something else."""
+        ask = self.client.ask
+        ask("SET", "a", "1")
+        ask("SET", "b", "2")
+        for words in (
+            ("GET",),
+            ("GET", "a", "b"),
+            ("SET", "a"),
+            ("SET", "a", "3", "NX"),
+            ("SET", "none", "3", "XX"),
+            ("SET", "a", "3", "GET"),
+            ("SET", "a", "3", "EX", "1"),
+            ("DEL", "a", "b"),
+            ("EXISTS", "a", "a"),
+            ("STRLEN", "a", "b"),
+            ("LOSE", "a", "0"),
+            ("LOSE", "a", "0", "0", "0"),
+            ("MEND", "a"),
+            ("DBSIZE", "a"),
+            ("INFO", "memory"),
+            ("CONFIG", "GET"),
+            ("ECHO",),
+        ):
+            self.refused("wrong number of words", *words)
+        for words in (("x", "0"), ("-1", "0"), ("0", str(2**64)), ("", "0"), ("0", "0x1")):
+            self.refused("no number", "LOSE", "a", *words)
+        self.refused("no such stripe", "LOSE", "a", 2**64 - 1, 0)
+        self.assertEqual((ask("GET", "a"), ask("GET", "b"), ask("DBSIZE")), (b"1", b"2", 2))
+        self.assertIn("lost_fragments:0\r\n", ask("INFO").decode())
 
     def test_fragments_fail(self):
         ask, value = self.client.ask, bytes_of(1000)
@@ -144,8 +198,8 @@ class Server(unittest.TestCase):
         self.assertEqual(ask("GET", "a"), bytes_of(400_000))
         other.socket.sendall(encoded("SET", "b", bytes_of(200_000))[:100_000])
         other.close()
-        self.assertEqual(ask("SET", "c", bytes_of(100_000), "EX", 10), b"OK")
-        self.assertEqual((ask("EXISTS", "b"), ask("STRLEN", "c")), (0, 100_000))
+        self.refused("wrong number of words", "SET", "c", bytes_of(100_000), "EX", 10)
+        self.assertEqual((ask("EXISTS", "b"), ask("EXISTS", "c")), (0, 0))
 
     def test_nonsense_ends_the_connection(self):
         for text in (
@@ -155,6 +209,14 @@ class Server(unittest.TestCase):
             b"*1\r\n+PING\r\n",
             b"*1\r\n$x\r\n",
             b"*1\r\n$99999999999999999999\r\n",
+            b"*\r\n",
+            b"*1\n$4\r\nPING\r\n",
+            b"*1\r\n$4\nPING\r\n",
+            b"*1\rx\n$4\r\nPING\r\n",
+            b"*1x\n$4\r\nPING\r\n",
+            b"*1\r\n$4\r\nPINGxx",
+            b"*1\r\n$4\r\nPING\rx",
+            encoded("SET", "a", bytes_of(100_000))[:-2] + b"xx",
             b"*" + b"1" * 40,
         ):
             client = Client(self.port)
@@ -163,6 +225,65 @@ class Server(unittest.TestCase):
             self.assertEqual(client.file.read(), b"")
             client.close()
         self.assertEqual(self.client.ask("PING"), b"PONG")
+        # a large value whose line end comes later, and is another one
+        client = Client(self.port)
+        command = encoded("SET", "a", bytes_of(100_000))
+        client.socket.sendall(command[:50_000])
+        time.sleep(0.05)
+        client.socket.sendall(command[50_000:-2] + b"\rx")
+        self.assertIn("protocol", str(client.reply()))
+        self.assertEqual((client.file.read(), self.client.ask("EXISTS", "a")), (b"", 0))
+        client.close()
+
+    def test_replies_wait_for_a_client_that_does_not_read(self):
+        value, replies = bytes_of(500_000), 400
+        self.client.ask("SET", "a", value)
+        before, slow = self.resident(), Client(self.port)
+        slow.socket.sendall(encoded("GET", "a") * replies + encoded("PING"))
+        time.sleep(0.5)
+        self.assertEqual(self.client.ask("PING"), b"PONG")
+        self.assertLess(self.resident(), before + 50)
+        spent = self.processor_seconds()
+        time.sleep(0.5)
+        self.assertLess(self.processor_seconds() - spent, 0.2)
+        slow.socket.shutdown(socket.SHUT_WR)
+        for _ in range(replies):
+            self.assertEqual(slow.reply(), value)
+        self.assertEqual((slow.reply(), slow.file.read()), (b"PONG", b""))
+        slow.close()
+
+    def test_idle_clients_keep_little(self):
+        value, clients = bytes_of(700_000), [Client(self.port) for _ in range(80)]
+        self.client.ask("SET", "a", value)
+        before = self.resident()
+        for client in clients:
+            self.assertEqual(client.ask("GET", "a"), value)
+            self.assertEqual(client.ask("ECHO", value), value)
+        self.assertLess(self.resident(), before + 30)
+        for client in clients:
+            client.close()
+
+    def test_clients_that_hang_up(self):
+        value = bytes_of(700_000)
+        self.client.ask("SET", "a", value)
+        for sent in (encoded("GET", "a") * 20, encoded("SET", "b", value)[:300_000], b"*2\r\n$3"):
+            for is_reset in (False, True):
+                client = Client(self.port)
+                client.socket.sendall(sent)
+                time.sleep(0.05)
+                if is_reset:
+                    client.socket.setsockopt(
+                        socket.SOL_SOCKET, socket.SO_LINGER, struct.pack("ii", 1, 0)
+                    )
+                client.close()
+        time.sleep(0.2)
+        spent = self.processor_seconds()
+        time.sleep(0.5)
+        self.assertLess(self.processor_seconds() - spent, 0.2)
+        self.assertEqual((self.client.ask("EXISTS", "b"), self.client.ask("PING")), (0, b"PONG"))
+        folder = f"/proc/{self.process.pid}/fd"
+        files = [os.readlink(f"{folder}/{it}") for it in os.listdir(folder)]
+        self.assertEqual(sum("socket" in it for it in files), 2)
 
     def test_many_clients(self):
         wrong = []
@@ -207,9 +328,32 @@ class OneThread(Server):
         slow.close()
 
 
+class FewFiles(unittest.TestCase):
+    def test_clients_beyond_the_limit_of_files_wait(self):
+        def limit():
+            resource.setrlimit(resource.RLIMIT_NOFILE, (40, 40))
+
+        command = [PROGRAM, "0", "16", "2"]
+        with subprocess.Popen(command, stdout=subprocess.PIPE, preexec_fn=limit) as process:
+            port = int(process.stdout.readline())
+            clients = [Client(port) for _ in range(60)]
+            time.sleep(0.3)
+            spent = processor_seconds(process)
+            time.sleep(1)
+            self.assertLess(processor_seconds(process) - spent, 0.3)
+            for client in clients:  # each is served once another one has gone
+                self.assertEqual(client.ask("PING"), b"PONG")
+                client.close()
+            process.terminate()
+            self.assertEqual(process.wait(PATIENCE), 0)
+
+
 class Words(unittest.TestCase):
     def test_usage(self):
-        for words in ([], ["0"], ["0", "16", "0"], ["0", "16", "33"], ["0", "16", "1", "1"]):
+        wrong = [["x", "16"], ["-1", "16"], ["65536", "16"], ["0", "16a"], ["0", ""], ["0", "-1"]]
+        wrong += [["0", "4294967312"], ["0", "16", "1x"]]
+        wrong += [[], ["0"], ["0", "16", "0"], ["0", "16", "33"], ["0", "16", "1", "1"]]
+        for words in wrong:
             ran = subprocess.run([PROGRAM, *words], stderr=subprocess.PIPE, text=True)
             self.assertEqual((ran.returncode, ran.stderr[:6]), (2, "usage:"))
         ran = subprocess.run([PROGRAM, "0", "0"], stderr=subprocess.PIPE, text=True)

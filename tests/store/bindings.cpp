@@ -535,6 +535,74 @@ void shards() {
     sharded_store dropped(4, 2);
 }
 
+// A lease gives calls, and no session that could be moved out of it or exchanged.
+void leases_give_no_session() {
+    using lrc::calls;
+    using lent = decltype(*std::declval<lrc::pool::lease &>());
+    EXPECT((std::is_convertible_v<lent, session &>), false);
+    EXPECT((std::is_constructible_v<session, calls &&>), false);
+    EXPECT((std::is_constructible_v<calls, calls &&>), false);
+    EXPECT((std::is_assignable_v<calls &, session &&>), false);
+    EXPECT((std::is_swappable_v<calls>), false);
+    EXPECT((std::is_swappable_v<session>), true);
+}
+
+// Each call of a name of another shard than the lease is refused: it would be twice in the store.
+void a_lease_is_of_one_shard() {
+    lrc::sharded_store store(4, 7);
+    const auto is_same = [&](const std::string &name) {
+        try {
+            store.take("n0")->stat(name);
+        } catch (const lrc::store_error &error) {
+            return error.status != LRC_STORE_BAD_ARGUMENT;
+        }
+        return true;
+    };
+    unsigned same = 0;
+    for (unsigned i = 0; i < 50; i++) same += is_same("n" + std::to_string(i));
+    EXPECT(same > 1 && same < 20, true);
+    std::string other = "n1";
+    while (is_same(other)) other += '1';
+    const auto refused = [&](auto call) {
+        auto lent = store.take("n0");
+        try {
+            call(*lent);
+            EXPECT(true, false);
+        } catch (const lrc::store_error &error) {
+            EXPECT(error.status, uint32_t{LRC_STORE_BAD_ARGUMENT});
+        }
+    };
+    char target = 0;
+    refused([&](lrc::calls &it) { it.put(other, "x"); });
+    refused([&](lrc::calls &it) {
+        lrc::buffer buffer(1);
+        it.put(other, buffer);
+    });
+    refused([&](lrc::calls &it) { it.read(other, 0, 0); });
+    refused([&](lrc::calls &it) { it.read_into(other, 0, &target, 0); });
+    refused([&](lrc::calls &it) { it.get(other); });
+    refused([&](lrc::calls &it) { it.hold(other); });
+    refused([&](lrc::calls &it) { it.lose(other, 0, 0); });
+    refused([&](lrc::calls &it) { it.repair(other, 0, 0); });
+    refused([&](lrc::calls &it) { it.remove(other); });
+    EXPECT(store.numbers().blobs, 0u);
+    EXPECT_ERROR(store.take("n0")->stat("A"), LRC_STORE_BAD_NAME, "stat(\"A\")");
+    EXPECT_ERROR(store.take("n0")->lose(other, 1, 2), LRC_STORE_BAD_ARGUMENT,
+                 "lose(\"" + other + "\", 1, 2)");
+    store.take(other)->put(other, "HELLO");
+    EXPECT(store.take(other)->get(other), std::string("HELLO"));
+}
+
+// A session that is assigned to another one of another store: both stores are closed.
+void sessions_are_assigned() {
+    session first = session::open(4, 9), second = session::open(4, 9);
+    second.put("a", "HELLO");
+    first = std::move(second);
+    EXPECT(first.get("a"), std::string("HELLO"));
+    EXPECT(first.close().entries, 3u);
+    EXPECT_ERROR(first.stat("a"), LRC_STORE_EMPTY, "stat(\"a\")");
+}
+
 struct noted {
     uint32_t who, call;
     const char *name;
@@ -658,6 +726,9 @@ int main() {
     mends();
     pools();
     shards();
+    leases_give_no_session();
+    a_lease_is_of_one_shard();
+    sessions_are_assigned();
     journals();
     no_journal();
     unchecked_journals();

@@ -4,12 +4,15 @@ threads. waiting.py has timeouts, interrupts, forks and how the library is found
 compares the declarations with the header."""
 
 import array
+import ctypes
 import gc
 import os
 import pickle
 import sys
 import threading
+import time
 import unittest
+from unittest import mock
 
 import lrc_store
 from lrc_store import Session, Status
@@ -219,8 +222,38 @@ class Blobs(unittest.TestCase):
         self.assertEqual(b"".join(runs), self.blob[2:92])
         with self.session.read("old", 0, 1) as grant:
             self.assertEqual((bytes(grant), [*map(bytes, grant.pieces)]), (b"x", [b"x"]))
-        self.assertEqual((bytes(grant), grant.pieces, grant.runs), (b"", [], []))
+        for use in (bytes, lambda it: it.pieces, lambda it: it.runs):
+            self.assertRaisesRegex(ValueError, "the grant has ended", use, grant)
         self.assertEqual(bytes(self.session.read("old", 1, 0)), b"")
+
+    def test_a_copy_keeps_the_range_until_it_is_made(self):
+        """Another thread ends the grant while it is copied, or a view of it is made."""
+        self.lose_some()
+        released, free, copy = [], lrc_store._Slot.__del__, ctypes.string_at
+
+        def note(slot):
+            released.append(slot.at)
+            free(slot)
+
+        def end_and_copy(at, length):
+            grant.__exit__()
+            gc.collect()
+            self.assertEqual(released, [])
+            return copy(at, length)
+
+        with mock.patch.object(lrc_store._Slot, "__del__", note):
+            grant = self.session.read("a", 2, 90)
+            with mock.patch.object(ctypes, "string_at", end_and_copy):
+                self.assertEqual(bytes(grant), self.blob[2:92])
+            self.assertEqual(len(released), 1)
+            grant = self.session.read("a", 2, 90)
+            pieces, runs = grant.pieces, grant.runs
+            grant.__exit__()
+            self.assertEqual(len(released), 1)
+            self.assertEqual((b"".join(pieces), b"".join(runs)), (self.blob[2:92],) * 2)
+            del pieces, runs
+            gc.collect()
+            self.assertEqual(len(released), 2)
 
     def test_neighbours_in_memory_are_one_run(self):
         for length in (0, 1, 47, 48, 49, 10000):
@@ -266,6 +299,69 @@ class Blobs(unittest.TestCase):
                 session.get("a")
             self.assertEqual(record.after_stat, [])
         self.assertEqual(str(caught.exception), "get('a'): the name has no blob")
+
+
+class Versions(unittest.TestCase):
+    def setUp(self):
+        self.session, self.blob = Session.open(4, 1000), bytes_of(200)
+        self.session.put("a", self.blob)
+        for fragment in (1, 15):
+            self.session.lose("a", 2, fragment)
+        self.version = self.session.hold("a")
+
+    def test_what_it_has(self):
+        version = self.version
+        self.session.delete("a")
+        self.assertEqual((version.number, version.size), (1, 200))
+        self.assertEqual(version.shape(), (1, 200, 5, 2, 4, 12))
+        self.assertEqual((version.lost(2), version.lost(0)), ([1, 15], []))
+        self.assertEqual(bytes(version.read(90, 60)), self.blob[90:150])
+        self.assertEqual(version.fragment(2, 0), self.blob[96:100])
+        for fragment, status in ((15, Status.ALREADY_LOST), (16, Status.NO_FRAGMENT)):
+            with self.assertRaises(lrc_store.StoreError) as caught:
+                version.fragment(2, fragment)
+            self.assertIs(caught.exception.status, status)
+
+    def test_threads_take_turns(self):
+        """While a call of one thread is in the library, that of another waits."""
+        inside, wrong, asked = threading.Semaphore(1), [], lrc_store._library.lrc_slot_lost
+
+        def slow(*words):
+            if not inside.acquire(blocking=False):
+                wrong.append("two threads are in the library")
+            time.sleep(0.01)
+            inside.release()
+            return asked(*words)
+
+        def work():
+            if self.version.lost(2) != [1, 15]:
+                wrong.append("lost")
+
+        with mock.patch.object(lrc_store._library, "lrc_slot_lost", slow):
+            threads = [threading.Thread(target=work) for _ in range(4)]
+            for thread in threads:
+                thread.start()
+            for thread in threads:
+                thread.join()
+        self.assertEqual(wrong, [])
+
+    def test_an_install_keeps_others_away(self):
+        def interrupted(*_):
+            self.version.shape()
+
+        fragment = self.session.hold("a").fragment(2, 0)
+        with mock.patch.object(lrc_store._library, "lrc_store_install_wait", interrupted):
+            with self.assertRaises(lrc_store.SessionInUse):
+                self.session.install(self.version, 2, 1, fragment)
+        self.assertEqual(self.version.shape().lost, 2)
+
+    def test_a_signal_handler_is_refused(self):
+        def interrupted(*_):
+            self.version.lost(0)
+
+        with mock.patch.object(lrc_store._library, "lrc_slot_shape", interrupted):
+            self.assertRaises(lrc_store.SessionInUse, self.version.shape)
+        self.assertEqual(self.version.shape().lost, 2)
 
 
 def resident():

@@ -4,6 +4,7 @@
 #define _GNU_SOURCE
 #include "lrc_store.h"
 
+#include <dlfcn.h>
 #include <stdatomic.h>
 #include <string.h>
 #include <time.h>
@@ -12,6 +13,23 @@
 extern atomic_int busy_callers, busy_is_over;
 atomic_int busy_callers, busy_is_over;
 
+/* If a test sets `busy_holds`, a call stays in C until another thread sets `busy_is_let_go`. If
+ * none does within MOST_PAUSES milliseconds, `busy_was_late` is set. */
+extern atomic_int busy_holds, busy_is_let_go, busy_was_late;
+atomic_int busy_holds, busy_is_let_go, busy_was_late;
+
+enum { MOST_PAUSES = 60000 };
+
+static const struct timespec pause_of_1_ms = {0, 1000000};
+
+static void stay(void) {
+    for (int i = 0; i < MOST_PAUSES; i++) {
+        if (busy_is_let_go) return;
+        nanosleep(&pause_of_1_ms, NULL);
+    }
+    busy_was_late = 1;
+}
+
 static int64_t now_us(void) {
     struct timespec now;
     clock_gettime(CLOCK_MONOTONIC, &now);
@@ -19,13 +37,16 @@ static int64_t now_us(void) {
 }
 
 static uint32_t busy(int64_t timeout_ms) {
-    const struct timespec pause = {0, 1000000};
     const int64_t end = now_us() + timeout_ms * 1000;
     int is_interrupted = 0;
+    if (busy_holds) {
+        stay();
+        return LRC_STORE_NO_NAME;
+    }
     if (timeout_ms < 0) return LRC_STORE_NO_PASS;
     busy_callers++;
     while (now_us() < end && !busy_is_over && !is_interrupted)
-        is_interrupted = nanosleep(&pause, NULL) != 0;
+        is_interrupted = nanosleep(&pause_of_1_ms, NULL) != 0;
     busy_callers--;
     return busy_is_over ? LRC_STORE_NO_PASS : LRC_STORE_BUSY;
 }
@@ -35,8 +56,8 @@ static uint32_t busy(int64_t timeout_ms) {
 #define FORM(name, ...) WAITS(lrc_store_##name##_wait, __VA_ARGS__)
 
 #pragma GCC diagnostic ignored "-Wunused-parameter"
-FORM(put, lrc_slot *slot, const uint8_t *name, size_t name_len, const uint8_t *blob,
-     size_t blob_len, uint32_t data_fragments, uint64_t *version)
+FORM(put_from, lrc_slot *slot, const uint8_t *name, size_t name_len, lrc_slot *other,
+     uint32_t data_fragments, uint64_t *version)
 FORM(read, lrc_slot *slot, const uint8_t *name, size_t name_len, uint64_t start, uint8_t *target,
      size_t len, uint64_t *version, uint64_t *lent, uint64_t *built)
 FORM(lend, lrc_slot *slot, const uint8_t *name, size_t name_len, uint64_t start, uint64_t len,
@@ -55,6 +76,43 @@ FORM(install, lrc_slot *slot, lrc_slot *other, uint64_t stripe, uint64_t fragmen
 WAITS(lrc_shards_numbers, lrc_shards *shards, lrc_numbers *numbers)
 WAITS(lrc_shards_trim, lrc_shards *shards, uint64_t keep, uint64_t *discarded)
 WAITS(lrc_shards_mend, lrc_shards *shards, uint64_t *repaired)
+
+#define SONAME "liblrc_store.so.0.1"
+/* Declares the function of the library. */
+#define REAL(name)                                                                                 \
+    __typeof__(name) *real;                                                                        \
+    *(void **)&real = dlsym(dlopen(SONAME, RTLD_LAZY | RTLD_NOLOAD), #name)
+
+uint32_t lrc_shards_close(lrc_shards *shards, uint64_t *entries, uint32_t *lawful) {
+    REAL(lrc_shards_close);
+    if (busy_holds) stay();
+    return real(shards, entries, lawful);
+}
+
+uint32_t lrc_slot_shape(lrc_slot *slot, lrc_shape *shape) {
+    REAL(lrc_slot_shape);
+    if (!busy_holds) return real(slot, shape);
+    shape->len = 100;
+    return LRC_STORE_DONE;
+}
+
+uint32_t lrc_slot_lend(lrc_slot *slot, uint64_t start, uint64_t len, lrc_slot *other,
+                       uint64_t *pieces) {
+    REAL(lrc_slot_lend);
+    if (!busy_holds) return real(slot, start, len, other, pieces);
+    stay();
+    return LRC_STORE_EMPTY;
+}
+
+/* How many puts of bytes there were, which a call has to copy. */
+unsigned busy_puts;
+
+uint32_t lrc_store_put_wait(lrc_slot *slot, const uint8_t *name, size_t name_len,
+                            const uint8_t *blob, size_t blob_len, uint32_t data_fragments,
+                            uint64_t *version, int64_t timeout_ms) {
+    busy_puts++;
+    return busy(timeout_ms);
+}
 
 /* The version of one name is held at once. */
 uint32_t lrc_store_hold_wait(lrc_slot *slot, const uint8_t *name, size_t name_len, lrc_slot *other,

@@ -17,6 +17,7 @@ import lrc_store  # noqa: E402
 PYTHON = {
     ctypes.POINTER(lrc_store._Slot): "* slot",
     ctypes.POINTER(lrc_store._Slice): "* slice",
+    ctypes.POINTER(lrc_store._Buffer): "* buffer",
     ctypes.POINTER(lrc_store._Entry): "* entry",
     ctypes.POINTER(lrc_store._Numbers): "* numbers",
     ctypes.POINTER(lrc_store._Shape): "* shape",
@@ -57,7 +58,7 @@ class Declarations(unittest.TestCase):
         for name, words in forms.items():
             self.assertEqual(words, [*header[name.removesuffix("_wait")], "i64"])
         rust = declared.in_rust(self.rust)
-        self.assertEqual(len(rust), 40)
+        self.assertEqual(len(rust), 41)
         self.assertEqual(rust, {name: header[name] for name in rust})
         header["lrc_store_text"] = ["u32"]
         python = {
@@ -68,7 +69,7 @@ class Declarations(unittest.TestCase):
     def test_structures(self):
         for name, rust, python in (
             ("slice", "Slice", lrc_store._Slice),
-            ("buffer", "RawBuffer", None),
+            ("buffer", "RawBuffer", lrc_store._Buffer),
             ("slot", "Slot", lrc_store._Slot),
             ("entry", "RawEntry", lrc_store._Entry),
             ("numbers", "RawNumbers", lrc_store._Numbers),

@@ -5,6 +5,7 @@ import array
 import base64
 import gc
 import hashlib
+import signal
 import sys
 import threading
 import unittest
@@ -19,6 +20,14 @@ NATIVE, CTYPES = "lrcstore._native", "lrcstore._sessions"
 
 def bytes_of(length):
     return bytes((7 * i + i // 251) % 256 for i in range(length))
+
+
+class Interrupted(Exception):
+    pass
+
+
+def interrupt(*_):
+    raise Interrupted
 
 
 def base32(data):
@@ -328,6 +337,22 @@ class Shards(unittest.TestCase):
         self.assertIs(caught.exception.status, Status.NO_NAME)
         self.assertEqual(store.numbers().blobs, blobs - 1)
         self.assertEqual(store.close(), (0, False))
+
+    def test_a_signal_ends_a_mend(self):
+        """After some of its repairs, whose number nobody gets."""
+        store, all_lost = Store(4, shards=4), 60_000
+        for name in range(15):
+            store.put(f"n{name}", bytes(4 * 12 * 4000))
+        for name in range(15):
+            for stripe in range(4000):
+                store.lose(f"n{name}", stripe, stripe % 16)
+        signal.signal(signal.SIGALRM, interrupt)
+        signal.setitimer(signal.ITIMER_REAL, 0.001)
+        with self.assertRaises(Interrupted):
+            store.mend()
+        lost = store.numbers().lost
+        self.assertTrue(0 < lost <= all_lost, lost)
+        self.assertEqual((store.mend(), store.numbers().lost), (lost, 0))
 
     def test_mends_share_the_work(self):
         store, repaired = self.filled(), []

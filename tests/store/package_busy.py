@@ -11,6 +11,12 @@ import unittest
 from lrcstore import Busy, Status, Store, StoreError
 
 FOREVER = 60  # seconds that no test takes
+# What busy.c counts: puts of bytes; and how a test holds its calls in C.
+BUSY = ctypes.CDLL(None)
+PUTS = ctypes.c_uint.in_dll(BUSY, "busy_puts")
+HOLDS, IS_LET_GO, WAS_LATE = (
+    ctypes.c_int.in_dll(BUSY, f"busy_{name}") for name in ("holds", "is_let_go", "was_late")
+)
 CALLS = {
     "put": lambda store: store.put("a", b"x"),
     "put of a long blob": lambda store: store.put("a", bytes(100_000)),
@@ -28,12 +34,8 @@ CALLS = {
     "install": lambda store: store.install(store.hold("held"), 0, 1, b"abcd"),
     "numbers": lambda store: store.numbers(),
 }
-
-
 # How many threads wait in busy.c, and whether they return.
-CALLERS, IS_OVER = (
-    ctypes.c_int.in_dll(ctypes.CDLL(None), name) for name in ("busy_callers", "busy_is_over")
-)
+CALLERS, IS_OVER = (ctypes.c_int.in_dll(BUSY, f"busy_{name}") for name in ("callers", "is_over"))
 
 
 def until(condition):
@@ -98,14 +100,17 @@ class BusyForEver(unittest.TestCase):
         signal.signal(signal.SIGALRM, interrupt)
         self.store.timeout = FOREVER
         for name, call in CALLS.items():
-            if name != "mend":
-                with self.subTest(name), self.assertRaises(Interrupted), signal_in_call():
-                    call(self.store)
+            with self.subTest(name), self.assertRaises(Interrupted), signal_in_call():
+                call(self.store)
+        self.assertEqual(self.store.close(), (0, False))
 
-    def test_a_mend_has_no_deadline_of_its_own(self):
-        with self.assertRaises(StoreError) as caught:
-            self.store.mend()
-        self.assertIs(caught.exception.status, Status.NO_PASS)  # what busy.c says then
+    def test_a_put_is_copied_once(self):
+        """What is put is copied at the first refusal, and no slice copies it again."""
+        self.store.timeout = 0.3
+        blob = bytearray(b"x" * 100_000)
+        before = PUTS.value
+        self.assertRaises(Busy, self.store.put, "a", blob)
+        self.assertEqual(PUTS.value - before, 1)
 
     def start(self, call, *arguments):
         """A thread that makes a call, which fails. It is in the call when this returns."""
@@ -129,6 +134,34 @@ class BusyForEver(unittest.TestCase):
         self.assertTrue(thread.is_alive())
         self.end(thread)
         self.assertEqual(self.store.close(), (0, False))
+
+    def test_other_threads_run_during_each_long_call(self):
+        """The call stays in C until another thread of Python lets it go."""
+        held = self.store.hold("held")
+        self.store.timeout = FOREVER
+
+        def let_go():
+            IS_LET_GO.value = 1
+
+        for what, call in (
+            ("delete", lambda: self.store.delete("a")),
+            ("trim", lambda: self.store.trim(0)),
+            ("mend", self.store.mend),
+            ("put of a long blob", CALLS["put of a long blob"].__get__(self.store)),
+            ("read of a version", lambda: held.read(0, 100)),
+            ("close", self.store.close),
+        ):
+            IS_LET_GO.value, HOLDS.value = 0, 1
+            timer = threading.Timer(0.02, let_go)
+            timer.start()
+            try:
+                call()
+            except StoreError as error:
+                self.assertIn(error.status, (Status.NO_NAME, Status.EMPTY), what)
+            finally:
+                HOLDS.value = 0
+            timer.join()
+            self.assertEqual(WAS_LATE.value, 0, what)
 
     def test_one_call_at_a_time_uses_a_version(self):
         held, returned = self.store.hold("held"), []

@@ -11,6 +11,8 @@ enum { SESSIONS = 64, SHARDS = 16, THREADS = 4, NAMES = 200, LOST = 3, BLOB = 10
 static atomic_int granted = -1;
 /* Whether the numbers of a shard never come, until the thread is cancelled. */
 static atomic_int is_held, holds_numbers;
+/* That of the last numbers of a shard. */
+static _Atomic int64_t last_timeout_ms;
 
 static int is_refused(void) { return granted >= 0 && granted-- == 0; }
 
@@ -27,6 +29,7 @@ void *__wrap_calloc(size_t count, size_t size) {
 uint32_t __real_lrc_store_numbers_wait(lrc_slot *slot, lrc_numbers *numbers, int64_t timeout_ms);
 uint32_t __wrap_lrc_store_numbers_wait(lrc_slot *slot, lrc_numbers *numbers, int64_t timeout_ms);
 uint32_t __wrap_lrc_store_numbers_wait(lrc_slot *slot, lrc_numbers *numbers, int64_t timeout_ms) {
+    last_timeout_ms = timeout_ms;
     while (holds_numbers) {
         is_held = 1;
         usleep(1000); /* a cancellation point */
@@ -35,7 +38,7 @@ uint32_t __wrap_lrc_store_numbers_wait(lrc_slot *slot, lrc_numbers *numbers, int
 }
 
 static lrc_options of(uint32_t width, uint32_t shards, uint32_t limit) {
-    return (lrc_options){sizeof(lrc_options), width, shards, limit};
+    return (lrc_options){sizeof(lrc_options), width, shards, limit, 0};
 }
 
 static lrc_shards *opened(uint32_t shards, uint32_t limit) {
@@ -104,7 +107,12 @@ static void refuses_options(void) {
     refused(of(4, 2, 1048577), LRC_STORE_BAD_ARGUMENT);
     options.known.size = sizeof options.known - 1;
     refused(options.known, LRC_STORE_BAD_ARGUMENT);
+    options.known.size = sizeof options.known;
+    options.known.reserved = 1;
+    refused(options.known, LRC_STORE_BAD_ARGUMENT);
     options.known.size = sizeof options;
+    refused(options.known, LRC_STORE_BAD_ARGUMENT);
+    options.known.reserved = 0;
     for (int i = 0; i < 2; i++) {
         options.later[i] = 1u << 31;
         EXPECT(lrc_shards_open(&options.known, &made), LRC_STORE_BAD_ARGUMENT);
@@ -113,6 +121,51 @@ static void refuses_options(void) {
     EXPECT(made == NULL, 1);
     EXPECT(lrc_shards_open(&options.known, &made), LRC_STORE_DONE);
     closed(made, 0, 2);
+}
+
+/* The options have no byte that is not looked at. */
+static void has_no_padding(void) {
+    EXPECT(sizeof(lrc_options), offsetof(lrc_options, reserved) + sizeof(uint32_t));
+}
+
+/* Lends a session of a shard, puts a blob on it, and releases it. Puts `other` in its place. */
+static void lose_session(lrc_shards *shards, uint32_t shard, lrc_slot *other) {
+    lrc_pool *pool = NULL;
+    lrc_slot *session = NULL;
+    uint64_t version;
+    EXPECT(lrc_shards_at(shards, shard, &pool), LRC_STORE_DONE);
+    EXPECT(lrc_pool_take(pool, &session, 0), LRC_STORE_DONE);
+    EXPECT(lrc_store_put(session, NAME("a"), (const uint8_t *)"HELLO", 5, 12, &version),
+           LRC_STORE_DONE);
+    lrc_slot_release(session);
+    *session = *other;
+    other->at = NULL;
+    lrc_pool_give(pool, session);
+}
+
+/* A store of which a lent session was released, or replaced by one of another store, says so at its
+ * end, and is freed. The journals of the other shards count. */
+static void closes_without_a_session(void) {
+    for (uint32_t lost = 0; lost < 3; lost++) {
+        lrc_shards *shards = opened(3, 10);
+        lrc_slot none = LRC_SLOT_EMPTY, other = LRC_SLOT_EMPTY;
+        uint64_t entries = 1234;
+        uint32_t lawful = 1234;
+        for (uint32_t shard = 0; shard < 3; shard++) {
+            lrc_pool *pool = NULL;
+            lrc_slot *session = NULL;
+            uint64_t version, len, stripes, fragments;
+            EXPECT(lrc_shards_at(shards, shard, &pool), LRC_STORE_DONE);
+            EXPECT(lrc_pool_take(pool, &session, 0), LRC_STORE_DONE);
+            lrc_store_stat(session, NAME("a"), &version, &len, &stripes, &fragments);
+            lrc_pool_give(pool, session);
+        }
+        if (lost == 1) EXPECT(lrc_store_open(4, 10, &other), LRC_STORE_DONE);
+        lose_session(shards, lost, lost == 1 ? &other : &none);
+        EXPECT(lrc_shards_close(shards, &entries, &lawful), LRC_STORE_EMPTY);
+        EXPECT(entries, 2);
+        EXPECT(lawful, 2);
+    }
 }
 
 /* If memory runs out anywhere, all shards that were opened are freed, and nothing is written. */
@@ -356,6 +409,28 @@ static void waits_without_a_deadline(void) {
     closed(shards, 0, 2);
 }
 
+/* The wait for a session and the call on it have one deadline together. */
+static void has_one_deadline(void) {
+    lrc_shards *shards = opened(1, 0);
+    lrc_slot *sessions[SESSIONS];
+    struct blocked blocked = {NULL, NULL};
+    lrc_numbers numbers;
+    pthread_t thread;
+    EXPECT(lrc_shards_at(shards, 0, &blocked.pool), LRC_STORE_DONE);
+    block(blocked.pool, sessions, 1);
+    blocked.session = sessions[0];
+    EXPECT(pthread_create(&thread, NULL, give_later, &blocked), 0);
+    EXPECT(lrc_shards_numbers(shards, &numbers, 5000), LRC_STORE_DONE);
+    EXPECT(last_timeout_ms > 0 && last_timeout_ms < 4990, 1);
+    EXPECT(pthread_join(thread, NULL), 0);
+    EXPECT(lrc_shards_numbers(shards, &numbers, -7), LRC_STORE_DONE);
+    EXPECT(last_timeout_ms, -1);
+    EXPECT(lrc_shards_numbers(shards, &numbers, 0), LRC_STORE_DONE);
+    EXPECT(last_timeout_ms, 0);
+    for (int i = 1; i < SESSIONS; i++) lrc_pool_give(blocked.pool, sessions[i]);
+    closed(shards, 0, 2);
+}
+
 static void *count_for_ever(void *argument) {
     lrc_numbers numbers;
     (void)argument;
@@ -384,11 +459,14 @@ int main(int words, char **word) {
     alarm(60); /* a call that never returns ends the test */
     tells_the_shard();
     refuses_options();
+    has_no_padding();
+    closes_without_a_session();
     serves_threads();
     mends_from_different_shards();
     trims();
     waits_for_a_shard();
     waits_without_a_deadline();
+    has_one_deadline();
     if (words < 2 || strcmp(word[1], "shared") != 0) refuses_without_memory();
     if (words < 2) gives_back_when_cancelled();
     return report("shards");

@@ -7,7 +7,15 @@
 #include <time.h>
 #include <unistd.h>
 
-enum { MOST = 9, OTHER_STATUS = 7, ROOM = 16, SLACK_US = 60000000, LAST = 99 };
+enum {
+    MOST = 9,
+    OTHER_STATUS = 7,
+    ROOM = 16,
+    SLACK_US = 60000000,
+    LAST = 99,
+    STORES = 5000,
+    MOST_TURNS = 1024
+};
 
 #define ARGUMENTS(...) ((const uint64_t[MOST]){__VA_ARGS__})
 #define AT(pointer) ((uint64_t)(uintptr_t)(pointer))
@@ -17,6 +25,9 @@ static atomic_uint calls, busy;
 
 /* How many entries the journal has. */
 static uint64_t entries;
+
+/* How long a put and the reservation of its copy take, and each part of a trim. */
+static unsigned put_us, reserve_us, part_us;
 
 /* What the slot of a put that is made again holds. */
 static uint8_t kept[ROOM];
@@ -33,14 +44,18 @@ static uint64_t number = 77;
 static int has_session = 1;
 
 /* A thread that stays in its call until it is let go, and so has the turn. */
-static atomic_int is_inside, is_let_go;
+static atomic_int is_inside, is_let_go, inside;
 static __thread int stays;
+
+/* The number of the store of a thread that has one of its own. */
+static __thread uint64_t store_number;
 
 /* Records a call. The first `busy` ones find another thread in the critical section. */
 static uint32_t called(const uint64_t *arguments) {
     if (stays) {
         is_inside = 1;
-        while (!is_let_go) usleep(1000);
+        inside++;
+        while (!is_let_go) usleep(store_number ? 20000 : 100);
         return OTHER_STATUS;
     }
     memcpy(seen, arguments, sizeof seen);
@@ -50,12 +65,13 @@ static uint32_t called(const uint64_t *arguments) {
 uint32_t lrc_slot_number(lrc_slot *slot, uint64_t *got);
 uint32_t lrc_slot_number(lrc_slot *slot, uint64_t *got) {
     (void)slot;
-    if (has_session) *got = number;
+    if (has_session) *got = store_number ? store_number : number;
     return has_session ? LRC_STORE_DONE : LRC_STORE_EMPTY;
 }
 
 uint32_t lrc_slot_reserve(size_t len, lrc_slot *slot) {
     (void)slot;
+    usleep(reserve_us);
     reserved = len;
     return len <= ROOM ? LRC_STORE_DONE : LRC_STORE_NO_MEMORY;
 }
@@ -73,6 +89,7 @@ void lrc_slot_release(lrc_slot *slot) {
 
 uint32_t lrc_store_put(lrc_slot *slot, const uint8_t *name, size_t name_len, const uint8_t *blob,
                        size_t blob_len, uint32_t data_fragments, uint64_t *version) {
+    usleep(put_us);
     return called(
         ARGUMENTS(AT(slot), AT(name), name_len, AT(blob), blob_len, data_fragments, AT(version)));
 }
@@ -119,6 +136,7 @@ uint32_t lrc_store_stat(lrc_slot *slot, const uint8_t *name, size_t name_len, ui
 uint32_t lrc_store_trim_part(lrc_slot *slot, uint64_t keep, uint64_t most, uint64_t *discarded) {
     const uint32_t status = called(ARGUMENTS(AT(slot), keep, most));
     const uint64_t part = entries < most ? entries : most;
+    usleep(part_us);
     if (status != OTHER_STATUS || !entries) return status;
     entries -= part;
     *discarded = part;
@@ -262,6 +280,42 @@ static void trims_in_parts(void) {
     trims(1 << 21, 1 << 11, LRC_STORE_DONE); /* others add entries meanwhile */
 }
 
+/* The clock of a put begins with the call: one that was encoded in vain is not made again, nor one
+ * that was copied too late. */
+static void puts_in_time(void) {
+    lrc_slot s = LRC_SLOT_EMPTY;
+    uint64_t v = 0;
+    busy = ~0u;
+    for (int is_copy_late = 0; is_copy_late < 2; is_copy_late++) {
+        calls = releases = 0;
+        reserved = 77;
+        *(is_copy_late ? &reserve_us : &put_us) = 20000;
+        EXPECT(lrc_store_put_wait(&s, NAME("a"), kept, 4, 12, &v, 10), LRC_STORE_BUSY);
+        EXPECT(calls, 1);
+        EXPECT(reserved, is_copy_late ? 4 : 77);
+        EXPECT(releases, is_copy_late);
+        put_us = reserve_us = 0;
+    }
+    busy = 0;
+}
+
+/* A trim ends at its deadline, also if each of its parts is made at once. */
+static void trims_in_time(void) {
+    lrc_slot slot = LRC_SLOT_EMPTY;
+    uint64_t discarded = 77;
+    entries = 1 << 19;
+    part_us = 4000;
+    const int64_t start = now_us();
+    EXPECT(lrc_store_trim_wait(&slot, 5, &discarded, 30), LRC_STORE_BUSY);
+    EXPECT(now_us() - start >= 30000 && now_us() - start < SLACK_US, 1);
+    EXPECT(discarded >= 512 && discarded < 1 << 14 && discarded % 512 == 0, 1);
+    part_us = 0;
+    entries = 1200;
+    EXPECT(lrc_store_trim_wait(&slot, 5, &discarded, 0), LRC_STORE_DONE); /* it need not wait */
+    EXPECT(discarded, 1200);
+    entries = 0;
+}
+
 /* A mend whose calls return this, up to LAST, without waiting. */
 static void mends(const uint32_t *told, uint32_t status, uint64_t repaired) {
     lrc_slot slot = LRC_SLOT_EMPTY;
@@ -335,9 +389,10 @@ static void turns(void) {
     EXPECT(now_us() - start >= 70000 && now_us() - start < SLACK_US, 1);
     EXPECT(calls, 0);
     EXPECT(trim(0), OTHER_STATUS); /* one attempt, without the turn */
-    number++;
-    EXPECT(trim(-1), OTHER_STATUS); /* of another store */
-    number--;
+    for (int i = 0; i < STORES; i++, number++)
+        EXPECT(trim(i ? 10 : 0), OTHER_STATUS); /* of other stores */
+    number -= STORES;
+    calls = 2;
     has_session = 0;
     EXPECT(trim(-1), OTHER_STATUS);
     has_session = 1;
@@ -349,6 +404,37 @@ static void turns(void) {
     EXPECT(pthread_join(waiter, &status), 0);
     EXPECT((uintptr_t)status, OTHER_STATUS);
     EXPECT(calls, 4);
+}
+
+static void *stay_in_store(void *argument) {
+    stays = 1;
+    store_number = (uint64_t)(uintptr_t)argument;
+    EXPECT(trim(-1), OTHER_STATUS);
+    return NULL;
+}
+
+/* Threads in more stores than there are turns: a call of another store is made without one, and
+ * a turn that is given back serves another store. */
+static void has_more_stores_than_turns(void) {
+    static pthread_t threads[MOST_TURNS];
+    pthread_attr_t small;
+    EXPECT(pthread_attr_init(&small), 0);
+    EXPECT(pthread_attr_setstacksize(&small, 1 << 18), 0);
+    is_let_go = 0;
+    inside = 0;
+    for (uintptr_t i = 0; i < MOST_TURNS; i++)
+        EXPECT(pthread_create(&threads[i], &small, stay_in_store, (void *)(i + 1000)), 0);
+    while (inside < MOST_TURNS) usleep(1000);
+    calls = busy = 0;
+    EXPECT(trim(10), OTHER_STATUS);
+    busy = 20;
+    EXPECT(trim(1000), OTHER_STATUS);
+    busy = ~0u;
+    EXPECT(trim(5), LRC_STORE_BUSY);
+    is_let_go = 1;
+    for (int i = 0; i < MOST_TURNS; i++) EXPECT(pthread_join(threads[i], NULL), 0);
+    busy = calls = 0;
+    EXPECT(trim(-1), OTHER_STATUS);
 }
 
 /* A thread is cancelled while it waits for the turn, and another one while it sleeps with it. */
@@ -405,6 +491,9 @@ int main(void) {
     turns();
     cancels();
     tries();
+    has_more_stores_than_turns();
+    puts_in_time();
+    trims_in_time();
     trims_in_parts();
     mends_in_parts();
     arguments(-1);

@@ -90,8 +90,21 @@ class Timeouts(unittest.TestCase):
                 self.session.timeout = seconds
                 with Recorder([BUSY] * 9) as record, self.assertRaises(Busy) as caught:
                     call(self.session)
-                self.assertEqual(record.calls, [(form, waited) for waited in slices])
+                later = "lrc_store_put_from_wait" if name == "put" else form
+                wanted = [(later if i else form, waited) for i, waited in enumerate(slices)]
+                self.assertEqual(record.calls, wanted)
                 self.assertEqual(caught.exception.call, name)
+
+    def test_a_put_that_waits_is_copied_once(self):
+        for blob in (b"", b"HELLO", bytearray(range(200)) * 50, memoryview(bytes(range(200)))):
+            given = bytes(blob)
+            with Recorder([BUSY, BUSY]) as record:
+                version = self.session.put("a", blob, 6)
+            forms = [form for form, _ in record.calls]
+            self.assertEqual(forms, ["lrc_store_put_wait", *["lrc_store_put_from_wait"] * 2])
+            self.assertEqual(self.session.get("a"), given)
+            self.assertEqual(self.session.hold("a").shape()[:2], (version, len(given)))
+            self.assertEqual(self.session.hold("a").shape().data_fragments, 6)
 
     def test_a_call_goes_on_when_it_gets_in(self):
         self.session.put("a", b"HELLO")

@@ -2,8 +2,8 @@
  *
  * Each call takes a session of the shard of its name and gives it back. Its result is a tuple: the
  * status, and what the function of include/lrc_store.h writes. A short call is tried once without
- * letting go of the GIL. A longer one, and one that waits, lets other threads of Python run, and
- * handles signals every 50 milliseconds. */
+ * letting go of the GIL. A longer one, one that may free much, and one that waits, lets other
+ * threads of Python run, and handles signals every 50 milliseconds. */
 #define Py_LIMITED_API 0x030b0000
 #define PY_SSIZE_T_CLEAN
 #include <Python.h>
@@ -14,10 +14,14 @@
 #include <time.h>
 
 enum { SHORT_BYTES = 4096, SLICE_MS = 50, MOST_NUMBERS = 6, NS_OF_MS = 1000000, MOST_NAME = 32 };
+/* How many repairs are planned at once, between which other threads call. */
+enum { PLANNED_AT_ONCE = 512 };
 
+/* What is guarded by the GIL. */
 typedef struct {
     PyObject_HEAD lrc_shards *shards; /* NULL once it is closed */
-    unsigned long calls_inside;       /* guarded by the GIL */
+    unsigned long calls_inside;
+    uint32_t count, mends; /* how many shards there are, and how many mends began */
 } store_calls;
 
 /* A version of a blob that is held, with its name. */
@@ -40,10 +44,15 @@ struct call {
     uint8_t *bytes;
     Py_ssize_t len;
     held_version *held;
+    int may_be_long; /* also with few bytes */
+    lrc_slot *copy;  /* of what is put, once that was found busy */
     uint64_t numbers[MOST_NUMBERS];
 };
 
 static uint32_t put(lrc_slot *session, struct call *call, int64_t timeout_ms) {
+    if (call->copy && call->copy->at)
+        return lrc_store_put_from_wait(session, call->name, (size_t)call->name_len, call->copy,
+                                       (uint32_t)call->first, &call->numbers[0], timeout_ms);
     return lrc_store_put_wait(session, call->name, (size_t)call->name_len, call->bytes,
                               (size_t)call->len, (uint32_t)call->first, &call->numbers[0],
                               timeout_ms);
@@ -84,8 +93,14 @@ static uint32_t trim(lrc_shards *shards, struct call *call, int64_t timeout_ms) 
     return status;
 }
 
-static uint32_t mend(lrc_shards *shards, struct call *call, int64_t timeout_ms) {
-    return lrc_shards_mend(shards, &call->numbers[0], timeout_ms);
+/* Copies what is to be put, so that no slice of the call copies and encodes it again. */
+static uint32_t copy_once(const struct call *call) {
+    lrc_buffer buffer = {(uint8_t *)"", 0};
+    const uint32_t status = lrc_slot_reserve((size_t)call->len, call->copy);
+    if (status != LRC_STORE_DONE) return status;
+    lrc_slot_buffer(call->copy, &buffer);
+    memcpy(buffer.at, call->bytes, buffer.len);
+    return LRC_STORE_BUSY;
 }
 
 static uint32_t hold(lrc_slot *session, struct call *call, int64_t timeout_ms) {
@@ -119,30 +134,51 @@ static int64_t now_ns(void) {
     return (int64_t)now.tv_sec * 1000 * NS_OF_MS + now.tv_nsec;
 }
 
+/* How many milliseconds are left, rounded up. */
+static int64_t left_ms(int64_t end) {
+    const int64_t left = end - now_ns();
+    return left > 0 ? (left - 1) / NS_OF_MS + 1 : 0;
+}
+
+static int64_t end_after(int64_t timeout_ms) {
+    const int64_t now = now_ns();
+    return timeout_ms < 0 || timeout_ms > (INT64_MAX - now) / NS_OF_MS
+               ? INT64_MAX
+               : now + timeout_ms * NS_OF_MS;
+}
+
+/* The wait for a session and the call have one deadline. */
 static uint32_t run(lrc_shards *shards, struct call *call, int64_t timeout_ms) {
     lrc_pool *pool = NULL;
     lrc_slot *session = NULL;
     if (call->run_all) return call->run_all(shards, call, timeout_ms);
+    const int64_t end = timeout_ms ? end_after(timeout_ms) : 0;
     uint32_t status = lrc_shards_find(shards, call->name, (size_t)call->name_len, &pool);
     if (status == LRC_STORE_DONE) status = lrc_pool_take(pool, &session, timeout_ms);
     if (status != LRC_STORE_DONE) return status;
-    status = call->run(session, call, timeout_ms);
+    status = call->run(session, call, timeout_ms ? left_ms(end) : 0);
     lrc_pool_give(pool, session);
     return status;
+}
+
+/* A first attempt. After it, what is put is copied. */
+static uint32_t run_first(lrc_shards *shards, struct call *call, int64_t end) {
+    const uint32_t status = run(shards, call, 0);
+    return status == LRC_STORE_BUSY && call->copy && left_ms(end) ? copy_once(call) : status;
 }
 
 /* Makes the call without the GIL, in slices between which Python handles signals. The status is
  * LRC_STORE_BUSY at the deadline. Returns -1 if a handler raised an exception. */
 static int wait_for(lrc_shards *shards, struct call *call, int64_t timeout_ms, uint32_t *status) {
-    const int64_t end = timeout_ms < 0 ? INT64_MAX : now_ns() + timeout_ms * NS_OF_MS;
-    for (;;) {
-        const int64_t left = end - now_ns(), left_ms = left <= 0 ? 0 : left / NS_OF_MS + 1;
-        const int64_t slice = left_ms < SLICE_MS ? left_ms : SLICE_MS;
+    const int64_t end = end_after(timeout_ms);
+    for (int is_first = !call->run_all;; is_first = 0) {
+        const int64_t left = left_ms(end);
         PyThreadState *thread = PyEval_SaveThread();
-        *status = run(shards, call, slice);
+        *status = is_first ? run_first(shards, call, end)
+                           : run(shards, call, left < SLICE_MS ? left : SLICE_MS);
         PyEval_RestoreThread(thread);
         if (PyErr_CheckSignals() < 0) return -1;
-        if (*status != LRC_STORE_BUSY || left <= 0) return 0;
+        if (*status != LRC_STORE_BUSY || !left) return 0;
     }
 }
 
@@ -155,7 +191,7 @@ static int make(store_calls *self, struct call *call, int64_t timeout_ms, uint32
     }
     self->calls_inside++;
     *status = LRC_STORE_BUSY;
-    if (call->len <= SHORT_BYTES) *status = run(self->shards, call, 0);
+    if (call->len <= SHORT_BYTES && !call->may_be_long) *status = run(self->shards, call, 0);
     if (*status == LRC_STORE_BUSY) result = wait_for(self->shards, call, timeout_ms, status);
     self->calls_inside--;
     return result;
@@ -223,9 +259,18 @@ static int timeout_to(int64_t *timeout_ms, PyObject *object) {
     return PyErr_Occurred() ? -1 : 0;
 }
 
+/* Empties a slot, whose content may be large, without the GIL. */
+static void release(lrc_slot *slot) {
+    if (!slot->at) return;
+    PyThreadState *thread = PyEval_SaveThread();
+    lrc_slot_release(slot);
+    PyEval_RestoreThread(thread);
+}
+
 /* put(name, blob, data_fragments, timeout_ms) -> (status, version) */
 static PyObject *calls_put(store_calls *self, PyObject *const *words, Py_ssize_t count) {
-    struct call call = {.run = put};
+    lrc_slot copy = LRC_SLOT_EMPTY;
+    struct call call = {.run = put, .copy = &copy};
     int64_t timeout_ms;
     Py_buffer blob;
     if (!count_is("put", count, 4) || name_to(&call, words[0]) < 0 ||
@@ -235,6 +280,7 @@ static PyObject *calls_put(store_calls *self, PyObject *const *words, Py_ssize_t
     call.bytes = blob.len ? blob.buf : (uint8_t *)"";
     call.len = blob.len;
     PyObject *result = made(self, &call, timeout_ms, 1);
+    release(&copy);
     PyBuffer_Release(&blob);
     return result;
 }
@@ -333,7 +379,7 @@ static PyObject *calls_stat(store_calls *self, PyObject *const *words, Py_ssize_
 
 /* delete(name, timeout_ms) -> (status, version) */
 static PyObject *calls_delete(store_calls *self, PyObject *const *words, Py_ssize_t count) {
-    struct call call = {.run = delete_blob};
+    struct call call = {.run = delete_blob, .may_be_long = 1};
     return named(self, &call, "delete", words, count, 1);
 }
 
@@ -351,7 +397,7 @@ static PyObject *calls_repair(store_calls *self, PyObject *const *words, Py_ssiz
 
 /* trim(keep, timeout_ms) -> (status, discarded) */
 static PyObject *calls_trim(store_calls *self, PyObject *const *words, Py_ssize_t count) {
-    struct call call = {.run_all = trim};
+    struct call call = {.run_all = trim, .may_be_long = 1};
     int64_t timeout_ms;
     if (!count_is("trim", count, 2) || number_to(&call.first, words[0], UINT64_MAX) < 0 ||
         timeout_to(&timeout_ms, words[1]) < 0)
@@ -359,21 +405,98 @@ static PyObject *calls_trim(store_calls *self, PyObject *const *words, Py_ssize_
     return made(self, &call, timeout_ms, 1);
 }
 
-/* mend(timeout_ms) -> (status, repaired). It runs without the GIL, and in one piece: the deadline
- * is for each of its steps, and a signal is handled when it returns. */
+/* A mend: the shards that it visits, from one on, and a part of the plan of the one at hand. */
+struct mend {
+    uint32_t first, visited, count;
+    lrc_slot plan;
+    int is_planned, is_last; /* whether there is a part, and whether no other is behind */
+    uint64_t repaired, steps;
+};
+
+/* Goes to the next part of the plan, or to the next shard. */
+static void end_part(struct mend *mend) {
+    mend->is_planned = 0;
+    if (!mend->is_last) return;
+    lrc_slot_release(&mend->plan);
+    mend->visited++;
+}
+
+/* Plans a part, or repairs the next fragment of one. A fragment that cannot be repaired, or need
+ * not be any more, is left out. */
+static uint32_t plan_or_repair(lrc_slot *session, struct mend *mend, int64_t timeout_ms) {
+    uint64_t items = 0, version;
+    uint32_t status;
+    if (!mend->is_planned) {
+        status =
+            lrc_store_plan_part_wait(session, &mend->plan, PLANNED_AT_ONCE, &items, timeout_ms);
+        mend->is_planned = status == LRC_STORE_DONE;
+        mend->is_last = items < PLANNED_AT_ONCE;
+        return status;
+    }
+    status = lrc_store_mend_step_wait(session, &mend->plan, &version, timeout_ms);
+    mend->repaired += status == LRC_STORE_DONE;
+    if (status == LRC_STORE_NOTHING_LEFT) end_part(mend);
+    const int is_past = status == LRC_STORE_NOTHING_LEFT || status == LRC_STORE_NO_NAME ||
+                        status == LRC_STORE_NO_FRAGMENT || status == LRC_STORE_NOT_LOST ||
+                        status == LRC_STORE_UNRECOVERABLE;
+    return is_past ? LRC_STORE_DONE : status;
+}
+
+/* Makes steps of a mend for a slice of time. LRC_STORE_NOTHING_LEFT once all is repaired. */
+static uint32_t mend_for_a_slice(lrc_shards *shards, struct mend *mend, int64_t timeout_ms) {
+    const int64_t end = end_after(SLICE_MS);
+    uint32_t status = LRC_STORE_DONE;
+    while (status == LRC_STORE_DONE && left_ms(end)) {
+        lrc_pool *pool = NULL;
+        lrc_slot *session = NULL;
+        if (mend->visited == mend->count) return LRC_STORE_NOTHING_LEFT;
+        status = lrc_shards_at(shards, (mend->first + mend->visited) % mend->count, &pool);
+        if (status == LRC_STORE_DONE) status = lrc_pool_take(pool, &session, timeout_ms);
+        if (status != LRC_STORE_DONE) return status;
+        status = plan_or_repair(session, mend, timeout_ms);
+        lrc_pool_give(pool, session);
+        mend->steps += status == LRC_STORE_DONE;
+    }
+    return status;
+}
+
+/* Makes a mend without the GIL, in slices between which Python handles signals. The deadline is for
+ * each of its steps. Returns -1 if a handler raised an exception. */
+static int mend_all(lrc_shards *shards, struct mend *mend, int64_t timeout_ms, uint32_t *status) {
+    int64_t end = end_after(timeout_ms);
+    for (;;) {
+        const uint64_t steps = mend->steps;
+        const int64_t left = left_ms(end);
+        PyThreadState *thread = PyEval_SaveThread();
+        *status = mend_for_a_slice(shards, mend, left < SLICE_MS ? left : SLICE_MS);
+        PyEval_RestoreThread(thread);
+        if (PyErr_CheckSignals() < 0) return -1;
+        if (mend->steps != steps) end = end_after(timeout_ms);
+        if (*status == LRC_STORE_DONE || (*status == LRC_STORE_BUSY && left)) continue;
+        if (*status == LRC_STORE_NOTHING_LEFT) *status = LRC_STORE_DONE;
+        return 0;
+    }
+}
+
+/* mend(timeout_ms) -> (status, repaired). Of two that begin one after the other, the first shards
+ * lie far apart. */
 static PyObject *calls_mend(store_calls *self, PyObject *const *words, Py_ssize_t count) {
-    struct call call = {.run_all = mend};
+    struct mend mend = {.count = self->count, .plan = LRC_SLOT_EMPTY};
+    struct call call = {.run = NULL};
     int64_t timeout_ms;
     uint32_t status = LRC_STORE_EMPTY;
+    int failed = 0;
     if (!count_is("mend", count, 1) || timeout_to(&timeout_ms, words[0]) < 0) return NULL;
     if (self->shards) {
+        const uint64_t before = self->mends++;
+        mend.first = (uint32_t)((before * UINT64_C(0x9E3779B9) & UINT32_MAX) * mend.count >> 32);
         self->calls_inside++;
-        PyThreadState *thread = PyEval_SaveThread();
-        status = run(self->shards, &call, timeout_ms);
-        PyEval_RestoreThread(thread);
+        failed = mend_all(self->shards, &mend, timeout_ms, &status);
         self->calls_inside--;
+        release(&mend.plan);
     }
-    return reply(status, &call, 1);
+    call.numbers[0] = mend.repaired;
+    return failed ? NULL : reply(status, &call, 1);
 }
 
 /* numbers(timeout_ms) -> (status, blobs, bytes, lost, unrecoverable, calls, entries) */
@@ -398,7 +521,7 @@ static PyObject *held_new(PyTypeObject *type, PyObject *words, PyObject *named) 
 static void held_dealloc(PyObject *object) {
     held_version *self = (held_version *)object;
     PyTypeObject *type = Py_TYPE(object);
-    lrc_slot_release(&self->slot);
+    release(&self->slot);
     if (self->lock) PyThread_free_lock(self->lock);
     ((freefunc)PyType_GetSlot(type, Py_tp_free))(object);
     Py_DECREF(type);
@@ -499,32 +622,50 @@ static PyObject *held_lost(held_version *self, PyObject *stripe) {
     return reply(status, &call, 1);
 }
 
-/* A copy of a lent range of so many bytes, or NULL with an exception. */
-static PyObject *copy_of_range(lrc_slot *range, uint64_t length) {
-    PyObject *bytes = PyBytes_FromStringAndSize(NULL, (Py_ssize_t)length);
-    if (!bytes) return NULL;
-    char *target = PyBytes_AsString(bytes);
-    for (uint64_t from = 0, count = 1; count;) {
+/* Copies a range of the version, in which no other call is. */
+static uint32_t copy_range(lrc_slot *version, uint64_t start, uint64_t length, char *target) {
+    lrc_slot range = LRC_SLOT_EMPTY;
+    uint64_t pieces;
+    const uint32_t status = lrc_slot_lend(version, start, length, &range, &pieces);
+    for (uint64_t from = 0, count = 1; status == LRC_STORE_DONE && count;) {
         lrc_slice run = {(const uint8_t *)"", 0};
-        lrc_slot_runs(range, from, &run, 1, &count);
+        lrc_slot_runs(&range, from, &run, 1, &count);
         memcpy(target + from, run.at, run.len);
         from += run.len;
     }
-    return bytes;
+    lrc_slot_release(&range);
+    return status;
+}
+
+/* The status of a range that does not lie inside the version, whose bytes are not to be reserved.
+ */
+static uint32_t range_status(held_version *self, uint64_t start, uint64_t length) {
+    lrc_shape shape = {0};
+    const uint32_t status = lrc_slot_shape(&self->slot, &shape);
+    if (status != LRC_STORE_DONE) return status;
+    return start > shape.len || length > shape.len - start ? LRC_STORE_OUT_OF_RANGE : status;
 }
 
 /* read(start, length) -> (status, bytes or None) */
 static PyObject *held_read(held_version *self, PyObject *const *words, Py_ssize_t count) {
-    uint64_t start, length, pieces;
-    lrc_slot range = LRC_SLOT_EMPTY;
+    uint64_t start, length;
+    PyObject *bytes = NULL;
     if (!count_is("read", count, 2) || number_to(&start, words[0], UINT64_MAX) < 0 ||
         number_to(&length, words[1], UINT64_MAX) < 0 || enter(self) < 0)
         return NULL;
-    const uint32_t status = lrc_slot_lend(&self->slot, start, length, &range, &pieces);
+    uint32_t status = range_status(self, start, length);
+    if (status == LRC_STORE_DONE) bytes = PyBytes_FromStringAndSize(NULL, (Py_ssize_t)length);
+    if (bytes) {
+        char *target = PyBytes_AsString(bytes);
+        PyThreadState *thread = PyEval_SaveThread();
+        status = copy_range(&self->slot, start, length, target);
+        PyEval_RestoreThread(thread);
+    }
     leave(self);
-    if (status != LRC_STORE_DONE) return Py_BuildValue("(IO)", status, Py_None);
-    PyObject *bytes = copy_of_range(&range, length);
-    lrc_slot_release(&range);
+    if (status != LRC_STORE_DONE) {
+        Py_XDECREF(bytes);
+        return Py_BuildValue("(IO)", status, Py_None);
+    }
     return bytes ? Py_BuildValue("(IN)", status, bytes) : NULL;
 }
 
@@ -551,8 +692,11 @@ static PyObject *calls_close(store_calls *self, PyObject *nothing) {
     if (self->calls_inside) {
         status = LRC_STORE_NOT_ALONE;
     } else if (self->shards) {
-        status = lrc_shards_close(self->shards, &call.numbers[0], &lawful);
+        lrc_shards *shards = self->shards;
         self->shards = NULL;
+        PyThreadState *thread = PyEval_SaveThread();
+        status = lrc_shards_close(shards, &call.numbers[0], &lawful);
+        PyEval_RestoreThread(thread);
     }
     call.numbers[1] = lawful;
     return reply(status, &call, 2);
@@ -570,8 +714,9 @@ static PyObject *calls_open(store_calls *self, PyObject *const *words, Py_ssize_
     if (words[1] != Py_None && limit == 0) limit = UINT32_MAX;
     if (!self->shards) {
         const lrc_options options = {sizeof options, (uint32_t)width, (uint32_t)shards,
-                                     (uint32_t)limit};
+                                     (uint32_t)limit, 0};
         status = lrc_shards_open(&options, &self->shards);
+        self->count = options.shards;
     }
     return reply(status, &call, 0);
 }

@@ -82,9 +82,9 @@ class Store:
 
     A name has 1 to 32 bytes of a-z, 0-9, '.', '_' and '-', as str or bytes. A call waits while
     other threads are in the critical section, as long as `timeout` allows, and Ctrl-C interrupts
-    it. Calls are short: a coroutine can make them directly, and those of blobs of megabytes by
-    `asyncio.to_thread`. As a context manager it closes the store at the end of the block, unless
-    the block raised.
+    it, also a mend. Calls are short: a coroutine can make them directly, and those of blobs of
+    megabytes by `asyncio.to_thread`. Other threads of Python run during a long one. As a context
+    manager it closes the store at the end of the block, unless the block raised.
     """
 
     def __init__(self, width: int, *, limit: int | None = None, shards: int = 1) -> None:

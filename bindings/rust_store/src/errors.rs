@@ -40,8 +40,8 @@ pub enum Status {
     Empty = 14,
     /// The slot that the function fills is not empty.
     Occupied = 15,
-    /// The limit is not in 1 to 1,048,576, the shards are not 1 to 64, or the sessions are of two
-    /// stores.
+    /// The limit is not in 1 to 1,048,576, the shards are not 1 to 64, the sessions are of two
+    /// stores, or the name is of another shard than the lease.
     BadArgument = 16,
     /// The store has other sessions.
     NotAlone = 17,

@@ -200,6 +200,29 @@ fn wait_of(timeout: Option<Duration>) -> i64 {
 pub struct Session {
     slot: Slot,
     wait_ms: i64,
+    /// Of a session that a sharded store lends: the only shard whose names it may call.
+    shard: Option<Shard>,
+}
+
+/// A shard of a store of so many.
+#[derive(Clone, Copy)]
+pub(crate) struct Shard {
+    number: u32,
+    of: u32,
+}
+
+impl Shard {
+    /// The shard of a name in a store of so many.
+    fn find(name: &str, of: u32) -> Result<Shard, u32> {
+        let mut number = 0;
+        // SAFETY: the address is of a slice with its length, and the output a variable of the call.
+        let status = unsafe { lrc_store_shard(name.as_ptr(), name.len(), of, &mut number) };
+        if status == DONE {
+            Ok(Shard { number, of })
+        } else {
+            Err(status)
+        }
+    }
 }
 
 // A session may move between threads. Its raw address keeps threads from sharing it.
@@ -222,7 +245,27 @@ impl Session {
                 check(status, format_args!("open({width}, {limit})"))?;
             }
         }
-        Ok(Session { slot, wait_ms: -1 })
+        Ok(Session::of(slot, -1, None))
+    }
+
+    fn of(slot: Slot, wait_ms: i64, shard: Option<Shard>) -> Session {
+        Session {
+            slot,
+            wait_ms,
+            shard,
+        }
+    }
+
+    /// The status of a call of a name, which is not made if the name is of another shard.
+    fn named(&mut self, name: &str, call: impl FnOnce(&mut Slot, i64) -> u32) -> u32 {
+        if let Some(shard) = self.shard {
+            match Shard::find(name, shard.of) {
+                Err(status) => return status,
+                Ok(found) if found.number != shard.number => return Status::BadArgument as u32,
+                Ok(_) => (),
+            }
+        }
+        call(&mut self.slot, self.wait_ms)
     }
 
     /// How long a call waits for the critical section at a time, rounded up to milliseconds. It
@@ -237,10 +280,7 @@ impl Session {
         let mut slot = Slot::empty();
         let status = unsafe { lrc_store_split(&mut self.slot, who, &mut slot) };
         check(status, format_args!("split({who})"))?;
-        Ok(Session {
-            slot,
-            wait_ms: self.wait_ms,
-        })
+        Ok(Session::of(slot, self.wait_ms, None))
     }
 
     /// Joins another session of the store into this one. The error returns a session of another
@@ -307,17 +347,17 @@ impl Session {
     ) -> Result<u64, Error> {
         let mut version = 0;
         buffer.len = 0; // no longer to be filled, whatever the reply
-        let status = unsafe {
+        let status = self.named(name, |slot, wait_ms| unsafe {
             lrc_store_put_from_wait(
-                &mut self.slot,
+                slot,
                 name.as_ptr(),
                 name.len(),
                 &mut buffer.slot,
                 code as u32,
                 &mut version,
-                self.wait_ms,
+                wait_ms,
             )
-        };
+        });
         let len = buffer.reserved;
         check(
             status,
@@ -329,18 +369,18 @@ impl Session {
     /// Stores a copy of a blob, and returns its version.
     pub fn put(&mut self, name: &str, blob: &[u8], code: Code) -> Result<u64, Error> {
         let mut version = 0;
-        let status = unsafe {
+        let status = self.named(name, |slot, wait_ms| unsafe {
             lrc_store_put_wait(
-                &mut self.slot,
+                slot,
                 name.as_ptr(),
                 name.len(),
                 blob.as_ptr(),
                 blob.len(),
                 code as u32,
                 &mut version,
-                self.wait_ms,
+                wait_ms,
             )
-        };
+        });
         let len = blob.len();
         check(status, format_args!("put({name:?}, {len}, {code:?})"))?;
         Ok(version)
@@ -349,9 +389,9 @@ impl Session {
     /// Lends `len` bytes of a blob, from the byte `start` on.
     pub fn read(&mut self, name: &str, start: u64, len: u64) -> Result<Grant, Error> {
         let (mut lent, mut version, mut pieces) = (Slot::empty(), 0, 0);
-        let status = unsafe {
+        let status = self.named(name, |slot, wait_ms| unsafe {
             lrc_store_lend_wait(
-                &mut self.slot,
+                slot,
                 name.as_ptr(),
                 name.len(),
                 start,
@@ -359,9 +399,9 @@ impl Session {
                 &mut lent,
                 &mut version,
                 &mut pieces,
-                self.wait_ms,
+                wait_ms,
             )
-        };
+        });
         let failed = |status| Error::new(status, format_args!("read({name:?}, {start}, {len})"));
         if status != DONE {
             return Err(failed(status));
@@ -381,18 +421,20 @@ impl Session {
     /// The status and the version of a read of `len` bytes to an address.
     unsafe fn copy(&mut self, name: &str, start: u64, at: *mut u8, len: usize) -> (u32, u64) {
         let (mut version, mut lent, mut built) = (0, 0, 0);
-        let status = lrc_store_read_wait(
-            &mut self.slot,
-            name.as_ptr(),
-            name.len(),
-            start,
-            at,
-            len,
-            &mut version,
-            &mut lent,
-            &mut built,
-            self.wait_ms,
-        );
+        let status = self.named(name, |slot, wait_ms| {
+            lrc_store_read_wait(
+                slot,
+                name.as_ptr(),
+                name.len(),
+                start,
+                at,
+                len,
+                &mut version,
+                &mut lent,
+                &mut built,
+                wait_ms,
+            )
+        });
         (status, version)
     }
 
@@ -419,17 +461,17 @@ impl Session {
     /// Loses a fragment of a stripe, as after a disk failure.
     pub fn lose(&mut self, name: &str, stripe: u64, fragment: u64) -> Result<u64, Error> {
         let mut version = 0;
-        let status = unsafe {
+        let status = self.named(name, |slot, wait_ms| unsafe {
             lrc_store_lose_wait(
-                &mut self.slot,
+                slot,
                 name.as_ptr(),
                 name.len(),
                 stripe,
                 fragment,
                 &mut version,
-                self.wait_ms,
+                wait_ms,
             )
-        };
+        });
         check(status, format_args!("lose({name:?}, {stripe}, {fragment})"))?;
         Ok(version)
     }
@@ -437,17 +479,17 @@ impl Session {
     /// Repairs a lost fragment of a stripe.
     pub fn repair(&mut self, name: &str, stripe: u64, fragment: u64) -> Result<u64, Error> {
         let mut version = 0;
-        let status = unsafe {
+        let status = self.named(name, |slot, wait_ms| unsafe {
             lrc_store_repair_wait(
-                &mut self.slot,
+                slot,
                 name.as_ptr(),
                 name.len(),
                 stripe,
                 fragment,
                 &mut version,
-                self.wait_ms,
+                wait_ms,
             )
-        };
+        });
         check(
             status,
             format_args!("repair({name:?}, {stripe}, {fragment})"),
@@ -459,8 +501,9 @@ impl Session {
     pub fn delete(&mut self, name: &str) -> Result<u64, Error> {
         let mut version = 0;
         let (at, len) = (name.as_ptr(), name.len());
-        let status =
-            unsafe { lrc_store_delete_wait(&mut self.slot, at, len, &mut version, self.wait_ms) };
+        let status = self.named(name, |slot, wait_ms| unsafe {
+            lrc_store_delete_wait(slot, at, len, &mut version, wait_ms)
+        });
         check(status, format_args!("delete({name:?})"))?;
         Ok(version)
     }
@@ -472,18 +515,18 @@ impl Session {
 
     fn shape(&mut self, name: &str, call: std::fmt::Arguments) -> Result<Shape, Error> {
         let mut shape = Shape::default();
-        let status = unsafe {
+        let status = self.named(name, |slot, wait_ms| unsafe {
             lrc_store_stat_wait(
-                &mut self.slot,
+                slot,
                 name.as_ptr(),
                 name.len(),
                 &mut shape.version,
                 &mut shape.len,
                 &mut shape.stripes,
                 &mut shape.lost,
-                self.wait_ms,
+                wait_ms,
             )
-        };
+        });
         check(status, call)?;
         Ok(shape)
     }

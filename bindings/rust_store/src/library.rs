@@ -42,6 +42,7 @@ pub struct RawOptions {
     pub width: u32,
     pub shards: u32,
     pub limit: u32,
+    pub reserved: u32,
 }
 
 /// Lent bytes, with the layout of `lrc_slice`.
@@ -143,11 +144,12 @@ extern "C" {
     pub fn lrc_pool_give(pool: *mut RawPool, session: *mut Slot);
     pub fn lrc_pool_close(pool: *mut RawPool, slot: *mut Slot) -> u32;
     pub fn lrc_shards_open(options: *const RawOptions, shards: *mut *mut RawShards) -> u32;
-    pub fn lrc_shards_find(shards: *mut RawShards, name: *const u8, name_len: usize, pool: *mut *mut RawPool) -> u32;
+    pub fn lrc_shards_at(shards: *mut RawShards, shard: u32, pool: *mut *mut RawPool) -> u32;
     pub fn lrc_shards_numbers(shards: *mut RawShards, numbers: *mut RawNumbers, timeout_ms: i64) -> u32;
     pub fn lrc_shards_trim(shards: *mut RawShards, keep: u64, discarded: *mut u64, timeout_ms: i64) -> u32;
     pub fn lrc_shards_mend(shards: *mut RawShards, repaired: *mut u64, timeout_ms: i64) -> u32;
     pub fn lrc_shards_close(shards: *mut RawShards, entries: *mut u64, lawful: *mut u32) -> u32;
+    pub fn lrc_store_shard(name: *const u8, name_len: usize, shards: u32, shard: *mut u32) -> u32;
     pub fn lrc_store_name(key: *const u8, key_len: usize, name: *mut u8);
     pub fn lrc_slot_release(slot: *mut Slot);
     pub fn lrc_store_text(status: u32) -> *const c_char;

@@ -3,7 +3,7 @@
 use crate::errors::{check, mended, Error, MendError};
 use crate::library::*;
 use crate::pool::Lease;
-use crate::{wait_of, Closed, Numbers};
+use crate::{wait_of, Closed, Numbers, Shard, Status};
 use std::fmt;
 use std::mem;
 use std::ptr;
@@ -15,6 +15,7 @@ use std::time::Duration;
 /// different names seldom wait for each other.
 pub struct ShardedStore {
     raw: *mut RawShards,
+    shards: u32,
     wait_ms: i64,
 }
 
@@ -39,11 +40,16 @@ impl ShardedStore {
             shards,
             // 0 is refused as a limit, and stands for no journals.
             limit: limit.map_or(0, |limit| if limit == 0 { u32::MAX } else { limit }),
+            reserved: 0,
         };
         let mut raw = ptr::null_mut();
         let status = unsafe { lrc_shards_open(&options, &mut raw) };
         check(status, format_args!("open({width}, {shards}, {limit:?})"))?;
-        Ok(ShardedStore { raw, wait_ms: -1 })
+        Ok(ShardedStore {
+            raw,
+            shards,
+            wait_ms: -1,
+        })
     }
 
     /// How long a call waits at a time, rounded up to milliseconds, also one of a session that is
@@ -54,10 +60,17 @@ impl ShardedStore {
 
     /// Lends a session of the shard of a name, for calls of names of this shard.
     pub fn take(&self, name: &str) -> Result<Lease<'_>, Error> {
+        let failed = |status| Error::new(status, format_args!("take({name:?})"));
+        let shard = Shard::find(name, self.shards).map_err(failed)?;
         let mut pool = ptr::null_mut();
-        let status = unsafe { lrc_shards_find(self.raw, name.as_ptr(), name.len(), &mut pool) };
+        let status = unsafe { lrc_shards_at(self.raw, shard.number, &mut pool) };
         check(status, format_args!("take({name:?})"))?;
-        Lease::of(pool, self.wait_ms, format_args!("take({name:?})"))
+        Lease::of(
+            pool,
+            self.wait_ms,
+            Some(shard),
+            format_args!("take({name:?})"),
+        )
     }
 
     /// The numbers of all shards together.
@@ -88,8 +101,10 @@ impl ShardedStore {
     pub fn close(self) -> Result<Closed, (ShardedStore, Error)> {
         let (mut entries, mut lawful) = (0, 0);
         let status = unsafe { lrc_shards_close(self.raw, &mut entries, &mut lawful) };
-        if let Err(error) = check(status, format_args!("close()")) {
-            return Err((self, error));
+        // On any other status the library has freed the store. It has none for leases, which lose
+        // no session.
+        if status == Status::NotAlone as u32 {
+            return Err((self, Error::new(status, format_args!("close()"))));
         }
         mem::forget(self);
         Ok(Closed {

@@ -135,9 +135,8 @@ impl Session {
     /// Holds the version that a blob has now.
     pub fn hold(&mut self, name: &str) -> Result<Version, Error> {
         let (mut slot, mut number, mut len) = (Slot::empty(), 0, 0);
-        let (at, name_len, wait_ms) = (name.as_ptr(), name.len(), self.wait_ms);
-        let status = unsafe {
-            let from = &mut self.slot;
+        let (at, name_len) = (name.as_ptr(), name.len());
+        let status = self.named(name, |from, wait_ms| unsafe {
             lrc_store_hold_wait(
                 from,
                 at,
@@ -147,7 +146,7 @@ impl Session {
                 &mut len,
                 wait_ms,
             )
-        };
+        });
         check(status, format_args!("hold({name:?})"))?;
         Ok(Version { slot, number, len })
     }

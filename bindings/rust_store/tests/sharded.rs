@@ -1,6 +1,6 @@
 //! A store of several shards.
 
-use lrc_store::{Code, ShardedStore, Status};
+use lrc_store::{Buffer, Code, Error, Lease, ShardedStore, Status};
 use std::thread;
 use std::time::{Duration, Instant};
 
@@ -65,6 +65,94 @@ fn it_refuses_bad_options_and_names() {
     );
     assert_eq!(format!("{store:?}"), "ShardedStore { .. }");
     assert!(!store.close().unwrap().is_checked);
+}
+
+type Call = (&'static str, fn(&mut Lease<'_>, &str) -> Result<(), Error>);
+
+/// All calls of a name.
+const CALLS: [Call; 10] = [
+    ("put", |it, name| it.put(name, b"x", Code::Wide).map(drop)),
+    ("put_buffer", |it, name| {
+        let mut buffer = Buffer::new(1).unwrap();
+        it.put_buffer(name, &mut buffer, Code::Wide).map(drop)
+    }),
+    ("get", |it, name| it.get(name).map(drop)),
+    ("read", |it, name| it.read(name, 0, 1).map(drop)),
+    ("read_into", |it, name| {
+        it.read_into(name, 0, &mut [0]).map(drop)
+    }),
+    ("hold", |it, name| it.hold(name).map(drop)),
+    ("stat", |it, name| it.stat(name).map(drop)),
+    ("lose", |it, name| it.lose(name, 0, 0).map(drop)),
+    ("repair", |it, name| it.repair(name, 0, 0).map(drop)),
+    ("delete", |it, name| it.delete(name).map(drop)),
+];
+
+/// A lease calls names of its shard, and no others: these would be twice in the store.
+#[test]
+fn a_lease_is_of_one_shard() {
+    let store = ShardedStore::open(4, 7, None).unwrap();
+    let names: Vec<String> = (0..50).map(|i| format!("n{i}")).collect();
+    for name in &names {
+        store
+            .take(name)
+            .unwrap()
+            .put(name, b"x", Code::Wide)
+            .unwrap();
+    }
+    let (mut same, mut others) = (0, 0);
+    for name in &names {
+        match store.take("n0").unwrap().stat(name) {
+            Ok(_) => same += 1,
+            Err(error) => {
+                others += 1;
+                assert_eq!(error.status, Status::BadArgument);
+                for (call, make) in CALLS {
+                    let error = make(&mut store.take("n0").unwrap(), name).unwrap_err();
+                    assert_eq!(error.status, Status::BadArgument, "{call}");
+                    assert!(
+                        error.call.starts_with(&format!("{call}({name:?}")),
+                        "{error}"
+                    );
+                }
+            }
+        }
+    }
+    assert!(same > 1 && others > 30);
+    let error = store.take("n0").unwrap().stat("A").unwrap_err();
+    assert_eq!(error.status, Status::BadName);
+    assert_eq!(store.numbers().unwrap().blobs, 50);
+    let (mut a, mut b) = (store.take("n0").unwrap(), store.take("n0").unwrap());
+    for (call, make) in CALLS {
+        make(&mut a, "n0").unwrap_or_else(|error| panic!("{call}: {error}"));
+        std::mem::swap(&mut a, &mut b);
+    }
+}
+
+/// A version of another shard is not installed.
+#[test]
+fn an_install_is_of_one_shard() {
+    let store = ShardedStore::open(4, 64, None).unwrap();
+    let other = (1..)
+        .map(|i| format!("n{i}"))
+        .find(|name| store.take("n0").unwrap().stat(name).unwrap_err().status != Status::NoName);
+    let other = other.unwrap();
+    for name in ["n0", &other] {
+        let mut lease = store.take(name).unwrap();
+        lease.put(name, b"HELLO", Code::Wide).unwrap();
+        lease.lose(name, 0, 0).unwrap();
+    }
+    let mut known = store.take(&other).unwrap().hold(&other).unwrap();
+    let error = store.take("n0").unwrap().install(&mut known, 0, 0, b"HELL");
+    assert_eq!(error.unwrap_err().status, Status::BadArgument);
+    assert_eq!(store.numbers().unwrap().lost, 2);
+    store
+        .take(&other)
+        .unwrap()
+        .install(&mut known, 0, 0, b"HELL")
+        .unwrap();
+    assert_eq!(store.take("n0").unwrap().mend().unwrap(), 1);
+    assert_eq!(store.take(&other).unwrap().numbers().unwrap().lost, 0);
 }
 
 #[test]

@@ -1,9 +1,9 @@
-//! Puts values into a cache of 10,000 bytes, loses fragments, and prints what is still there.
+//! Puts values into a cache of 100,000 bytes, loses fragments, and prints what is still there.
 
 use cache::Cache;
 
 fn main() -> Result<(), lrc_store::Error> {
-    let cache = Cache::new(64, 10_000)?;
+    let cache = Cache::new(64, 100_000)?;
     for number in 0..150 {
         cache.put(format!("key {number}").as_bytes(), &[b'x'; 100])?;
     }
