@@ -25,7 +25,7 @@ public:
     World(const Run &running, Random &source) : run(running), random(source) {
         const uint32_t counts[] = {1, 2, 3, 16, 64};
         options = {sizeof options, uint32_t(1 + random.below(40)), random.one_of(counts),
-                   random.one_in(2) ? 0 : uint32_t(1 + random.below(60))};
+                   random.one_in(2) ? 0 : uint32_t(1 + random.below(60)), 0};
         models.resize(options.shards);
         for (model::Store &each : models) {
             each.width = options.width;
