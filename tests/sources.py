@@ -45,7 +45,7 @@ def closing(code, start):
 @dataclass
 class Function:
     """A function: its type, where it is a method, its name, its clauses in order, and which part of
-    the file it is."""
+    the file it is, and its body alone."""
 
     owner: str
     name: str
@@ -55,6 +55,7 @@ class Function:
     end: int
     is_test: bool = False
     is_exported: bool = False
+    body: int = 0
 
     def path(self):
         return f"{self.owner}::{self.name}" if self.owner else self.name
@@ -110,7 +111,15 @@ def function_at(code, found, owner, is_test):
     is_public = bool(re.match(r"pub\s", found.group()))
     is_exported = is_public and "extern" in found.group().split()
     return Function(
-        owner, found.group("name"), is_public, clauses, found.start(), end, is_test, is_exported
+        owner,
+        found.group("name"),
+        is_public,
+        clauses,
+        found.start(),
+        end,
+        is_test,
+        is_exported,
+        brace,
     )
 
 
