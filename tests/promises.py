@@ -99,8 +99,10 @@ class Check:
                 self.complain(
                     row.number, f"`{name}` is " + " or ".join(f"`{f.path()}`" for f in named)
                 )
-            elif not crate.named(name) and name.split("::")[0] not in types_of(row.crate):
+            elif not crate.named(name) and name not in types_of(row.crate):
                 self.complain(row.number, f"no public function of {row.crate} is `{name}`")
+            if row.is_inner and not named and not name[0].isupper():
+                self.complain(row.number, f"no function of {row.crate} is `{name}`")
         return found
 
     def is_test(self, row, word):
