@@ -22,6 +22,7 @@ built() {
 }
 
 part_of_documents
+part python3 tests/states.py
 part python3 tests/mutant_rounds.py
 built test_refused_memory
 built test_sharded

@@ -73,6 +73,7 @@ pub fn read_script<R: Read + Drop>(
         .from_reader(alloc, Retried { reader: input });
     // An empty header row spares the copies of a first record, and makes each record a row.
     if reader.set_byte_headers(ByteRecord::new(alloc)).is_err() {
+        drop(reader);
         return Err(NotRead::Bad(BadScript::NoMemory));
     }
     let mut record = ByteRecord::new(alloc);
@@ -80,17 +81,26 @@ pub fn read_script<R: Read + Drop>(
     'records: loop {
         match reader.read_byte_record(&mut record) {
             Ok(true) => {}
-            Ok(false) => return Ok(rows),
-            Err(error) => return Err(not_read(error)),
+            Ok(false) => {
+                drop((reader, record));
+                return Ok(rows);
+            }
+            Err(error) => {
+                drop((reader, record, rows));
+                return Err(not_read(error));
+            }
         }
         match row(alloc, &record, rows.as_slice(), workers) {
-            Ok(row) => {
-                if rows.push(row).is_err() {
+            Ok(row) => match rows.push(row) {
+                Ok(()) => {}
+                Err(refused) => {
+                    drop((reader, record, rows, refused));
                     return Err(NotRead::Bad(BadScript::NoMemory));
                 }
-            }
+            },
             Err(refusal) => {
                 let error = at_row(refusal, rows.len() as u32 + 1);
+                drop((record, rows));
                 return Err(read_out(reader.into_inner(), error));
             }
         }

@@ -6,6 +6,7 @@ ghost use Rattle.store_c.specs.OnSession.{IsPutCall, HasSomeReply};
 ghost use Rattle.store_c.specs.Buffers.{IsReserve, IsPutFrom, IsSpent};
 
 use crate::answers::{put_arguments, write_version};
+use crate::places::{fill, make_room, put_in};
 use crate::status::{DONE, EMPTY, NO_MEMORY};
 use session::{Bytes, Code, Held, Name, Refused, Session, Slot};
 use std::alloc::Global;
@@ -15,16 +16,18 @@ pub(crate) fn reserve(alloc: Global, len: usize, slot: &mut Slot) -> u32
     requires { slot.old.held ≡ None }
     ensures { IsReserve len result slot.new.held }
 {
-    let Ok(mut held) = Box::new(alloc, None::<Held>) else {
+    let Some(room) = make_room(alloc) else {
         return NO_MEMORY;
     };
     match Vec::from_elem(alloc, 0u8, len) {
         Ok(bytes) => {
-            *held = Some(Held::Buffer(bytes));
-            slot.put(held);
+            fill(room, Held::Buffer(bytes), slot);
             DONE
         }
-        Err(_) => NO_MEMORY,
+        Err(_) => {
+            drop(room);
+            NO_MEMORY
+        }
     }
 }
 
@@ -78,7 +81,7 @@ fn put_held(
             )
         }
         kept => {
-            *given = kept;
+            put_in(given, kept);
             EMPTY
         }
     }
@@ -102,7 +105,7 @@ fn put_buffer(
     let (name, code) = match put_arguments(name, data_fragments) {
         Ok(arguments) => arguments,
         Err(status) => {
-            *given = Some(Held::Buffer(bytes));
+            put_in(given, Some(Held::Buffer(bytes)));
             return status;
         }
     };
@@ -112,7 +115,7 @@ fn put_buffer(
             put_blob(alloc, session, name, unsealed, code, given, version)
         }
         Err(refused) => {
-            *given = Some(Held::Buffer(refused.value));
+            put_in(given, Some(Held::Buffer(refused.value)));
             NO_MEMORY
         }
     }
@@ -136,7 +139,7 @@ fn put_refused(
     let (name, code) = match put_arguments(name, data_fragments) {
         Ok(arguments) => arguments,
         Err(status) => {
-            *given = Some(Held::Refused(refused));
+            put_in(given, Some(Held::Refused(refused)));
             return status;
         }
     };
@@ -162,7 +165,7 @@ fn put_blob(
     let reply = session.put_again(alloc, name, &mut refused, code);
     let status = write_version(&reply, version);
     if status != DONE {
-        *given = Some(Held::Refused(refused));
+        put_in(given, Some(Held::Refused(refused)));
     }
     status
 }

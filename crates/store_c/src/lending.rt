@@ -3,10 +3,10 @@ ghost use Rattle.std.specs.Prelude.{◌≡◌, None};
 ghost use Rattle.store_c.specs.Lend.{IsLend, IsLendTo};
 
 use crate::answers::{name_of, write_version};
+use crate::places::{fill, make_room};
 use crate::status::{BAD_NAME, DONE, NO_MEMORY, NOT_REBUILT, OCCUPIED};
 use session::{Answer, Held, Lending, Session, Slot};
 use std::alloc::Global;
-use std::boxed::Box;
 
 fn lend(
     alloc: Global,
@@ -25,22 +25,25 @@ fn lend(
     let Some(name) = name_of(name) else {
         return BAD_NAME;
     };
-    let Ok(mut given) = Box::new(alloc, None::<Held>) else {
+    let Some(room) = make_room(alloc) else {
         return NO_MEMORY;
     };
     let reply = session.read(name, start, len);
     let status = write_version(&reply, version);
     let Ok(Answer::Granted(grant)) = reply else {
+        drop(room);
         return status;
     };
     match Lending::of_read(alloc, grant) {
         Ok(lending) => {
             *pieces = lending.len();
-            *given = Some(Held::Lending(lending));
-            other.put(given);
+            fill(room, Held::Lending(lending), other);
             DONE
         }
-        Err(_) => NOT_REBUILT,
+        Err(_) => {
+            drop(room);
+            NOT_REBUILT
+        }
     }
 }
 

@@ -12,6 +12,7 @@ mod items;
 mod journal;
 mod lending;
 mod numbers;
+mod places;
 mod repairs;
 mod sessions;
 mod shards;

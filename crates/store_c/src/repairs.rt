@@ -6,20 +6,20 @@ ghost use Rattle.store_c.specs.Plan.{HasPlan, IsPlanTo, IsPlanPartTo, IsMendStep
 ghost use Rattle.store_c.specs.Plan.{all_lost, some_lost};
 
 use crate::answers::{number_of, write_version};
+use crate::places::{fill, make_room};
 use crate::status::{DONE, NO_MEMORY, NOTHING_LEFT, OCCUPIED};
 use session::{Held, Plan, Repairs, Session, Slot};
 use std::alloc::Global;
 use std::boxed::Box;
 
-/// Puts the first part of a plan into a slot, by this box.
-fn hold(mut given: Box<Option<Held>>, plan: Plan, other: &mut Slot)
+/// Puts the first part of a plan into its room, and that into a slot.
+fn hold(room: Box<Option<Held>>, plan: Plan, other: &mut Slot)
     ensures { other.new.held ≡ Some (RepairsHeld (record {
       items = plan.items.items;
       last = last_or None plan.items.items;
     })) }
 {
-    *given = Some(Held::Repairs(Repairs::of(plan, None)));
-    other.put(given);
+    fill(room, Held::Repairs(Repairs::of(plan, None)), other);
 }
 
 fn plan(alloc: Global, session: &mut Session, other: &mut Slot, items: &mut u64) -> u32
@@ -27,16 +27,19 @@ fn plan(alloc: Global, session: &mut Session, other: &mut Slot, items: &mut u64)
     ensures { HasPlan all_lost None session.old None result (items.old, items.new) session.new
         other.new.held }
 {
-    let Ok(given) = Box::new(alloc, None::<Held>) else {
+    let Some(room) = make_room(alloc) else {
         return NO_MEMORY;
     };
     match session.plan(alloc) {
         Ok(plan) => {
             *items = plan.items.len() as u64;
-            hold(given, plan, other);
+            hold(room, plan, other);
             DONE
         }
-        Err(fault) => number_of(fault),
+        Err(fault) => {
+            drop(room);
+            number_of(fault)
+        }
     }
 }
 
@@ -67,16 +70,19 @@ fn first_part(
     ensures { HasPlan (some_lost None most) None session.old None result (items.old, items.new)
         session.new other.new.held }
 {
-    let Ok(given) = Box::new(alloc, None::<Held>) else {
+    let Some(room) = make_room(alloc) else {
         return NO_MEMORY;
     };
     match session.plan_part(alloc, None, most as usize) {
         Ok(plan) => {
             *items = plan.items.len() as u64;
-            hold(given, plan, other);
+            hold(room, plan, other);
             DONE
         }
-        Err(fault) => number_of(fault),
+        Err(fault) => {
+            drop(room);
+            number_of(fault)
+        }
     }
 }
 

@@ -6,10 +6,10 @@ ghost use Rattle.store_c.specs.Sessions.{IsOpening, IsOpeningWith, IsSplitTo, Is
 ghost use Rattle.store_c.specs.Sessions.{IsJoinCall, AreOfOneStore, IsCloseCall, HasHistory};
 
 use crate::answers::number_of;
+use crate::places::{fill, make_room, put_in};
 use crate::status::{BAD_ARGUMENT, DONE, EMPTY, NO_MEMORY, NOT_ALONE, OCCUPIED};
 use session::{Book, Held, Limit, Session, Slot, is_lawful_from};
 use std::alloc::Global;
-use std::boxed::Box;
 
 pub(crate) fn open(alloc: Global, width: u32, limit: u32, number: u64, slot: &mut Slot) -> u32
     requires { slot.old.held ≡ None }
@@ -32,37 +32,30 @@ pub(crate) fn open_with(
     requires { slot.old.held ≡ None }
     ensures { IsOpeningWith width (call_limit limit) number result slot.new.held }
 {
-    let Ok(mut held) = Box::new(alloc, None::<Held>) else {
+    let Some(room) = make_room(alloc) else {
         return NO_MEMORY;
     };
     match Session::open(alloc, width, limit) {
         Ok(session) => {
-            *held = Some(Held::Session { session, number });
-            slot.put(held);
+            fill(room, Held::Session { session, number }, slot);
             DONE
         }
-        Err(fault) => number_of(fault),
+        Err(fault) => {
+            drop(room);
+            number_of(fault)
+        }
     }
 }
 
 pub(crate) fn split(alloc: Global, held: &mut Option<Held>, who: u32, other: &mut Slot) -> u32
     ensures { IsSplitCall held.old other.old.held who result held.new other.new.held }
 {
-    match held.take() {
-        Some(
-            Held::Session {
-                mut session,
-                number,
-            },
-        ) => {
-            let status = split_to(alloc, &mut session, number, who, other);
-            *held = Some(Held::Session { session, number });
-            status
-        }
-        kept => {
-            *held = kept;
-            EMPTY
-        }
+    match held {
+        Some(held) => match held {
+            Held::Session { session, number } => split_to(alloc, session, *number, who, other),
+            _ => EMPTY,
+        },
+        None => EMPTY,
     }
 }
 
@@ -72,16 +65,18 @@ fn split_to(alloc: Global, session: &mut Session, number: u64, who: u32, other: 
     if !other.is_vacant(alloc) {
         return OCCUPIED;
     }
-    let Ok(mut given) = Box::new(alloc, None::<Held>) else {
+    let Some(room) = make_room(alloc) else {
         return NO_MEMORY;
     };
     match session.split(who) {
         Ok(session) => {
-            *given = Some(Held::Session { session, number });
-            other.put(given);
+            fill(room, Held::Session { session, number }, other);
             DONE
         }
-        Err(fault) => number_of(fault),
+        Err(fault) => {
+            drop(room);
+            number_of(fault)
+        }
     }
 }
 
@@ -89,24 +84,20 @@ pub(crate) fn join(held: &mut Option<Held>, given: &mut Option<Held>) -> u32
     requires { AreOfOneStore held.old given.old }
     ensures { IsJoinCall held.old given.old result held.new given.new }
 {
-    match held.take() {
-        Some(Held::Session { session, number }) => {
-            let (status, session) = join_at(session, number, given);
-            *held = Some(Held::Session { session, number });
-            status
-        }
-        kept => {
-            *held = kept;
-            EMPTY
-        }
+    match held {
+        Some(held) => match held {
+            Held::Session { session, number } => join_at(session, *number, given),
+            _ => EMPTY,
+        },
+        None => EMPTY,
     }
 }
 
-/// Does the same with the first session taken out of its slot, and puts it back.
-fn join_at(mut session: Session, number: u64, given: &mut Option<Held>) -> (u32, Session)
-    requires { AreOfOneStore (Some (Held.Session session number)) given.old }
-    ensures { IsJoinCall (Some (Held.Session session number)) given.old result.0
-        (Some (Held.Session result.1 number)) given.new }
+/// Does the same with the session that the first slot holds.
+fn join_at(session: &mut Session, number: u64, given: &mut Option<Held>) -> u32
+    requires { AreOfOneStore (Some (Held.Session session.old number)) given.old }
+    ensures { IsJoinCall (Some (Held.Session session.old number)) given.old result
+        (Some (Held.Session session.new number)) given.new }
 {
     match given.take() {
         Some(
@@ -116,18 +107,21 @@ fn join_at(mut session: Session, number: u64, given: &mut Option<Held>) -> (u32,
             },
         ) => {
             if theirs != number {
-                *given = Some(Held::Session {
-                    session: other,
-                    number: theirs,
-                });
-                return (BAD_ARGUMENT, session);
+                put_in(
+                    given,
+                    Some(Held::Session {
+                        session: other,
+                        number: theirs,
+                    }),
+                );
+                return BAD_ARGUMENT;
             }
             session.join(other);
-            (DONE, session)
+            DONE
         }
         kept => {
-            *given = kept;
-            (EMPTY, session)
+            put_in(given, kept);
+            EMPTY
         }
     }
 }
@@ -165,16 +159,16 @@ pub(crate) fn close_to(
                 *entries = book.entries().len() as u64;
                 *discarded = book.calls() - *entries;
                 *lawful = lawful_number(alloc, &book);
-                *given = Some(Held::Journal(book));
+                put_in(given, Some(Held::Journal(book)));
                 DONE
             }
             Err(session) => {
-                *held = Some(Held::Session { session, number });
+                put_in(held, Some(Held::Session { session, number }));
                 NOT_ALONE
             }
         },
         kept => {
-            *held = kept;
+            put_in(held, kept);
             EMPTY
         }
     }
@@ -193,10 +187,11 @@ pub(crate) fn close_slot(
     ensures { IsCloseToCall slot.old.held None result (discarded.old, entries.old, lawful.old)
         (discarded.new, entries.new, lawful.new) slot.new.held other.new.held }
 {
-    let Ok(mut given) = Box::new(alloc, None::<Held>) else {
+    let Some(mut given) = make_room(alloc) else {
         return NO_MEMORY;
     };
     let Some(mut held) = slot.take(alloc) else {
+        drop(given);
         return EMPTY;
     };
     let status = close_to(alloc, &mut held, &mut given, discarded, entries, lawful);

@@ -6,13 +6,13 @@ ghost use Rattle.store_c.specs.Versions.{IsShapeOf, IsLostOf, IsFragmentTo};
 ghost use Rattle.store_c.specs.Versions.{IsRange, IsRangeTo};
 
 use crate::answers::{name_of, number_of, write_version};
+use crate::places::{fill, make_room};
 use crate::status::{
     ALREADY_LOST, BAD_ARGUMENT, BAD_NAME, DONE, EMPTY, NO_FRAGMENT, NO_MEMORY, NO_NAME, OCCUPIED,
     OUT_OF_RANGE, UNRECOVERABLE,
 };
 use session::{Asked, Bytes, Code, Held, Lending, LentSlice, Session, Slot, Version};
 use std::alloc::Global;
-use std::boxed::Box;
 
 /// The shape of a version in C's layout: its number, its length in bytes, the numbers of stripes
 /// and of lost fragments, the bytes of a fragment, and the data fragments of a stripe.
@@ -43,22 +43,31 @@ fn hold(
     let Some(name) = name_of(name) else {
         return BAD_NAME;
     };
-    let Ok(mut given) = Box::new(alloc, None::<Held>) else {
+    let Some(room) = make_room(alloc) else {
         return NO_MEMORY;
     };
     match session.hold(name) {
         Ok(Some(held)) => {
             *version = held.snapshot().version();
             *len = held.snapshot().len();
-            *given = Some(Held::Version {
-                version: held,
-                number,
-            });
-            other.put(given);
+            fill(
+                room,
+                Held::Version {
+                    version: held,
+                    number,
+                },
+                other,
+            );
             DONE
         }
-        Ok(None) => NO_NAME,
-        Err(fault) => number_of(fault),
+        Ok(None) => {
+            drop(room);
+            NO_NAME
+        }
+        Err(fault) => {
+            drop(room);
+            number_of(fault)
+        }
     }
 }
 
@@ -93,21 +102,14 @@ pub(crate) fn hold_by(
     ensures { IsHoldCall held.old other.old.held name.now result (version.old, len.old)
         (version.new, len.new) held.new other.new.held }
 {
-    match held.take() {
-        Some(
-            Held::Session {
-                mut session,
-                number,
-            },
-        ) => {
-            let status = hold_to(alloc, &mut session, number, name, other, version, len);
-            *held = Some(Held::Session { session, number });
-            status
-        }
-        kept => {
-            *held = kept;
-            EMPTY
-        }
+    match held {
+        Some(held) => match held {
+            Held::Session { session, number } => {
+                hold_to(alloc, session, *number, name, other, version, len)
+            }
+            _ => EMPTY,
+        },
+        None => EMPTY,
     }
 }
 
@@ -176,23 +178,34 @@ fn lend(
     requires { other.old.held ≡ None }
     ensures { IsRange version.now start len result (pieces.old, pieces.new) other.new.held }
 {
-    let Ok(mut given) = Box::new(alloc, None::<Held>) else {
+    let Some(room) = make_room(alloc) else {
         return NO_MEMORY;
     };
     let grant = match version.snapshot().read(start, len) {
         Ok(Asked::Granted(grant)) => grant,
-        Ok(Asked::OutOfRange) => return OUT_OF_RANGE,
-        Ok(Asked::Unrecoverable) => return UNRECOVERABLE,
-        Err(_) => return NO_MEMORY,
+        Ok(Asked::OutOfRange) => {
+            drop(room);
+            return OUT_OF_RANGE;
+        }
+        Ok(Asked::Unrecoverable) => {
+            drop(room);
+            return UNRECOVERABLE;
+        }
+        Err(_) => {
+            drop(room);
+            return NO_MEMORY;
+        }
     };
     match Lending::of_read(alloc, grant) {
         Ok(lending) => {
             *pieces = lending.len();
-            *given = Some(Held::Lending(lending));
-            other.put(given);
+            fill(room, Held::Lending(lending), other);
             DONE
         }
-        Err(_) => NO_MEMORY,
+        Err(_) => {
+            drop(room);
+            NO_MEMORY
+        }
     }
 }
 
@@ -228,34 +241,20 @@ pub(crate) fn install_by(
     ensures { IsInstallCall held.old given.old stripe fragment bytes.now result
         (written.old, written.new) held.new given.new }
 {
-    match held.take() {
-        Some(
-            Held::Session {
-                mut session,
-                number,
-            },
-        ) => {
-            let status = install_of(
-                alloc,
-                &mut session,
-                number,
-                given,
-                stripe,
-                fragment,
-                bytes,
-                written,
-            );
-            *held = Some(Held::Session { session, number });
-            status
-        }
-        kept => {
-            *held = kept;
-            EMPTY
-        }
+    match held {
+        Some(held) => match held {
+            Held::Session { session, number } => {
+                install_of(
+                    alloc, session, *number, given, stripe, fragment, bytes, written,
+                )
+            }
+            _ => EMPTY,
+        },
+        None => EMPTY,
     }
 }
 
-/// Does the same by a session that was taken out of its slot.
+/// Does the same by the session that the first slot holds.
 fn install_of(
     alloc: Global,
     session: &mut Session,
@@ -272,34 +271,17 @@ fn install_of(
         bytes.now result (written.old, written.new) (Some (Held.Session session.new number))
         given.new }
 {
-    match given.take() {
-        Some(
+    match given {
+        Some(given) => match given {
             Held::Version {
-                mut version,
-                number: theirs,
-            },
-        ) => {
-            let status = install(
-                alloc,
-                session,
-                number,
-                &mut version,
-                theirs,
-                stripe,
-                fragment,
-                bytes,
-                written,
-            );
-            *given = Some(Held::Version {
                 version,
                 number: theirs,
-            });
-            status
-        }
-        kept => {
-            *given = kept;
-            EMPTY
-        }
+            } => install(
+                alloc, session, number, version, *theirs, stripe, fragment, bytes, written,
+            ),
+            _ => EMPTY,
+        },
+        None => EMPTY,
     }
 }
 

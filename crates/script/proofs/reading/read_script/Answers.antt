@@ -1,4 +1,4 @@
-use Rattle.std.proofs.Common.{◌≡◌, ◌∙◌, rules, true, length, ◌+◌}
+use Rattle.std.proofs.Common.{◌≡◌, ◌∙◌, ap, rules, true, length, ◌+◌}
 use Rattle.std.specs.Result.{is_ok}
 use Rattle.csv.specs.Records.{fields_of}
 use Rattle.script.specs.Script.{Explains, ExplainsFailure, at_row, script_records}
@@ -26,7 +26,7 @@ records-preserved g c =
     let p = c.records.invariant in
     let read = rw c.in-Ok-true.field-0-test at (c.in-Ok-true.ensures.reads p.trim p.ready) in
     let first = c.in-Ok-true.ensures.ready p.trim in
-    let good : is_ok c.push.result ≡ true = c.if-is_err-2.ensures.negation in
+    let good : is_ok c.push.result ≡ true = ap is_ok c.in-Ok-push.is in
     let items = rw good at c.push.ensures.items in
     let t = rw c.as_slice.ensures.value at c.in-Ok.ensures in
     rw (items, t.1) (progress-more (λ retried. g.R.Read.remaining retried.reader) c.args.workers c.records.rows.items (g.R.Read.remaining c.args.input) c.records.reader c.read_byte_record.new.self (fields_of c.read_byte_record.new.row) p read first t.0)

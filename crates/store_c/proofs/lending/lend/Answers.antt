@@ -17,8 +17,8 @@ of_read-requires c =
     (c.in-Ok-Granted.is ∙ ap Ok c.in-Ok-Granted.field-0-is) c.in-Some.ensures.0 call.ensures.grant in
     record { stands = (here.blob.bytes, here.blob.lost, here.represents.stands) }
 
-pub returns-in-Ok-of_read : goal.returns-in-Ok-of_read
-returns-in-Ok-of_read c =
+pub returns-in-Ok : goal.returns-in-Ok
+returns-in-Ok c =
     let name = c.in-Some in
     let call = c.read-reply in
     let v = c.args.session.now in
@@ -29,10 +29,10 @@ returns-in-Ok-of_read c =
     (λ i. read (name.ensures.0 i) start len) call.ensures.called (call.ensures.faults, call.ensures.no_memory) (sym (ap status_of reply_is)) c.write_version-status.ensures.version call.ensures.busy call.ensures.lone in
     let so = subst (λ (r : Result Answer Fault). HasReply v (read c.args.name.now start len) r 0 c.args.version.now c.write_version-status.new.version call.new.self) reply_is is in
     let here = granted call.result g call.new.self.seen v.store.width name.name c.args.name.now start len reply_is name.ensures.0 call.ensures.grant in
-    let from = c.in-Ok-of_read.ensures in
-    granted_lend name.ensures.1 g so refl c.in-Ok-of_read.lending from
+    let from = c.in-Ok.ensures in
+    granted_lend name.ensures.1 g so refl c.in-Ok.lending from
     (has_bytes call.result g call.new.self.seen v.store.width c.args.name.now start len _ c.args.version.now _ reply_is here (from.range_is here.blob.bytes here.blob.lost here.represents.stands) c.write_version-status.ensures.version)
-    c.len.ensures c.put.ensures
+    c.len.ensures c.fill.ensures
 
 pub returns-in-Err : goal.returns-in-Err
 returns-in-Err c =

@@ -2,9 +2,9 @@ use Rattle.std.proofs.Common.{Err, refl, ap, arith, ◌∙◌, rules}
 use Rattle.store_c.specs.Plan.{planned, plan_refused}
 use Rattle.store_c.proofs.repairs.first_part.Goals as goal
 
-pub returns-in-Ok-plan_part : goal.returns-in-Ok-plan_part
-returns-in-Ok-plan_part c =
-    planned c.in-Ok-plan_part.plan.items.items refl c.in-Ok-plan_part.ensures.takes c.in-Ok-plan_part.ensures.ok (omega (arith, c.len.ensures, c.in-Ok-plan_part.plan.items.ok)) c.hold.ensures
+pub returns-in-Ok : goal.returns-in-Ok
+returns-in-Ok c =
+    planned c.in-Ok.plan.items.items refl c.in-Ok.ensures.takes c.in-Ok.ensures.ok (omega (arith, c.len.ensures, c.in-Ok.plan.items.ok)) c.hold.ensures
 
 pub returns-in-Err : goal.returns-in-Err
 returns-in-Err c =

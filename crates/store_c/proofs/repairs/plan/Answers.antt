@@ -2,8 +2,8 @@ use Rattle.std.proofs.Common.{Err, refl, ap, arith, ◌∙◌, rules}
 use Rattle.store_c.specs.Plan.{planned, plan_refused}
 use Rattle.store_c.proofs.repairs.plan.Goals as goal
 
-pub returns-in-Ok-plan : goal.returns-in-Ok-plan
-returns-in-Ok-plan c = planned c.in-Ok-plan.plan.items.items refl c.in-Ok-plan.ensures.takes c.in-Ok-plan.ensures.ok (omega (arith, c.len.ensures, c.in-Ok-plan.plan.items.ok)) c.hold.ensures
+pub returns-in-Ok : goal.returns-in-Ok
+returns-in-Ok c = planned c.in-Ok.plan.items.items refl c.in-Ok.ensures.takes c.in-Ok.ensures.ok (omega (arith, c.len.ensures, c.in-Ok.plan.items.ok)) c.hold.ensures
 
 pub returns-in-Err : goal.returns-in-Err
 returns-in-Err c =

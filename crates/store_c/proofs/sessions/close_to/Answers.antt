@@ -12,6 +12,6 @@ returns-in-Ok c =
         entries_is = ap length c.entries.ensures.value;
         lawful_is = c.lawful_number.ensures;
       };
-      given_is = refl;
+      given_is = c.put_in.ensures;
       calls_are = (let few = kept_few c.in-Ok.book in let entries = ap length c.entries.ensures.value in omega (arith, few, entries, c.calls.ensures));
     })

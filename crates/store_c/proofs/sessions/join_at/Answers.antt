@@ -7,7 +7,7 @@ pub returns-else-theirs-number : goal.returns-else-theirs-number
 returns-else-theirs-number c =
     let theirs = c.in-Some-Session in
     let join = c.join.ensures in
-    joined_with c.args.given.now _ _ c.args.session theirs.other c.args.number theirs.theirs 0 (sym c.take.ensures.value ∙ theirs.is ∙ ap Some theirs.field-0-is)
+    joined_with c.args.given.now _ _ c.args.session.now theirs.other c.args.number theirs.theirs 0 (sym c.take.ensures.value ∙ theirs.is ∙ ap Some theirs.field-0-is)
     (joined c.join.new.self refl c.if-theirs-number.false (record {
       store_is = join.unchanged.0;
       who_is = join.unchanged.1;

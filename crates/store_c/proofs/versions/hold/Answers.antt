@@ -8,8 +8,8 @@ returns-in-Ok-Some c =
     let x = c.in-Ok-Some.held in
     let version_is : c.version.result ≡ x.sealed.version = c.version.ensures ∙ ap (λ (s : Sealed). s.version) c.snapshot.ensures.same in
     let len_is : c.len.result ≡ x.sealed.len = c.len.ensures ∙ ap (λ (s : Sealed). s.len) c.snapshot-in-Ok-Some.ensures.same in
-    held_by c.args.session.now c.hold.new.self c.args.number c.in-Some.name c.args.name.now c.hold.result x (c.args.version.now, c.args.len.now) (c.version.result, c.len.result) c.put.new.self.held
-    (c.in-Ok-Some.is ∙ ap Ok c.in-Ok-Some.field-0-is) c.in-Some.ensures.0 c.in-Some.ensures.1 c.hold.ensures.called c.hold.ensures.held (λ i. (version_is i, len_is i)) c.put.ensures
+    held_by c.args.session.now c.hold.new.self c.args.number c.in-Some.name c.args.name.now c.hold.result x (c.args.version.now, c.args.len.now) (c.version.result, c.len.result) c.fill.new.slot.held
+    (c.in-Ok-Some.is ∙ ap Ok c.in-Ok-Some.field-0-is) c.in-Some.ensures.0 c.in-Some.ensures.1 c.hold.ensures.called c.hold.ensures.held (λ i. (version_is i, len_is i)) c.fill.ensures
 
 pub returns-in-Err : goal.returns-in-Err
 returns-in-Err c =

@@ -12,10 +12,10 @@ of_read-requires c =
     let v = c.snapshot.ensures.known.version in
     record { stands = (v.blob.bytes, v.blob.lost, subst (λ (s : Sealed). StandsFor s v.blob.bytes v.blob.lost) (sym is.0) v.represents.stands) }
 
-pub returns-in-Ok-of_read : goal.returns-in-Ok-of_read
-returns-in-Ok-of_read c =
+pub returns-in-Ok : goal.returns-in-Ok
+returns-in-Ok c =
     let x = c.args.version.now in
     let g = c.in-Ok-Granted.grant in
     let is = answered c.read.result g c.snapshot.result.now x.sealed c.args.start c.args.len (c.in-Ok-Granted.is ∙ ap Ok c.in-Ok-Granted.field-0-is) c.snapshot.ensures.same c.read.ensures.ok in
-    let from = c.in-Ok-of_read.ensures in
-    granted_range g is refl c.in-Ok-of_read.lending from (range_bytes x g c.args.start c.args.len _ c.snapshot.ensures.known is.0 is.1 is.2 from.range_is) c.len.ensures c.put.ensures
+    let from = c.in-Ok.ensures in
+    granted_range g is refl c.in-Ok.lending from (range_bytes x g c.args.start c.args.len _ c.snapshot.ensures.known is.0 is.1 is.2 from.range_is) c.len.ensures c.fill.ensures
