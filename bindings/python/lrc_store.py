@@ -559,10 +559,12 @@ class Session:
         function: str,
         *arguments: object,
         later: Callable[[], Tuple[str, Tuple[object, ...]]] | None = None,
+        after_each: Callable[[], None] | None = None,
     ) -> int:
         """The status of a waiting form, which is called for slices of the timeout.
 
-        `later` gives the function and the arguments of all slices but the first.
+        `later` gives the function and the arguments of all slices but the first. `after_each` takes
+        what a slice has written.
         """
         end = math.inf if self._timeout is None else time.monotonic() + self._timeout
 
@@ -571,6 +573,8 @@ class Session:
             while True:
                 left = max(0.0, min(_SLICE_SECONDS, end - time.monotonic()))
                 status: int = call(self._slot, *words, math.ceil(left * 1000))
+                if after_each:
+                    after_each()
                 if status != Status.BUSY or time.monotonic() >= end:
                     return status
                 if is_first and later:
@@ -752,9 +756,14 @@ class Session:
 
     def trim(self, keep: int) -> int:
         """Discards all journal entries but the last `keep`, and returns how many it discarded."""
-        discarded = _U64()
-        _check(self._wait("lrc_store_trim_wait", _number("keep", keep), discarded), "trim", keep)
-        return discarded.value
+        discarded, total, wanted = _U64(), 0, _number("keep", keep)
+
+        def add() -> None:
+            nonlocal total
+            total, discarded.value = total + discarded.value, 0
+
+        _check(self._wait("lrc_store_trim_wait", wanted, discarded, after_each=add), "trim", keep)
+        return total
 
     def mend(self) -> int:
         """Repairs all lost fragments that can be rebuilt, and returns their number.
