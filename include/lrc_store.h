@@ -161,6 +161,12 @@ uint32_t lrc_store_split(lrc_slot *slot, uint32_t who, lrc_slot *other);
  * them. */
 uint32_t lrc_store_join(lrc_slot *slot, lrc_slot *other);
 
+/* Has the session in `slot` learn all that the one in `other` has seen: whatever it does next
+ * stands after all of that in the history of the store. Nothing else changes, and `other` is as it
+ * was. It takes no lock, does not wait and does not allocate. LRC_STORE_BAD_ARGUMENT if the two are
+ * of two stores. */
+uint32_t lrc_slot_learn(lrc_slot *slot, lrc_slot *other);
+
 /* Closes the store of the last session, and empties `slot`. `entries` gets the number of journal
  * entries. `lawful` gets 1 if a check found them to be a legal history, and 2 if there was no
  * memory for the check, or no journal. The check is proved never to fail. LRC_STORE_NOT_ALONE if
@@ -408,16 +414,19 @@ uint32_t lrc_store_install_wait(lrc_slot *slot, lrc_slot *other, uint64_t stripe
 uint32_t lrc_store_mend_wait(lrc_slot *slot, uint64_t *repaired, int64_t timeout_ms);
 
 /* ---- A pool of the sessions of a store, for threads that come and go. Any threads may share it.
- * Each takes a session, makes its calls on it, and gives it back. */
+ * Each takes a session, makes its calls on it, and gives it back. The calls of each use, from the
+ * loan to the return, stand after all that the uses have seen which ended before it began: so a
+ * thread reads what it wrote. */
 typedef struct lrc_pool lrc_pool;
 
 /* Makes a pool of the session in `slot`, which is empty afterwards. LRC_STORE_NO_MEMORY leaves it
  * as it was. */
 uint32_t lrc_pool_open(lrc_slot *slot, lrc_pool **pool);
 
-/* Lends a session to the calling thread until lrc_pool_give. There is one for each place of the
- * session that the pool was made of: 64, if it was the first of its store. If all are lent, it
- * waits in a line for one: up to `timeout_ms`, and not if that is 0, after which it returns
+/* Lends a session to the calling thread until lrc_pool_give. There are as many as the session that
+ * the pool was made of has places, less one, of which the others learn what was seen: 63, if it was
+ * the first of its store. A session with one place is lent itself. If all are lent, the call waits
+ * in a line for one: up to `timeout_ms`, and not if that is 0, after which it returns
  * LRC_STORE_BUSY; without a deadline if it is negative. LRC_STORE_NO_MEMORY if a session cannot be
  * made. */
 uint32_t lrc_pool_take(lrc_pool *pool, lrc_slot **session, int64_t timeout_ms);
@@ -432,9 +441,9 @@ uint32_t lrc_pool_close(lrc_pool *pool, lrc_slot *slot);
 /* ---- A store of several shards, for threads that come and go. Any threads may share it. Each
  * shard is a store with a critical section of its own, and holds the names that lrc_store_shard
  * gives it. So calls of names of different shards never wait for each other. The calls of each
- * shard have the replies of one sequential store. An interleaving of them is legal for one store
- * over all names; it need not keep the order in which a thread called different shards. A version
- * is the number of a put at its shard.
+ * shard have the replies of one sequential store, in which each use of a session stands after those
+ * that ended before it began. For threads that hold the session of one shard at a time, one such
+ * order of all uses agrees with every shard. A version is the number of a put at its shard.
  *
  * A thread finds the pool of a name's shard, takes a session, makes calls of names of this shard on
  * it, and gives it back to the pool. */

@@ -462,6 +462,12 @@ public:
         return made;
     }
 
+    // Learns all that another session of the store has seen, so that whatever this one does next
+    // stands after all of that. The other session is unchanged.
+    void learn(session &other) {
+        if (&other != this) detail::check(lrc_slot_learn(held.get(), other.held.get()), "learn");
+    }
+
     // Joins another session of the store into this one. On an error, it is unchanged.
     void join(session &&other) {
         detail::check(&other == this ? uint32_t{LRC_STORE_BAD_ARGUMENT}

@@ -1,9 +1,13 @@
 /* A pool of the sessions of a store.
  *
- * One session, the root, has the places that are left, and is not lent while it can be split. The
- * sessions that nobody has stand in a stack, so that the one used last, whose memory is in a cache,
- * is lent next. If there is none, threads wait in a line, and a session that is given back goes to
- * the first of them. */
+ * One session, the root, has the places that are left. It is lent only if it has none from the
+ * beginning, and is then the only session. The sessions that nobody has stand in a stack, so that
+ * the one used last, whose memory is in a cache, is lent next. If there is none, threads wait in a
+ * line, and a session that is given back goes to the first of them.
+ *
+ * Under the mutex the root learns of each session that is given back, and each session learns of
+ * the root before it is lent. So each use, from the loan to the return, stands after all that the
+ * uses have seen which ended before it began: the law of crates/pool_order. */
 #define _GNU_SOURCE
 #include "deadline.h"
 #include "pool.h"
@@ -25,17 +29,20 @@ struct lrc_pool {
     lrc_slot root, sessions[MOST_SESSIONS];
     lrc_slot *idle[MOST_SESSIONS + 1];
     unsigned made, idle_count;
-    int can_split; /* whether the root may have a place for a further session */
+    int can_split;  /* whether the root may have a place for a further session */
+    int lends_root; /* whether it had none from the beginning */
     struct waiter *first, **end;
 };
 
-/* Splits a session off the root, or gives the root itself once it has no place left. */
+/* Splits a session off the root, or gives the root itself if it is the only session. */
 static uint32_t make_session(lrc_pool *pool, lrc_slot **session) {
     if (!pool->can_split) return LRC_STORE_NO_PASS;
     lrc_slot *made = &pool->sessions[pool->made];
     const uint32_t status = lrc_store_split(&pool->root, pool->made + 1, made);
     if (status == LRC_STORE_NO_PASS) {
         pool->can_split = 0;
+        if (pool->made) return status;
+        pool->lends_root = 1;
         *session = &pool->root;
         return LRC_STORE_DONE;
     }
@@ -64,6 +71,16 @@ uint32_t lrc_pool_open(lrc_slot *slot, lrc_pool **pool) {
     slot->at = NULL;
     *pool = made;
     return LRC_STORE_DONE;
+}
+
+/* Has the root learn of a session, and a session of the root. Both are of one store, so neither is
+ * refused. */
+static void teach_root(lrc_pool *pool, lrc_slot *session) {
+    if (!pool->lends_root) lrc_slot_learn(&pool->root, session);
+}
+
+static void learn_of_root(lrc_pool *pool, lrc_slot *session) {
+    if (!pool->lends_root) lrc_slot_learn(session, &pool->root);
 }
 
 /* Takes a waiter out of the line, if it stands there. */
@@ -110,6 +127,7 @@ static lrc_slot *wait_for_session(lrc_pool *pool, int64_t deadline) {
         is_over = pthread_cond_clockwait(&waiter.came, &pool->mutex, CLOCK_MONOTONIC, &end) != 0;
     session = waiter.session;
     waiter.session = NULL;
+    if (session) learn_of_root(pool, session);
     pthread_cleanup_pop(1);
     return session;
 }
@@ -117,9 +135,10 @@ static lrc_slot *wait_for_session(lrc_pool *pool, int64_t deadline) {
 uint32_t lrc_pool_take(lrc_pool *pool, lrc_slot **session, int64_t timeout_ms) {
     uint32_t status = LRC_STORE_DONE;
     pthread_mutex_lock(&pool->mutex);
-    if (pool->idle_count)
+    if (pool->idle_count) {
         *session = pool->idle[--pool->idle_count];
-    else
+        learn_of_root(pool, *session);
+    } else
         status = make_session(pool, session);
     if (status == LRC_STORE_NO_PASS && timeout_ms != 0) {
         lrc_slot *came = wait_for_session(pool, deadline_after(timeout_ms));
@@ -132,13 +151,14 @@ uint32_t lrc_pool_take(lrc_pool *pool, lrc_slot **session, int64_t timeout_ms) {
 
 void lrc_pool_give(lrc_pool *pool, lrc_slot *session) {
     pthread_mutex_lock(&pool->mutex);
+    teach_root(pool, session);
     pass_on(pool, session);
     pthread_mutex_unlock(&pool->mutex);
 }
 
-/* Whether a session is lent. The root is, once it has no place left, unless it is laid down. */
+/* Whether a session is lent. */
 static int is_lent(const lrc_pool *pool) {
-    return pool->idle_count < pool->made + !pool->can_split;
+    return pool->idle_count < pool->made + (pool->lends_root != 0);
 }
 
 int pool_is_busy(lrc_pool *pool) {

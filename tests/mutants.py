@@ -174,6 +174,14 @@ TESTS = {
         ),
         "./program",
     ),
+    "order": Test(
+        program(
+            C,
+            ["tests/store/order.c", "library/store_pool.c"],
+            f"-Wl,--wrap=lrc_slot_learn,--wrap=lrc_store_split {STORE}",
+        ),
+        "./program",
+    ),
     "shards": Test(program(C, SHARDS, OF_SHARDS), "./program"),
     "shards_sanitized": Test(
         program(f"{C} {SANITIZED}", SHARDS, OF_SHARDS), "./program uncancelled"

@@ -107,6 +107,13 @@ pool() {
         && "$work/program" ${1:+"$1"}
 }
 
+# What each use of a pool knows of when it begins.
+order() {
+    program gcc gnu11 tests/store/order.c library/store_pool.c -I library \
+        -Wl,--allow-multiple-definition,--wrap=lrc_slot_learn,--wrap=lrc_store_split "$@" \
+        && "$work/program"
+}
+
 # mending WORDS FLAG..: its test, with these words
 mending() {
     program gcc gnu11 tests/store/mending.c library/store_mend.c \
@@ -200,6 +207,8 @@ test_of "waiting, sanitizers of gcc" gcc gcc waiting "${sanitizers[@]}"
 test_of "pool" gcc gcc pool ""
 test_of "pool, sanitizers of gcc" gcc gcc pool "" "${sanitizers[@]}" library/store_pool.c \
     -Wl,--allow-multiple-definition
+test_of "order of a pool's uses" gcc gcc order
+test_of "order of a pool's uses, sanitizers of gcc" gcc gcc order "${sanitizers[@]}"
 test_of "mending" gcc gcc mending ""
 test_of "mending, sanitizers of gcc" gcc gcc mending "" "${sanitizers[@]}"
 test_of "mending, ThreadSanitizer" gcc gcc mending_sanitized

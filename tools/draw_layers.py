@@ -34,7 +34,7 @@ KINDS = [
         "history book gate ledger one_map requests ledger_map shared shard mender sharded",
     ),
     ("scripts", MADE, "script command_line transcript rounds play program lrcstore"),
-    ("for C", GLOBAL, "coder_c session store_c"),
+    ("for C", GLOBAL, "coder_c session pool_order store_c"),
 ]
 
 

@@ -2,9 +2,9 @@
 // keeps each blob in a Local Reconstruction Code, so it can read and repair blobs while fragments
 // are lost.
 //
-// The calls of each shard together have the replies of one sequential store, by tests: nothing is
-// proved of this package. A name has 1 to 32 bytes of a-z,
-// 0-9, '.', '_' and '-'. Stripes and fragments count from 0.
+// All calls together have the replies of one sequential store, in which each call stands after those
+// that had returned before it began. The library's part of that is proved, nothing of this package.
+// A name has 1 to 32 bytes of a-z, 0-9, '.', '_' and '-'. Stripes and fragments count from 0.
 //
 // A call waits for the store until its context ends. It then returns ctx.Err(), and has changed
 // nothing; Trim and Mend return what they did before. Any other error is an *Error with a Status or
@@ -28,8 +28,8 @@ import (
 )
 
 const (
-	// sessions is how many a shard has, and so how many calls are in C at a time.
-	sessions = 64
+	// sessions is how many a shard lends, and so how many calls are in C at a time.
+	sessions = 63
 	// longestWait is how long C waits at a time, if the context of the call can end.
 	longestWait = 20 * time.Millisecond
 )

@@ -144,6 +144,7 @@ DECLARED = {
     "lrc_store_open_unjournaled": [_U32, _SLOT],
     "lrc_store_split": [_SLOT, _U32, _SLOT],
     "lrc_store_join": [_SLOT, _SLOT],
+    "lrc_slot_learn": [_SLOT, _SLOT],
     "lrc_store_close": [_SLOT, _OUT, ctypes.POINTER(_U32)],
     "lrc_store_close_to": [_SLOT, _SLOT, _OUT, _OUT, ctypes.POINTER(_U32)],
     "lrc_slot_entry": [_SLOT, _SIZE, ctypes.POINTER(_Entry)],
@@ -610,6 +611,17 @@ class Session:
             who,
         )
         return other
+
+    def learn(self, other: Session) -> None:
+        """Learns all that another session of the store has seen, so that whatever this one does
+        next stands after all of that. The other session is unchanged."""
+        if other is not self:
+            _check(
+                self._alone(
+                    lambda: other._alone(lambda: _library.lrc_slot_learn(self._slot, other._slot))
+                ),
+                "learn",
+            )
 
     def join(self, other: Session) -> None:
         """Joins another session of the store into this one."""

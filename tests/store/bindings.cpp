@@ -86,13 +86,19 @@ void sessions() {
     session first = session::open(4, 100), other = session::open(4, 100);
     EXPECT_ERROR(first.join(std::move(first)), LRC_STORE_BAD_ARGUMENT, "join()");
     EXPECT_ERROR(first.join(std::move(other)), LRC_STORE_BAD_ARGUMENT, "join()");
+    EXPECT_ERROR(first.learn(other), LRC_STORE_BAD_ARGUMENT, "learn()");
+    first.learn(first);
     EXPECT(other.put("a", "x"), 1u);
     std::vector<session> parts;
     for (uint32_t who = 0; who < 63; who++) parts.push_back(first.split(who));
     EXPECT_ERROR(first.split(77), LRC_STORE_NO_PASS, "split(77)");
     EXPECT_ERROR(first.close(), LRC_STORE_NOT_ALONE, "close()");
     EXPECT_ERROR(first.close_to_journal(), LRC_STORE_NOT_ALONE, "close_to_journal()");
-    for (session &part : parts) first.join(std::move(part));
+    for (session &part : parts) {
+        first.learn(part);
+        first.join(std::move(part));
+    }
+    EXPECT_ERROR(first.learn(parts[0]), LRC_STORE_EMPTY, "learn()");
     EXPECT_ERROR(first.join(std::move(parts[0])), LRC_STORE_EMPTY, "join()");
     session moved = std::move(first);
     EXPECT_ERROR(first.stat("a"), LRC_STORE_EMPTY, "stat(\"a\")");
@@ -424,7 +430,7 @@ void mends() {
     }
 }
 
-// 100 threads by the 64 sessions of a pool.
+// 100 threads by the 63 sessions of a pool.
 void threads_by_a_pool() {
     session first = session::open(4, 10000);
     first.set_timeout(longest);
@@ -451,7 +457,7 @@ void pools() {
     first.set_timeout(milliseconds(20));
     lrc::pool pool(std::move(first));
     std::vector<std::unique_ptr<lrc::pool::lease>> leases;
-    for (unsigned i = 0; i < 64; i++) leases.emplace_back(new lrc::pool::lease(pool.take()));
+    for (unsigned i = 0; i < 63; i++) leases.emplace_back(new lrc::pool::lease(pool.take()));
     const auto start = std::chrono::steady_clock::now();
     EXPECT_ERROR(pool.take(), LRC_STORE_BUSY, "take()");
     EXPECT(std::chrono::steady_clock::now() - start >= milliseconds(20), true);

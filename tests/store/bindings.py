@@ -67,6 +67,8 @@ class Errors(unittest.TestCase):
         session, other = self.session, Session.open(1, 10)
         self.refused(Status.BAD_ARGUMENT, "join()", session.join, session)
         self.refused(Status.BAD_ARGUMENT, "join()", session.join, other)
+        self.refused(Status.BAD_ARGUMENT, "learn()", session.learn, other)
+        session.learn(session)
         self.assertEqual(other.close(), (0, True))
         self.refused(Status.EMPTY, "close()", other.close)
         self.refused(Status.EMPTY, "stat('a')", other.stat, "a")
@@ -75,6 +77,7 @@ class Errors(unittest.TestCase):
         self.refused(Status.NOT_ALONE, "close()", session.close)
         self.refused(Status.NOT_ALONE, "close_to_journal()", session.close_to_journal)
         for part in parts:
+            session.learn(part)
             session.join(part)
         self.refused(Status.EMPTY, "join()", session.join, parts[0])
 

@@ -20,7 +20,11 @@ static void open_and_close(void) {
     EXPECT(lrc_store_split(&slot, 1, &other), LRC_STORE_OCCUPIED);
     EXPECT(lrc_store_close(&slot, &entries, &lawful), LRC_STORE_NOT_ALONE);
     EXPECT(entries, 9);
+    EXPECT(lrc_slot_learn(&slot, &other), LRC_STORE_DONE);
+    EXPECT(lrc_slot_learn(&other, &slot), LRC_STORE_DONE);
     EXPECT(lrc_store_join(&slot, &other), LRC_STORE_DONE);
+    EXPECT(lrc_slot_learn(&slot, &other), LRC_STORE_EMPTY);
+    EXPECT(lrc_slot_learn(&other, &slot), LRC_STORE_EMPTY);
     EXPECT(lrc_store_join(&slot, &other), LRC_STORE_EMPTY);
     EXPECT(lrc_store_close(&slot, &entries, &lawful), LRC_STORE_DONE);
     EXPECT(entries, 0);
@@ -62,6 +66,7 @@ static void two_stores_are_not_joined(void) {
     uint32_t lawful = 0;
     EXPECT(lrc_store_open(4, 64, &first), LRC_STORE_DONE);
     EXPECT(lrc_store_open(4, 64, &second), LRC_STORE_DONE);
+    EXPECT(lrc_slot_learn(&first, &second), LRC_STORE_BAD_ARGUMENT);
     EXPECT(lrc_store_join(&first, &second), LRC_STORE_BAD_ARGUMENT);
     EXPECT(lrc_store_close(&first, &entries, &lawful), LRC_STORE_DONE);
     EXPECT(lrc_store_close(&second, &entries, &lawful), LRC_STORE_DONE);

@@ -9,7 +9,9 @@ import signal
 import sys
 import threading
 import unittest
+import unittest.mock
 
+import lrc_store
 import lrcstore
 from lrcstore import Status, Store, StoreError
 from lrcstore import _store
@@ -500,6 +502,23 @@ class Memory(unittest.TestCase):
             if turn == 9:
                 before = pages
         self.assertLess(pages - before, 20_000)  # 80 MB, where leaks would be 400
+
+
+class Order(unittest.TestCase):
+    @unittest.skipUnless(_store.Calls.__module__ == CTYPES, "a pool in C has the sessions")
+    def test_each_use_stands_after_those_that_ended(self):
+        """The first session learns of each that is given back, and each learns of it when lent."""
+        learned = []
+
+        def learn(session, other):
+            learned.append((session, other))
+
+        with unittest.mock.patch.object(lrc_store.Session, "learn", learn):
+            store = Store(4)
+            store.put("a", b"x")
+            store.get("a")
+        (first, made), *later = learned
+        self.assertEqual(later, [(made, first), (first, made)])
 
 
 class Coder(unittest.TestCase):

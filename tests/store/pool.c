@@ -7,7 +7,7 @@
 #include <time.h>
 #include <unistd.h>
 
-enum { SESSIONS = 64, THREADS = 100, TURNS = 50, ROUNDS = 300, SLACK_US = 60000000 };
+enum { SESSIONS = 63, THREADS = 100, TURNS = 50, ROUNDS = 300, SLACK_US = 60000000 };
 
 /* Whether memory is refused. */
 static atomic_int refuses_memory;

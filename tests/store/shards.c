@@ -5,7 +5,7 @@
 #include <stdatomic.h>
 #include <unistd.h>
 
-enum { SESSIONS = 64, SHARDS = 16, THREADS = 4, NAMES = 200, LOST = 3, BLOB = 100 };
+enum { SESSIONS = 63, SHARDS = 16, THREADS = 4, NAMES = 200, LOST = 3, BLOB = 100 };
 
 /* How many requests for memory are granted before one is refused; none is if this is negative. */
 static atomic_int granted = -1;

@@ -13,8 +13,8 @@ from lrc_store import Closed, Session, Status, StoreError, Version, _number, sha
 
 _Name = Union[str, bytes]
 _Bytes = Union[bytes, bytearray, memoryview]
-# A shard has 64 sessions at a time. The first one splits the others off, and lends itself to no
-# thread.
+# A shard has 64 sessions at a time. The first one splits the others off and is not lent: it learns
+# of each that is given back, and each learns of it before it is lent.
 _LENT_AT_ONCE = 63
 _MOST = 2**64 - 1
 
@@ -88,10 +88,18 @@ class _Shard:
             if self._first is None:
                 raise StoreError("call", (), Status.EMPTY)
             if self._idle:
-                return self._idle.pop()
+                session = self._idle.pop()
+                session.learn(self._first)
+                return session
             made = self._first.split(self._made + 1)
             self._made += 1
             return made
+
+    def _give(self, session: Session) -> None:
+        with self._lock:
+            if self._first is not None:
+                self._first.learn(session)
+            self._idle.append(session)
 
     @contextlib.contextmanager
     def lent(self, timeout_ms: float) -> Iterator[Session]:
@@ -105,7 +113,7 @@ class _Shard:
             try:
                 yield session
             finally:
-                self._idle.append(session)
+                self._give(session)
         finally:
             self._places.release()
 

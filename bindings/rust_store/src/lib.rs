@@ -283,6 +283,13 @@ impl Session {
         Ok(Session::of(slot, self.wait_ms, None))
     }
 
+    /// Learns all that another session of the store has seen, so that whatever this one does next
+    /// stands after all of that. The other session is unchanged.
+    pub fn learn(&mut self, other: &mut Session) -> Result<(), Error> {
+        let status = unsafe { lrc_slot_learn(&mut self.slot, &mut other.slot) };
+        check(status, format_args!("learn()"))
+    }
+
     /// Joins another session of the store into this one. The error returns a session of another
     /// store.
     pub fn join(&mut self, mut other: Session) -> Result<(), Refused> {

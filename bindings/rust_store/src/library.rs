@@ -115,6 +115,7 @@ extern "C" {
     pub fn lrc_store_open_unjournaled(width: u32, slot: *mut Slot) -> u32;
     pub fn lrc_store_split(slot: *mut Slot, who: u32, other: *mut Slot) -> u32;
     pub fn lrc_store_join(slot: *mut Slot, other: *mut Slot) -> u32;
+    pub fn lrc_slot_learn(slot: *mut Slot, other: *mut Slot) -> u32;
     pub fn lrc_store_close(slot: *mut Slot, entries: *mut u64, lawful: *mut u32) -> u32;
     pub fn lrc_store_close_to(slot: *mut Slot, other: *mut Slot, discarded: *mut u64, entries: *mut u64, lawful: *mut u32) -> u32;
     pub fn lrc_slot_entry(slot: *mut Slot, index: usize, entry: *mut RawEntry) -> u32;

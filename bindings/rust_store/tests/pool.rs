@@ -5,7 +5,7 @@ use std::sync::atomic::{AtomicU64, Ordering};
 use std::thread;
 use std::time::{Duration, Instant};
 
-const SESSIONS: usize = 64;
+const SESSIONS: usize = 63;
 const THREADS: u64 = 100;
 const TURNS: u64 = 20;
 

@@ -7,7 +7,9 @@ use std::error::Error as _;
 fn sessions_come_back() {
     let mut first = Session::open(4, 100).unwrap();
     let mut second = Session::open(4, 100).unwrap();
-    let part = second.split(1).unwrap();
+    let mut part = second.split(1).unwrap();
+    second.learn(&mut part).unwrap();
+    expect(first.learn(&mut part), Status::BadArgument, "learn()");
     let join = first.join(part).unwrap_err();
     assert_eq!(join.error.status, Status::BadArgument);
     let text = Status::BadArgument.text();

@@ -6,7 +6,7 @@ use std::time::{Duration, Instant};
 
 const THREADS: usize = 8;
 const TURNS: usize = 20;
-const SESSIONS: usize = 64;
+const SESSIONS: usize = 63;
 
 /// Puts blobs of names of its own, each with a lost fragment, and reads them.
 fn work(store: &ShardedStore, number: usize) {

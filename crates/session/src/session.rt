@@ -1,12 +1,15 @@
 //! Sessions: a pass with its store.
 ghost use Rattle.std.specs.Prelude.{◌≡◌, ◌≢◌, ◌⊎◌, ◌↔◌, ◌≤◌, ◌+◌, ◌-◌, ◌++◌, ℕ, [], length, IfOk};
-ghost use Rattle.std.specs.Prelude.{IfErr, OnOk, OnErr};
+ghost use Rattle.std.specs.Prelude.{Option, IfErr, OnOk, OnErr};
 ghost use mathlib.Core.List.{IsPrefix};
 ghost use Rattle.gate.specs.Places.{AreApart, times};
 ghost use Rattle.history.specs.Log.{call_limit};
 ghost use Rattle.book.specs.Holds.{HoldsHistory};
-ghost use Rattle.shared.specs.Passes.{IsConsistent, IsWhole};
+ghost use Rattle.book.specs.Serial.{Deed};
+ghost use Rattle.shared.specs.Deeds.{Takes};
+ghost use Rattle.shared.specs.Passes.{Shows, IsConsistent, IsWhole, seen_by, DoneAfter};
 ghost use Rattle.session.specs.FreshSession.{IsFirstSession, IsSplitOff, IsClosing};
+ghost use Rattle.session.specs.Learns.{Learns};
 
 use shared::{Book, Fault, Limit, Pass, Store};
 use std::alloc::Global;
@@ -87,6 +90,21 @@ impl Session {
         let Session { store, pass } = other;
         self.pass.join(&self.store, pass);
         drop(store);
+    }
+
+    /// Learns all that another session of the same store has seen. Of the two histories it then
+    /// shows the one that begins with both, and whatever it does next stands after all of it. The
+    /// calls that it made, its label and its room are as before, and the other session is as it
+    /// was. It takes no lock, does not wait and does not allocate.
+    pub fn learn(&mut self, other: &mut Session)
+        requires store { other.old.store ≡ self.old.store }
+        ensures learns { Learns self.old (seen_by other.old) self.new }
+        ensures later { (deed : Option Deed) (w : Shows) → Takes self.new deed w
+            → DoneAfter other.old.acts self.new w }
+        ensures unchanged { other.new ≡ other.old }
+    {
+        let receipt = other.pass.receipt(&self.store);
+        self.pass.accept(&self.store, receipt);
     }
 
     /// Closes the store and returns its book, if all other sessions were joined. Otherwise the

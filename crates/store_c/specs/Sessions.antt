@@ -6,10 +6,11 @@ use Rattle.history.specs.History.{History}
 use Rattle.history.specs.Log.{call_limit}
 use Rattle.book.specs.Contents.{Contents, journal_of}
 use Rattle.book.specs.Holds.{HoldsHistory}
-use Rattle.shared.specs.Passes.{Shows, IsWhole}
+use Rattle.shared.specs.Passes.{Shows, IsWhole, seen_by}
 use Rattle.session.specs.declared.held.Held.{Held}
 use Rattle.session.specs.declared.held.Held.TheVariants.{Session}
 use Rattle.session.specs.FreshSession.{IsFirstSession, IsSplitOff, IsClosing}
+use Rattle.session.specs.Learns.{Learns}
 use Rattle.store_c.specs.Status.{bad_argument, bad_width, done, empty, no_memory, no_pass, not_alone, occupied}
 
 -- a store was opened, and its first session is held; or nothing was done
@@ -75,6 +76,17 @@ IsJoinCall old other status new given = (status ≡ empty) × (new ≡ old) × (
 abbrev pub AreOfOneStore : Option Held → Option Held → Type 0
 AreOfOneStore (Some (Session v number)) (Some (Session x theirs)) = theirs ≡ number → x.store ≡ v.store
 AreOfOneStore old other = Unit {0}
+
+-- the session v learned all that x had seen; or nothing was done, since the two have two numbers
+pub data IsLearn (v : Shows) (number : ℕ) (x : Shows) (theirs status : ℕ) (w : Shows) : Type 0 where
+  learned : status ≡ done → theirs ≡ number → Learns v (seen_by x) w → IsLearn v number x theirs status w
+  not_learned : status ≡ bad_argument → theirs ≢ number → w ≡ v → IsLearn v number x theirs status w
+
+-- both slots hold sessions, and the other is as it was; or nothing was done
+abbrev pub IsLearnCall : Option Held → Option Held → ℕ → Option Held → Option Held → Type 0
+IsLearnCall (Some (Session v number)) (Some (Session x theirs)) status (Some (Session w same)) given = IsLearn v number x theirs status w × (same ≡ number) × (given ≡ Some (Session x theirs))
+IsLearnCall (Some (Session v number)) (Some (Session x theirs)) status new given = ⊥
+IsLearnCall old other status new given = (status ≡ empty) × (new ≡ old) × (given ≡ other)
 
 -- C gets the number of the store of the session in the slot; or nothing was done. The slot is as it
 -- was

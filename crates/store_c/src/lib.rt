@@ -32,7 +32,7 @@ ghost use Rattle.store_c.specs.Lend.{IsLendTo, IsSlicesCall, IsRunsCall};
 ghost use Rattle.store_c.specs.Numbers.{IsNumbersCall};
 ghost use Rattle.store_c.specs.Plan.{IsPlanTo, IsPlanPartTo, IsMendCall, IsSkipCall};
 ghost use Rattle.store_c.specs.Sessions.{IsOpenCall, IsUnjournaledCall, IsSplitCall, IsJoinCall};
-ghost use Rattle.store_c.specs.Sessions.{AreOfOneStore, IsCloseCall, IsNumberCall};
+ghost use Rattle.store_c.specs.Sessions.{AreOfOneStore, IsLearnCall, IsCloseCall, IsNumberCall};
 ghost use Rattle.store_c.specs.Shards.{IsShardCall};
 ghost use Rattle.store_c.specs.Versions.{IsShapeCall, IsLostCall, IsFragmentCall, IsRangeCall};
 
@@ -129,6 +129,27 @@ pub extern "C" fn lrc_store_join(alloc: Global, slot: &mut Slot, other: &mut Slo
     if given.is_some() {
         other.put(given);
     }
+    status
+}
+
+/// The first slot's session learns all that the second slot's has seen: whatever it does next
+/// stands after all of it. Nothing else changes. It takes no lock, does not wait and does not
+/// allocate.
+#[unsafe(no_mangle)]
+pub extern "C" fn lrc_slot_learn(alloc: Global, slot: &mut Slot, other: &mut Slot) -> u32
+    requires { AreOfOneStore slot.old.held other.old.held }
+    ensures { IsLearnCall slot.old.held other.old.held result slot.new.held other.new.held }
+{
+    let Some(mut held) = slot.take(alloc) else {
+        return EMPTY;
+    };
+    let Some(mut given) = other.take(alloc) else {
+        slot.put(held);
+        return EMPTY;
+    };
+    let status = sessions::learn(&mut held, &mut given);
+    slot.put(held);
+    other.put(given);
     status
 }
 

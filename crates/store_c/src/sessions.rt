@@ -3,7 +3,8 @@ ghost use Rattle.std.specs.Prelude.{◌≡◌, ◌⊎◌, None, Some};
 ghost use Rattle.store_c.specs.Journal.{IsCloseTo, IsCloseToCall};
 ghost use Rattle.history.specs.Log.{call_limit};
 ghost use Rattle.store_c.specs.Sessions.{IsOpening, IsOpeningWith, IsSplitTo, IsSplitCall};
-ghost use Rattle.store_c.specs.Sessions.{IsJoinCall, AreOfOneStore, IsCloseCall, HasHistory};
+ghost use Rattle.store_c.specs.Sessions.{IsJoinCall, AreOfOneStore, IsLearn, IsLearnCall};
+ghost use Rattle.store_c.specs.Sessions.{IsCloseCall, HasHistory};
 
 use crate::answers::number_of;
 use crate::places::{fill, make_room, put_in};
@@ -124,6 +125,50 @@ fn join_at(session: &mut Session, number: u64, given: &mut Option<Held>) -> u32
             EMPTY
         }
     }
+}
+
+pub(crate) fn learn(held: &mut Option<Held>, given: &mut Option<Held>) -> u32
+    requires { AreOfOneStore held.old given.old }
+    ensures { IsLearnCall held.old given.old result held.new given.new }
+{
+    match held {
+        Some(held) => match held {
+            Held::Session { session, number } => learn_from(session, *number, given),
+            _ => EMPTY,
+        },
+        None => EMPTY,
+    }
+}
+
+/// Does the same with the session that the first slot holds.
+fn learn_from(session: &mut Session, number: u64, given: &mut Option<Held>) -> u32
+    requires { AreOfOneStore (Some (Held.Session session.old number)) given.old }
+    ensures { IsLearnCall (Some (Held.Session session.old number)) given.old result
+        (Some (Held.Session session.new number)) given.new }
+{
+    match given {
+        Some(given) => match given {
+            Held::Session {
+                session: other,
+                number: theirs,
+            } => learn_if(session, number, other, *theirs),
+            _ => EMPTY,
+        },
+        None => EMPTY,
+    }
+}
+
+/// Has the first session learn of the second, if they are of one store.
+fn learn_if(session: &mut Session, number: u64, other: &mut Session, theirs: u64) -> u32
+    requires { theirs ≡ number → other.old.store ≡ session.old.store }
+    ensures call { IsLearn session.old number other.old theirs result session.new }
+    ensures unchanged { other.new ≡ other.old }
+{
+    if theirs != number {
+        return BAD_ARGUMENT;
+    }
+    session.learn(other);
+    DONE
 }
 
 pub(crate) fn close(

@@ -7,10 +7,11 @@ mod real;
 pub use real::{
     lrc_pool_close, lrc_pool_give, lrc_pool_open, lrc_pool_take, lrc_shards_at, lrc_shards_close,
     lrc_shards_mend, lrc_shards_numbers, lrc_shards_open, lrc_shards_trim, lrc_slot_buffer,
-    lrc_slot_entry, lrc_slot_fragment, lrc_slot_lend, lrc_slot_lost, lrc_slot_reserve,
-    lrc_slot_runs, lrc_slot_shape, lrc_slot_slices, lrc_store_join, lrc_store_name, lrc_store_open,
-    lrc_store_open_unjournaled, lrc_store_shard, lrc_store_split, lrc_store_text, RawBuffer,
-    RawEntry, RawNumbers, RawOptions, RawPool, RawShape, RawShards, Slice, Slot,
+    lrc_slot_entry, lrc_slot_fragment, lrc_slot_learn, lrc_slot_lend, lrc_slot_lost,
+    lrc_slot_reserve, lrc_slot_runs, lrc_slot_shape, lrc_slot_slices, lrc_store_join,
+    lrc_store_name, lrc_store_open, lrc_store_open_unjournaled, lrc_store_shard, lrc_store_split,
+    lrc_store_text, RawBuffer, RawEntry, RawNumbers, RawOptions, RawPool, RawShape, RawShards,
+    Slice, Slot,
 };
 use std::cell::RefCell;
 use std::collections::VecDeque;
