@@ -218,6 +218,7 @@ class Ends(unittest.TestCase):
             self.assertEqual(idle.recv(1), b"")
             client.close()
             idle.close()
+            server.process.wait(PATIENCE)  # a second signal may find it without its handlers
         self.assertEqual(server.status, 0)
 
 
