@@ -10,7 +10,6 @@ import os
 import pickle
 import sys
 import threading
-import time
 import unittest
 from unittest import mock
 
@@ -327,26 +326,31 @@ class Versions(unittest.TestCase):
 
     def test_threads_take_turns(self):
         """While a call of one thread is in the library, that of another waits."""
-        inside, wrong, asked = threading.Semaphore(1), [], lrc_store._library.lrc_slot_lost
+        inside, is_let_go, begun = threading.Event(), threading.Event(), threading.Event()
+        found, asked = [], lrc_store._library.lrc_slot_lost
 
-        def slow(*words):
-            if not inside.acquire(blocking=False):
-                wrong.append("two threads are in the library")
-            time.sleep(0.01)
-            inside.release()
+        def stay(*words):
+            inside.set()
+            is_let_go.wait(60)
             return asked(*words)
 
         def work():
-            if self.version.lost(2) != [1, 15]:
-                wrong.append("lost")
+            begun.set()
+            found.append(self.version.lost(2))
 
-        with mock.patch.object(lrc_store._library, "lrc_slot_lost", slow):
-            threads = [threading.Thread(target=work) for _ in range(4)]
-            for thread in threads:
-                thread.start()
-            for thread in threads:
-                thread.join()
-        self.assertEqual(wrong, [])
+        first, second = (threading.Thread(target=work) for _ in range(2))
+        with mock.patch.object(lrc_store._library, "lrc_slot_lost", stay):
+            first.start()
+            inside.wait(60)
+            begun.clear()
+            second.start()
+            begun.wait(60)
+            second.join(0.2)  # it waits; a call that is refused would have ended
+            self.assertEqual((second.is_alive(), found), (True, []))
+            is_let_go.set()
+            first.join()
+            second.join()
+        self.assertEqual(found, [[1, 15], [1, 15]])
 
     def test_an_install_keeps_others_away(self):
         def interrupted(*_):
