@@ -383,7 +383,7 @@ def succeeds(command, tree, seconds, **others):
 
 def last_lines(tree):
     with open(os.path.join(tree, "printed"), encoding="utf-8", errors="replace") as printed:
-        return "".join(printed.readlines()[-5:])
+        return "".join(printed.readlines()[-25:])
 
 
 def forget(mutant, tree):
@@ -466,6 +466,9 @@ def base_of(name, folder):
     shutil.copytree(base, built, symlinks=True)
     began = time.monotonic()
     passes, seconds = succeeds(test.run, base, PATIENCE)
+    if not passes:
+        print(f"test {name}: failed once without a mutant: {last_lines(base)}", flush=True)
+        passes, seconds = succeeds(test.run, base, PATIENCE)
     if not passes:
         raise BaseFails(f"fails without a mutant: {last_lines(base)}")
     return Base(built, took, seconds, time.monotonic() - began)

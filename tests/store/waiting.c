@@ -289,8 +289,8 @@ static void puts_in_time(void) {
     for (int is_copy_late = 0; is_copy_late < 2; is_copy_late++) {
         calls = releases = 0;
         reserved = 77;
-        *(is_copy_late ? &reserve_us : &put_us) = 20000;
-        EXPECT(lrc_store_put_wait(&s, NAME("a"), kept, 4, 12, &v, 10), LRC_STORE_BUSY);
+        *(is_copy_late ? &reserve_us : &put_us) = 300000;
+        EXPECT(lrc_store_put_wait(&s, NAME("a"), kept, 4, 12, &v, 250), LRC_STORE_BUSY);
         EXPECT(calls, 1);
         EXPECT(reserved, is_copy_late ? 4 : 77);
         EXPECT(releases, is_copy_late);
@@ -413,6 +413,17 @@ static void *stay_in_store(void *argument) {
     return NULL;
 }
 
+/* A store that had none before has a turn: while a thread has it, another makes no call. */
+static void is_turn_of_a_new_store(void) {
+    int64_t forever = -1;
+    number += 2 * STORES;
+    pthread_t holder = take_turn(&forever);
+    EXPECT(trim(20), LRC_STORE_BUSY);
+    EXPECT(calls, 0);
+    let_go(holder);
+    number -= 2 * STORES;
+}
+
 /* Threads in more stores than there are turns: a call of another store is made without one, and
  * a turn that is given back serves another store. */
 static void has_more_stores_than_turns(void) {
@@ -435,6 +446,7 @@ static void has_more_stores_than_turns(void) {
     for (int i = 0; i < MOST_TURNS; i++) EXPECT(pthread_join(threads[i], NULL), 0);
     busy = calls = 0;
     EXPECT(trim(-1), OTHER_STATUS);
+    is_turn_of_a_new_store();
 }
 
 /* A thread is cancelled while it waits for the turn, and another one while it sleeps with it. */
