@@ -215,6 +215,9 @@ class Ends(unittest.TestCase):
             server.process.send_signal(signal.SIGTERM)
             time.sleep(1.5)  # longer than it takes to leave its loop
             self.assertEqual(start + reply.read(), blob)
+            with self.assertRaises((ConnectionError, http.client.HTTPException)):
+                client.request("GET", "/a")  # no connection has a further one
+                client.getresponse()
             self.assertEqual(idle.recv(1), b"")
             client.close()
             idle.close()
