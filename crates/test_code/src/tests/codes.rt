@@ -1,6 +1,7 @@
+use super::compare;
 use lrc_code::{
-    Code, Left, LostSet, NoMemory, Plans, Rebuild, encode, encode_joined, encode_small, encode_to,
-    is_alone_in, is_open, rebuild, rebuild_local, rebuild_to, recipe,
+    Code, Left, LostSet, NoMemory, Plans, Rebuild, Term, encode, encode_joined, encode_small,
+    encode_to, is_alone_in, is_open, rebuild, rebuild_local, rebuild_to, recipe,
 };
 use std::alloc::Global;
 use std::process::Abort;
@@ -84,7 +85,7 @@ fn rebuilt(rt: &impl Abort, alloc: Global, left: &Left, f: usize) -> Option<u8> 
     match rebuild(alloc, left, f, 0, 1) {
         Ok(bytes) => bytes.first().copied(),
         Err(reason) => {
-            assert_eq!(rt; reason, Rebuild::Open);
+            compare(rt, reason, Rebuild::Open);
             None
         }
     }
@@ -133,26 +134,32 @@ fn rebuilt_alone(
 
 #[test]
 fn recoverable_sets(rt: HostRuntime) -> Result<(), Fail> {
-    assert_eq!(rt; recoverable(Code::Wide, 65536), (2265, 1568));
-    assert_eq!(rt; recoverable(Code::Small, 1024), (356, 180));
+    compare(&rt, recoverable(Code::Wide, 65536), (2265, 1568));
+    compare(&rt, recoverable(Code::Small, 1024), (356, 180));
     Ok(())
 }
 
-#[test]
-fn lost_sets(rt: HostRuntime) -> Result<(), Fail> {
-    let lost = LostSet::empty().with(3).with(15).without(3);
+/// That the set is of fragment 15 alone.
+fn is_of_the_last(rt: &impl Abort, lost: LostSet) {
     assert!(rt; lost.left(3) && !lost.left(15));
-    assert_eq!(rt; left_of(&LETTERS, lost).lost(), lost);
-    assert_eq!(rt; LostSet::of_bits(0x8000), lost);
-    assert_eq!(rt; lost.excess(), 1);
-    let both = lost.with(2);
-    assert_eq!(rt;
-        (both.count_in(Code::Wide), both.count_in(Code::Small)),
-        (2, 1)
-    );
-    assert!(rt; both.list_in(Code::Wide).as_slice() == [2u8, 15].as_slice());
+    compare(rt, LostSet::of_bits(0x8000), lost);
+    compare(rt, lost.excess(), 1);
     assert!(rt; !is_open(lost, 15));
-    Ok(())
+}
+
+/// That the set is of the fragments 2 and 15.
+fn is_of_two(rt: &impl Abort, both: LostSet) {
+    let counts = (both.count_in(Code::Wide), both.count_in(Code::Small));
+    compare(rt, counts, (2, 1));
+    assert!(rt; both.list_in(Code::Wide).as_slice() == [2u8, 15].as_slice());
+}
+
+#[test]
+fn lost_sets(rt: HostRuntime) {
+    let lost = LostSet::empty().with(3).with(15).without(3);
+    is_of_the_last(&rt, lost);
+    compare(&rt, left_of(&LETTERS, lost).lost(), lost);
+    is_of_two(&rt, lost.with(2));
 }
 
 #[test]
@@ -168,114 +175,143 @@ fn parities(rt: HostRuntime) -> Result<(), Fail> {
     Ok(())
 }
 
-#[test]
-fn parities_in_lists(rt: HostRuntime) -> Result<(), Fail> {
-    let d = &LETTERS;
-    let sources = [&d[0..1], &d[1..2], &d[2..3], &d[3..4], &d[4..5], &d[5..6]];
+/// The letters A to F in fragments of one byte.
+const SIX: [&[u8]; 6] = [b"A", b"B", b"C", b"D", b"E", b"F"];
+
+/// Their parities.
+const FOUR: [u8; 4] = [0x40, 0x47, 0x40, 0xa0];
+
+/// The parities of the six letters, in lists that are lent.
+fn encoded_to() -> [u8; 4] {
     let (mut first, mut second, mut third, mut fourth) = ([0xee], [0xee], [0xee], [0xee]);
     encode_to(
         Code::Small,
-        &sources,
+        &SIX,
         &mut first,
         &mut second,
         &mut third,
         &mut fourth,
     );
-    let made = [first[0], second[0], third[0], fourth[0]];
-    assert_eq!(rt; made, [0x40, 0x47, 0x40, 0xa0]);
-    let joined = encode_joined(rt.alloc(), Code::Small, &sources, 1)?;
-    assert_eq!(rt; joined.as_slice(), [0x40u8, 0x47, 0x40, 0xa0].as_slice());
+    [first[0], second[0], third[0], fourth[0]]
+}
+
+#[test]
+fn parities_in_lists(rt: HostRuntime) -> Result<(), Fail> {
+    compare(&rt, encoded_to(), FOUR);
+    let joined = encode_joined(rt.alloc(), Code::Small, &SIX, 1)?;
+    compare(&rt, joined.as_slice(), FOUR.as_slice());
     Ok(())
+}
+
+/// That each parity has the one byte.
+fn are_bytes(rt: &impl Abort, parities: &[Vec<u8>], bytes: &[u8]) {
+    for (parity, byte) in parities.iter().zip(bytes) {
+        compare(rt, parity.as_slice(), [*byte].as_slice());
+    }
 }
 
 #[test]
 fn parities_of_six(rt: HostRuntime) -> Result<(), Fail> {
-    let d = &LETTERS;
-    let sources = [&d[0..1], &d[1..2], &d[2..3], &d[3..4], &d[4..5], &d[5..6]];
-    let parities = encode_small(rt.alloc(), &sources, 1)?;
-    for (parity, byte) in parities.iter().zip([0x40u8, 0x47, 0x40, 0xa0]) {
-        assert_eq!(rt; parity.as_slice(), [byte].as_slice());
-    }
+    let parities = encode_small(rt.alloc(), &SIX, 1)?;
+    are_bytes(&rt, &parities, &FOUR);
     Ok(())
 }
 
 #[test]
 fn lost_alone(rt: HostRuntime) -> Result<(), Fail> {
     let left = left_of(&LETTERS, LostSet::empty().with(0));
-    assert_eq!(rt; rebuilt_alone(&rt, rt.alloc(), &left, 0)?, Some(0x41));
+    compare(&rt, rebuilt_alone(&rt, rt.alloc(), &left, 0)?, Some(0x41));
     let left = left_of(&LETTERS, LostSet::empty().with(12));
-    assert_eq!(rt; rebuilt_alone(&rt, rt.alloc(), &left, 12)?, Some(0x07));
+    compare(&rt, rebuilt_alone(&rt, rt.alloc(), &left, 12)?, Some(0x07));
     Ok(())
 }
 
 /// That each of these fragments is rebuilt as this byte.
 fn are_rebuilt(rt: &impl Abort, alloc: Global, left: &Left, bytes: &[(usize, u8)]) {
     for (f, byte) in bytes {
-        assert_eq!(rt; rebuilt(rt, alloc, left, *f), Some(*byte));
+        compare(rt, rebuilt(rt, alloc, left, *f), Some(*byte));
     }
+}
+
+/// That the four parities are rebuilt, one of them into a list.
+fn parities_are_rebuilt(rt: &impl Abort, alloc: Global) {
+    let left = left_of(&LETTERS, set_of(0xf000));
+    let bytes = [(12, 0x07), (13, 0x0b), (14, 0x13), (15, 0x9f)];
+    are_rebuilt(rt, alloc, &left, &bytes);
+    compare(rt, rebuilt_to(rt, &left, 14), (true, 0x13));
+}
+
+/// That of four fragments of a group the first is not rebuilt.
+fn four_are_open(rt: &impl Abort, alloc: Global) {
+    let left = left_of(&LETTERS, set_of(0x000f));
+    compare(rt, rebuilt(rt, alloc, &left, 0), None);
+    compare(rt, rebuilt_to(rt, &left, 0), (false, 0xee));
 }
 
 #[test]
 fn lost_together(rt: HostRuntime) {
-    let left = left_of(&LETTERS, LostSet::empty().with(0).with(1).with(6).with(7));
+    let left = left_of(&LETTERS, set_of(0x00c3));
     let bytes = [(0, 0x41), (1, 0x42), (6, 0x47), (7, 0x48)];
     are_rebuilt(&rt, rt.alloc(), &left, &bytes);
-    let left = left_of(&LETTERS, set_of(0xf000));
-    let bytes = [(12, 0x07), (13, 0x0b), (14, 0x13), (15, 0x9f)];
-    are_rebuilt(&rt, rt.alloc(), &left, &bytes);
-    assert_eq!(rt; rebuilt_to(&rt, &left, 14), (true, 0x13));
-    let left = left_of(&LETTERS, set_of(0x000f));
-    assert_eq!(rt; rebuilt(&rt, rt.alloc(), &left, 0), None);
-    assert_eq!(rt; rebuilt_to(&rt, &left, 0), (false, 0xee));
+    parities_are_rebuilt(&rt, rt.alloc());
+    four_are_open(&rt, rt.alloc());
+}
+
+/// That the terms are of these fragments, each as it is.
+fn are_of(rt: &impl Abort, terms: &[Term], fragments: &[u8]) {
+    compare(rt, terms.len(), fragments.len());
+    for (term, fragment) in terms.iter().zip(fragments) {
+        compare(rt, (term.fragment, term.coefficient), (*fragment, 1));
+    }
 }
 
 #[test]
 fn recipes_of_a_group(rt: HostRuntime) -> Result<(), Fail> {
     let terms = recipe(LostSet::empty().with(0), 0).ok_or("open")?;
-    assert_eq!(rt; terms.len(), 6);
-    for (term, fragment) in terms.iter().zip(&[1, 2, 3, 4, 5, 12]) {
-        assert_eq!(rt; (term.fragment, term.coefficient), (*fragment, 1));
-    }
+    are_of(&rt, terms.as_slice(), &[1, 2, 3, 4, 5, 12]);
     Ok(())
 }
 
-#[test]
-fn kept_recipes(rt: HostRuntime) -> Result<(), Fail> {
-    let left = left_of(&LETTERS, LostSet::empty().with(0).with(1));
-    let mut plans = Plans::new(rt.alloc());
+/// That two fragments are rebuilt over and over.
+fn are_rebuilt_with(rt: &impl Abort, alloc: Global, plans: &mut Plans, left: &Left) {
     for _ in 0..3 {
-        for (f, byte) in &[(0, 0x41), (1, 0x42)] {
-            assert_eq!(rt;
-                rebuilt_with(&rt, rt.alloc(), &mut plans, &left, *f),
-                Some(*byte)
-            );
-        }
+        compare(rt, rebuilt_with(rt, alloc, plans, left, 0), Some(0x41));
+        compare(rt, rebuilt_with(rt, alloc, plans, left, 1), Some(0x42));
     }
-    assert_eq!(rt; plans.known(), 2);
-    let lost = LostSet::empty().with(0).with(1);
-    assert!(rt; plans.find(Code::Wide, lost, 1).is_some());
-    assert!(rt; plans.find(Code::Wide, lost, 2).is_none());
-    assert!(rt; plans.find(Code::Wide, lost.with(2), 1).is_none());
-    Ok(())
+}
+
+/// Whether a recipe is kept.
+fn is_kept(plans: &Plans, lost: LostSet, f: u8) -> bool {
+    plans.find(Code::Wide, lost, f).is_some()
+}
+
+#[test]
+fn kept_recipes(rt: HostRuntime) {
+    let lost = set_of(0x0003);
+    let mut plans = Plans::new(rt.alloc());
+    are_rebuilt_with(&rt, rt.alloc(), &mut plans, &left_of(&LETTERS, lost));
+    compare(&rt, plans.known(), 2);
+    assert!(rt; is_kept(&plans, lost, 1));
+    assert!(rt; !is_kept(&plans, lost, 2));
+    assert!(rt; !is_kept(&plans, set_of(0x0007), 1));
+}
+
+/// That fragments which are lost together are recoverable, with two to be made up for.
+fn are_recoverable(rt: &impl Abort, lost: LostSet) {
+    compare(rt, lost.excess(), 2);
+    for f in 0..16u8 {
+        assert!(rt; !is_open(lost, f));
+    }
 }
 
 /// With the coefficients 1 to 6 and 7 to 12 the byte 1 at 0, 5, 6 and 13 would be a column, so
 /// these four would be unrecoverable.
 #[test]
-fn coefficients_in_order(rt: HostRuntime) -> Result<(), Fail> {
+fn coefficients_in_order(rt: HostRuntime) {
     // what the four weigh in each equation
-    for [a, b, c, d] in &[
-        [1, 1, 0, 0],
-        [0, 0, 1, 1],
-        [1, 6, 7, 0],
-        [gf256::square(1), gf256::square(6), gf256::square(7), 0],
-    ] {
-        assert_eq!(rt; *a ^ *b ^ *c ^ *d, 0);
+    let squares = [gf256::square(1), gf256::square(6), gf256::square(7), 0];
+    for [a, b, c, d] in &[[1, 1, 0, 0], [0, 0, 1, 1], [1, 6, 7, 0], squares] {
+        compare(&rt, *a ^ *b ^ *c ^ *d, 0);
     }
-    let lost = LostSet::empty().with(0).with(5).with(6).with(13);
-    assert_eq!(rt; lost.excess(), 2);
-    for f in 0..16u8 {
-        assert!(rt; !is_open(lost, f));
-    }
-    Ok(())
+    are_recoverable(&rt, LostSet::empty().with(0).with(5).with(6).with(13));
 }

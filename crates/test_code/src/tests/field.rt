@@ -1,5 +1,7 @@
+use super::compare;
 use gf256::{add_scaled, inv, mul, square, xor_into};
 use std::num::NonZero;
+use std::process::Abort;
 use std::test::Fail;
 
 #[test]
@@ -13,8 +15,8 @@ fn products(rt: HostRuntime) -> Result<(), Fail> {
         (0x00, 0xff, 0x00),
     ];
     for (a, b, product) in &rows {
-        assert_eq!(rt; mul(*a, *b), *product);
-        assert_eq!(rt; mul(*b, *a), *product);
+        compare(&rt, mul(*a, *b), *product);
+        compare(&rt, mul(*b, *a), *product);
     }
     Ok(())
 }
@@ -24,58 +26,69 @@ fn inverses(rt: HostRuntime) -> Result<(), Fail> {
     let rows: [(u8, u8); 4] = [(0x01, 0x01), (0x02, 0x8e), (0x03, 0xf4), (0x10, 0xd8)];
     for (x, inverse) in &rows {
         if let Some(x) = NonZero::<u8>::new(*x) {
-            assert_eq!(rt; inv(x), *inverse);
+            compare(&rt, inv(x), *inverse);
         }
     }
     Ok(())
 }
 
+const FIRST: [u8; 16] = [
+    0x01, 0x02, 0x04, 0x08, 0x10, 0x20, 0x40, 0x80, 0x1d, 0x3a, 0x74, 0xe8, 0xcd, 0x87, 0x13, 0x26,
+];
+
+/// That this is x to the `i`: the first sixteen are known, and the last, and none but the first
+/// is 1.
+fn is_power(rt: &impl Abort, power: u8, i: usize) {
+    if i < 16 {
+        compare(rt, power, FIRST[i]);
+    }
+    if i == 254 {
+        compare(rt, power, 0x8e);
+    }
+    assert!(rt; (power == 1) == (i == 0), "x^{i}");
+}
+
 #[test]
-fn powers_of_x(rt: HostRuntime) -> Result<(), Fail> {
-    let first: [u8; 16] = [
-        0x01, 0x02, 0x04, 0x08, 0x10, 0x20, 0x40, 0x80, 0x1d, 0x3a, 0x74, 0xe8, 0xcd, 0x87, 0x13,
-        0x26,
-    ];
+fn powers_of_x(rt: HostRuntime) {
     let mut power = 1;
     for i in 0..255usize {
-        if i < 16 {
-            assert_eq!(rt; power, first[i]);
-        }
-        if i == 254 {
-            assert_eq!(rt; power, 0x8e);
-        }
-        assert_eq!(rt; power == 1, i == 0, "x^{i}");
+        is_power(&rt, power, i);
         power = mul(power, 2);
     }
-    assert_eq!(rt; power, 1);
-    Ok(())
+    compare(&rt, power, 1);
 }
 
 #[test]
 fn squares(rt: HostRuntime) -> Result<(), Fail> {
     for x in 0..=255u8 {
-        assert_eq!(rt; square(x), mul(x, x));
+        compare(&rt, square(x), mul(x, x));
     }
     Ok(())
 }
 
+/// Bytes that rise by this.
+fn rising(by: u8) -> [u8; 37] {
+    let mut bytes = [0u8; 37];
+    for i in 0..37u8 {
+        bytes[usize::from(i)] = i.wrapping_mul(by);
+    }
+    bytes
+}
+
+/// That each byte of a sum is that of the target and 0x53 times that of the source.
+fn is_sum(rt: &impl Abort, sum: &[u8; 37], target: &[u8; 37], source: &[u8; 37]) {
+    for i in 0..37 {
+        compare(rt, sum[i], target[i] ^ mul(0x53, source[i]));
+    }
+}
+
 // Two whole blocks and a tail.
 #[test]
-fn kernels(rt: HostRuntime) -> Result<(), Fail> {
-    let mut source = [0u8; 37];
-    let mut target = [0u8; 37];
-    for i in 0..37 {
-        source[i] = (i * 7) as u8;
-        target[i] = (i * 3) as u8;
-    }
-    let before = target;
+fn kernels(rt: HostRuntime) {
+    let (source, before) = (rising(7), rising(3));
+    let mut target = before;
     add_scaled(&mut target, 0x53, &source);
-    for i in 0..37 {
-        assert_eq!(rt; target[i], before[i] ^ mul(0x53, source[i]));
-    }
+    is_sum(&rt, &target, &before, &source);
     xor_into(&mut target, &before);
-    for i in 0..37 {
-        assert_eq!(rt; target[i], mul(0x53, source[i]));
-    }
-    Ok(())
+    is_sum(&rt, &target, &[0; 37], &source);
 }
