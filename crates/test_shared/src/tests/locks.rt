@@ -2,6 +2,7 @@ ghost use Rattle.std.specs.Prelude.{◌≡◌, ◌≤◌, ◌++◌, ◌∷◌, [
 ghost use Rattle.std.specs.Prelude.{IsTrue, IfSome, IfOk, All};
 ghost use Rattle.gate.specs.Places.{last_of};
 
+use super::compare;
 use gate::{Follows, Gate, NoMemory, Seat};
 use std::alloc::Global;
 use std::collections::BTreeMap;
@@ -134,7 +135,7 @@ fn sixteen_threads_count(rt: HostRuntime) -> Result<(), Fail> {
         { count_many(&rt, &gate, seat, 3) },
     )?;
     join_all(&gate, &mut first, seats);
-    assert_eq!(rt; first.room(), 64);
+    assert!(rt; first.room() == 64);
     let tally = gate.close(first);
     assert!(rt; has(&tally, 16000, 3, 16000));
     Ok(())
@@ -161,11 +162,11 @@ fn who_is_second_finds_it_entered(rt: HostRuntime) -> Result<(), Fail> {
     let Some(mut inside) = gate.try_enter(&mut first) else {
         panic!(rt; "the gate was free")
     };
-    assert_eq!(rt; hits_found(&gate, &mut second), None);
+    compare(&rt, hits_found(&gate, &mut second), None);
     inside.value.count(7);
     gate.leave(&mut first, inside);
-    assert_eq!(rt; hits_found(&gate, &mut second), Some(1));
-    assert_eq!(rt; first.room() + second.room(), 64);
+    compare(&rt, hits_found(&gate, &mut second), Some(1));
+    compare(&rt, first.room() + second.room(), 64);
     Ok(())
 }
 
@@ -228,6 +229,6 @@ fn notes_of_a_type_with_a_model(rt: HostRuntime) -> Result<(), Fail> {
     };
     assert!(rt; note(&rt, &gate, &mut seat, 5) && note(&rt, &gate, &mut seat, 6));
     let log = gate.close(seat);
-    assert_eq!(rt; log.notes.len(), 2);
+    compare(&rt, log.notes.len(), 2);
     Ok(())
 }

@@ -9,7 +9,8 @@ mod runs;
 mod snapshots;
 mod threads;
 
-use book::{Answer, Fault, Limit, Name, Note};
+use crate::tests::compare;
+use book::{Answer, Book, Fault, Limit, Name, Note, is_lawful_from};
 use bytes::Bytes;
 use lent::{Grant, Piece};
 use shared::{Pass, Store};
@@ -39,7 +40,7 @@ fn other_letters() -> Bytes {
 /// That a call was made, and what is noted of its answer.
 fn answers(rt: &impl Abort, called: Result<Answer, Fault>, note: Note) {
     let answer = called.expect(rt, "an answer");
-    assert_eq!(rt; answer.note(), note);
+    compare(rt, answer.note(), note);
 }
 
 /// Puts these bytes under a name: this is the put with this number.
@@ -75,6 +76,54 @@ fn lose<R: Wait + Abort>(
     answers(rt, lost, Note::Lost(1));
 }
 
+/// Deletes a name's first version.
+fn delete<R: Wait + Abort>(rt: &R, store: &Store, pass: &mut Pass, name: &Name)
+    requires { pass.old.store ≡ store.now }
+    ensures { pass.new.store ≡ store.now }
+{
+    let deleted = store.delete(rt, pass, name.duplicate());
+    answers(rt, deleted, Note::Deleted(1));
+}
+
+/// Asks for the shape of a name's blob.
+fn stat<R: Wait + Abort>(rt: &R, store: &Store, pass: &mut Pass, name: &Name, shape: Note)
+    requires { pass.old.store ≡ store.now }
+    ensures { pass.new.store ≡ store.now }
+{
+    answers(rt, store.stat(rt, pass, name.duplicate()), shape);
+}
+
+/// Discards so many entries, all but the last ones.
+fn trim<R: Wait + Abort>(
+    rt: &R,
+    alloc: Global,
+    store: &Store,
+    pass: &mut Pass,
+    keep: u64,
+    discarded: u64,
+)
+    requires { pass.old.store ≡ store.now }
+    ensures { pass.new.store ≡ store.now }
+{
+    compare(rt, store.trim(rt, alloc, pass, keep), Ok(discarded));
+}
+
+/// That a read of the twelve bytes of a name gives these, of which the first are built.
+fn reads<R: Wait + Abort>(
+    rt: &R,
+    alloc: Global,
+    store: &Store,
+    pass: &mut Pass,
+    name: &Name,
+    bytes: &[u8],
+    built: usize,
+)
+    requires { pass.old.store ≡ store.now }
+    ensures { pass.new.store ≡ store.now }
+{
+    gives(rt, alloc, &read(rt, store, pass, name), bytes, built);
+}
+
 /// A grant of the twelve bytes of a name.
 fn read<R: Wait + Abort>(rt: &R, store: &Store, pass: &mut Pass, name: &Name) -> Grant
     requires { pass.old.store ≡ store.now }
@@ -99,10 +148,16 @@ fn gives(rt: &impl Abort, alloc: Global, grant: &Grant, bytes: &[u8], built: usi
             .next_piece(alloc)
             .expect(rt, "memory")
             .expect(rt, "a piece");
-        assert_eq!(rt; piece.bytes().first().copied(), Some(*byte));
-        assert_eq!(rt; matches!(piece, Piece::Built(_)), place < built);
+        compare(rt, piece.bytes().first().copied(), Some(*byte));
+        compare(rt, matches!(piece, Piece::Built(_)), place < built);
     }
     assert!(rt; walk.next_piece(alloc).expect(rt, "memory").is_none());
+}
+
+/// Whether the journal of a book is lawful.
+fn is_lawful_book(rt: &impl Abort, alloc: Global, book: &Book) -> bool {
+    let lawful = is_lawful_from(alloc, book.base(), book.entries(), book.width());
+    lawful.expect(rt, "memory")
 }
 
 /// The shape of a blob of twelve bytes in one stripe.

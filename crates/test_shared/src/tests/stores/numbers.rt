@@ -1,9 +1,11 @@
 //! The numbers of a store.
 ghost use Rattle.std.specs.Prelude.{◌≡◌};
 
-use super::{answers, beginning, letters, lose, other_letters, put};
-use book::{Note, Numbers};
+use super::{beginning, delete, letters, lose, other_letters, put, trim};
+use crate::tests::compare;
+use book::{Name, Numbers};
 use shared::{Pass, Store};
+use std::alloc::Global;
 use std::process::Abort;
 use std::sync::Wait;
 
@@ -12,8 +14,37 @@ fn has<R: Wait + Abort>(rt: &R, store: &Store, pass: &mut Pass, numbers: Numbers
     requires { pass.old.store ≡ store.now }
     ensures { pass.new.store ≡ store.now }
 {
-    assert_eq!(rt; store.numbers(rt, pass), numbers);
-    assert_eq!(rt; store.try_numbers(pass), Ok(numbers));
+    compare(rt, store.numbers(rt, pass), numbers);
+    compare(rt, store.try_numbers(pass), Ok(numbers));
+}
+
+const FOUR_LOST: Numbers = Numbers {
+    blobs: 1,
+    bytes: 12,
+    lost: 4,
+    unrecoverable: 1,
+    calls: 5,
+    entries: 5,
+};
+
+const REPLACED: Numbers = Numbers {
+    blobs: 1,
+    bytes: 12,
+    lost: 0,
+    unrecoverable: 0,
+    calls: 6,
+    entries: 6,
+};
+
+/// Loses four fragments of a group.
+fn lose_four<R: Wait + Abort>(rt: &R, alloc: Global, store: &Store, pass: &mut Pass, name: &Name)
+    requires { pass.old.store ≡ store.now }
+    ensures { pass.new.store ≡ store.now }
+{
+    lose(rt, alloc, store, pass, name, 0);
+    lose(rt, alloc, store, pass, name, 1);
+    lose(rt, alloc, store, pass, name, 2);
+    lose(rt, alloc, store, pass, name, 3);
 }
 
 #[test]
@@ -21,45 +52,27 @@ fn numbers_of_losses(rt: HostRuntime) {
     let alloc = rt.alloc();
     let (store, mut p, a) = beginning(&rt, alloc, 16);
     put(&rt, alloc, &store, &mut p, &a, letters(), 1);
-    lose(&rt, alloc, &store, &mut p, &a, 0);
-    lose(&rt, alloc, &store, &mut p, &a, 1);
-    lose(&rt, alloc, &store, &mut p, &a, 2);
-    lose(&rt, alloc, &store, &mut p, &a, 3);
-    let four_lost = Numbers {
-        blobs: 1,
-        bytes: 12,
-        lost: 4,
-        unrecoverable: 1,
-        calls: 5,
-        entries: 5,
-    };
-    has(&rt, &store, &mut p, four_lost);
+    lose_four(&rt, alloc, &store, &mut p, &a);
+    has(&rt, &store, &mut p, FOUR_LOST);
     put(&rt, alloc, &store, &mut p, &a, other_letters(), 2);
-    let replaced = Numbers {
-        lost: 0,
-        unrecoverable: 0,
-        calls: 6,
-        entries: 6,
-        ..four_lost
-    };
-    has(&rt, &store, &mut p, replaced);
+    has(&rt, &store, &mut p, REPLACED);
 }
+
+const NO_BLOB: Numbers = Numbers {
+    blobs: 0,
+    bytes: 0,
+    lost: 0,
+    unrecoverable: 0,
+    calls: 2,
+    entries: 1,
+};
 
 #[test]
 fn numbers_of_no_blob(rt: HostRuntime) {
     let alloc = rt.alloc();
     let (store, mut p, a) = beginning(&rt, alloc, 16);
     put(&rt, alloc, &store, &mut p, &a, letters(), 1);
-    let deleted = store.delete(&rt, &mut p, a);
-    answers(&rt, deleted, Note::Deleted(1));
-    assert_eq!(rt; store.trim(&rt, alloc, &mut p, 1), Ok(1));
-    let none = Numbers {
-        blobs: 0,
-        bytes: 0,
-        lost: 0,
-        unrecoverable: 0,
-        calls: 2,
-        entries: 1,
-    };
-    has(&rt, &store, &mut p, none);
+    delete(&rt, &store, &mut p, &a);
+    trim(&rt, alloc, &store, &mut p, 1, 1);
+    has(&rt, &store, &mut p, NO_BLOB);
 }

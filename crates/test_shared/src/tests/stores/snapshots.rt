@@ -5,10 +5,11 @@ ghost use Rattle.sealed.specs.Rebuilding.{IsFragmentOf};
 ghost use Rattle.shared.specs.Passes.{IsConsistent};
 ghost use Rattle.shared.specs.Snapshots.{HasFragmentsOf};
 
-use super::{answers, beginning, gives, letters, lose, put, read, shape};
+use super::{answers, beginning, delete, gives, letters, lose, put, reads, shape, stat};
+use crate::tests::compare;
 use book::{Name, Note};
 use bytes::Bytes;
-use lent::{Asked, Snapshot};
+use lent::{Asked, Grant, Snapshot};
 use lrc_code::{Code, LostSet};
 use shared::{Pass, Store};
 use std::alloc::Global;
@@ -110,9 +111,24 @@ fn a_fragment_goes_out_and_in(rt: HostRuntime) {
     let snapshot = taken(&rt, &store, &mut p, &a);
     lose_after(&rt, alloc, &store, &mut p, &a, &snapshot, 3);
     install(&rt, alloc, &store, &mut p, &a, &snapshot, 3);
-    answers(&rt, store.stat(&rt, &mut p, a.duplicate()), shape(1, 0));
-    let grant = read(&rt, &store, &mut p, &a);
-    gives(&rt, alloc, &grant, b"ABCDEFGHIJKL", 0);
+    stat(&rt, &store, &mut p, &a, shape(1, 0));
+    reads(&rt, alloc, &store, &mut p, &a, b"ABCDEFGHIJKL", 0);
+}
+
+/// Loses the first three fragments of a group. They are rebuilt from parities 12, 14 and 15.
+fn lose_and_read<R: Wait + Abort>(
+    rt: &R,
+    alloc: Global,
+    store: &Store,
+    pass: &mut Pass,
+    name: &Name,
+)
+    requires { pass.old.store ≡ store.now }
+{
+    lose(rt, alloc, store, pass, name, 0);
+    lose(rt, alloc, store, pass, name, 1);
+    lose(rt, alloc, store, pass, name, 2);
+    reads(rt, alloc, store, pass, name, b"ABCDEFGHIJKL", 3);
 }
 
 #[test]
@@ -123,12 +139,13 @@ fn a_parity_goes_out_and_in(rt: HostRuntime) {
     let snapshot = taken(&rt, &store, &mut p, &a);
     lose_after(&rt, alloc, &store, &mut p, &a, &snapshot, 14);
     try_install(&rt, alloc, &store, &mut p, &a, &snapshot, 14);
-    // The three lost fragments of a group are rebuilt from parities 12, 14 and 15.
-    lose(&rt, alloc, &store, &mut p, &a, 0);
-    lose(&rt, alloc, &store, &mut p, &a, 1);
-    lose(&rt, alloc, &store, &mut p, &a, 2);
-    let grant = read(&rt, &store, &mut p, &a);
-    gives(&rt, alloc, &grant, b"ABCDEFGHIJKL", 3);
+    lose_and_read(&rt, alloc, &store, &mut p, &a);
+}
+
+/// That a snapshot lacks the first fragment alone.
+fn lacks_the_first(rt: &impl Abort, snapshot: &Snapshot) {
+    assert!(rt; snapshot.fragment(0, 0).is_none());
+    compare(rt, snapshot.lost(0), Some(LostSet::empty().with(0)));
 }
 
 #[test]
@@ -138,11 +155,27 @@ fn a_fragment_is_rebuilt_outside(rt: HostRuntime) {
     put(&rt, alloc, &store, &mut p, &a, letters(), 1);
     lose(&rt, alloc, &store, &mut p, &a, 0);
     let snapshot = taken(&rt, &store, &mut p, &a);
-    assert!(rt; snapshot.fragment(0, 0).is_none());
-    assert_eq!(rt; snapshot.lost(0), Some(LostSet::empty().with(0)));
+    lacks_the_first(&rt, &snapshot);
     install(&rt, alloc, &store, &mut p, &a, &snapshot, 0);
-    let grant = read(&rt, &store, &mut p, &a);
-    gives(&rt, alloc, &grant, b"ABCDEFGHIJKL", 0);
+    reads(&rt, alloc, &store, &mut p, &a, b"ABCDEFGHIJKL", 0);
+}
+
+/// A grant of the twelve letters that a snapshot has.
+fn read_all(rt: &impl Abort, snapshot: &Snapshot) -> Grant {
+    match snapshot.read(0, 12) {
+        Ok(Asked::Granted(grant)) => grant,
+        _ => panic!(rt; "all is there"),
+    }
+}
+
+/// That a grant is of a blob in LRC(12,2,2) at width 1.
+fn is_wide(rt: &impl Abort, grant: &Grant) {
+    let snapshot = grant.snapshot().expect(rt, "memory");
+    compare(
+        rt,
+        (snapshot.code(), snapshot.width().get()),
+        (Code::Wide, 1),
+    );
 }
 
 #[test]
@@ -152,13 +185,46 @@ fn a_snapshot_is_read(rt: HostRuntime) {
     put(&rt, alloc, &store, &mut p, &a, letters(), 1);
     let snapshot = taken(&rt, &store, &mut p, &a);
     lose(&rt, alloc, &store, &mut p, &a, 0);
-    let Ok(Asked::Granted(grant)) = snapshot.read(0, 12) else {
-        panic!(rt; "all is there")
-    };
+    let grant = read_all(&rt, &snapshot);
     gives(&rt, alloc, &grant, b"ABCDEFGHIJKL", 0);
     assert!(rt; matches!(snapshot.read(12, 1), Ok(Asked::OutOfRange)));
-    let again = grant.snapshot().expect(&rt, "memory");
-    assert_eq!(rt; (again.code(), again.width().get()), (Code::Wide, 1));
+    is_wide(&rt, &grant);
+}
+
+/// That a snapshot has the twelve letters, each in a fragment of its own.
+fn has_letters(rt: &impl Abort, snapshot: &Snapshot) {
+    for (f, letter) in b"ABCDEFGHIJKL".iter().enumerate() {
+        let bytes = snapshot.fragment(0, f as u64).expect(rt, "a fragment");
+        compare(rt, bytes.first().copied(), Some(*letter));
+    }
+}
+
+/// That a snapshot has the four parities, and no other fragments or stripes.
+fn has_parities(rt: &impl Abort, snapshot: &Snapshot) {
+    for f in 12..16 {
+        assert!(rt; snapshot.fragment(0, f).is_some());
+    }
+    assert!(rt; snapshot.fragment(0, 16).is_none());
+    assert!(rt; snapshot.fragment(1, 0).is_none());
+}
+
+/// That a snapshot is of the first version, of twelve bytes in one stripe without a loss.
+fn is_whole(rt: &impl Abort, snapshot: &Snapshot) {
+    let shape = (snapshot.version(), snapshot.len(), snapshot.stripes());
+    compare(rt, shape, (1, 12, 1));
+    compare(rt, snapshot.lost(0), Some(LostSet::empty()));
+    compare(rt, snapshot.lost(1), None);
+}
+
+/// A snapshot of a name's blob, taken without waiting.
+fn try_taken(rt: &impl Abort, store: &Store, pass: &mut Pass, name: &Name) -> Snapshot
+    requires { pass.old.store ≡ store.now }
+    ensures { pass.new.store ≡ store.now }
+{
+    match store.try_snapshot(pass, name.duplicate()) {
+        Ok(Some(snapshot)) => snapshot,
+        _ => panic!(rt; "there is a blob"),
+    }
 }
 
 #[test]
@@ -166,26 +232,10 @@ fn a_snapshot_outlives_its_blob(rt: HostRuntime) {
     let alloc = rt.alloc();
     let (store, mut p, a) = beginning(&rt, alloc, 16);
     put(&rt, alloc, &store, &mut p, &a, letters(), 1);
-    let Ok(Some(snapshot)) = store.try_snapshot(&mut p, a.duplicate()) else {
-        panic!(rt; "there is a blob")
-    };
-    let deleted = store.delete(&rt, &mut p, a.duplicate());
-    answers(&rt, deleted, Note::Deleted(1));
-    for (f, letter) in b"ABCDEFGHIJKL".iter().enumerate() {
-        let bytes = snapshot.fragment(0, f as u64).expect(&rt, "a fragment");
-        assert_eq!(rt; bytes.first().copied(), Some(*letter));
-    }
-    for f in 12..16 {
-        assert!(rt; snapshot.fragment(0, f).is_some());
-    }
-    assert!(rt; snapshot.fragment(0, 16).is_none() && snapshot.fragment(1, 0).is_none());
-    assert_eq!(rt;
-        (snapshot.version(), snapshot.len(), snapshot.stripes()),
-        (1, 12, 1)
-    );
-    assert_eq!(rt;
-        (snapshot.lost(0), snapshot.lost(1)),
-        (Some(LostSet::empty()), None)
-    );
+    let snapshot = try_taken(&rt, &store, &mut p, &a);
+    delete(&rt, &store, &mut p, &a);
+    has_letters(&rt, &snapshot);
+    has_parities(&rt, &snapshot);
+    is_whole(&rt, &snapshot);
     assert!(rt; matches!(store.snapshot(&rt, &mut p, a), Ok(None)));
 }
