@@ -3,7 +3,7 @@ use Rattle.std.specs.List.{All}
 use Rattle.test_mender.proofs.tests.mending.crew.Given as goal
 
 abbrev pub invariant-loop-who : goal.invariant-loop-who
-invariant-loop-who l = record {
+invariant-loop-who g l = record {
   pass : l.pass.store ≡ l.store;
   drawer : l.drawer.tickets ≡ l.tickets;
   crew : All (λ w. (w.pass.store ≡ l.store) × (w.drawer.tickets ≡ l.tickets)) l.crew.items;
