@@ -5,8 +5,10 @@ use play::{Always, Fail as PlayFail, Options, play};
 use script::{BadScript, Word};
 use shared::Pace;
 use std::alloc::Global;
+use std::fmt::Debug;
 use std::io;
 use std::io::{Read, Write};
+use std::process::Abort;
 use std::sync::Wait;
 use std::test::Fail;
 use std::thread::Threads;
@@ -83,6 +85,12 @@ fn run<R: Threads + Wait + Sync, P: Pace + Sync>(
     (ended, out)
 }
 
+/// Asserts that what was found is what was wanted. For the prover a call is one state, and
+/// `assert_eq!` in place is many.
+fn compare<T: PartialEq + Debug + Drop>(rt: &impl Abort, found: T, wanted: T) {
+    assert_eq!(rt; found, wanted);
+}
+
 const FIRST_PATH: &[u8] = b"1,1,put,a,text,HELLO\n2,2,read,a,1,3\n";
 
 const FIRST_OUTPUT: &[u8] = b"1 stored 1\n2 granted 1 3 0 454c4c\ncalls 2\nlawful yes\n";
@@ -110,7 +118,7 @@ fn scripts(rt: HostRuntime) -> Result<(), Fail> {
     ];
     for (text, wanted) in &rows {
         let (ended, out) = run(&rt, alloc, &options, text, &Always);
-        assert_eq!(rt; ended, Ok(()));
+        compare(&rt, ended, Ok(()));
         assert!(rt; out.as_slice() == *wanted);
     }
     Ok(())
@@ -127,7 +135,7 @@ fn a_row_is_cut(rt: HostRuntime) -> Result<(), Fail> {
         row: 2,
         word: Word::Fields,
     };
-    assert_eq!(rt; ended, Err(PlayFail::Script(refused)));
+    compare(&rt, ended, Err(PlayFail::Script(refused)));
     assert!(rt; out.is_empty());
     Ok(())
 }
@@ -143,17 +151,19 @@ fn broken_ends(rt: HostRuntime) -> Result<(), Fail> {
         let input = Breaking {
             left: &FIRST_PATH[..given],
         };
-        assert_eq!(rt;
+        compare(
+            &rt,
             play(&rt, alloc, &options, input, &mut out, &Always),
-            Err(PlayFail::Read)
+            Err(PlayFail::Read),
         );
         assert!(rt; out.is_empty());
     }
     for room in 0..FIRST_OUTPUT.len() {
         let mut narrow = Narrow { room };
-        assert_eq!(rt;
+        compare(
+            &rt,
             play(&rt, alloc, &options, FIRST_PATH, &mut narrow, &Always),
-            Err(PlayFail::Write)
+            Err(PlayFail::Write),
         );
     }
     Ok(())

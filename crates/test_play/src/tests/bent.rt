@@ -1,6 +1,6 @@
 //! Scripts that are cut, bent or too large.
 
-use super::{options, run, two_workers};
+use super::{compare, options, run, two_workers};
 use play::{Always, Fail as PlayFail};
 use script::{BadScript, Word};
 use std::alloc::{AllocError, Global};
@@ -95,7 +95,7 @@ fn too_many_rows(rt: HostRuntime) -> Result<(), Fail> {
     let options = two_workers();
     let mut text = "1,1,stat,a,,\n".repeat(alloc, 65536)?;
     let (most, out) = run(&rt, alloc, &options, text.as_bytes(), &Always);
-    assert_eq!(rt; most, Ok(()));
+    compare(&rt, most, Ok(()));
     assert!(rt;
         out.as_slice()
             .ends_with(b"\n65536 full\ncalls 4096\nlawful yes\n")
@@ -106,7 +106,7 @@ fn too_many_rows(rt: HostRuntime) -> Result<(), Fail> {
         row: 65537,
         word: Word::Rows,
     };
-    assert_eq!(rt; one_more, Err(PlayFail::Script(refused)));
+    compare(&rt, one_more, Err(PlayFail::Script(refused)));
     assert!(rt; out.is_empty());
     Ok(())
 }

@@ -1,6 +1,6 @@
 //! Blobs that lose fragments, ranges at the ends, and both codes: scripts with what they print.
 
-use super::{options, run};
+use super::{compare, options, run};
 use play::Always;
 use std::alloc::Global;
 use std::process::Abort;
@@ -223,7 +223,7 @@ const CASES: [Case; 20] = [
 ];
 
 /// Runs the script of a case, and compares what it prints.
-fn compare<R: Threads + Wait + Sync + Abort>(rt: &R, alloc: Global, case: &Case) {
+fn plays<R: Threads + Wait + Sync + Abort>(rt: &R, alloc: Global, case: &Case) {
     let name = case.name;
     let (width, limit) = (case.width, case.limit);
     assert!(rt; width >= 1 && width <= 65536 && limit >= 1 && limit <= 1048576);
@@ -236,7 +236,7 @@ fn compare<R: Threads + Wait + Sync + Abort>(rt: &R, alloc: Global, case: &Case)
 #[test]
 fn scripts(rt: HostRuntime) {
     for case in &CASES {
-        compare(&rt, rt.alloc(), case);
+        plays(&rt, rt.alloc(), case);
     }
 }
 
@@ -251,7 +251,7 @@ fn long_blobs(rt: HostRuntime) -> Result<(), Fail> {
             "1,1,{op},a,text,{bytes}\n1,1,stat,a,,\n1,1,{op},a,text,{bytes}x\n1,1,stat,a,,\n"
         )?;
         let (ended, out) = run(&rt, alloc, &options, text.as_bytes(), &Always);
-        assert_eq!(rt; ended, Ok(()));
+        compare(&rt, ended, Ok(()));
         let wanted = format!(in alloc;
             "1 stored 1\n2 shape 1 {most} 4096 0\n3 too-long\n4 shape 1 {most} 4096 0\ncalls 3\n\
                 lawful yes\n"

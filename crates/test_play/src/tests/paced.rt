@@ -1,7 +1,7 @@
 //! Which rows a pace is asked about.
 ghost use Rattle.std.specs.Prelude.{◌≡◌, IfOk};
 
-use super::{options, run};
+use super::{compare, options, run};
 use play::Fail as PlayFail;
 use shared::Pace;
 use std::alloc::Global;
@@ -65,8 +65,8 @@ fn each_row_is_reported_once(rt: HostRuntime) -> Result<(), Fail> {
         } else {
             Ok(())
         };
-        assert_eq!(rt; ended, wanted);
-        assert_eq!(rt; pace.digits.load(Ordering::SeqCst), digits);
+        compare(&rt, ended, wanted);
+        compare(&rt, pace.digits.load(Ordering::SeqCst), digits);
     }
     Ok(())
 }
@@ -82,7 +82,7 @@ fn failures_are_reported(rt: HostRuntime) -> Result<(), Fail> {
         (PlayFail::Paused, "stopped"),
     ];
     for (fail, text) in fails {
-        assert_eq!(rt; format!(in rt.alloc(); "{fail}")?.as_str(), text);
+        compare(&rt, format!(in rt.alloc(); "{fail}")?.as_str(), text);
     }
     Ok(())
 }

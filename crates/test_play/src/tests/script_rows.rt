@@ -1,3 +1,4 @@
+use super::compare;
 use requests::Ask;
 use script::{BadScript, NotRead, Row, Task, Word, read_script, script};
 use std::alloc::Global;
@@ -51,67 +52,41 @@ fn refusal(alloc: Global, text: &[u8], workers: u32) -> (u32, Option<Word>) {
     }
 }
 
+/// Scripts for so many workers, with the number and the word of their refusal.
+const REFUSALS: [(&[u8], u32, (u32, Option<Word>)); 18] = [
+    (b"", 1, (0, None)),
+    (b"\n\n1,1,put,a,text,\n\n", 1, (0, None)),
+    (
+        b"1,1,put,a,text,AB\n1,1,read,a,0",
+        1,
+        (2, Some(Word::Fields)),
+    ),
+    (b"0,1,read,a,0,1", 1, (1, Some(Word::Round))),
+    (b"01,1,read,a,0,1", 1, (1, Some(Word::Round))),
+    (b"4294967296,1,read,a,0,1", 1, (1, Some(Word::Round))),
+    (b"2,1,read,a,0,1\n1,1,read,a,0,1", 1, (2, Some(Word::Round))),
+    (b"1,0,read,a,0,1", 1, (1, Some(Word::Worker))),
+    (b"1,2,read,a,0,1", 1, (1, Some(Word::Worker))),
+    (b"1,2,read,a,0,1", 2, (0, None)),
+    (b"1,1,move,a,0,0", 1, (1, Some(Word::Op))),
+    (b"1,1,read,A,0,1", 1, (1, Some(Word::Name))),
+    (b"1,1,read,\xff,0,1", 1, (1, Some(Word::Name))),
+    (b"1,1,put,a,hex,0", 1, (1, Some(Word::Argument))),
+    (
+        b"1,1,read,a,18446744073709551616,0",
+        1,
+        (1, Some(Word::Argument)),
+    ),
+    (b"1,1,put6,a,hex,0F", 1, (1, Some(Word::Argument))),
+    (b"1,1,stat,a,1,", 1, (1, Some(Word::Argument))),
+    (b"1,1,read,a,00,1", 1, (1, Some(Word::Argument))),
+];
+
 #[test]
-fn refusals(rt: HostRuntime) -> Result<(), Fail> {
-    let alloc = rt.alloc();
-    assert_eq!(rt; refusal(alloc, b"", 1), (0, None));
-    assert_eq!(rt; refusal(alloc, b"\n\n1,1,put,a,text,\n\n", 1), (0, None));
-    assert_eq!(rt;
-        refusal(alloc, b"1,1,put,a,text,AB\n1,1,read,a,0", 1),
-        (2, Some(Word::Fields))
-    );
-    assert_eq!(rt;
-        refusal(alloc, b"0,1,read,a,0,1", 1),
-        (1, Some(Word::Round))
-    );
-    assert_eq!(rt;
-        refusal(alloc, b"01,1,read,a,0,1", 1),
-        (1, Some(Word::Round))
-    );
-    assert_eq!(rt;
-        refusal(alloc, b"4294967296,1,read,a,0,1", 1),
-        (1, Some(Word::Round))
-    );
-    assert_eq!(rt;
-        refusal(alloc, b"2,1,read,a,0,1\n1,1,read,a,0,1", 1),
-        (2, Some(Word::Round))
-    );
-    assert_eq!(rt;
-        refusal(alloc, b"1,0,read,a,0,1", 1),
-        (1, Some(Word::Worker))
-    );
-    assert_eq!(rt;
-        refusal(alloc, b"1,2,read,a,0,1", 1),
-        (1, Some(Word::Worker))
-    );
-    assert_eq!(rt; refusal(alloc, b"1,2,read,a,0,1", 2), (0, None));
-    assert_eq!(rt; refusal(alloc, b"1,1,move,a,0,0", 1), (1, Some(Word::Op)));
-    assert_eq!(rt; refusal(alloc, b"1,1,read,A,0,1", 1), (1, Some(Word::Name)));
-    assert_eq!(rt;
-        refusal(alloc, b"1,1,read,\xff,0,1", 1),
-        (1, Some(Word::Name))
-    );
-    assert_eq!(rt;
-        refusal(alloc, b"1,1,put,a,hex,0", 1),
-        (1, Some(Word::Argument))
-    );
-    assert_eq!(rt;
-        refusal(alloc, b"1,1,read,a,18446744073709551616,0", 1),
-        (1, Some(Word::Argument))
-    );
-    assert_eq!(rt;
-        refusal(alloc, b"1,1,put6,a,hex,0F", 1),
-        (1, Some(Word::Argument))
-    );
-    assert_eq!(rt;
-        refusal(alloc, b"1,1,stat,a,1,", 1),
-        (1, Some(Word::Argument))
-    );
-    assert_eq!(rt;
-        refusal(alloc, b"1,1,read,a,00,1", 1),
-        (1, Some(Word::Argument))
-    );
-    Ok(())
+fn refusals(rt: HostRuntime) {
+    for (text, workers, wanted) in &REFUSALS {
+        compare(&rt, refusal(rt.alloc(), text, *workers), *wanted);
+    }
 }
 
 /// Whether a script is one put of these bytes.
@@ -125,16 +100,19 @@ fn puts_bytes(rows: &[Row], wanted: &[u8]) -> bool {
     }
 }
 
+/// Whether a text is a script of one put of these bytes.
+fn is_put(alloc: Global, text: &[u8], wanted: &[u8]) -> bool {
+    match script(alloc, text, 1) {
+        Ok(rows) => puts_bytes(rows.as_slice(), wanted),
+        Err(_) => false,
+    }
+}
+
 #[test]
-fn puts(rt: HostRuntime) -> Result<(), Fail> {
-    let alloc = rt.alloc();
-    let rows = script(alloc, b"1,1,put,a,text,\xff", 1).map_err(|_| "refused")?;
-    assert!(rt; puts_bytes(rows.as_slice(), b"\xff"));
-    let rows = script(alloc, b"1,1,put,a,hex,00ff", 1).map_err(|_| "refused")?;
-    assert!(rt; puts_bytes(rows.as_slice(), b"\x00\xff"));
-    let rows = script(alloc, b"1,1,put,a,text,\"x,\"\"y\"", 1).map_err(|_| "refused")?;
-    assert!(rt; puts_bytes(rows.as_slice(), b"x,\"y"));
-    Ok(())
+fn puts(rt: HostRuntime) {
+    assert!(rt; is_put(rt.alloc(), b"1,1,put,a,text,\xff", b"\xff"));
+    assert!(rt; is_put(rt.alloc(), b"1,1,put,a,hex,00ff", b"\x00\xff"));
+    assert!(rt; is_put(rt.alloc(), b"1,1,put,a,text,\"x,\"\"y\"", b"x,\"y"));
 }
 
 const BAD_SECOND: BadScript = BadScript::Refused {
@@ -147,47 +125,49 @@ const BAD_FIRST: BadScript = BadScript::Refused {
     word: Word::Fields,
 };
 
+/// Scripts with how many rows they have, or why they are refused.
+const TEXTS: [(&[u8], Result<usize, NotRead>); 8] = [
+    (b"", Ok(0)),
+    (b"\n\n", Ok(0)),
+    (b"\xef\xbb\xbf", Ok(0)),
+    (b"\xef\xbb\xbf1,1,put,a,text,AB\n1,1,read,a,0,1", Ok(2)),
+    (b"\n1,1,put,a,text,AB\n1,1,read,a,0,1\n", Ok(2)),
+    (b"\"\"\n1,1,put,a,text,AB\n", Err(NotRead::Bad(BAD_FIRST))),
+    (b",\n1,1,put,a,text,AB\n", Err(NotRead::Bad(BAD_FIRST))),
+    (
+        b"1,1,put,a,text,AB\n1,1,read,a,0\n1,1,read,a,0,1\n",
+        Err(NotRead::Bad(BAD_SECOND)),
+    ),
+];
+
+/// How many rows a reader's script has, or why it is not read.
+fn count_rows(alloc: Global, input: Halting) -> Result<usize, NotRead> {
+    read_script(alloc, input, 1).map(|rows| rows.len())
+}
+
 /// How many rows a script has, or why it is refused, whatever number of bytes a read gives.
 #[test]
-fn a_few_bytes_at_a_time(rt: HostRuntime) -> Result<(), Fail> {
-    let alloc = rt.alloc();
-    let texts: [(&[u8], Result<usize, NotRead>); 8] = [
-        (b"", Ok(0)),
-        (b"\n\n", Ok(0)),
-        (b"\xef\xbb\xbf", Ok(0)),
-        (b"\xef\xbb\xbf1,1,put,a,text,AB\n1,1,read,a,0,1", Ok(2)),
-        (b"\n1,1,put,a,text,AB\n1,1,read,a,0,1\n", Ok(2)),
-        (b"\"\"\n1,1,put,a,text,AB\n", Err(NotRead::Bad(BAD_FIRST))),
-        (b",\n1,1,put,a,text,AB\n", Err(NotRead::Bad(BAD_FIRST))),
-        (
-            b"1,1,put,a,text,AB\n1,1,read,a,0\n1,1,read,a,0,1\n",
-            Err(NotRead::Bad(BAD_SECOND)),
-        ),
-    ];
-    for (text, wanted) in &texts {
+fn a_few_bytes_at_a_time(rt: HostRuntime) {
+    for (text, wanted) in &TEXTS {
         for most in 1..10 {
             let input = Halting::new(*text, most, None);
-            let read = read_script(alloc, input, 1).map(|rows| rows.len());
-            assert_eq!(rt; read, *wanted);
+            compare(&rt, count_rows(rt.alloc(), input), *wanted);
         }
     }
-    Ok(())
 }
 
 /// A reader that fails after any number of bytes: the failure is reported, before a refused row and
 /// after it.
 #[test]
-fn a_reader_fails(rt: HostRuntime) -> Result<(), Fail> {
-    let alloc = rt.alloc();
+fn a_reader_fails(rt: HostRuntime) {
     let text: &[u8] = b"1,1,put,a,text,AB\n1,1,read,a,0\n1,1,read,a,0,1\n";
     for given in 0..text.len() + 1 {
         for kind in &[io::ErrorKind::Other, io::ErrorKind::OutOfMemory] {
             let input = Halting::new(&text[..given], 5, Some(*kind));
-            let read = read_script(alloc, input, 1).map(|rows| rows.len());
-            assert_eq!(rt; read, Err(NotRead::Reader(*kind)));
+            let read = count_rows(rt.alloc(), input);
+            compare(&rt, read, Err(NotRead::Reader(*kind)));
         }
     }
-    Ok(())
 }
 
 /// The first record is the first row, as a reader gives it.

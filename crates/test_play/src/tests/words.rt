@@ -1,58 +1,77 @@
+use super::compare;
 use command_line::{BadLine, CommandLine, parse_line};
-use std::test::Fail;
+use std::alloc::Global;
+use std::process::Abort;
 
 /// What a line says, and nothing for one that is refused.
-fn said(rt: &HostRuntime, words: &[&str]) -> Option<CommandLine> {
-    match parse_line(rt.alloc(), words) {
+fn said(alloc: Global, words: &[&str]) -> Option<CommandLine> {
+    match parse_line(alloc, words) {
         Ok(line) => Some(line),
         Err(BadLine::Clap(_)) | Err(BadLine::NoMemory) => None,
     }
 }
 
 /// Whether `clap` refuses the line.
-fn is_refused(rt: &HostRuntime, words: &[&str]) -> bool {
-    matches!(parse_line(rt.alloc(), words), Err(BadLine::Clap(_)))
+fn is_refused(alloc: Global, words: &[&str]) -> bool {
+    matches!(parse_line(alloc, words), Err(BadLine::Clap(_)))
 }
 
-#[test]
-fn lines(rt: HostRuntime) -> Result<(), Fail> {
-    let plain = said(&rt, &["script.csv"]).expect(&rt, "a plain line");
-    assert!(rt; plain.script.as_str() == "script.csv");
-    assert_eq!(rt; plain.options.workers, 1);
-    let two = said(&rt, &["script.csv", "--workers", "2"]).expect(&rt, "two workers");
-    assert_eq!(rt; two.options.workers, 2);
-    let all = said(
-        &rt,
+/// What the options of a line are: the width, the workers, the limit, and the history.
+type Said = (u32, u32, u32, bool);
+
+/// Lines with their options.
+const SAID: [(&[&str], Said); 4] = [
+    (&["script.csv"], (1, 1, 4096, false)),
+    (&["script.csv", "--workers", "2"], (1, 2, 4096, false)),
+    (
         &["--width", "4", "--history", "script.csv", "--limit=3"],
-    )
-    .expect(&rt, "all options");
-    assert_eq!(rt; all.options.width, 4);
-    assert_eq!(rt; all.options.limit, 3);
-    assert!(rt; all.options.history);
-    assert!(rt; !plain.options.history);
-    assert_eq!(rt; (plain.options.width, plain.options.limit), (1, 4096));
-    let greatest = said(
-        &rt,
+        (4, 1, 3, true),
+    ),
+    (
         &[
             "script.csv",
             "--width=65536",
             "--workers=16",
             "--limit=1048576",
         ],
-    )
-    .expect(&rt, "the greatest numbers");
-    assert_eq!(rt; greatest.options.width, 65_536);
-    assert_eq!(rt; greatest.options.workers, 16);
-    assert_eq!(rt; greatest.options.limit, 1_048_576);
-    assert!(rt; is_refused(&rt, &[]));
-    assert!(rt; is_refused(&rt, &["script.csv", "--workers", "0"]));
-    assert!(rt; is_refused(&rt, &["script.csv", "--workers", "17"]));
-    assert!(rt; is_refused(&rt, &["script.csv", "--width", "0"]));
-    assert!(rt; is_refused(&rt, &["script.csv", "--width", "65537"]));
-    assert!(rt; is_refused(&rt, &["script.csv", "--limit", "0"]));
-    assert!(rt; is_refused(&rt, &["script.csv", "--limit", "1048577"]));
-    assert!(rt; is_refused(&rt, &["script.csv", "--mirrors", "2"]));
-    assert!(rt; is_refused(&rt, &["--help"]));
-    assert!(rt; is_refused(&rt, &["--version"]));
-    Ok(())
+        (65_536, 16, 1_048_576, false),
+    ),
+];
+
+/// Lines that `clap` refuses.
+const REFUSED: [&[&str]; 10] = [
+    &[],
+    &["script.csv", "--workers", "0"],
+    &["script.csv", "--workers", "17"],
+    &["script.csv", "--width", "0"],
+    &["script.csv", "--width", "65537"],
+    &["script.csv", "--limit", "0"],
+    &["script.csv", "--limit", "1048577"],
+    &["script.csv", "--mirrors", "2"],
+    &["--help"],
+    &["--version"],
+];
+
+/// That a line names the script and has these options.
+fn says(rt: &impl Abort, alloc: Global, words: &[&str], wanted: Said) {
+    let line = said(alloc, words).expect(rt, "a line");
+    let options = &line.options;
+    let found = (
+        options.width,
+        options.workers,
+        options.limit,
+        options.history,
+    );
+    compare(rt, found, wanted);
+    assert!(rt; line.script.as_str() == "script.csv");
+}
+
+#[test]
+fn lines(rt: HostRuntime) {
+    for (words, wanted) in &SAID {
+        says(&rt, rt.alloc(), words, *wanted);
+    }
+    for words in &REFUSED {
+        assert!(rt; is_refused(rt.alloc(), words));
+    }
 }

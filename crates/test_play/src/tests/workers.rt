@@ -2,7 +2,7 @@
 ghost use Rattle.std.specs.Prelude.{◌≡◌, IfOk};
 ghost use Rattle.script.specs.Ranges.{InRange};
 
-use super::{options, run};
+use super::{compare, options, run};
 use play::{Always, Fail as PlayFail, Options};
 use shared::Pace;
 use std::alloc::{AllocError, Global};
@@ -117,7 +117,7 @@ fn two_workers_meet(rt: HostRuntime) -> Result<(), Fail> {
     };
     let (ended, out) = run(&rt, alloc, &options, script.as_bytes(), &pace);
     assert!(rt; ended != Err(PlayFail::Paused), "serial");
-    assert_eq!(rt; ended, Ok(()));
+    compare(&rt, ended, Ok(()));
     let (one, other) = (two_versions(alloc, 1, 2)?, two_versions(alloc, 2, 1)?);
     assert!(rt; out.as_slice() == one.as_bytes() || out.as_slice() == other.as_bytes());
     Ok(())
@@ -139,7 +139,7 @@ fn two_menders_meet(rt: HostRuntime) -> Result<(), Fail> {
     };
     let (ended, out) = run(&rt, alloc, &options, TWO_LOST, &pace);
     assert!(rt; ended != Err(PlayFail::Paused), "serial");
-    assert_eq!(rt; ended, Ok(()));
+    compare(&rt, ended, Ok(()));
     assert!(rt; out.as_slice() == TWO_MENDED);
     Ok(())
 }
@@ -159,7 +159,7 @@ fn mends_by<R: Threads + Wait + Sync + Abort>(
 {
     let options = with_workers(workers, limit);
     let (ended, out) = run(rt, alloc, &options, TWO_LOST, &Always);
-    assert_eq!(rt; ended, Ok(()));
+    compare(rt, ended, Ok(()));
     assert!(rt; out.as_slice() == wanted);
     Ok(())
 }
@@ -196,7 +196,7 @@ fn pauses(rt: HostRuntime) -> Result<(), Fail> {
     let options = with_workers(2, 4096);
     for row in 1..6 {
         let (ended, out) = run(&rt, alloc, &options, TWO_LOST, &Until(row));
-        assert_eq!(rt; ended, Err(PlayFail::Paused));
+        compare(&rt, ended, Err(PlayFail::Paused));
         assert!(rt; out.is_empty());
     }
     Ok(())
