@@ -12,10 +12,11 @@ mod remaining;
 ghost use Rattle.std.specs.Prelude.{◌≡◌, ◌≢◌, ℕ, ◌+◌, ◌-◌, ◌<◌, ◌≤◌, ◌^◌, ◌↔◌, ◌⊎◌, IsTrue, All};
 ghost use Rattle.std.specs.Prelude.{IfSome, IsSomeAnd, MatchOption, EachIndex, length, map};
 ghost use Rattle.std.specs.Prelude.{slice_index, slice_index_or, bit_xor, None, true, false, []};
-ghost use Rattle.std.specs.Prelude.{◌∷◌, ◌==◌, if◌then◌else◌};
+ghost use Rattle.std.specs.Prelude.{◌∷◌, ◌==◌, if◌then◌else◌, Some, count_by};
 ghost use Rattle.gf256.specs.Field.{product};
 ghost use Rattle.lrc_code.specs.Code.{fragment_count, data_count, weight, is_lost, is_alone};
 ghost use Rattle.lrc_code.specs.Code.{is_only_lost_of, first_group, second_group, Open};
+ghost use Rattle.lrc_code.specs.Code.{all_fragments};
 ghost use Rattle.lrc_code.specs.Stripe.{IsStripe, list_at};
 ghost use Rattle.lrc_code.specs.Recipe.{IsRecipe, IsLeast, local_recipe};
 ghost use Rattle.decode.specs.Decoding.{HasOpen};
@@ -24,6 +25,7 @@ ghost use Rattle.coder_c.specs.Call.{LeftReach, RebuildsLost, AreLostIn, HasRoom
 ghost use Rattle.coder_c.specs.Call.{DecodesLost, chosen_by, chosen_of, terms_of};
 ghost use Rattle.coder_c.specs.PlanBytes.{format_in, code_in, missing_in, chosen_in, plan_in};
 ghost use Rattle.decode.specs.DecodePlan.{IsDecodePlan, HasAllOf, IsRest};
+ghost use Rattle.decode.specs.FewReads.{AreAlone, HasMate};
 
 use decode::plan_for;
 use gf256::add_scaled;
@@ -445,7 +447,8 @@ pub extern "C" fn lrc_decode(
 
 /// Makes a plan for up to four lost fragments, of which `numbers` has one for each target, and 255
 /// for a target that is not wanted. `reads` gets the fragments that `lrc_plan_decode` reads by it,
-/// as bits: none that is lost.
+/// as bits: none that is lost. They are others of the groups in which the chosen fragments are, if
+/// each of these is alone lost there. For one fragment they are no more than the data fragments.
 ///
 /// `OPEN` if and only if a chosen fragment is unrecoverable and no argument is invalid.
 /// `BAD_ARGUMENT` if and only if there is no such code, or a chosen fragment is not one of the
@@ -467,6 +470,12 @@ pub extern "C" fn lrc_plan(
         (λ code. HasAllOf code lost (missing_in plan.new)) }
     ensures reads { result ≡ DONE → IfSome (code_with data_fragments)
         (λ code. IsRest code (missing_in plan.new) reads.new) }
+    ensures near { result ≡ DONE → IfSome (code_with data_fragments) (λ code.
+        AreAlone code (is_lost lost) (chosen_of numbers.now) → (i : ℕ) → is_lost reads.new i ≡ true
+        → HasMate code (chosen_of numbers.now) i) }
+    ensures few { result ≡ DONE → IfSome (code_with data_fragments) (λ code. (f : ℕ)
+        → chosen_of numbers.now ≡ Some f ∷ None ∷ None ∷ None ∷ []
+        → count_by (is_lost reads.new) (all_fragments code) ≤ data_count code) }
     ensures open { (result ≡ OPEN) ↔ ((result ≢ BAD_ARGUMENT)
         × IsSomeAnd (code_with data_fragments) (λ code. HasOpen code (is_lost lost)
         (chosen_of numbers.now))) }

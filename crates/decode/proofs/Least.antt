@@ -11,7 +11,7 @@ use Rattle.lrc_code.proofs.Columns.{count_with_parities}
 use Rattle.lrc_code.proofs.LostCounts.{first_count, second_count, global_count, whole_count}
 use Rattle.lrc_code.proofs.Recoverable.{open_here}
 
-count_all : (code : Code) (t : ℕ → Bool) → count_by t (all_fragments code) ≡ count_below t (fragment_count code)
+pub count_all : (code : Code) (t : ℕ → Bool) → count_by t (all_fragments code) ≡ count_below t (fragment_count code)
 count_all Wide t = omega arith
 count_all Small t = omega arith
 

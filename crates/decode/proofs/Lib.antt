@@ -3,3 +3,4 @@ pub mod Places
 pub mod Chosen
 pub mod Least
 pub mod Planned
+pub mod FewReads

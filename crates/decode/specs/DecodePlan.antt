@@ -1,5 +1,5 @@
 -- Plans for decoding: which fragments are read, and by which shares they give the chosen ones.
-use Rattle.std.specs.Prelude.{◌≡◌, ◌↔◌, ℕ, ◌<◌, true, false, List, [], None, IfSome}
+use Rattle.std.specs.Prelude.{◌≡◌, ◌≢◌, ◌↔◌, ℕ, ◌<◌, true, false, List, [], None, IfSome}
 use Rattle.std.specs.Prelude.{slice_index_or}
 use Rattle.lrc_code.specs.declared.Code.{Code}
 use Rattle.lrc_code.specs.Code.{fragment_count, is_lost}
@@ -32,6 +32,12 @@ abbrev pub WeighsNothing : Code → ℕ → ℕ → List (List ℕ) → Type 0
 WeighsNothing code lost missing shares = (i : ℕ) → i < fragment_count code
     → is_lost missing i ≡ true → is_lost lost i ≡ false → (k : ℕ) → k < 4
     → factored_weight code (at_target shares k) i ≡ 0
+
+-- a fragment that is not in the second set is not in the first, and weighs something for a target
+abbrev pub WeighSomething : Code → ℕ → ℕ → List (List ℕ) → Type 0
+WeighSomething code lost missing shares = (i : ℕ) → i < fragment_count code
+    → is_lost missing i ≡ false → (is_lost lost i ≡ false)
+    × ((k : ℕ) × (k < 4) × (factored_weight code (at_target shares k) i ≢ 0))
 
 -- the set has the other fragments of the code, and no more
 abbrev pub IsRest : Code → ℕ → ℕ → Type 0

@@ -1,3 +1,4 @@
 pub mod Syndrome
 pub mod Decoding
 pub mod DecodePlan
+pub mod FewReads

@@ -6,6 +6,7 @@ ghost use Rattle.lrc_code.specs.Code.{fragment_count, is_lost, Open};
 ghost use Rattle.lrc_code.specs.Stripe.{is_absent, byte_at, Reaches, HasRange, Rebuilds};
 ghost use Rattle.syndromes.specs.Syndromes.{column_at, list_byte, HaveBytes};
 ghost use Rattle.decode.specs.Syndrome.{AreShares};
+ghost use Rattle.decode.specs.FewReads.{HasFewReads};
 ghost use Rattle.decode.specs.Decoding.{AreAbsent, HasOpen, IsDecodable, IsDecoded};
 ghost use Rattle.decode.specs.Decoding.{byte_in_place, fragment_in_place};
 
@@ -16,12 +17,15 @@ use syndromes::combine_syndromes;
 
 /// The shares of a lost fragment: in every column it is the sum of the four syndromes of the
 /// remaining fragments, each times its share. They depend on the lost set alone. Returns None if
-/// and only if the fragment is open.
+/// and only if the fragment is open. What the shares give weight to has to be read: the others of
+/// its group, if the fragment is alone lost there, else no more than the code has data fragments.
 pub fn shares_of(code: Code, lost: LostSet, f: u8) -> Option<[u8; 4]>
     requires f_below { f < fragment_count code }
     requires f_lost { is_lost lost f ≡ true }
-    ensures { MatchOption result (Open code (is_lost lost) f)
+    ensures shares { MatchOption result (Open code (is_lost lost) f)
         (λ shares. AreShares code (is_lost lost) f shares) }
+    ensures reads { MatchOption result (Unit {0})
+        (λ shares. HasFewReads code (is_lost lost) f shares) }
 {
     // A column's sums are 0, so in the sum of the four equations, each times its factor, the
     // remaining bytes come to what the lost ones do: to the one lost byte that weighs anything.

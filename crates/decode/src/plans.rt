@@ -1,13 +1,15 @@
 //! Plans: what decoding needs to know of a lost set, made once for many stripes.
 ghost use Rattle.std.specs.Prelude.{◌≡◌, ℕ, ◌-◌, ◌<◌, ◌≤◌, ◌↔◌, true, false, None, IfSome};
 ghost use Rattle.std.specs.Prelude.{IsSomeAnd, MatchOption, length, slice_index_or, ◌==◌, ◌||◌};
-ghost use Rattle.std.specs.Prelude.{slice_index};
-ghost use Rattle.lrc_code.specs.Code.{fragment_count, is_lost, Open};
+ghost use Rattle.std.specs.Prelude.{slice_index, ◌≢◌, ◌∷◌, [], Some};
+ghost use Rattle.lrc_code.specs.Code.{fragment_count, data_count, is_lost, Open};
 ghost use Rattle.lrc_code.specs.Stripe.{is_absent, Reaches};
 ghost use Rattle.lrc_code.specs.Factors.{factored_weight};
 ghost use Rattle.decode.specs.Syndrome.{AreShares};
 ghost use Rattle.decode.specs.Decoding.{AreAbsent, HasOpen, IsDecoded};
 ghost use Rattle.decode.specs.DecodePlan.{IsDecodePlan, HasAllOf, IsRest, WeighsNothing, at_target};
+ghost use Rattle.decode.specs.DecodePlan.{WeighSomething};
+ghost use Rattle.decode.specs.FewReads.{HasFewReads, AreAlone, HasMate, read_count};
 
 use crate::decoding::{far_count, parts_of, rebuild_chosen, shares_of};
 use lrc_code::{Code, Left, LostSet, factored_weight_of};
@@ -32,6 +34,8 @@ fn shares_if(code: Code, lost: LostSet, chosen: Option<u8>) -> Option<[u8; 4]>
     ensures shares { MatchOption result (IsSomeAnd chosen (Open code (is_lost lost)))
         (λ a. IfSome chosen (λ f. AreShares code (is_lost lost) f a)) }
     ensures bytes { IfSome result (λ a. (e : ℕ) → e < 4 → slice_index a e < 256) }
+    ensures reads { IfSome result (λ a. MatchOption chosen (a ≡ 0 ∷ 0 ∷ 0 ∷ 0 ∷ [])
+        (λ f. HasFewReads code (is_lost lost) f a)) }
 {
     match chosen {
         None => Some([0; 4]),
@@ -50,8 +54,10 @@ fn with_bit(bits: u16, f: u8) -> u16
 /// Whether a fragment weighs something for one of the targets.
 fn weighs_any(code: Code, shares: &[[u8; 4]; 4], i: u8) -> bool
     requires { i < fragment_count code }
-    ensures { result ≡ false → (k : ℕ) → k < 4
+    ensures nothing { result ≡ false → (k : ℕ) → k < 4
         → factored_weight code (at_target shares.now k) i ≡ 0 }
+    ensures any { result ≡ true → (k : ℕ) × (k < 4)
+        × (factored_weight code (at_target shares.now k) i ≢ 0) }
 {
     let i = usize::from(i);
     factored_weight_of(code, &shares[0], i) != 0
@@ -64,6 +70,7 @@ fn weighs_any(code: Code, shares: &[[u8; 4]; 4], i: u8) -> bool
 fn missing_of(code: Code, lost: LostSet, shares: &[[u8; 4]; 4]) -> u16
     ensures lost { HasAllOf code lost result }
     ensures rest { WeighsNothing code lost result shares.now }
+    ensures read { WeighSomething code lost result shares.now }
 {
     let mut missing = 0;
     for i in 0..code.fragments() {
@@ -90,7 +97,9 @@ impl DecodePlan {
     }
 }
 
-/// A plan for up to four lost fragments. It reads no lost fragment.
+/// A plan for up to four lost fragments. It reads no lost fragment. For fragments that are alone
+/// lost in their groups it reads the others of these groups, and for one fragment no more than the
+/// code has data fragments.
 ///
 /// None if and only if a chosen fragment is open.
 pub fn plan_for(code: Code, lost: LostSet, chosen: [Option<u8>; 4]) -> Option<DecodePlan>
@@ -101,6 +110,10 @@ pub fn plan_for(code: Code, lost: LostSet, chosen: [Option<u8>; 4]) -> Option<De
     ensures code { IfSome result (λ p. p.code ≡ code) }
     ensures chosen { IfSome result (λ p. p.chosen ≡ chosen) }
     ensures lost { IfSome result (λ p. HasAllOf code lost p.missing) }
+    ensures near { IfSome result (λ p. AreAlone code (is_lost lost) chosen → (i : ℕ)
+        → i < fragment_count code → is_lost p.missing i ≡ false → HasMate code chosen i) }
+    ensures few { IfSome result (λ p. (f : ℕ) → chosen ≡ Some f ∷ None ∷ None ∷ None ∷ []
+        → read_count code (is_lost p.missing) ≤ data_count code) }
 {
     let shares = [
         shares_if(code, lost, chosen[0])?,

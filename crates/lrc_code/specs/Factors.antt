@@ -12,3 +12,8 @@ factored_weight code factors i = xor_sum 4 (λ e. product (slice_index factors e
 abbrev pub WeighsAlone : Code → (ℕ → Bool) → ℕ → List ℕ → Type 0
 WeighsAlone code lost f factors = (i : ℕ) → i < fragment_count code → lost i ≡ true
     → factored_weight code factors i ≡ cond (i == f) 1 0
+
+-- in that sum each fragment weighs what it weighs in equation e
+abbrev pub WeighsAs : Code → List ℕ → ℕ → Type 0
+WeighsAs code factors e = (i : ℕ) → i < fragment_count code
+    → factored_weight code factors i ≡ weight code e i

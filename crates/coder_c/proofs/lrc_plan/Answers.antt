@@ -1,8 +1,12 @@
-use Rattle.std.proofs.Common.{ℕ, refl, sym, subst, ◌∙◌}
+use Rattle.std.proofs.Common.{◌≡◌, ◌≤◌, ℕ, true, [], ◌∷◌, Some, None, refl, sym, subst, ◌∙◌}
+use mathlib.Core.Path.{fun_ext}
+use Rattle.std.specs.Prelude.{count_by}
 use Rattle.std.proofs.lemmas.Bool.{true≢false}
-use Rattle.lrc_code.specs.Code.{is_lost}
+use Rattle.lrc_code.specs.Code.{data_count, all_fragments, is_lost}
 use Rattle.decode.specs.Decoding.{HasOpen}
 use Rattle.decode.specs.DecodePlan.{IsDecodePlan, HasAllOf, IsRest}
+use Rattle.decode.specs.FewReads.{AreAlone, HasMate}
+use Rattle.decode.proofs.FewReads.{read_count_of}
 use Rattle.coder_c.specs.Call.{code_with, chosen_of, AreLostIn}
 use Rattle.coder_c.specs.PlanBytes.{missing_in, plan_in}
 use Rattle.coder_c.proofs.Asked.{at_code}
@@ -54,6 +58,28 @@ pub returns-clause-reads : goal.returns-clause-reads
 returns-clause-reads c = λ _.
     at_code (code_with c.args.data_fragments) c.in-Some.code (λ code. IsRest code (missing_in c.plan_bytes.result) c.reads.result) (sym c.in-Some.ensures)
     (subst (λ m. IsRest c.in-Some.code m c.reads.result) (sym c.plan_bytes.ensures.missing) (subst (λ code. IsRest code c.in-Some-plan_for.made.missing c.reads.result) c.in-Some-plan_for.ensures.code c.reads.ensures))
+
+-- what is read is what the plan does not miss
+rest : (c : goal.After-reads) → IsRest c.in-Some.code c.in-Some-plan_for.made.missing c.reads.result
+rest c = subst (λ code. IsRest code c.in-Some-plan_for.made.missing c.reads.result) c.in-Some-plan_for.ensures.code c.reads.ensures
+
+pub returns-clause-near : goal.returns-clause-near
+returns-clause-near c = λ _.
+    let given = chosen_of c.args.numbers.now in
+    let code = c.in-Some.code in
+    at_code (code_with c.args.data_fragments) code (λ code. AreAlone code (is_lost c.args.lost) given → (i : ℕ) → is_lost c.reads.result i ≡ true → HasMate code given i) (sym c.in-Some.ensures)
+    (λ alone i read.
+    subst (λ chosen. HasMate code chosen i) c.chosen_of-chosen.ensures
+    (c.in-Some-plan_for.ensures.near
+    (subst (λ t. AreAlone code t c.chosen_of-chosen.result) (sym (fun_ext c.of_bits-lost.ensures)) (subst (AreAlone code (is_lost c.args.lost)) (sym c.chosen_of-chosen.ensures) alone))
+    i ((rest c i).0 read).0 ((rest c i).0 read).1))
+
+pub returns-clause-few : goal.returns-clause-few
+returns-clause-few c = λ _.
+    let given = chosen_of c.args.numbers.now in
+    let code = c.in-Some.code in
+    at_code (code_with c.args.data_fragments) code (λ code. (f : ℕ) → given ≡ Some f ∷ None ∷ None ∷ None ∷ [] → count_by (is_lost c.reads.result) (all_fragments code) ≤ data_count code) (sym c.in-Some.ensures)
+    (λ f only. subst (λ n. n ≤ data_count code) (sym (read_count_of code c.reads.result c.in-Some-plan_for.made.missing (rest c))) (c.in-Some-plan_for.ensures.few f (c.chosen_of-chosen.ensures ∙ only)))
 
 pub returns-clause-open : goal.returns-clause-open
 returns-clause-open c =
