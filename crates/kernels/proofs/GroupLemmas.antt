@@ -1,6 +1,8 @@
 -- The parities by doublings are those that the coefficients give.
-use Rattle.std.proofs.Common.{◌≡◌, ℕ, zero, suc, ◌+◌, ◌-◌, ◌*◌, ◌/◌, ◌%◌, ◌<◌, Bool, true, eqb, List, [], ◌∷◌, length, map, get_or, bit_xor, refl, sym, ap, ap₂, ◌∙◌, subst, arith, inl, inr, eqb-true, Bor}
+use Rattle.std.proofs.Common.{◌≡◌, ℕ, zero, suc, ◌+◌, ◌-◌, ◌*◌, take, ◌/◌, ◌%◌, ◌<◌, Bool, true, eqb, List, [], ◌∷◌, length, map, get_or, bit_xor, refl, sym, ap, ap₂, ◌∙◌, subst, arith, inl, inr, eqb-true, Bor}
+use Rattle.std.specs.List.{All}
 use Rattle.std.proofs.lemmas.Bool.{cases_eq, cases_lt}
+use Rattle.std.proofs.lemmas.List.{get_or-take}
 use Rattle.std.proofs.Math.ListN.{get_or-map}
 use lib.Lanes.{Each1}
 use Rattle.gf256.specs.Field.{product, carryless_product, reduced}
@@ -208,15 +210,6 @@ module _ (sources : List (List ℕ)) (ps : List (List ℕ)) where
       ∙ xor_sum_same 12 (λ i. product (coefficient e i) (get_or xs i 0)) (λ i. product (coefficient e i) (bytes_at sources place i))
       (λ i m. ap (product (coefficient e i)) (same i m))
 
--- the same where four bytes are written at the place
-pub place_parities : (sources : List (List ℕ)) (p q g h bytes made : List ℕ) (place : ℕ) → ((i : ℕ) → i < 12 → get_or bytes i 0 ≡ bytes_at sources place i)
-    → ((e : ℕ) → e < 4 → get_or made e 0 ≡ parity e (λ i. get_or bytes i 0))
-    → get_or p place 0 ≡ get_or made 0 0 → get_or q place 0 ≡ get_or made 1 0 → get_or g place 0 ≡ get_or made 2 0 → get_or h place 0 ≡ get_or made 3 0
-    → AreParitiesOfTwelve sources (p ∷ q ∷ g ∷ h ∷ []) place
-place_parities sources p q g h bytes made place same are ep eq eg eh =
-    parities_at sources (p ∷ q ∷ g ∷ h ∷ []) place bytes same
-    (λ e l. each_of_four (λ e. bytes_at (p ∷ q ∷ g ∷ h ∷ []) place e ≡ get_or made e 0) ep eq eg eh e l ∙ are e l)
-
 -- the twelve bytes at one place, as a list
 abbrev pub twelve : List (List ℕ) → ℕ → List ℕ
 twelve sources place = map (bytes_at sources place) (0 ∷ 1 ∷ 2 ∷ 3 ∷ 4 ∷ 5 ∷ 6 ∷ 7 ∷ 8 ∷ 9 ∷ 10 ∷ 11 ∷ [])
@@ -246,12 +239,6 @@ parities_more sources p q g h p' q' g' h' at to done ep eq eg eh new k l =
           let back : at + (k - at) ≡ k = omega arith in
           subst (AreParitiesOfTwelve sources (p' ∷ q' ∷ g' ∷ h' ∷ [])) back (new (k - at) (omega arith))
     ]
-
--- a fact at one place, at each place up to it
-pub at_last : (P : ℕ → Type 0) (at : ℕ) → P at → (k : ℕ) → k < (at + 1) - at → P (at + k)
-at_last P at p k h =
-    let e : at ≡ at + k = omega arith in
-    subst P e p
 
 -- a fact below `at`, and from `at` to `to`
 pub facts_more : (P : ℕ → Type 0) (at to : ℕ) → ((k : ℕ) → k < at → P k) → ((k : ℕ) → k < to - at → P (at + k)) → (k : ℕ) → k < to → P k
@@ -330,3 +317,21 @@ twelve_of (a ∷ b ∷ c ∷ d ∷ e ∷ f ∷ g ∷ h ∷ i ∷ j ∷ []) long 
 twelve_of (a ∷ b ∷ c ∷ d ∷ e ∷ f ∷ g ∷ h ∷ i ∷ j ∷ k ∷ []) long = absurd (omega arith)
 twelve_of (a ∷ b ∷ c ∷ d ∷ e ∷ f ∷ g ∷ h ∷ i ∷ j ∷ k ∷ l ∷ []) long = refl
 twelve_of (a ∷ b ∷ c ∷ d ∷ e ∷ f ∷ g ∷ h ∷ i ∷ j ∷ k ∷ l ∷ m ∷ rest) long = absurd (omega arith)
+
+-- ---- lists that have no more than a block
+-- the same at a place where the lists agree
+pub parities_same : (sources lists : List (List ℕ)) (p q g h p' q' g' h' : List ℕ) (at k : ℕ) → AreParitiesOfTwelve lists (p ∷ q ∷ g ∷ h ∷ []) at → at ≡ k → ((i : ℕ) → i < 12 → bytes_at lists k i ≡ bytes_at sources k i)
+    → get_or p' k 0 ≡ get_or p k 0 → get_or q' k 0 ≡ get_or q k 0 → get_or g' k 0 ≡ get_or g k 0 → get_or h' k 0 ≡ get_or h k 0
+    → AreParitiesOfTwelve sources (p' ∷ q' ∷ g' ∷ h' ∷ []) k
+parities_same sources lists p q g h p' q' g' h' at k are here same ep eq eg eh e m =
+    each_of_four (λ e. bytes_at (p' ∷ q' ∷ g' ∷ h' ∷ []) k e ≡ bytes_at (p ∷ q ∷ g ∷ h ∷ []) k e) ep eq eg eh e m
+    ∙ subst (AreParitiesOfTwelve lists (p ∷ q ∷ g ∷ h ∷ [])) here are e m
+    ∙ xor_sum_same 12 (λ i. product (coefficient e i) (bytes_at lists k i)) (λ i. product (coefficient e i) (bytes_at sources k i)) (λ i l. ap (product (coefficient e i)) (same i l))
+
+-- how long one of some lists of one length is
+pub long_at : (sources : List (Bor (List ℕ))) (n i : ℕ) → All (λ s. length s.now ≡ n) sources → i < length sources → length (list_at (map (λ s. s.now) sources) i) ≡ n
+long_at sources n i same below = sym (ap length (source_is sources i)) ∙ same i nothing below
+
+-- the beginning of a list has its elements
+pub taken : (xs ys : List ℕ) (n k : ℕ) → ys ≡ take n xs → k < n → get_or ys k 0 ≡ get_or xs k 0
+taken xs ys n k is below = ap (λ zs. get_or zs k 0) is ∙ get_or-take n xs k 0 below

@@ -6,7 +6,6 @@ ghost use Rattle.kernels.specs.Parities.{AreParitiesOfTwelve};
 
 use crate::blocks::{Block, fourth_each, load, store, sum_3, sum_4, third_each};
 use crate::lanes::LANES;
-use crate::place::parities;
 
 /// The block of list `f` from `at` on.
 #[inline(always)]
@@ -99,48 +98,97 @@ fn encode_block(
     store(parity, fourth, at);
 }
 
-/// The bytes of the data fragments at one place.
-fn bytes_of(sources: &[&[u8]], at: usize) -> [u8; 12]
-    requires count { length sources.now ≡ 12 }
-    requires inside { All (λ s. at < length s.now) sources.now }
-    ensures { (i : ℕ) → i < 12 → slice_index result i
-        ≡ bytes_at (map (λ s. s.now) sources.now) at i }
+/// A block that begins with the bytes of list `f`, which has no more than a block.
+#[inline(always)]
+fn padded(sources: &[&[u8]], f: usize) -> [u8; LANES]
+    requires f_below { f < length sources.now }
+    requires narrow { All (λ s. length s.now ≤ LANES) sources.now }
+    ensures count { length result ≡ LANES }
+    ensures bytes { (k : ℕ) → k < length (list_at (map (λ s. s.now) sources.now) f)
+        → slice_index result k ≡ bytes_at (map (λ s. s.now) sources.now) k f }
 {
-    let mut bytes = [0; 12];
-    for i in 0..12 {
-        bytes[i] = sources[i][at];
-    }
-    bytes
+    let mut block = [0; LANES];
+    let bytes = sources[f];
+    block[..bytes.len()].copy_from_slice(bytes);
+    block
 }
 
-/// Writes the parities of one place.
-fn encode_place(
+/// For each of twelve lists a block that begins with its bytes.
+fn all_padded(sources: &[&[u8]]) -> [[u8; LANES]; 12]
+    requires count { length sources.now ≡ 12 }
+    requires narrow { All (λ s. length s.now ≤ LANES) sources.now }
+    ensures count { length result ≡ 12 }
+    ensures bytes { (f k : ℕ) → f < 12
+        → k < length (list_at (map (λ s. s.now) sources.now) f)
+        → bytes_at result k f ≡ bytes_at (map (λ s. s.now) sources.now) k f }
+{
+    [
+        padded(sources, 0),
+        padded(sources, 1),
+        padded(sources, 2),
+        padded(sources, 3),
+        padded(sources, 4),
+        padded(sources, 5),
+        padded(sources, 6),
+        padded(sources, 7),
+        padded(sources, 8),
+        padded(sources, 9),
+        padded(sources, 10),
+        padded(sources, 11),
+    ]
+}
+
+/// As `encode_lists` for no more places than a block has: by one block of each list.
+#[inline(never)]
+fn encode_narrow(
     sources: &[&[u8]],
-    at: usize,
     first: &mut [u8],
     second: &mut [u8],
     third: &mut [u8],
     fourth: &mut [u8],
 )
     requires count { length sources.now ≡ 12 }
-    requires inside { All (λ s. at < length s.now) sources.now }
-    requires first_inside { at < length first.old }
-    requires second_inside { at < length second.old }
-    requires third_inside { at < length third.old }
-    requires fourth_inside { at < length fourth.old }
-    ensures parities { AreParitiesOfTwelve (map (λ s. s.now) sources.now)
-        (first.new ∷ second.new ∷ third.new ∷ fourth.new ∷ []) at }
-    ensures first_before { (k : ℕ) → k < at → slice_index first.new k ≡ slice_index first.old k }
-    ensures second_before { (k : ℕ) → k < at → slice_index second.new k ≡ slice_index second.old k }
-    ensures third_before { (k : ℕ) → k < at → slice_index third.new k ≡ slice_index third.old k }
-    ensures fourth_before { (k : ℕ) → k < at → slice_index fourth.new k ≡ slice_index fourth.old k }
+    requires same { All (λ s. length s.now ≡ length first.old) sources.now }
+    requires same_second { length second.old ≡ length first.old }
+    requires same_third { length third.old ≡ length first.old }
+    requires same_fourth { length fourth.old ≡ length first.old }
+    requires narrow { All (λ s. length s.now ≤ LANES) sources.now }
+    requires narrow_first { length first.old ≤ LANES }
+    ensures { (k : ℕ) → k < length first.new →
+        AreParitiesOfTwelve (map (λ s. s.now) sources.now)
+        (first.new ∷ second.new ∷ third.new ∷ fourth.new ∷ []) k }
 {
-    let bytes = bytes_of(sources, at);
-    let made = parities(&bytes);
-    first[at] = made[0];
-    second[at] = made[1];
-    third[at] = made[2];
-    fourth[at] = made[3];
+    let blocks = all_padded(sources);
+    let lists: [&[u8]; 12] = [
+        &blocks[0],
+        &blocks[1],
+        &blocks[2],
+        &blocks[3],
+        &blocks[4],
+        &blocks[5],
+        &blocks[6],
+        &blocks[7],
+        &blocks[8],
+        &blocks[9],
+        &blocks[10],
+        &blocks[11],
+    ];
+    let mut made_first = [0; LANES];
+    let mut made_second = [0; LANES];
+    let mut made_third = [0; LANES];
+    let mut made_fourth = [0; LANES];
+    encode_block(
+        &lists,
+        0,
+        &mut made_first,
+        &mut made_second,
+        &mut made_third,
+        &mut made_fourth,
+    );
+    first.copy_from_slice(&made_first[..first.len()]);
+    second.copy_from_slice(&made_second[..second.len()]);
+    third.copy_from_slice(&made_third[..third.len()]);
+    fourth.copy_from_slice(&made_fourth[..fourth.len()]);
 }
 
 /// The body of `write_parities`, with its contract: a function of its own, so that the compiler
@@ -164,9 +212,7 @@ fn encode_lists(
 {
     let width = first.len();
     if width < LANES {
-        for at in 0..width {
-            encode_place(sources, at, first, second, third, fourth);
-        }
+        encode_narrow(sources, first, second, third, fourth);
         return;
     }
     let mut at = 0;

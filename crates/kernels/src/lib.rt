@@ -10,7 +10,6 @@ mod factor;
 mod groups;
 mod halves;
 mod lanes;
-mod place;
 
 pub use blocks::{Block, fourth_each, load, store, sum_2, third_each};
 pub use combine::combine_lists;

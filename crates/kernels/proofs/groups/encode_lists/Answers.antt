@@ -1,19 +1,10 @@
-use Rattle.std.proofs.Common.{◌≡◌, ◌+◌, ◌-◌, length, map, [], ◌∷◌, arith}
-use Rattle.kernels.specs.Parities.{AreParitiesOfTwelve}
-use Rattle.kernels.proofs.GroupLemmas.{parities_more, at_last}
+use Rattle.std.proofs.Common.{◌≡◌, ◌+◌, ◌-◌, length, map, arith}
+use Rattle.kernels.proofs.GroupLemmas.{parities_more}
 use Rattle.kernels.specs.declared.lanes.TheConstants.{LANES}
 use Rattle.kernels.proofs.groups.encode_lists.Goals as goal
 
-pub loop-at-preserved : goal.loop-at-preserved
-loop-at-preserved c =
-    let b = c.encode_place.ensures in
-    parities_more (map (λ s. s.now) c.args.sources.now) c.loop-at.first c.loop-at.second c.loop-at.third c.loop-at.fourth
-    c.encode_place.new.first c.encode_place.new.second c.encode_place.new.third c.encode_place.new.fourth c.loop-at.at (c.loop-at.at + 1)
-    c.loop-at.invariant b.first_before b.second_before b.third_before b.fourth_before
-    (at_last (AreParitiesOfTwelve (map (λ s. s.now) c.args.sources.now) (c.encode_place.new.first ∷ c.encode_place.new.second ∷ c.encode_place.new.third ∷ c.encode_place.new.fourth ∷ [])) c.loop-at.at b.parities)
-
-pub returns-then-width-lt-LANES : goal.returns-then-width-lt-LANES
-returns-then-width-lt-LANES c k h = c.loop-at.invariant k (omega arith)
+pub encode_narrow-requires-clause-narrow : goal.encode_narrow-requires-clause-narrow
+encode_narrow-requires-clause-narrow c = λ i d below. (let same = c.requires.same i d below in omega (arith, same))
 
 pub whole-preserved : goal.whole-preserved
 whole-preserved c =

@@ -2,9 +2,6 @@ use Rattle.std.proofs.Common.{◌<◌, ◌≤◌, ℕ, map, ◌-◌, [], ◌∷�
 use Rattle.kernels.specs.Parities.{AreParitiesOfTwelve}
 use Rattle.kernels.proofs.groups.encode_lists.Given as goal
 
-abbrev pub invariant-loop-at : goal.invariant-loop-at
-invariant-loop-at l = (k : ℕ) → k < l.at → AreParitiesOfTwelve (map (λ s. s.now) l.sources) (l.first ∷ l.second ∷ l.third ∷ l.fourth ∷ []) k
-
 abbrev pub invariant-whole : goal.invariant-whole
 invariant-whole l = record {
   inside : l.at ≤ l.width;
