@@ -50,6 +50,13 @@ set_at stripes j f i g x hj hf =
     ∙ pick_row (i == j) (slice_set (get_or stripes j []) f x) (get_or stripes i []) g f x
     (λ e. in_row (get_or stripes j []) f g x hf ∙ ap (λ (k : ℕ). cond (g == f) x (get_or (get_or stripes k []) g None)) (same_number i j e))
 
+-- any other fragment
+pub off_slot : (i j g f : ℕ) → g ≢ f → ((i == j) && (g == f)) ≡ false
+off_slot i j g f ne = grind (arith, common_steps)
+
+pub off_row : (i j g f : ℕ) → i ≢ j → ((i == j) && (g == f)) ≡ false
+off_row i j g f ne = grind (arith, common_steps)
+
 -- ---- one element that is seen as a row
 module _ {A : Type 0} (items : List A) (row : A → List (Option (List ℕ))) (j : ℕ) (old new : A) (there : j < length items) (at : old ≡ get_or items j old) where
   row_at : get_or (map row items) j [] ≡ row old

@@ -1,11 +1,11 @@
 -- Stripes as they are sealed, and those that stand in the place of some.
-use Rattle.std.proofs.Common.{◌≡◌, ℕ, ◌+◌, ◌-◌, ◌*◌, ◌<◌, ◌≤◌, [], List, length, get_or, Option, None, Some, Result, Ok, Err, OnErr, cond, refl, sym, ap, ap₂, ◌∙◌, subst, arith, inl, inr}
+use Rattle.std.proofs.Common.{◌≡◌, ℕ, ◌+◌, ◌-◌, ◌*◌, ◌<◌, ◌≤◌, [], List, length, get_or, Option, None, Some, Result, Ok, Err, OnErr, refl, sym, ap, ap₂, ◌∙◌, subst, arith, inl, inr}
 use Rattle.std.specs.Option.{option_map}
-use Rattle.std.specs.Prelude.{slice_range, slice_set, ◌&&◌, ◌==◌}
+use Rattle.std.specs.Prelude.{slice_range}
 use Rattle.std.proofs.Math.Nat.{mul-le-mul_right}
-use Rattle.std.proofs.lemmas.Bool.{cases_lt, cases_eq}
+use Rattle.std.proofs.lemmas.Bool.{cases_lt}
 use Rattle.std.proofs.lemmas.Grind.{common_steps}
-use Rattle.std.proofs.lemmas.List.{ext_get_or, get_or_past, length-set, get_or-set_same, get_or-set_other, set-get_or}
+use Rattle.std.proofs.lemmas.List.{ext_get_or, get_or_past}
 use Rattle.std.proofs.lemmas.List.FromFn.{length-map-range_with_len, get_or-map-range_with_len}
 use Rattle.lrc_code.specs.declared.Code.{Code}
 use Rattle.lrc_code.specs.declared.Code.TheVariants.{Wide, Small}
@@ -14,10 +14,9 @@ use Rattle.sealed.specs.Layout.{stripe_size}
 use Rattle.sealed.specs.Stripes.{Stripes, fragment_at}
 use Rattle.sealed.specs.declared.packed.Parts.{Parts}
 use Rattle.sealed.specs.declared.packed.Packed.TheInside.{Inside as Packed}
-use Rattle.sealed.specs.Packed.{data_bytes, last_bytes, parity_bytes, held_by, parities_by, part_of, parts_of, packed, ArePacked, own_or, laid_over}
+use Rattle.sealed.specs.Packed.{data_bytes, last_bytes, parity_bytes, held_by, parities_by, part_of, parts_of, packed, ArePacked}
 use Rattle.sealed.proofs.Counting.{few_fragments, parity_count}
 use Rattle.sealed.proofs.Ranges.{length_of_range}
-use Rattle.sealed.proofs.Changing.{set_at}
 
 -- ---- the slots of a stripe
 pub part_data : (code : Code) (w : ℕ) (held parities : List ℕ) (f : ℕ) → f < data_count code → part_of code w held parities f ≡ Some (slice_range held (w * f) (w * f + w))
@@ -187,81 +186,3 @@ module _ (code : Code) (w : ℕ) (blob last parities : List ℕ) (count : ℕ) (
 
   pub none_seen : (f : ℕ) → d ≤ f → 4 ≤ f - d → fragment_at stripes j f ≡ None
   none_seen f from past = part_seen f ∙ part_none code v held_here parities_here f (let four = parity_count code in omega arith)
-
--- ---- stripes in the place of some
-module _ {A : Type 0} (row : A → List (Option (List ℕ))) where
-  pub laid_count : (own : List (Option A)) (stripes : Stripes) → length (laid_over row own stripes) ≡ length stripes
-  unfolding laid_over
-  laid_count own stripes = length-map-range_with_len (λ j. own_or row (get_or own j None) (get_or stripes j [])) 0 (length stripes)
-
-  pub laid_row : (own : List (Option A)) (stripes : Stripes) (j : ℕ) → j < length stripes → get_or (laid_over row own stripes) j [] ≡ own_or row (get_or own j None) (get_or stripes j [])
-  unfolding laid_over
-  laid_row own stripes j l = get_or-map-range_with_len (λ j. own_or row (get_or own j None) (get_or stripes j [])) 0 (length stripes) j j [] l (omega arith)
-
-  pub laid_seen : (own : List (Option A)) (stripes seen : Stripes) → laid_over row own stripes ≡ seen → (j : ℕ) → j < length stripes → (found : Option A) → found ≡ get_or own j None
-      → get_or seen j [] ≡ own_or row found (get_or stripes j [])
-  laid_seen own stripes seen same j l found at =
-      sym (ap (λ (t : Stripes). get_or t j []) same) ∙ laid_row own stripes j l ∙ ap (λ (o : Option A). own_or row o (get_or stripes j [])) (sym at)
-
-  -- none of them has one of its own
-  pub laid_none : (stripes : Stripes) → laid_over row [] stripes ≡ stripes
-  laid_none stripes =
-      ext_get_or [] (laid_over row [] stripes) stripes (laid_count [] stripes)
-      (λ j l. let inside : j < length stripes = (let e = laid_count [] stripes in omega arith) in
-      laid_row [] stripes j inside ∙ ap (λ (o : Option A). own_or row o (get_or stripes j [])) (get_or_past [] j None (omega arith)))
-
-  own_alike : (a b : Option A) (stripe : List (Option (List ℕ))) → option_map row a ≡ option_map row b → own_or row a stripe ≡ own_or row b stripe
-  own_alike None None stripe e = refl
-  own_alike None (Some b) stripe e = absurd (let no : None ≡ Some (row b) = e in cc)
-  own_alike (Some a) None stripe e = absurd (let no : Some (row a) ≡ None = e in cc)
-  own_alike (Some a) (Some b) stripe e = let same : Some (row a) ≡ Some (row b) = e in cc
-
-  -- they have the same ones of their own
-  pub laid_alike : (own other : List (Option A)) (stripes : Stripes) → ((j : ℕ) → option_map row (get_or own j None) ≡ option_map row (get_or other j None))
-      → laid_over row own stripes ≡ laid_over row other stripes
-  laid_alike own other stripes alike =
-      let count : length (laid_over row own stripes) ≡ length stripes = laid_count own stripes in
-      let count_other : length (laid_over row other stripes) ≡ length stripes = laid_count other stripes in
-      ext_get_or [] (laid_over row own stripes) (laid_over row other stripes) (omega arith)
-      (λ j l.
-      laid_row own stripes j (omega arith)
-      ∙ own_alike (get_or own j None) (get_or other j None) (get_or stripes j []) (alike j)
-      ∙ sym (laid_row other stripes j (omega arith)))
-
-  -- one of them gets one of its own
-  pub laid_set : (own : List (Option A)) (stripes : Stripes) (j : ℕ) (new : A) → j < length own → j < length stripes
-      → laid_over row (slice_set own j (Some new)) stripes ≡ slice_set (laid_over row own stripes) j (row new)
-  laid_set own stripes j new here below =
-      let old : Stripes = laid_over row own stripes in
-      let now : List (Option A) = slice_set own j (Some new) in
-      let count : length old ≡ length stripes = laid_count own stripes in
-      let count_now : length (laid_over row now stripes) ≡ length stripes = laid_count now stripes in
-      let count_set : length (slice_set old j (row new)) ≡ length old = length-set old j (row new) in
-      let here_at : get_or (laid_over row now stripes) j [] ≡ get_or (slice_set old j (row new)) j [] =
-      laid_row now stripes j below
-      ∙ ap (λ (o : Option A). own_or row o (get_or stripes j [])) (get_or-set_same own j (Some new) None here)
-      ∙ sym (get_or-set_same old j (row new) [] (omega arith)) in
-      ext_get_or [] (laid_over row now stripes) (slice_set old j (row new)) (omega arith)
-      (λ i l. elim (cases_eq i j) [
-        | inl same ↦ subst (λ k. get_or (laid_over row now stripes) k [] ≡ get_or (slice_set old j (row new)) k []) (sym same) here_at
-        | inr other ↦
-            laid_row now stripes i (omega arith)
-            ∙ ap (λ (o : Option A). own_or row o (get_or stripes i [])) (get_or-set_other own j i (Some new) None other)
-            ∙ sym (laid_row own stripes i (omega arith))
-            ∙ sym (get_or-set_other old j i (row new) [] other)
-      ])
-
-  -- and one slot of it changes
-  pub laid_change : (own : List (Option A)) (stripes : Stripes) (j f : ℕ) (new : A) (x : Option (List ℕ)) → j < length own → j < length stripes
-      → f < length (get_or (laid_over row own stripes) j []) → row new ≡ slice_set (get_or (laid_over row own stripes) j []) f x
-      → (i g : ℕ) → fragment_at (laid_over row (slice_set own j (Some new)) stripes) i g ≡ cond ((i == j) && (g == f)) x (fragment_at (laid_over row own stripes) i g)
-  laid_change own stripes j f new x here below inside changed i g =
-      let old : Stripes = laid_over row own stripes in
-      ap (λ (t : Stripes). fragment_at t i g) (laid_set own stripes j new here below ∙ ap (slice_set old j) changed)
-      ∙ set_at old j f i g x (let count = laid_count own stripes in omega arith) inside
-
-  -- or none does
-  pub laid_same : (own : List (Option A)) (stripes : Stripes) (j : ℕ) (new : A) → j < length own → j < length stripes → row new ≡ get_or (laid_over row own stripes) j []
-      → laid_over row (slice_set own j (Some new)) stripes ≡ laid_over row own stripes
-  laid_same own stripes j new here below same =
-      laid_set own stripes j new here below ∙ ap (slice_set (laid_over row own stripes) j) same ∙ set-get_or (laid_over row own stripes) j []

@@ -13,12 +13,12 @@ use Rattle.sealed.specs.declared.value.Sealed.{Sealed}
 use Rattle.sealed.specs.Layout.{stripe_size, stripe_of, fragment_of, place_of, byte_of}
 use Rattle.sealed.specs.Blob.{Lost, lost_in, data_at, fragment}
 use Rattle.sealed.specs.Stripes.{Stripes, fragment_at}
-use Rattle.sealed.specs.Packed.{held_by, packed, ArePacked, laid_over, own_or}
+use Rattle.sealed.specs.Packed.{held_by, packed, ArePacked}
 use Rattle.sealed.specs.Sealed.{StandsFor}
 use Rattle.sealed.specs.Runs.{byte_in, IsDataFrom, is_absent_at, rest_at}
 use Rattle.sealed.proofs.Counting.{data_is_counted}
 use Rattle.sealed.proofs.Fragments.{fragments_are}
-use Rattle.sealed.proofs.Packing.{first_seen, part_inside, held_long, laid_row}
+use Rattle.sealed.proofs.Packing.{first_seen, part_inside, held_long}
 use Rattle.sealed.proofs.Places.{rest_of, byte_back, place_back, fragment_inside, place_inside, stripe_inside}
 use Rattle.sealed.proofs.Ranges.{length_of_range, item_of_range}
 
@@ -152,15 +152,6 @@ module _ (code : Code) (w : ℕ) (blob last parities : List ℕ) (count : ℕ) (
       ap (option_map (λ x. get_or x (k % v) 0)) found
       ∙ ap (λ n. Some (get_or (slice_range held (v * f) (v * f + v)) n 0)) place
       ∙ ap (λ n. Some n) (item_of_range held (v * f) (v * f + v) p (part_inside code w blob last parities count are stripes seen j below v d wide counted f is_data) (omega arith) ∙ ap (λ n. get_or held n 0) inner)
-
--- stripes with no handles of their own are those of the packed ones
-pub laid_byte : {A : Type 0} (row : A → List (Option (List ℕ))) (own : List (Option A)) (stripes seen : Stripes) → laid_over row own stripes ≡ seen → (code : Code) (w k : ℕ)
-    → stripe_of code w k < length stripes → get_or own (stripe_of code w k) None ≡ None → byte_in code w seen k ≡ byte_in code w stripes k
-laid_byte row own stripes seen same code w k inside none =
-    let j = stripe_of code w k in
-    ap (λ (t : Stripes). byte_in code w t k) (sym same)
-    ∙ ap (λ (r : List (Option (List ℕ))). option_map (λ x. get_or x (place_of w k) 0) (get_or r (fragment_of code w k) None))
-    (laid_row row own stripes j inside ∙ ap (λ o. own_or row o (get_or stripes j [])) none)
 
 -- ---- the value
 there : {A B : Type 0} (f : A → B) (found : Option A) (y : B) → option_map f found ≡ Some y → is_none found ≡ false

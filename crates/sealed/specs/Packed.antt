@@ -79,13 +79,3 @@ pub record AreWhole (code : Code) (w : ℕ) (b : List ℕ) (count : ℕ) (stripe
   pub counted : length stripes ≡ count
   pub present : (j f : ℕ) → j < count → f < fragment_count code → fragment_at stripes j f ≡ Some (fragment code w b j f)
   pub others : (j f : ℕ) → j < count → fragment_count code ≤ f → fragment_at stripes j f ≡ None
-
--- a stripe of its own, or else this one
-abbrev pub own_or : {A : Type 0} → (A → List (Option (List ℕ))) → Option A → List (Option (List ℕ)) → List (Option (List ℕ))
-own_or row (Some own) stripe = row own
-own_or row None stripe = stripe
-
--- the stripes of a list, with each one replaced that has one of its own. The list of those may be
--- shorter
-unfoldable pub laid_over : {A : Type 0} → (A → List (Option (List ℕ))) → List (Option A) → Stripes → Stripes
-laid_over row own stripes = map (λ j. own_or row (slice_index_or own j None) (slice_index_or stripes j [])) (range_with_len 0 (length stripes))

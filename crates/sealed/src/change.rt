@@ -1,5 +1,5 @@
 //! Values that differ from an old one in one fragment.
-ghost use Rattle.std.specs.Prelude.{◌≡◌, ◌<◌, ℕ, List, None, Some, length, slice_set, IfOk, IfErr};
+ghost use Rattle.std.specs.Prelude.{◌≡◌, ◌<◌, ℕ, List, None, Some, length, IfOk, IfErr};
 ghost use Rattle.std.specs.Prelude.{IfSome, OnOk, OnErr};
 ghost use Rattle.std.specs.FinSet as set;
 ghost use Rattle.lrc_code.specs.Code.{fragment_count};
@@ -8,11 +8,10 @@ ghost use Rattle.sealed.specs.Blob.{Lost, fragment};
 ghost use Rattle.sealed.specs.Sealed.{StandsFor};
 ghost use Rattle.sealed.specs.Change.{IsChanged};
 
-use crate::{Fault, Sealed, Stripe};
+use crate::{Fault, Sealed};
 use bytes::Bytes;
 use lrc_code::NoMemory;
 use std::alloc::Global;
-use std::sync::Arc;
 
 impl Sealed {
     /// A copy without the fragment `f` of a stripe. It shares all other bytes with this value. The
@@ -106,54 +105,5 @@ impl Sealed {
             code: self.code,
             stripes: self.stripes.share(alloc)?,
         })
-    }
-}
-
-/// Sets the slot of the fragment `f`, in a copy of the stripe if the stripe has other owners.
-pub(crate) fn set_slot(
-    stripe: &mut Arc<Stripe>,
-    alloc: Global,
-    f: usize,
-    slot: Option<Bytes>,
-) -> Result<(), NoMemory>
-    requires { f < 16 }
-    ensures ok { OnOk result (stripe.new.value.fragments
-        ≡ slice_set stripe.old.value.fragments f slot) }
-    ensures err { OnErr result (stripe.new.value.fragments ≡ stripe.old.value.fragments) }
-{
-    if let Some(own) = Arc::get_mut(stripe) {
-        own.put(f, slot);
-        return Ok(());
-    }
-    let changed = with_slot(stripe, f, slot)?;
-    *stripe = Arc::new(alloc, changed)?;
-    Ok(())
-}
-
-/// A copy of the stripe with this slot for the fragment `f`. It shares the other fragments.
-fn with_slot(stripe: &Stripe, f: usize, slot: Option<Bytes>) -> Result<Stripe, NoMemory>
-    requires { f < 16 }
-    ensures { IfOk result (λ s. s.fragments ≡ slice_set stripe.now.fragments f slot) }
-{
-    let mut fragments: [Option<Bytes>; 16] = [
-        None, None, None, None, None, None, None, None, None, None, None, None, None, None, None,
-        None,
-    ];
-    for g in 0..16usize {
-        if g != f {
-            fragments[g] = shared(&stripe.fragments[g])?;
-        }
-    }
-    fragments[f] = slot;
-    Ok(Stripe::new(fragments))
-}
-
-/// One more owner of the fragment in a slot.
-fn shared(slot: &Option<Bytes>) -> Result<Option<Bytes>, NoMemory>
-    ensures { IfOk result (λ s. s ≡ slot.now) }
-{
-    match slot {
-        Some(bytes) => Ok(Some(bytes.clone()?)),
-        None => Ok(None),
     }
 }

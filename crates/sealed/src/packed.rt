@@ -1,5 +1,7 @@
 //! The stripes of a blob as `seal` makes them.
 ghost use Rattle.std.specs.Prelude.{◌≡◌, ◌+◌, ◌*◌, ◌/◌, ◌%◌, ◌<◌, ◌≤◌, ◌&&◌, ◌⊎◌, ℕ, None, Some};
+ghost use Rattle.std.specs.Prelude.{◌==◌, ◌≢◌, if◌then◌else◌, slice_range};
+ghost use Rattle.std.specs.Bool.{OnTrue, OnFalse};
 ghost use Rattle.std.specs.Prelude.{[], length, nat_lt, is_none, slice_index_or, take, drop, IfOk};
 ghost use Rattle.std.specs.Option.{option_map};
 ghost use Rattle.lrc_code.specs.Code.{fragment_count, is_lost};
@@ -9,16 +11,17 @@ ghost use Rattle.sealed.specs.Packed.{packed, held_by, parities_by, part_of, Are
 ghost use Rattle.sealed.specs.Packed.{data_bytes, last_bytes, parity_bytes};
 ghost use Rattle.sealed.specs.Runs.{IsDataFrom};
 
-use crate::{Stripe, Width};
+use crate::Width;
+use crate::buffer::put_part;
 use bytes::Bytes;
 use lrc_code::{Code, LostSet, NoMemory};
 use std::alloc::Global;
 use std::marker::Model;
 use std::sync::Arc;
 
-/// The stripes of a blob without lost fragments. None of them has handles of its own: a fragment is
-/// a slice of the blob's bytes or of the parities. A small blob has both in one vector. Contracts
-/// see the fragments of each.
+/// The stripes of a blob as they are sealed, with no fragment lost: a fragment is a slice of the
+/// blob's bytes or of the parities. A small blob has both in one vector. Contracts see the
+/// fragments of each stripe.
 #[derive(Drop)]
 pub(crate) struct Packed {
     code: Code,
@@ -93,6 +96,13 @@ impl Packed {
         }
     }
 
+    /// States for the prover that each stripe has sixteen slots.
+    pub(crate) fn sixteen(&self)
+        ensures { (j : ℕ) → j < length self.now → length (slice_index_or self.now j []) ≡ 16 }
+    {
+        let _count = self.count;
+    }
+
     /// The number of stripes.
     #[tactic(auto, using(crate::proofs::Packing::packed_count))]
     pub(crate) fn len(&self) -> usize
@@ -134,20 +144,6 @@ impl Packed {
         }
     }
 
-    /// A stripe with handles of its own. They share the bytes, or those of a small blob are copied.
-    /// `NoMemory` if memory runs out.
-    pub(crate) fn stripe(&self, alloc: Global, j: usize) -> Result<Stripe, NoMemory>
-        requires { j < length self.now }
-        ensures { IfOk result (λ s. s.fragments ≡ slice_index_or self.now j []) }
-    {
-        let w = self.width.get() as usize;
-        let size = usize::from(self.code.data_fragments()) * w;
-        let joined = self.joined.as_slice();
-        let held = shared_held(alloc, &self.parts, joined, size, j)?;
-        let parities = shared_parities(alloc, &self.parts, joined, size, w, j)?;
-        handles(self.code, w, &held, &parities)
-    }
-
     /// A copy that shares the bytes, or has a copy of those of a small blob.
     pub(crate) fn share(&self, alloc: Global) -> Result<Packed, NoMemory>
         ensures { IfOk result (λ p. p ≡ self.now) }
@@ -159,6 +155,25 @@ impl Packed {
             joined: Vec::from_slice(alloc, self.joined.as_slice())?,
             parts: one_more(&self.parts)?,
         })
+    }
+
+    /// Writes a fragment in place. `false`, with nothing changed, if its bytes have other owners,
+    /// or it is none of the code's or of another width.
+    pub(crate) fn write(&mut self, j: usize, f: usize, bytes: &[u8]) -> bool
+        requires j_below { j < length self.old }
+        requires f_below { f < 16 }
+        ensures count { length self.new ≡ length self.old }
+        ensures ok { OnTrue result ((i g : ℕ) → fragment_at self.new i g
+            ≡ (if (i == j) && (g == f) then Some bytes.now else fragment_at self.old i g)) }
+        ensures kept { OnFalse result (self.new ≡ self.old) }
+    {
+        let w = self.width.get() as usize;
+        let data = usize::from(self.code.data_fragments());
+        if bytes.len() != w || f >= data + 4 || self.parts.is_some() {
+            return false;
+        }
+        write_joined(&mut self.joined, f, bytes);
+        true
     }
 
     /// The bytes of the data from the byte `start` on that lie one behind another, up to the byte
@@ -178,6 +193,20 @@ impl Packed {
         let blob = blob_in(&self.parts, self.joined.as_slice(), size);
         run_in(blob, last_in(&self.parts), size, start, end)
     }
+}
+
+/// Writes the part number `n` of those of as many bytes as these.
+fn write_joined(joined: &mut Vec<u8>, n: usize, bytes: &[u8])
+    requires { length bytes.now * n + length bytes.now ≤ length joined.old.items }
+    ensures long { length joined.new.items ≡ length joined.old.items }
+    ensures here { slice_range joined.new.items (length bytes.now * n)
+        (length bytes.now * n + length bytes.now) ≡ bytes.now }
+    ensures others { (m : ℕ) → m ≢ n
+        → slice_range joined.new.items (length bytes.now * m)
+        (length bytes.now * m + length bytes.now) ≡ slice_range joined.old.items
+        (length bytes.now * m) (length bytes.now * m + length bytes.now) }
+{
+    put_part(joined.as_mut_slice(), n, bytes);
 }
 
 /// One more owner of the parts, if there are any.
@@ -256,40 +285,6 @@ pub(crate) fn held_in<'a>(blob: &'a [u8], last: &'a [u8], size: usize, j: usize)
     &blob[start..start + size]
 }
 
-/// One more owner of those bytes, or of a copy of them.
-fn shared_held(
-    alloc: Global,
-    parts: &Option<Arc<Parts>>,
-    joined: &[u8],
-    size: usize,
-    j: usize,
-) -> Result<Bytes, NoMemory>
-    requires { size * j ≤ length (data_bytes (λ a. a.value) parts.now joined.now size) }
-    ensures { IfOk result (λ held. held ≡ held_by size
-        (data_bytes (λ a. a.value) parts.now joined.now size) (last_bytes (λ a. a.value) parts.now) j) }
-{
-    match parts {
-        Some(parts) => held_part(&parts.blob, &parts.last, size, j),
-        None => {
-            let blob = &joined[..size.min(joined.len())];
-            Ok(Bytes::copy_from_slice(alloc, held_in(blob, &[], size, j))?)
-        }
-    }
-}
-
-/// One more owner of the bytes that stripe `j` holds.
-fn held_part(blob: &Bytes, last: &Bytes, size: usize, j: usize) -> Result<Bytes, NoMemory>
-    requires { size * j ≤ length blob.now }
-    ensures { IfOk result (λ held. held ≡ held_by size blob.now last.now j) }
-{
-    let len = blob.len();
-    let start = size * j;
-    if len - start < size {
-        return Ok(last.clone()?);
-    }
-    blob.slice(start..start + size)
-}
-
 /// The four parities of stripe `j`, of `w` bytes each, one after the other.
 fn parities_in(parities: &[u8], w: usize, j: usize) -> &[u8]
     requires width { w ≤ 65536 }
@@ -297,61 +292,4 @@ fn parities_in(parities: &[u8], w: usize, j: usize) -> &[u8]
     ensures { result.now ≡ parities_by w parities.now j }
 {
     &parities[4 * w * j..4 * w * j + 4 * w]
-}
-
-/// One more owner of those bytes, or of a copy of them.
-fn shared_parities(
-    alloc: Global,
-    parts: &Option<Arc<Parts>>,
-    joined: &[u8],
-    size: usize,
-    w: usize,
-    j: usize,
-) -> Result<Bytes, NoMemory>
-    requires width { w ≤ 65536 }
-    requires few { j < 4096 }
-    requires inside { 4 * w * j + 4 * w
-        ≤ length (parity_bytes (λ a. a.value) parts.now joined.now size) }
-    ensures { IfOk result (λ four. four ≡ parities_by w
-        (parity_bytes (λ a. a.value) parts.now joined.now size) j) }
-{
-    match parts {
-        Some(parts) => parities_part(&parts.parities, w, j),
-        None => {
-            let parities = &joined[size.min(joined.len())..];
-            Ok(Bytes::copy_from_slice(alloc, parities_in(parities, w, j))?)
-        }
-    }
-}
-
-/// One more owner of the four parities of stripe `j`.
-fn parities_part(parities: &Bytes, w: usize, j: usize) -> Result<Bytes, NoMemory>
-    requires width { w ≤ 65536 }
-    requires few { j < 4096 }
-    requires inside { 4 * w * j + 4 * w ≤ length parities.now }
-    ensures { IfOk result (λ four. four ≡ parities_by w parities.now j) }
-{
-    parities.slice(4 * w * j..4 * w * j + 4 * w)
-}
-
-/// The stripe that holds these bytes and has these parities, with a handle for each fragment.
-fn handles(code: Code, w: usize, held: &Bytes, parities: &Bytes) -> Result<Stripe, NoMemory>
-    requires width { w ≤ 65536 }
-    requires long { length held.now ≡ stripe_size code w }
-    requires parities { length parities.now ≡ 4 * w }
-    ensures { IfOk result (λ s. (f : ℕ) → slice_index_or s.fragments f None
-        ≡ part_of code w held.now parities.now f) }
-{
-    let data = usize::from(code.data_fragments());
-    let mut fragments: [Option<Bytes>; 16] = [
-        None, None, None, None, None, None, None, None, None, None, None, None, None, None, None,
-        None,
-    ];
-    for f in 0..data {
-        fragments[f] = Some(held.slice(w * f..w * f + w)?);
-    }
-    for k in 0..4usize {
-        fragments[data + k] = Some(parities.slice(w * k..w * k + w)?);
-    }
-    Ok(Stripe::new(fragments))
 }

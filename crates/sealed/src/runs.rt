@@ -13,8 +13,8 @@ impl Sealed {
     /// most `len`. They end with the range or where a fragment ends. They are empty if `len` is 0
     /// or the byte `start` lies in a lost fragment. Does not allocate.
     ///
-    /// The run goes over stripes of which no fragment was ever lost; in other stripes it ends with
-    /// the fragment.
+    /// The run goes over stripes that lack no fragment and have no patch; in other stripes it ends
+    /// with the fragment.
     pub fn run(&self, start: u64, len: u64) -> &[u8]
         requires { start + len ≤ self.now.len }
         ensures bytes { (b : List ℕ) (lost : Lost) → StandsFor self.now b lost

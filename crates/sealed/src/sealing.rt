@@ -121,7 +121,7 @@ fn all_stripes(
         parities,
     };
     let packed = Packed::apart(alloc, code, width, parts, count)?;
-    Ok(Stripes::from_packed(alloc, packed))
+    Ok(Stripes::from_packed(packed))
 }
 
 /// The stripes of a copy of a blob, without lost fragments.
@@ -150,7 +150,7 @@ fn stripes_of_copy(
         parities,
     };
     let packed = Packed::apart(alloc, code, width, parts, count)?;
-    Ok(Stripes::from_packed(alloc, packed))
+    Ok(Stripes::from_packed(packed))
 }
 
 /// The single stripe of a copy of a small blob, without lost fragments, in one allocation.
@@ -168,7 +168,7 @@ fn stripe_of_copy(
     let w = width.get() as usize;
     let joined = join_and_encode(alloc, code, w, bytes)?;
     let packed = Packed::joined(code, width, joined);
-    Ok(Stripes::from_packed(alloc, packed))
+    Ok(Stripes::from_packed(packed))
 }
 
 /// A copy of a blob's bytes, padded with zeros to a stripe, and then its parities.

@@ -5,3 +5,4 @@ pub mod Lendings
 pub mod RepairSteps
 pub mod Running
 pub mod LostCounts
+pub mod WholeRun

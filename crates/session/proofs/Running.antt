@@ -71,7 +71,7 @@ built_by s part None (Lent r) gone is = absurd is
 built_by s part None (Built v) gone is = refl
 
 -- a piece has the bytes that its part numbers
-piece_bytes : (s : Sealed) (part : Part) (piece : Piece) (b : List ℕ) (lost : Lost) → StandsFor s b lost → part.stripe < stripe_count s.code s.width s.len → part.fragment < data_count s.code → part.to ≤ s.width
+pub piece_bytes : (s : Sealed) (part : Part) (piece : Piece) (b : List ℕ) (lost : Lost) → StandsFor s b lost → part.stripe < stripe_count s.code s.width s.len → part.fragment < data_count s.code → part.to ≤ s.width
     → IsPieceOf s part piece → bytes_in_piece piece ≡ map (λ i. slice_index_or b i 0) (numbers_of s.code s.width part)
 piece_bytes s part piece b lost stands below is_data inside is =
     let g : ℕ → ℕ = λ i. slice_index_or b i 0 in

@@ -183,6 +183,26 @@ fn who_shares_a_small_blob_has_a_copy(rt: HostRuntime) -> Result<(), Fail> {
 }
 
 #[test]
+fn what_is_put_back_lies_where_it_was(rt: HostRuntime) -> Result<(), Fail> {
+    let alloc = rt.alloc();
+    let mut value = sealed(&rt, alloc, Bytes::from_static(b"ABCDEFGHIJK"), 1);
+    assert!(rt; value.len == 11);
+    let whole = value.run(0, 11) == b"ABCDEFGHIJK".as_slice();
+    take_out(&rt, alloc, &mut value, 0, 3);
+    assert!(rt; value.len == 11);
+    let cut = value.run(0, 11) == b"A".as_slice();
+    assert!(rt; 0 < count_stripes(value.code, value.width, value.len));
+    assert!(rt; value.width.get() == 1);
+    value
+        .put_back(alloc, 0, 3, Bytes::from_static(b"D"))
+        .expect(&rt, "memory");
+    assert!(rt; value.len == 11);
+    let mended = value.run(0, 11) == b"ABCDEFGHIJK".as_slice();
+    assert!(rt; [whole, cut, mended] == [true, true, true]);
+    Ok(())
+}
+
+#[test]
 fn a_stripe_filled_up_has_a_loss(rt: HostRuntime) -> Result<(), Fail> {
     let alloc = rt.alloc();
     let mut value = sealed(&rt, alloc, Bytes::from_static(b"ABCDEFGHIJKLHELLO"), 1);

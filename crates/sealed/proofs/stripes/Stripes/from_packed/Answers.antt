@@ -1,7 +1,6 @@
-use Rattle.std.proofs.Common.{◌∙◌, ap}
-use Rattle.sealed.specs.Packed.{laid_over}
-use Rattle.sealed.proofs.Packing.{laid_none}
+use Rattle.sealed.specs.Changes.{lost_at, patch_at}
+use Rattle.sealed.proofs.WithChanges.{changed_none}
 use Rattle.sealed.proofs.stripes.Stripes.from_packed.Goals as goal
 
 pub returns : goal.returns
-returns c = ap (λ own. laid_over (λ a. a.value.fragments) own c.args.packed) c.new.ensures.items ∙ laid_none (λ a. a.value.fragments) c.args.packed
+returns c = changed_none (lost_at c.none.result) (patch_at c.none.result) c.args.packed c.sixteen.ensures c.none.ensures.lost c.none.ensures.patches
