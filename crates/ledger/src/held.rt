@@ -84,9 +84,9 @@ impl<A: Lawful> Ledger<A> {
         gate.enter(rt, seat)
     }
 
-    /// Leaves a value, and wakes a thread that waits. The acts between the value that was found and
-    /// this one are the next acts of the shard. In the list of all shards they stand after all that
-    /// the follower had seen.
+    /// Leaves a value. The acts between the value that was found and this one are the next acts of
+    /// the shard. In the list of all shards they stand after all that the follower had seen. Call
+    /// `Gate::wake` after it: a thread that is not woken sleeps for at most 1.6 milliseconds.
     pub fn leave<T: Changes<A>>(
         &self,
         gate: &Gate<Held<T, A>>,
@@ -156,7 +156,6 @@ impl<A: Lawful> Ledger<A> {
         let mut inside = inside;
         follower.record::<W>(self, &mut inside.value.keeper);
         gate.leave(seat, inside);
-        gate.wake();
     }
 
     /// Closes a lock whose seats are all joined, and returns the value that was left last. The

@@ -49,6 +49,7 @@ impl Shard {
         let mut inside = ledger.enter(rt, &self.gate, &mut seat.seat);
         let result = request.make_on(&mut inside.value.value.0, seat.who);
         leave_book(ledger, &self.gate, &mut seat.seat, follower, inside);
+        self.gate.wake();
         result
     }
 

@@ -139,6 +139,7 @@ impl Shard {
         let kept = &mut inside.value.value.0;
         let inspection = inspect(kept, alloc, seat.who, name, stripe, fragment);
         leave_book(ledger, &self.gate, &mut seat.seat, follower, inside);
+        self.gate.wake();
         inspection
     }
 

@@ -39,6 +39,7 @@ impl Shard {
         let inside = ledger.enter(rt, &self.gate, &mut seat.seat);
         let numbers = inside.value.value.0.numbers();
         leave_book(ledger, &self.gate, &mut seat.seat, follower, inside);
+        self.gate.wake();
         numbers
     }
 

@@ -39,6 +39,7 @@ impl Shard {
         let inside = ledger.enter(rt, &self.gate, &mut seat.seat);
         let plan = inside.value.value.0.plan(alloc);
         leave_book(ledger, &self.gate, &mut seat.seat, follower, inside);
+        self.gate.wake();
         plan.map_err(|_| Fault::NoMemory)
     }
 

@@ -45,6 +45,7 @@ impl Shard {
         let inside = ledger.enter(rt, &self.gate, &mut seat.seat);
         let part = inside.value.value.0.plan_part(alloc, after, most);
         leave_book(ledger, &self.gate, &mut seat.seat, follower, inside);
+        self.gate.wake();
         part.map_err(|_| Fault::NoMemory)
     }
 

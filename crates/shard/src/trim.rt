@@ -39,6 +39,7 @@ impl Shard {
         let mut inside = ledger.enter(rt, &self.gate, &mut seat.seat);
         let result = inside.value.value.0.trim(alloc, keep);
         leave_book(ledger, &self.gate, &mut seat.seat, follower, inside);
+        self.gate.wake();
         result
     }
 

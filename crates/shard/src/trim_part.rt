@@ -45,6 +45,7 @@ impl Shard {
         let mut inside = ledger.enter(rt, &self.gate, &mut seat.seat);
         let result = inside.value.value.0.trim_part(alloc, keep, most);
         leave_book(ledger, &self.gate, &mut seat.seat, follower, inside);
+        self.gate.wake();
         result
     }
 

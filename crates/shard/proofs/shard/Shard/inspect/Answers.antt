@@ -25,7 +25,7 @@ leave_book-requires-clause-found g c =
     may_leave c.args.ledger.now c.seat.inside.seat c.enter-inside.new.seat c.enter-inside.result.value c.seat.inside.who c.args.seat.now c.seat.view_is c.requires.at c.seat.invariant (record { same = (e.unchanged.0, e.unchanged.1, e.unchanged.2); seen = e.seen; found = e.found; lone = e.lone })
     c.inspect-inspection.new.boxed (events_at_inspection c.inspect-inspection.result c.seat.inside.who (repair c.args.name.now c.args.stripe c.args.fragment)) 0 (inspection_goes_on c.inspect-inspection.result c.enter-inside.result.value.value.0.0.value c.inspect-inspection.new.boxed.0.value c.seat.inside.who c.args.name.now c.args.stripe c.args.fragment m.unchanged m.found) (calls_inspected (event_shard c.args.ledger.now.setup.count) c.args.seat.now.shard c.seat.inside.who (repair c.args.name.now c.args.stripe c.args.fragment) c.inspect-inspection.result (λ _. c.requires.name))
 
-visit : (g : given.Over) (c : goal.After-leave_book g) → Visited c.args.ledger.now.setup c.seat.inside.seat c.leave_book.new.seat c.seat.inside.who c.args.seat.now c.enter-inside.result.value.value.0 (events_at_inspection c.inspect-inspection.result c.seat.inside.who (repair c.args.name.now c.args.stripe c.args.fragment)) 0 c.args.follower.now c.leave_book.new.follower
+visit : (g : given.Over) (c : goal.After-wake g) → Visited c.args.ledger.now.setup c.seat.inside.seat c.leave_book.new.seat c.seat.inside.who c.args.seat.now c.enter-inside.result.value.value.0 (events_at_inspection c.inspect-inspection.result c.seat.inside.who (repair c.args.name.now c.args.stripe c.args.fragment)) 0 c.args.follower.now c.leave_book.new.follower
 visit g c =
     let e = c.enter-inside.ensures in
     let m = c.inspect-inspection.ensures in

@@ -32,7 +32,7 @@ leave_book-requires-clause-found g c =
     may_leave c.args.ledger.now c.seat.inside.seat c.enter-inside.new.seat c.enter-inside.result.value c.seat.inside.who c.args.seat.now c.seat.view_is c.requires.at c.seat.invariant (record { same = (e.unchanged.0, e.unchanged.1, e.unchanged.2); seen = e.seen; found = e.found; lone = e.lone })
     c.make_on-result.new.boxed (made_by c.seat.inside.who (operation_of c.args.request) c.make_on-result.result) 0 (call_goes_on c.make_on-result.result c.enter-inside.result.value.value.0.0.value c.make_on-result.new.boxed.0.value c.seat.inside.who (operation_of c.args.request) m.unchanged (answered c.make_on-result.result c.enter-inside.result.value.value.0.0.value c.make_on-result.new.boxed.0.value c.seat.inside.who (operation_of c.args.request) m.ok m.full) m.err) (calls_made (event_shard c.args.ledger.now.setup.count) c.args.seat.now.shard c.seat.inside.who (operation_of c.args.request) c.make_on-result.result (λ _. c.requires.name))
 
-visit : (g : given.Over) (c : goal.After-leave_book g) → Visited c.args.ledger.now.setup c.seat.inside.seat c.leave_book.new.seat c.seat.inside.who c.args.seat.now c.enter-inside.result.value.value.0 (made_by c.seat.inside.who (operation_of c.args.request) c.make_on-result.result) 0 c.args.follower.now c.leave_book.new.follower
+visit : (g : given.Over) (c : goal.After-wake g) → Visited c.args.ledger.now.setup c.seat.inside.seat c.leave_book.new.seat c.seat.inside.who c.args.seat.now c.enter-inside.result.value.value.0 (made_by c.seat.inside.who (operation_of c.args.request) c.make_on-result.result) 0 c.args.follower.now c.leave_book.new.follower
 visit g c =
     let e = c.enter-inside.ensures in
     let m = c.make_on-result.ensures in
@@ -50,7 +50,7 @@ returns-clause-same g c = (visit g c).same
 pub returns-clause-follower : goal.returns-clause-follower
 returns-clause-follower g c = (visit g c).follower
 
-can : (g : given.Over) (c : goal.After-leave_book g) → CanMake c.enter-inside.result.value.value.0.0.value c.args.request
+can : (g : given.Over) (c : goal.After-wake g) → CanMake c.enter-inside.result.value.value.0.0.value c.args.request
 can g c =
     let e = c.enter-inside.ensures in
     can_make_inside (plain c.seat.inside.seat) (plain c.enter-inside.new.seat) c.enter-inside.result.value.value.0 c.seat.inside.who c.args.request _ (ap (λ t. t.shows) c.seat.view_is) c.seat.invariant.pass

@@ -19,7 +19,7 @@ leave_book-requires-clause-found g c =
     may_leave c.args.ledger.now c.seat.inside.seat c.enter-inside.new.seat c.enter-inside.result.value c.seat.inside.who c.args.seat.now c.seat.view_is c.requires.at c.seat.invariant (record { same = (e.unchanged.0, e.unchanged.1, e.unchanged.2); seen = e.seen; found = e.found; lone = e.lone })
     c.enter-inside.result.value.value.0 [] 0 (same_goes_on c.enter-inside.result.value.value.0.0.value c.enter-inside.result.value.value.0.0.value refl) (tt)
 
-visit : (g : given.Over) (c : goal.After-leave_book g) → Visited c.args.ledger.now.setup c.seat.inside.seat c.leave_book.new.seat c.seat.inside.who c.args.seat.now c.enter-inside.result.value.value.0 [] 0 c.args.follower.now c.leave_book.new.follower
+visit : (g : given.Over) (c : goal.After-wake g) → Visited c.args.ledger.now.setup c.seat.inside.seat c.leave_book.new.seat c.seat.inside.who c.args.seat.now c.enter-inside.result.value.value.0 [] 0 c.args.follower.now c.leave_book.new.follower
 visit g c =
     let e = c.enter-inside.ensures in
     let l = c.leave_book.ensures in
@@ -44,7 +44,7 @@ returns-clause-takes g c =
 pub returns-clause-listed : goal.returns-clause-listed
 returns-clause-listed g c = (visit g c).listed
 
-store_is : (g : given.Over) (c : goal.After-leave_book g) → (shows (plain c.seat.inside.seat) c.seat.inside.who).store ≡ c.args.self.now
+store_is : (g : given.Over) (c : goal.After-wake g) → (shows (plain c.seat.inside.seat) c.seat.inside.who).store ≡ c.args.self.now
 store_is g c = ap (λ t. t.shows.store) c.seat.view_is ∙ c.requires.shard
 
 pub returns-clause-holds : goal.returns-clause-holds

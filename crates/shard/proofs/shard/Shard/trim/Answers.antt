@@ -19,7 +19,7 @@ leave_book-requires-clause-found g c =
     may_leave c.args.ledger.now c.seat.inside.seat c.enter-inside.new.seat c.enter-inside.result.value c.seat.inside.who c.args.seat.now c.seat.view_is c.requires.at c.seat.invariant (record { same = (e.unchanged.0, e.unchanged.1, e.unchanged.2); seen = e.seen; found = e.found; lone = e.lone })
     c.trim-result.new.self [] (given_by c.trim-result.result) (trim_goes_on c.trim-result.result c.enter-inside.result.value.value.0.0.value c.trim-result.new.self.0.value m.unchanged.0 m.unchanged.1 m.holds m.trimmed m.err) (tt)
 
-visit : (g : given.Over) (c : goal.After-leave_book g) → Visited c.args.ledger.now.setup c.seat.inside.seat c.leave_book.new.seat c.seat.inside.who c.args.seat.now c.enter-inside.result.value.value.0 [] (given_by c.trim-result.result) c.args.follower.now c.leave_book.new.follower
+visit : (g : given.Over) (c : goal.After-wake g) → Visited c.args.ledger.now.setup c.seat.inside.seat c.leave_book.new.seat c.seat.inside.who c.args.seat.now c.enter-inside.result.value.value.0 [] (given_by c.trim-result.result) c.args.follower.now c.leave_book.new.follower
 visit g c =
     let e = c.enter-inside.ensures in
     let m = c.trim-result.ensures in

@@ -21,7 +21,7 @@ leave_book-requires-clause-found g c =
     may_leave c.args.ledger.now c.seat.inside.seat c.enter-inside.new.seat c.enter-inside.result.value c.seat.inside.who c.args.seat.now c.seat.view_is c.requires.at c.seat.invariant (record { same = (e.unchanged.0, e.unchanged.1, e.unchanged.2); seen = e.seen; found = e.found; lone = e.lone })
     c.trim_part-result.new.self [] (given_by c.trim_part-result.result) (trim_goes_on c.trim_part-result.result c.enter-inside.result.value.value.0.0.value c.trim_part-result.new.self.0.value m.unchanged.0 m.unchanged.1 m.holds m.trimmed m.err) (tt)
 
-visit : (g : given.Over) (c : goal.After-leave_book g) → Visited c.args.ledger.now.setup c.seat.inside.seat c.leave_book.new.seat c.seat.inside.who c.args.seat.now c.enter-inside.result.value.value.0 [] (given_by c.trim_part-result.result) c.args.follower.now c.leave_book.new.follower
+visit : (g : given.Over) (c : goal.After-wake g) → Visited c.args.ledger.now.setup c.seat.inside.seat c.leave_book.new.seat c.seat.inside.who c.args.seat.now c.enter-inside.result.value.value.0 [] (given_by c.trim_part-result.result) c.args.follower.now c.leave_book.new.follower
 visit g c =
     let e = c.enter-inside.ensures in
     let m = c.trim_part-result.ensures in
@@ -39,7 +39,7 @@ returns-clause-same g c = (visit g c).same
 pub returns-clause-follower : goal.returns-clause-follower
 returns-clause-follower g c = (visit g c).follower
 
-takes_part : (g : given.Over) (c : goal.After-leave_book g) (keep : ℕ) → IfOk c.trim_part-result.result (λ n. n ≡ given_up c.enter-inside.result.value.value.0.0.value.base.trimmed (length (journal_of c.enter-inside.result.value.value.0.0.value)) keep)
+takes_part : (g : given.Over) (c : goal.After-wake g) (keep : ℕ) → IfOk c.trim_part-result.result (λ n. n ≡ given_up c.enter-inside.result.value.value.0.0.value.base.trimmed (length (journal_of c.enter-inside.result.value.value.0.0.value)) keep)
     → Takes c.args.seat.now.shows (trim_deed keep c.trim_part-result.result) (shows (plain c.leave_book.new.seat) c.seat.inside.who)
 takes_part g c keep answer =
     subst (λ v. Takes v (trim_deed keep c.trim_part-result.result) (shows (plain c.leave_book.new.seat) c.seat.inside.who)) (ap (λ t. t.shows) c.seat.view_is)
