@@ -15,6 +15,15 @@ resp() { # FLAG..
         -o "$work/resp" && python3 tests/services/resp_server.py "$work/resp"
 }
 
+# The same over the library that counts its blocks of memory.
+resp_counted() {
+    tests/store/counted.sh "$work/counted" || return
+    gcc "${flags[@]}" examples/server_resp/server.c -L "$work/counted" -l:liblrc_store.so \
+        -Wl,-rpath,"$work/counted" -lpthread -o "$work/resp" \
+        && LRC_COUNTED=$work/resp_numbers PYTHONDONTWRITEBYTECODE=1 PYTHONPATH=tests/store \
+            python3 tests/services/resp_server.py "$work/resp"
+}
+
 # over PACKAGES WORD..: Python over the libraries, with these packages
 over() {
     LRC_STORE_SO="$LRC_LIBRARIES/liblrc_store.so" LRC_CODER_SO="$LRC_LIBRARIES/liblrc_coder.so" \
@@ -41,11 +50,14 @@ cache() {
         <(awk '/^\140\140\140/ { inside = !inside; next } inside' examples/cache/README.md)
 }
 
-# The package with its extension module.
+# The package with its extension module, over the library that counts its blocks of memory.
 with_extension() {
-    cp -r bindings/python "$work/python" \
+    cp -r bindings/python "$work/python" && tests/store/counted.sh "$work/counted" \
         && tools/python_extension.py --libraries "$LRC_LIBRARIES" --to "$work/python/lrcstore" \
-            --rpath "$LRC_LIBRARIES" > /dev/null && http "$work/python"
+            --rpath "$work/counted" > /dev/null \
+        && LRC_STORE_SO=$work/counted/liblrc_store.so LRC_COUNTED=$work/numbers \
+            PYTHONDONTWRITEBYTECODE=1 PYTHONPATH=$work/python:tests/store \
+            python3 tests/services/http_server.py
 }
 
 types() {
@@ -55,7 +67,7 @@ types() {
     done
 }
 
-test_of "Redis's protocol" gcc gcc resp
+test_of "Redis's protocol" gcc gcc resp_counted
 test_of "Redis's protocol, sanitizers of gcc" gcc gcc resp "${sanitizers[@]}"
 test_of "HTTP by ctypes" python3 python3 http bindings/python
 test_of "HTTP" "$(tools/python_extension.py --header)" python3-dev with_extension

@@ -200,14 +200,14 @@ static int measured(struct client *client, const struct key *key, uint64_t *len,
     return 0;
 }
 
-static void tell_length(struct client *client, const struct key *key, const struct word *words) {
+static void say_length(struct client *client, const struct key *key, const struct word *words) {
     uint64_t len = 0;
     int exists;
     if (measured(client, key, &len, &exists)) say_number(client, ':', len);
     (void)words;
 }
 
-static void tell_presence(struct client *client, const struct key *key, const struct word *words) {
+static void say_presence(struct client *client, const struct key *key, const struct word *words) {
     uint64_t len;
     int exists;
     if (measured(client, key, &len, &exists)) say_number(client, ':', (uint64_t)exists);
@@ -298,7 +298,7 @@ static int is_word(struct word word, const char *text) {
 }
 
 /* What clients ask for when they connect, and can do without: COMMAND [DOCS], CONFIG GET. */
-static void list_nothing(struct client *client, const struct word *words) {
+static void say_empty_list(struct client *client, const struct word *words) {
     if (!words[1].at || is_word(words[1], "DOCS") || is_word(words[1], "GET"))
         say(client, "*0\r\n");
     else
@@ -321,16 +321,16 @@ static const struct command {
     {"GET", 2, 2, NULL, get},
     {"SET", 3, 3, NULL, set},
     {"DEL", 2, 2, NULL, delete},
-    {"STRLEN", 2, 2, NULL, tell_length},
-    {"EXISTS", 2, 2, NULL, tell_presence},
+    {"STRLEN", 2, 2, NULL, say_length},
+    {"EXISTS", 2, 2, NULL, say_presence},
     {"LOSE", 4, 4, NULL, lose},
     {"MEND", 1, 1, mend, NULL},
     {"DBSIZE", 1, 1, count_keys, NULL},
     {"INFO", 1, 1, inform, NULL},
     {"PING", 1, 2, pong, NULL},
     {"ECHO", 2, 2, echo, NULL},
-    {"COMMAND", 1, MOST_WORDS, list_nothing, NULL},
-    {"CONFIG", 3, MOST_WORDS, list_nothing, NULL},
+    {"COMMAND", 1, MOST_WORDS, say_empty_list, NULL},
+    {"CONFIG", 3, MOST_WORDS, say_empty_list, NULL},
     {"QUIT", 1, 1, quit, NULL},
 };
 

@@ -1,5 +1,7 @@
 #!/usr/bin/env python3
-"""examples/server_http: http_server.py, with the package `lrcstore` on PYTHONPATH."""
+"""examples/server_http: http_server.py, with the package `lrcstore` on PYTHONPATH. If LRC_COUNTED
+is set, the library is that of tests/store/counted.sh, and each server has to end without
+memory."""
 
 import http.client
 import itertools
@@ -15,6 +17,9 @@ import unittest
 TOP = os.path.dirname(os.path.dirname(os.path.dirname(os.path.abspath(__file__))))
 SERVER = os.path.join(TOP, "examples", "server_http", "server.py")
 PATIENCE = 60  # seconds that no step takes
+COUNTED = "LRC_COUNTED" in os.environ
+if COUNTED:
+    import counted
 
 
 def bytes_of(length, seed=0):
@@ -36,6 +41,8 @@ class Server:
         self.process.send_signal(signal.SIGTERM)
         self.status = self.process.wait(PATIENCE)
         self.process.stdout.close()
+        if COUNTED and counted.blocks():
+            raise AssertionError(f"the server ended with {counted.blocks()} blocks of memory")
 
     def ask(self, method, path, body=None, **headers):
         """The status, the headers and the body of a reply."""
@@ -84,6 +91,18 @@ class Objects(unittest.TestCase):
         self.assertEqual(ask("GET", "/a/b%20c")[0], 404)
         self.assertEqual(ask("PUT", "/empty", b"")[0], 201)
         self.assertEqual(ask("GET", "/empty")[2], b"")
+
+    def test_paths_that_differ_a_little(self):
+        """A path is bytes, however they are quoted: letters of either case differ."""
+        ask = self.server.ask
+        paths = ("/key", "/Key", "/KEY", "/key/", "/key%20", "/key%00", "/k%C3%A9y", "/k%E9y")
+        for number, path in enumerate(paths):
+            self.assertEqual(ask("PUT", path, b"%d" % number)[0], 201)
+        self.assertEqual(self.server.metric("blobs"), str(len(paths)))
+        self.assertEqual((ask("DELETE", "/kEy")[0], ask("DELETE", "/Key")[0]), (404, 204))
+        found = [ask("GET", path)[2] for path in paths]
+        self.assertEqual((found[0], found[2:]), (b"0", [b"%d" % it for it in range(2, 8)]))
+        self.assertEqual(ask("GET", "/%4BEY")[2], b"2")
 
     def test_ranges(self):
         ask = self.server.ask

@@ -79,12 +79,12 @@ class Nodes(unittest.TestCase):
         for name, blob in blobs.items():
             self.cluster.put(name, blob)
         for fragment in (3, 8, 12):
-            kept = dict(self.nodes[self.cluster.node_of("a", fragment)].fragments)
+            fragments = dict(self.nodes[self.cluster.node_of("a", fragment)].fragments)
             self.lose("a", fragment)
             before = self.cluster.bytes_read
             node = self.cluster.node_of("a", fragment)
             self.assertEqual(self.cluster.refill(node), 4 * nodes.WIDTH)
-            self.assertEqual(self.nodes[node].fragments, kept)
+            self.assertEqual(self.nodes[node].fragments, fragments)
             # A parity is rebuilt from its six data fragments; a global one from all twelve.
             read = (self.cluster.bytes_read - before) / (4 * nodes.WIDTH)
             self.assertTrue(6 <= read <= 12, read)

@@ -1,5 +1,6 @@
 #!/usr/bin/env python3
-"""examples/server_resp: resp_server.py PROGRAM"""
+"""examples/server_resp: resp_server.py PROGRAM. If LRC_COUNTED is set, its library is that of
+tests/store/counted.sh, and each server has to end without a block of memory."""
 
 import os
 import random
@@ -12,6 +13,9 @@ import threading
 import time
 import unittest
 
+COUNTED = "LRC_COUNTED" in os.environ
+if COUNTED:
+    import counted
 PROGRAM = sys.argv.pop(1)
 PATIENCE = 60  # seconds that no step takes
 os.environ["ASAN_OPTIONS"] = "quarantine_size_mb=1"  # else freed memory counts as in use
@@ -68,10 +72,18 @@ class Server(unittest.TestCase):
         self.client = Client(self.port)
 
     def tearDown(self):
-        """The server ends with its connections open. A sanitizer then tells what leaked."""
+        """The server ends with its connections open, and one in mid-transfer. A sanitizer then
+        tells what leaked, or the library how much memory it has."""
         self.assertIsNone(self.process.poll(), "the server ended")
+        sender, value = Client(self.port), bytes_of(150_000)
+        sender.ask("SET", "sent", value)
+        sender.socket.sendall(encoded("SET", "sent", value)[:100_000])
+        self.assertEqual(self.client.ask("STRLEN", "sent"), len(value))
         self.process.terminate()
         self.assertEqual(self.process.wait(PATIENCE), 0)
+        sender.close()
+        if COUNTED:
+            self.assertEqual(counted.blocks(), 0, "blocks of memory are left")
         self.assertEqual(self.client.file.read(), b"")
         self.client.close()
         self.process.stdout.close()
@@ -103,6 +115,18 @@ class Server(unittest.TestCase):
             self.assertEqual(ask("DEL", key), 1)
             self.assertEqual(ask("DEL", key), 0)
             self.assertEqual((ask("STRLEN", key), ask("GET", key)), (0, None))
+
+    def test_keys_that_differ_a_little(self):
+        """Keys are bytes: letters of either case differ, and so do spaces and zeros at the end."""
+        ask, keys = self.client.ask, (b"key", b"Key", b"KEY", b"key ", b"key\0", b" key", b"\xebey")
+        for number, key in enumerate(keys):
+            self.assertEqual(ask("SET", key, number), b"OK")
+        self.assertEqual(ask("DBSIZE"), len(keys))
+        self.assertEqual(ask("DEL", b"kEy"), 0)
+        self.assertEqual(ask("DEL", b"Key"), 1)
+        found = [ask("GET", key) for key in keys]
+        self.assertEqual(found, [b"0", None, b"2", b"3", b"4", b"5", b"6"])
+        self.assertEqual([ask("EXISTS", key) for key in keys], [1, 0, 1, 1, 1, 1, 1])
 
     def test_other_commands(self):
         ask = self.client.ask
@@ -209,6 +233,9 @@ class Server(unittest.TestCase):
             b"*1\r\n+PING\r\n",
             b"*1\r\n$x\r\n",
             b"*1\r\n$99999999999999999999\r\n",
+            b"*3\r\n$3\r\nSET\r\n$1\r\na\r\n$67108865\r\n",
+            b"*3\r\n$3\r\nSET\r\n$1\r\na\r\n$536870913\r\nabc",
+            b"*3\r\n$3\r\nSET\r\n$1\r\na\r\n$-1\r\n",
             b"*\r\n",
             b"*1\n$4\r\nPING\r\n",
             b"*1\r\n$4\nPING\r\n",

@@ -217,6 +217,45 @@ mod tests {
     }
 
     #[test]
+    fn keys_that_differ_a_little() {
+        let cache = Cache::new(16, 100_000).unwrap();
+        let keys: [&[u8]; 6] = [b"key", b"Key", b"KEY", b"key ", b"key\0", b""];
+        for (number, key) in (0u8..).zip(keys) {
+            cache.put(key, &[number]).unwrap();
+        }
+        assert!(!cache.remove(b"kEy").unwrap());
+        assert!(cache.remove(b"Key").unwrap());
+        for (number, key) in (0u8..).zip(keys) {
+            let wanted = (number != 1).then_some(vec![number]);
+            assert_eq!(cache.get(key).unwrap(), wanted);
+        }
+        assert_eq!(cache.store.numbers().unwrap().blobs, 5);
+    }
+
+    /// A value that has no room any more is no blob of the store, nor is one of the same name that
+    /// was longer.
+    #[test]
+    fn dropped_values_are_gone() {
+        let cache = Cache::new(16, 2 * OF_100).unwrap();
+        for turn in 0..50u8 {
+            cache.put(&[turn], &[turn; 100]).unwrap();
+            let numbers = cache.store.numbers().unwrap();
+            let kept = u64::from(turn.min(1)) + 1;
+            assert_eq!((numbers.blobs, numbers.bytes), (kept, 100 * kept));
+            if turn > 1 {
+                assert_eq!(cache.get(&[turn - 2]).unwrap(), None);
+            }
+            assert_eq!(cache.get(&[turn]).unwrap().unwrap(), [turn; 100]);
+        }
+        cache.put(&[49], &[0; 5000]).unwrap(); // longer than the cache, and so are all others
+        let numbers = cache.store.numbers().unwrap();
+        assert_eq!((numbers.blobs, numbers.bytes, cache.bytes()), (0, 0, 0));
+        cache.put(&[49], b"x").unwrap();
+        assert_eq!(cache.get(&[49]).unwrap().unwrap(), b"x");
+        assert!(!cache.remove(&[3]).unwrap());
+    }
+
+    #[test]
     fn values_are_removed() {
         let cache = Cache::new(16, 3000).unwrap();
         cache.put(b"a", b"x").unwrap();
