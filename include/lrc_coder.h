@@ -100,7 +100,9 @@ enum { LRC_PLAN_BYTES = 24 };
  * depends on the code, the lost set and the numbers alone: make it once and use it for any number
  * of stripes, with lrc_plan_decode. It is plain bytes: copy it, send it, keep it in a file. Nothing
  * is to be released. Bit i of `reads` is set if and only if lrc_plan_decode reads fragment i, which
- * is never a lost one. LRC_UNRECOVERABLE if and only if all arguments are valid and a numbered
+ * is never a lost one. If each numbered fragment is the only loss of its group, it reads others of
+ * these groups alone: 6 (or 3) for one fragment. For any one fragment it reads at most
+ * `data_fragments`. LRC_UNRECOVERABLE if and only if all arguments are valid and a numbered
  * fragment is unrecoverable. LRC_BAD_ARGUMENT if and only if there is no such code, or a numbered
  * fragment is not the code's or not in `lost`. */
 uint32_t lrc_plan(size_t data_fragments, uint16_t lost, const uint8_t numbers[4],
@@ -183,14 +185,14 @@ static inline uint32_t lrc_encode_add_arrays(size_t data_fragments, size_t len, 
 static inline uint32_t lrc_rebuild_arrays(size_t data_fragments, size_t len,
                                           const uint8_t *const *fragments, uint8_t fragment,
                                           uint8_t *target) {
-    static const uint8_t nothing = 0;
+    static const uint8_t no_bytes = 0;
     lrc_slice slices[16];
     unsigned lost = 1u << (fragment & 15u);
     size_t i;
     if ((data_fragments != 12 && data_fragments != 6) || !target) return LRC_BAD_ARGUMENT;
     for (i = 0; i < 16; i++) {
         const uint8_t *at = i < data_fragments + 4 ? fragments[i] : NULL;
-        slices[i].at = at ? at : &nothing;
+        slices[i].at = at ? at : &no_bytes;
         slices[i].len = at ? len : 0;
         if (!at) lost |= 1u << i;
     }
@@ -201,7 +203,7 @@ static inline uint32_t lrc_rebuild_arrays(size_t data_fragments, size_t len,
  * counts as lost, also if an address is given for it. */
 static inline uint32_t lrc_decode_arrays(size_t data_fragments, size_t len,
                                          const uint8_t *const *fragments, uint8_t *const *targets) {
-    static const uint8_t nothing = 0;
+    static const uint8_t no_bytes = 0;
     lrc_slice slices[16];
     uint8_t unused = 0, numbers[4] = {LRC_NONE, LRC_NONE, LRC_NONE, LRC_NONE};
     uint8_t *four[4];
@@ -212,7 +214,7 @@ static inline uint32_t lrc_decode_arrays(size_t data_fragments, size_t len,
     for (i = 0; i < 16; i++) {
         uint8_t *target = i < data_fragments + 4 ? targets[i] : NULL;
         const uint8_t *at = i < data_fragments + 4 && !target ? fragments[i] : NULL;
-        slices[i].at = at ? at : &nothing;
+        slices[i].at = at ? at : &no_bytes;
         slices[i].len = at ? len : 0;
         if (!at) lost |= 1u << i;
         if (target && count++ < 4) {

@@ -14,9 +14,10 @@
  * the two, by a lock or by the start or the join of a thread. A store has at most 64 sessions at
  * a time.
  *
- * Waiting. No function waits, except the waiting forms at the end, such as lrc_store_put_wait.
- * The others return LRC_STORE_BUSY if another thread is in the critical section. The only session
- * of a store never gets it.
+ * Waiting. No function waits, except those with a `timeout_ms`: the waiting forms at the end, such
+ * as lrc_store_put_wait, and functions of pools, shards and mendings. The others return
+ * LRC_STORE_BUSY if another thread is in the critical section. The only session of a store never
+ * gets it.
  *
  * Signals. A signal handler may call lrc_store_text and lrc_store_cpu, and nothing else of this
  * file: what it interrupts may be in the critical section, or in malloc. A thread can be cancelled
@@ -142,7 +143,8 @@ enum {
 };
 
 /* Opens a store whose fragments have `width` bytes and whose journal holds at most `limit`
- * entries. Puts its first session into the empty `slot`. The session has the store's 64 places. */
+ * entries. Each blob except an empty one takes at least 16 (or 10) fragments, however few bytes it
+ * has. Puts the store's first session into the empty `slot`. The session has its 64 places. */
 uint32_t lrc_store_open(uint32_t width, uint32_t limit, lrc_slot *slot);
 
 /* Does the same for a store without a journal, as a service wants it: no call is refused for a full
@@ -217,7 +219,7 @@ uint32_t lrc_store_read(lrc_slot *slot, const uint8_t *name, size_t name_len, ui
 /* Lends `len` bytes of the blob, from the byte `start` on, and puts the range into the empty
  * `other`. `pieces` gets the number of pieces for lrc_slot_slices. The call allocates a list of
  * the pieces, and the bytes of lost fragments. Until `other` is released the bytes do not
- * change, even if threads put, lose, repair and delete. */
+ * change, even if threads put, lose, repair and delete, or the store is closed. */
 uint32_t lrc_store_lend(lrc_slot *slot, const uint8_t *name, size_t name_len, uint64_t start,
                         uint64_t len, lrc_slot *other, uint64_t *version, uint64_t *pieces);
 
@@ -265,9 +267,9 @@ uint32_t lrc_store_plan(lrc_slot *slot, lrc_slot *other, uint64_t *items);
 
 /* Puts a part of such a plan into `other`: the first `most` of its items if `other` is empty, or
  * those behind the part that it holds, of which no item may be left. `items` gets their number: if
- * it is below `most`, no other part is behind. `most` is at least 1, and a plan in `other` is of
- * this store: neither is checked. So a long plan can be made in steps, between which
- * other threads call. */
+ * it is below `most`, no other part is behind. So a long plan can be made in steps, between which
+ * other threads call. LRC_STORE_BAD_ARGUMENT if `most` is 0. A plan in `other` is of this store,
+ * which is not checked. */
 uint32_t lrc_store_plan_part(lrc_slot *slot, lrc_slot *other, uint64_t most, uint64_t *items);
 
 /* Writes the next items of a plan into `items`, in order, as many as remain and at most `capacity`.

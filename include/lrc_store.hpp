@@ -55,6 +55,12 @@ void check(uint32_t status, const char *call, const Arguments &...arguments) {
     throw store_error(text + ')', status);
 }
 
+// A pool or a store that is open. Throws store_error with LRC_STORE_EMPTY if it was closed.
+template <class Held> Held *opened(Held *held, const char *call) {
+    check(held ? uint32_t{LRC_STORE_DONE} : uint32_t{LRC_STORE_EMPTY}, call);
+    return held;
+}
+
 // What a mend with this status returns.
 inline uint64_t mended(uint32_t status, uint64_t repaired) {
     if (status != LRC_STORE_DONE) throw mend_error(status, repaired);
@@ -84,8 +90,10 @@ class slot {
 public:
     slot() = default;
     slot(slot &&other) noexcept : held(std::exchange(other.held, lrc_slot LRC_SLOT_EMPTY)) {}
+    // What was in this slot is released, and the other one is left empty.
     slot &operator=(slot &&other) noexcept {
-        std::swap(held, other.held);
+        slot moved(std::move(other));
+        std::swap(held, moved.held);
         return *this;
     }
     ~slot() { lrc_slot_release(&held); }
@@ -548,15 +556,15 @@ public:
     // Lends a session. If all are lent it waits in a line for one, as long as the timeout allows.
     lease take() {
         lrc_slot *place = nullptr;
-        detail::check(lrc_pool_take(held, &place, wait_ms), "take");
+        detail::check(lrc_pool_take(detail::opened(held, "take"), &place, wait_ms), "take");
         return lease(held, place, wait_ms);
     }
 
-    // Joins all sessions into one. Throws store_error with LRC_STORE_NOT_ALONE if one is lent. The
-    // pool cannot be used afterwards.
+    // Joins all sessions into one. Throws store_error with LRC_STORE_NOT_ALONE if one is lent. Each
+    // call afterwards throws it with LRC_STORE_EMPTY.
     session close() {
         session made;
-        detail::check(lrc_pool_close(held, made.held.get()), "close");
+        detail::check(lrc_pool_close(detail::opened(held, "close"), made.held.get()), "close");
         made.wait_ms = this->wait_ms;
         held = nullptr;
         return made;
@@ -601,7 +609,8 @@ public:
         uint32_t shard = 0;
         detail::check(lrc_store_shard(detail::bytes(name), name.size(), count, &shard), "take",
                       name);
-        detail::check(lrc_shards_at(held, shard, &pool_of_shard), "take", name);
+        detail::check(lrc_shards_at(detail::opened(held, "take"), shard, &pool_of_shard), "take",
+                      name);
         detail::check(lrc_pool_take(pool_of_shard, &place, wait_ms), "take", name);
         return pool::lease(pool_of_shard, place, wait_ms, shard, count);
     }
@@ -609,30 +618,33 @@ public:
     // The numbers of all shards together.
     lrc_numbers numbers() {
         lrc_numbers found{};
-        detail::check(lrc_shards_numbers(held, &found, wait_ms), "numbers");
+        detail::check(lrc_shards_numbers(detail::opened(held, "numbers"), &found, wait_ms),
+                      "numbers");
         return found;
     }
 
     // Discards all entries of each shard's journal except the last `keep`.
     uint64_t trim(uint64_t keep) {
         uint64_t discarded = 0;
-        detail::check(lrc_shards_trim(held, keep, &discarded, wait_ms), "trim", keep);
+        detail::check(lrc_shards_trim(detail::opened(held, "trim"), keep, &discarded, wait_ms),
+                      "trim", keep);
         return discarded;
     }
 
     // Repairs all lost fragments that can be rebuilt, and returns their number. Throws mend_error.
     uint64_t mend() {
         uint64_t repaired = 0;
-        const uint32_t status = lrc_shards_mend(held, &repaired, wait_ms);
+        const uint32_t status = lrc_shards_mend(detail::opened(held, "mend"), &repaired, wait_ms);
         return detail::mended(status, repaired);
     }
 
-    // Throws store_error with LRC_STORE_NOT_ALONE if a session is lent. Otherwise the store cannot
-    // be used afterwards.
+    // Throws store_error with LRC_STORE_NOT_ALONE if a session is lent. Otherwise each call
+    // afterwards throws it with LRC_STORE_EMPTY.
     closed close() {
         closed report{};
         uint32_t lawful = 0;
-        const uint32_t status = lrc_shards_close(held, &report.entries, &lawful);
+        const uint32_t status =
+            lrc_shards_close(detail::opened(held, "close"), &report.entries, &lawful);
         if (status != LRC_STORE_NOT_ALONE) held = nullptr;
         detail::check(status, "close");
         report.is_checked = lawful == 1;

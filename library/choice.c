@@ -40,10 +40,8 @@ static const char *cpu = "x86-64-v2";
 static int has(unsigned word, unsigned bits) { return (word & bits) == bits; }
 
 /* Whether the system saves these registers: bits of the first extended control register. */
-static int saves(unsigned bits) {
-    unsigned saved, high;
-    __asm__("xgetbv" : "=a"(saved), "=d"(high) : "c"(0));
-    return has(saved, bits);
+__attribute__((target("xsave"))) static int saves(unsigned bits) {
+    return has((unsigned)__builtin_ia32_xgetbv(0), bits);
 }
 
 enum { SSE_AND_AVX = 0x06, AND_AVX_512 = 0xE6 };

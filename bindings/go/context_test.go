@@ -225,6 +225,47 @@ func TestMendStops(t *testing.T) {
 	}
 }
 
+// A context that ends at any of a mend's steps, a plan or a repair, ends the mend there.
+func TestMendEndsAtEachStep(t *testing.T) {
+	background := context.Background()
+	const stripes = 513 // two parts of the plan
+	for steps := 0; steps <= stripes+5; steps++ {
+		if steps > 5 && steps < stripes {
+			continue
+		}
+		s := openedStore(t)
+		if _, err := s.Put(background, "a", make([]byte, stripes*48)); err != nil {
+			t.Fatal(err)
+		}
+		for stripe := 0; stripe < stripes; stripe++ {
+			if _, err := s.Lose(background, "a", stripe, 15); err != nil {
+				t.Fatal(err)
+			}
+		}
+		// a plan, 512 repairs and their end, a plan, a repair and its end
+		want, wantErr := uint64(0), error(context.Canceled)
+		switch {
+		case steps >= stripes+4:
+			want, wantErr = stripes, nil
+		case steps >= stripes+3:
+			want = stripes
+		case steps > 512:
+			want = 512
+		case steps > 0:
+			want = uint64(steps - 1)
+		}
+		ctx := &countdown{Context: background, left: steps, done: make(chan struct{})}
+		repaired, err := s.Mend(ctx)
+		if repaired != want || err != wantErr {
+			t.Errorf("%d steps: %d, %v, want %d, %v", steps, repaired, err, want, wantErr)
+		}
+		if shape, _ := s.Stat(background, "a"); uint64(shape.Lost)+repaired != stripes {
+			t.Errorf("%d steps: %d are lost", steps, shape.Lost)
+		}
+		s.Close()
+	}
+}
+
 // A put comes between the two calls in C of a Get, which asks again then.
 func TestGetAsksAgain(t *testing.T) {
 	s, background := openedStore(t), context.Background()

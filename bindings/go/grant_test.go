@@ -68,6 +68,27 @@ func TestGrantReadAtEnds(t *testing.T) {
 	}
 }
 
+// A grant that was written can be read and written again.
+func TestGrantTwice(t *testing.T) {
+	blob := pattern(3000)
+	store, _ := degraded(t, blob)
+	grant := lent(t, store, "blob", 7, 2900)
+	for i := 0; i < 3; i++ {
+		var written bytes.Buffer
+		if n, err := grant.WriteTo(&written); err != nil || n != 2900 ||
+			!bytes.Equal(written.Bytes(), blob[7:2907]) {
+			t.Errorf("WriteTo, time %d: %d, %v", i, n, err)
+		}
+		p := make([]byte, 2900)
+		if n, err := grant.ReadAt(p, 0); err != nil || n != 2900 || !bytes.Equal(p, blob[7:2907]) {
+			t.Errorf("ReadAt, time %d: %d, %v", i, n, err)
+		}
+		if grant.Size() != 2900 {
+			t.Errorf("size %d", grant.Size())
+		}
+	}
+}
+
 func TestGrantToConnection(t *testing.T) {
 	blob := pattern(1 << 17)
 	store, _ := degraded(t, blob)

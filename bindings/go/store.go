@@ -77,8 +77,9 @@ func narrow(number int) C.uint32_t {
 	return C.uint32_t(number)
 }
 
-// Open opens a store whose fragments have so many bytes, 1 to 65,536. Without WithJournal it keeps
-// no journal. It returns ErrBadWidth, ErrNoMemory, or ErrBadArgument for a bad limit or number of
+// Open opens a store whose fragments have so many bytes, 1 to 65,536. Each blob except an empty one
+// takes at least 16 (or 10) fragments, however few bytes it has. Without WithJournal it keeps no
+// journal. It returns ErrBadWidth, ErrNoMemory, or ErrBadArgument for a bad limit or number of
 // shards.
 func Open(width int, opts ...Option) (*Store, error) {
 	o := options{shards: 1}

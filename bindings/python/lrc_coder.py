@@ -59,8 +59,10 @@ DECLARED = {
 
 
 def _load() -> ctypes.CDLL:
-    beside = os.path.join(os.path.dirname(os.path.abspath(__file__)), "liblrc_coder.so")
-    path = os.environ.get("LRC_CODER_SO") or (beside if os.path.exists(beside) else SONAME)
+    folder = os.path.dirname(os.path.abspath(__file__))
+    beside = [os.path.join(folder, it) for it in ("liblrc_coder.so", SONAME)]
+    found = [it for it in beside if os.path.exists(it)]
+    path = os.environ.get("LRC_CODER_SO") or (found + [SONAME])[0]
     try:
         library = ctypes.CDLL(path)
     except OSError as error:

@@ -1,23 +1,28 @@
 """An in-memory blob store that the threads of a process share, and the coder that it uses.
 
 `Store` keeps each blob in a Local Reconstruction Code, so it can read and repair blobs while
-fragments are lost. `lrcstore.coder` encodes and rebuilds fragments of your own.
+fragments are lost. `lrcstore.coder` encodes and rebuilds fragments of your own. The first use of a
+name of the store loads liblrc_store.so, and importing the coder loads liblrc_coder.so alone.
 """
 
-from lrc_store import (
-    Busy,
-    Closed,
-    NotFound,
-    Numbers,
-    OutOfMemory,
-    Shape,
-    Status,
-    StoreError,
-    VersionShape,
-    name_of,
-)
+import importlib
+from typing import TYPE_CHECKING, List
 
-from ._store import Store, Version
+if TYPE_CHECKING:  # pragma: no cover
+    from lrc_store import (
+        Busy,
+        Closed,
+        NotFound,
+        Numbers,
+        OutOfMemory,
+        Shape,
+        Status,
+        StoreError,
+        VersionShape,
+        name_of,
+    )
+
+    from ._store import Store, Version
 
 __all__ = [
     "Busy",
@@ -33,3 +38,17 @@ __all__ = [
     "VersionShape",
     "name_of",
 ]
+
+
+def __getattr__(name: str) -> object:
+    """A name of the store, when it is first used."""
+    if name not in __all__:
+        raise AttributeError(f"module {__name__!r} has no attribute {name!r}")
+    module = f"{__name__}._store" if name in ("Store", "Version") else "lrc_store"
+    found: object = getattr(importlib.import_module(module), name)
+    globals()[name] = found
+    return found
+
+
+def __dir__() -> List[str]:
+    return sorted({*globals(), *__all__})

@@ -119,7 +119,7 @@ static uint32_t install(lrc_slot *session, struct call *call, int64_t timeout_ms
                                   call->bytes, (size_t)call->len, &call->numbers[0], timeout_ms);
 }
 
-static uint32_t tell_numbers(lrc_shards *shards, struct call *call, int64_t timeout_ms) {
+static uint32_t get_numbers(lrc_shards *shards, struct call *call, int64_t timeout_ms) {
     lrc_numbers found = {0};
     const uint32_t status = lrc_shards_numbers(shards, &found, timeout_ms);
     const uint64_t numbers[] = {found.blobs,         found.bytes, found.lost,
@@ -294,8 +294,8 @@ static PyObject *calls_read_into(store_calls *self, PyObject *const *words, Py_s
         number_to(&call.first, words[1], UINT64_MAX) < 0 || timeout_to(&timeout_ms, words[3]) < 0 ||
         PyObject_GetBuffer(words[2], &target, PyBUF_WRITABLE) < 0)
         return NULL;
-    uint8_t nothing;
-    call.bytes = target.len ? target.buf : &nothing;
+    uint8_t empty;
+    call.bytes = target.len ? target.buf : &empty;
     call.len = target.len;
     PyObject *result = made(self, &call, timeout_ms, 1);
     PyBuffer_Release(&target);
@@ -501,7 +501,7 @@ static PyObject *calls_mend(store_calls *self, PyObject *const *words, Py_ssize_
 
 /* numbers(timeout_ms) -> (status, blobs, bytes, lost, unrecoverable, calls, entries) */
 static PyObject *calls_numbers(store_calls *self, PyObject *const *words, Py_ssize_t count) {
-    struct call call = {.run_all = tell_numbers};
+    struct call call = {.run_all = get_numbers};
     int64_t timeout_ms;
     if (!count_is("numbers", count, 1) || timeout_to(&timeout_ms, words[0]) < 0) return NULL;
     return made(self, &call, timeout_ms, 6);
@@ -600,9 +600,9 @@ static PyObject *calls_install(store_calls *self, PyObject *const *words, Py_ssi
 }
 
 /* shape() -> (status, version, length, stripes, lost, width, data_fragments) */
-static PyObject *held_shape(held_version *self, PyObject *nothing) {
+static PyObject *held_shape(held_version *self, PyObject *ignored) {
     lrc_shape found = {0};
-    (void)nothing;
+    (void)ignored;
     if (enter(self) < 0) return NULL;
     const uint32_t status = lrc_slot_shape(&self->slot, &found);
     leave(self);
@@ -685,10 +685,10 @@ static PyObject *held_fragment(held_version *self, PyObject *const *words, Py_ss
 }
 
 /* close() -> (status, entries, lawful). No call may be inside, or the status is NOT_ALONE. */
-static PyObject *calls_close(store_calls *self, PyObject *nothing) {
+static PyObject *calls_close(store_calls *self, PyObject *ignored) {
     struct call call = {.run = NULL};
     uint32_t status = LRC_STORE_EMPTY, lawful = 0;
-    (void)nothing;
+    (void)ignored;
     if (self->calls_inside) {
         status = LRC_STORE_NOT_ALONE;
     } else if (self->shards) {

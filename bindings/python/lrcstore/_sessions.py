@@ -27,7 +27,7 @@ def _text(name: _Name) -> str:
     return name
 
 
-def _told(call: Callable[[], Any]) -> Tuple[int, Any]:
+def _status_and_result(call: Callable[[], Any]) -> Tuple[int, Any]:
     """The status of a call, and what it returned, or None."""
     try:
         return 0, call()
@@ -48,7 +48,7 @@ class Held:
             version = self.version
             if version is None:
                 return Status.EMPTY.value, None
-            return _told(functools.partial(call, version))
+            return _status_and_result(functools.partial(call, version))
 
     def shape(self) -> Tuple[int, int, int, int, int, int, int]:
         status, shape = self._of(lambda version: version.shape())

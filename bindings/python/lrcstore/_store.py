@@ -3,6 +3,7 @@
 from __future__ import annotations
 
 import math
+import sys
 from typing import TYPE_CHECKING, List, Union
 
 from lrc_store import (
@@ -20,6 +21,8 @@ if TYPE_CHECKING:
     from ._native import Calls, Held
 else:
     try:
+        if sys.version_info < (3, 11):
+            raise ImportError("the stable ABI of this Python has no buffers")
         from ._native import Calls, Held
     except ImportError:
         from ._sessions import Calls, Held
@@ -90,6 +93,7 @@ class Store:
     def __init__(self, width: int, *, limit: int | None = None, shards: int = 1) -> None:
         """Opens a store whose fragments have `width` bytes, 1 to 65,536.
 
+        Each blob except an empty one takes at least 16 (or 10) fragments, however few bytes it has.
         Each name belongs to one of its 1 to 64 shards. Calls of names of different shards do not
         wait for each other. Without a limit it has no journal, as a service wants it, and with one
         a journal of at most `limit` entries for each shard.

@@ -231,7 +231,8 @@ unsafe impl Send for Session {}
 // SAFETY of all calls here: slots are valid and different ones, an address of bytes comes from a
 // slice or a vector with its length, and outputs are variables of the call.
 impl Session {
-    /// Opens a store and returns its first session. Its fragments have `width` bytes. With the
+    /// Opens a store and returns its first session. Its fragments have `width` bytes. Each blob
+    /// except an empty one takes at least 16 (or 10) of them, however few bytes it has. With the
     /// limit `None` it has no journal, and with a number a journal of at most so many entries.
     pub fn open(width: u32, limit: impl Into<Option<u32>>) -> Result<Session, Error> {
         let mut slot = Slot::empty();
