@@ -126,7 +126,8 @@ def write_crate(top):
         os.path.join(crate, "src", "lib.rt"): SOURCE,
     }
     for name, (old, new, _) in MUTANTS.items():
-        edit = f"file: src/lib.rt\nold: {old}\nnew: {new}\n"
+        # the kit keeps what became of an edit: the first line makes this one new
+        edit = f"# in {top}\nfile: src/lib.rt\nold: {old}\nnew: {new}\n"
         files[os.path.join(crate, "must-fail", f"{name}.edit")] = edit
     for path, text in files.items():
         with open(path, "w", encoding="utf-8") as file:

@@ -40,6 +40,7 @@ import python_extension  # noqa: E402
 COPIED = ("include", "library", "bindings", "integrations", "packaging", "tests", "tools", "docs")
 COPIED += ("examples",)
 COPIED += ("README.md", "CHANGELOG.md", "crates/test_vectors/data", "crates/command_line/src")
+COPIED += ("crates/lrc_line/src",)
 COPIED += ("crates/coder_c/src", "crates/store_c/src", "crates.txt")
 NOT_COPIED = shutil.ignore_patterns("__pycache__", "target", "*.so", "out")
 
@@ -66,7 +67,6 @@ CEPH_20 = "CEPH_VERSION=20.2.4"
 # How long a command may take that should pass, and the status of one whose test does not build.
 PATIENCE, NOT_BUILT = 600, 99
 # Installing takes the program as it is: one that knows its version.
-PROGRAM = "crates/lrcstore/out/lrcstore"
 
 
 @functools.lru_cache(maxsize=None)
@@ -147,6 +147,18 @@ def choice(level):
     )
 
 
+COUNTED = "tests/store/counted.sh counted"
+RUST_LEAKS = "cargo test --quiet --offline --test leaks"
+
+
+def leaks(way):
+    """Runs the test of what Python's modules leave, if they call in this way."""
+    return (
+        "rm -f numbers && LRC_STORE_SO=counted/liblrc_store.so LRC_COUNTED=numbers"
+        f" PYTHONPATH=bindings/python:tests/store python3 tests/store/leaks.py {way} -f"
+    )
+
+
 def rust_crate(folder):
     """The tests of a Rust crate, one program after the other, and then those of its documents."""
     tests = sorted(glob.glob(os.path.join(TOP, folder, "tests", "*.rs")))
@@ -183,12 +195,27 @@ TESTS = {
         "./program",
     ),
     "shards": Test(program(C, SHARDS, OF_SHARDS), "./program"),
+    "totals": Test(
+        program(
+            f"{C} -I library",
+            ["tests/store/totals.c", "library/store_shards.c"],
+            "-Wl,--wrap=clock_gettime",
+        ),
+        "./program",
+    ),
+    "plan": Test(program(C, ["tests/store/plan.c", "library/store_plan.c"], ""), "./program"),
+    "handed": Test(
+        program(C, ["tests/store/handed.c", "library/store_mend.c"], "-lpthread"), "./program"
+    ),
     "shards_sanitized": Test(
         program(f"{C} {SANITIZED}", SHARDS, OF_SHARDS), "./program uncancelled"
     ),
     "versions": Test(program(C, VERSIONS, STORE), "./program"),
     "versions_sanitized": Test(program(f"{C} {SANITIZED}", VERSIONS, STORE), "./program"),
-    "names": Test(program(C, ["tests/store/names.c", "library/store_name.c"], ""), "./program"),
+    "names": Test(
+        program(f"{C} -I library", ["tests/store/names.c", "library/store_name.c"], ""),
+        "./program",
+    ),
     "mending": Test(
         program(
             C,
@@ -210,6 +237,13 @@ TESTS = {
         " -Wl,--allow-multiple-definition -o other",
         "./program && ./other",
     ),
+    "processors": Test(
+        " && ".join(
+            f"{C} {has_v4} tests/edges/processors.c -o {made}"
+            for made, has_v4 in (("program", ""), ("other", "-DHAS_V4"))
+        ),
+        "./program && ./other",
+    ),
     "choice": choice("v3"),
     "choice_v4": choice("v4"),
     "coder": Test(program(CPP, ["tests/edges/coder.cpp"], CODER), "./program 60"),
@@ -220,8 +254,9 @@ TESTS = {
     "install": Test(
         "true",
         "tests/install.sh",
-        prepare=f"mkdir -p $(dirname {PROGRAM}) && printf '#!/bin/sh\\necho lrcstore 0.1.0\\n'"
-        f" > {PROGRAM} && chmod +x {PROGRAM}",
+        prepare="for each in lrcstore lrc; do mkdir -p crates/$each/out || exit; "
+        "printf '#!/bin/sh\\necho %s 0.1.0\\n' $each > crates/$each/out/$each; "
+        "chmod +x crates/$each/out/$each; done",
     ),
     "release": Test("true", "python3 tests/release/modules.py -f"),
     "python_coder": Test("true", "python3 tests/library/bindings.py -f"),
@@ -233,6 +268,31 @@ TESTS = {
         " && LD_PRELOAD=./busy.so python3 tests/store/package_busy.py -f",
         needs=(python_extension.header(), "python3-dev"),
         reads=("include/", "library/", "tools/", "tests/", "bindings/python/lrcstore/_native.c"),
+    ),
+    # What bindings leave of the memory of a library that counts its blocks.
+    "python_leaks": Test(
+        "tools/python_extension.py --libraries $LRC_LIBRARIES --rpath $PWD/counted"
+        " --to bindings/python/lrcstore",
+        leaks("native"),
+        prepare=COUNTED,
+        needs=(python_extension.header(), "python3-dev"),
+        reads=("include/", "tools/", "bindings/python/lrcstore/_native.c"),
+    ),
+    "python_leaks_ctypes": Test("true", leaks("ctypes"), prepare=COUNTED),
+    "go_leaks": Test(
+        "LRC_COUNTED=yes LRC_LIBRARIES=$PWD/counted tests/store/go.sh test -c -o ../../program .",
+        "rm -f numbers && LRC_COUNTED=$PWD/numbers LD_LIBRARY_PATH=counted ./program"
+        " -test.failfast -test.run TestLeaks",
+        prepare=COUNTED,
+        needs=("go", "golang-go"),
+    ),
+    "rust_leaks": Test(
+        f"cd bindings/rust_store && LRC_LIBRARIES=$PWD/../../counted {RUST_LEAKS} --no-run",
+        f"cd bindings/rust_store && export LRC_LIBRARIES=$PWD/../../counted"
+        f" && {{ {RUST_LEAKS} --no-run || exit {NOT_BUILT}; }} && rm -f ../../numbers"
+        f" && LRC_COUNTED=$PWD/../../numbers {RUST_LEAKS}",
+        prepare=COUNTED,
+        needs=("cargo", "cargo"),
     ),
     "mount": Test(
         "true",
@@ -246,6 +306,13 @@ TESTS = {
     "resp_sanitized": Test(
         f"{C} {SANITIZED} examples/server_resp/server.c {STORE} -o program",
         "python3 tests/services/resp_server.py ./program OneThread.test_large_values_on_their_way",
+    ),
+    "resp_counted": Test(
+        f"{C} examples/server_resp/server.c -L counted -l:liblrc_store.so"
+        " -Wl,-rpath,$PWD/counted -lpthread -o program",
+        "rm -f numbers && LRC_COUNTED=numbers PYTHONPATH=tests/store python3"
+        " tests/services/resp_server.py ./program OneThread.test_other_commands",
+        prepare=COUNTED,
     ),
     "http": Test("true", "python3 tests/services/http_server.py"),
     "python_sessions": Test("true", "python3 tests/store/package.py ctypes -f"),
@@ -273,7 +340,7 @@ TESTS = {
     "swift": Test("true", "python3 integrations/swift/test_module.py"),
     "ceph": Test(
         "rm -rf plugins && work=$PWD && . integrations/ceph/programs.sh && plugins plugins -O0",
-        "./plugin_test plugins tests/corpus",
+        "./plugin_test plugins tests/corpus integrations/ceph/README.md",
         prepare="work=$PWD && . integrations/ceph/programs.sh && program plugin_test -O0",
         needs=CEPH,
     ),

@@ -26,12 +26,14 @@ timed() {
 
 # part COMMAND WORD..: runs a part, prints what it printed, and leaves a file of what its last line
 # counts, and of its seconds of the processors and by the clock. A part that counts nothing is one
-# test.
+# test. A command that hangs fails after 40 minutes, or after so many seconds as LIMIT says.
 part() {
     local counts right wrong left seconds began=$SECONDS status=0 printed
+    local limit=(tests/limited.py "${LIMIT:-2400}")
     started=$((started + 1))
     printed=$(mktemp "$work/printed.XXXX")
-    timed "$@" || status=$?
+    [ "$(type -t "$1")" != function ] || limit=()
+    timed "${limit[@]}" "$@" || status=$?
     counts=$(tail -n 1 "$printed" | sed -nE "s/$summary/\\1 \\3 \\6/p")
     read -r right wrong left <<< "${counts:-$((status == 0)) $((status != 0)) 0}"
     # a part that ends otherwise than its last line says has failed
@@ -79,6 +81,7 @@ sum_up() {
         ended=$((ended + 1))
     done < <(cat "$work"/*.counted)
     failed=$((failed + started - ended))
+    [ -z "${LRC_GATE_LOG:-}" ] || sed -n '/^| Crate |/,$p' "$LRC_GATE_LOG"
     echo "seconds of the processors, and by the clock:"
     cat "$work"/*.counted | sort -k4,4nr | while read -r right wrong left seconds clock name; do
         [ $((seconds + clock)) -lt 3 ] || printf '%6d %6d  %s\n' "$seconds" "$clock" "$name"

@@ -21,17 +21,28 @@ built() {
     failed=$((failed + 1))
 }
 
+# A part that hangs is killed, and named.
+hang() {
+    ! tests/limited.py 1 sleep 50 > "$work/hang" && grep -q ' sleep 50$' "$work/hang" \
+        && ! pgrep -f '^sleep 50$'
+}
+
 part_of_documents
+part hang
 part python3 tests/states.py
 part python3 tests/mutant_rounds.py
 built test_refused_memory
 built test_sharded
 built lrcstore -- data/degraded_read.csv
-for each in statuses pictures limits refused_memory; do part python3 tests/$each.py; done
+built lrc -- --version
 if [ -z "${LRC_BUILT:-}" ] && [ -z "${LRC_LIBRARIES:-}" ]; then
     export LRC_BUILT=$work/built
-    part tools/package.py build --to "$LRC_BUILT" --reuse crates/lrcstore/out
+    part tools/package.py build --to "$LRC_BUILT" --reuse crates/lrcstore/out \
+        --reuse crates/lrc/out &
+    started=$((started + 1)) # that of the subshell is its own
 fi
+for each in statuses pictures limits refused_memory files; do part python3 tests/$each.py; done
+wait
 if [ -z "${LRC_LIBRARIES:-}" ]; then
     export LRC_LIBRARIES=$work/libraries
     part tools/libraries.py --from "$LRC_BUILT" --to "$LRC_LIBRARIES"
@@ -43,5 +54,5 @@ else
     skip 1 "release.sh, as LRC_BUILT names no folder of tools/package.py"
 fi
 side_by_side "${parts[@]}"
-part tests/mutants.py --jobs "$((2 * $(nproc)))" # some wait in vain
+LIMIT=4800 part tests/mutants.py --jobs "$((2 * $(nproc)))" # some wait in vain
 sum_up

@@ -47,7 +47,7 @@ def is_proved(rt, crate):
 def compile_over_gate(rt, crate, cpu, archive):
     """Builds over the libraries that the gate has proved. Returns rattle's status."""
     if not os.path.isdir(f"{crate.folder}/{kit.KEPT}"):
-        rounds.start(rt, crate, f"{crate.folder}/{kit.KEPT}", False)
+        rounds.unpack_checked(rt, crate, f"{crate.folder}/{kit.KEPT}")
     flags = ["--jobs", str(os.cpu_count()), f"--cpu=x86-64-{cpu}", "--incremental", kit.KEPT]
     command = [rt.rtlib.RATTLE, "build", *crate.words(flags, keeps=False)]
     command += ["--backend", "rattle" if cpu == "v4" else "llvm"]
@@ -97,10 +97,16 @@ def build_with_wide_blocks(rt, name, cpu, archive):
 
 
 def prove_narrowly(rt, crate):
-    """Proves this crate and those below it that were not proved before. Returns the status."""
+    """Proves this crate and those below it that were not proved before, side by side. Returns the
+    status."""
     kit.narrow_ci(rt, crate)
     os.chdir(TOP)
     return rt.ci(False)
+
+
+def prove(rt, name):
+    """The same for a static library or a program that is named."""
+    return prove_narrowly(rt, crate_named(rt, name))
 
 
 def build_archive(rt, name, cpu, archive):
@@ -110,7 +116,8 @@ def build_archive(rt, name, cpu, archive):
         return build_with_wide_blocks(rt, name, cpu, archive)
     crate = crate_named(rt, name)
     if hasattr(rt, "Kept") and not is_proved(rt, crate):
-        status = prove_narrowly(rt, crate)
+        # a process of its own, since it holds the crates' locks to its end
+        status = subprocess.run([sys.executable, RT, "prove", name], check=False).returncode
         if status:
             return status
     if is_proved(rt, crate) and compile_over_gate(rt, crate, cpu, archive) == 0:

@@ -1,30 +1,30 @@
 """The kit's command rt as a module, and all that this repository replaces in it.
 
-    checksums of crates    kit 13b computes that of a crate anew for each path of crates.txt that
-                           leads to it, 5,702 times for `lrcstore`: one walk computes each once
-    mutants                rt tries each alone: rounds.py tries many in one run
+    mutants                rounds.py tries many in one run, and rt what no round refuses, alone
     checked modules        `ci` drops what a proof has checked: here mutants start from it
     checksums of archives  `ci` proves static libraries and builds none: archives.py does, by these
     a narrow `ci`          rt has no word that proves one crate and those below it side by side
     a program's processor  `ci` builds each program for one: a program can be had for another
 
-No crate is proved by what stands here: rt starts the prover and reads its verdict.
+No crate is proved by what stands here: rt starts the prover and reads its verdict. The command of
+kit 13b is another one: kit_13b.py has what is replaced in it alone.
 """
 
 import importlib.machinery
 import importlib.util
 import os
 import pathlib
+import shutil
 import subprocess
 import tempfile
 import threading
 
+import kit_13b
 import rounds
 
 # What `ci` leaves of a crate: its checksum, what the prover kept, and that its library is whole.
 SUM, KEPT, STAMP = "out/gate.sum", "out/kept", "out/rlib/stamp"
-# the kits whose `ci` is known here
-KITS = ("rattle-kit-13b ", "rattle-kit-13f ")
+KITS = ("rattle-kit-13b ", "rattle-kit-13f ")  # those whose `ci` is known here
 
 
 def load_rt(words=()):
@@ -35,28 +35,13 @@ def load_rt(words=()):
     rt = importlib.util.module_from_spec(importlib.util.spec_from_loader("rt", loader))
     loader.exec_module(rt)
     if pathlib.Path(f"{rt.KIT}/KIT-ID").read_text().startswith(KITS):
-        sum_once(rt.rtlib)
         leave_checked(rt)
-        try_in_rounds(rt, words[:1] == ["must-fail"])
+        if hasattr(rt, "add_edits"):
+            try_in_rounds(rt)
+        else:
+            kit_13b.sum_once(rt.rtlib)
+            kit_13b.try_in_rounds(rt, words[:1] == ["must-fail"], KEPT)
     return rt
-
-
-def sum_once(rtlib):
-    """Has a walk over the crates read each of them once. A new call is a new walk, and each thread
-    of rt has its own."""
-    whole, here = rtlib.Crate.stamp, threading.local()
-
-    def stamp(self):
-        outer = getattr(here, "walk", None)
-        here.walk = {} if outer is None else outer
-        try:
-            if self.folder not in here.walk:
-                here.walk[self.folder] = whole(self)
-            return here.walk[self.folder]
-        finally:
-            here.walk = outer
-
-    rtlib.Crate.stamp = stamp
 
 
 def note_sum(crate):
@@ -90,33 +75,48 @@ def leave_checked(rt):
     rt.Crate.ci, rt.Crate.build_rlib = ci, build_rlib
     if hasattr(rt, "Kept"):
         whole_built = rt.Kept.is_built
-
-        def is_built(self, crate):
-            whole_built(self, crate)
-            note_sum(crate)
-
-        rt.Kept.is_built = is_built
+        rt.Kept.is_built = lambda self, crate: (whole_built(self, crate), note_sum(crate))
 
 
-def try_in_rounds(rt, is_alone):
-    """Has rt try mutants in rounds, over what `ci` has checked; for the word `must-fail` over what
-    `rt check` has kept, with all processors. If the crate is not proved, rt goes its own way."""
-    whole = rt.must_fail_all
+def try_in_rounds(rt):
+    """Has rt try mutants in rounds once it has their seed, in `ci` over what the crate's own proof
+    has checked. A mutant's own trial takes what a round shows. A bad edit fails `ci` here."""
+    whole_add, whole_seeded, whole_fail = rt.add_edits, rt.seeded, rt.must_fail
+    whole_checked, here, left, refused = rt.checked, threading.local(), {}, {}
 
-    def must_fail_all(crate, edits, flags):
-        if len(edits) < 2:
-            return whole(crate, edits, flags)
-        flags = ["--jobs", str(rt.processors())] if is_alone else flags
+    def add_edits(tasks, crate, edits, *given, in_ci=True):
+        results, known = whole_add(tasks, crate, edits, *given, in_ci=in_ci)
+        seed = (crate.name, "seed")
+        if in_ci and seed in tasks:
+            tasks[seed] = ([(crate.name, "proof")], *tasks[seed][1:])
+        left[crate.name] = in_ci, lambda: [it for at, it in enumerate(edits) if at not in known()]
+        return results, known
+
+    def seeded(crate, flags, start=None):
+        in_ci, untried = left[crate.name]
         with tempfile.TemporaryDirectory(prefix="rt-proof-") as room:
-            # an archive is built over what the trial of a static library starts from
-            keeps = crate.is_static and not is_alone
-            proof = f"{crate.folder}/{KEPT}" if keeps else f"{room}/proof"
-            rounds.start(rt, crate, proof, is_alone)
-            if rt.checked(crate, {}, flags, proof).returncode:
-                return whole(crate, edits, flags)
-            return rounds.try_edits(rt, crate, edits, flags, proof)
+            if in_ci:
+                rounds.unpack_checked(rt, crate, f"{room}/proof")
+            seed = whole_seeded(crate, flags, f"{room}/proof" if in_ci else start)
+        if seed:
+            if in_ci and crate.is_static:  # an archive is built over it
+                shutil.copytree(f"{seed}/seed", f"{crate.folder}/{KEPT}", copy_function=os.link)
+            refused.update(rounds.refused(rt, crate, untried(), flags, f"{seed}/seed"))
+        return seed
 
-    rt.must_fail_all = must_fail_all
+    def checked(*given):
+        here.ran = whole_checked(*given)
+        return here.ran
+
+    def must_fail(crate, edit, flags, kept=None):
+        if kept and edit in refused:
+            return rt.REFUSED, refused[edit]
+        kind, text = whole_fail(crate, edit, flags, kept)
+        if kind == rt.REFUSED and not rounds.is_covered(rt, crate, edit, here.ran):
+            return rt.MISSED, rounds.uncovered(crate, edit)
+        return rt.MISSED if kind == rt.BAD else kind, text
+
+    rt.add_edits, rt.seeded, rt.must_fail, rt.checked = add_edits, seeded, must_fail, checked
 
 
 def narrow_ci(rt, crate):

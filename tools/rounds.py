@@ -5,10 +5,10 @@ but that function's. The prover judges all functions in one run, and names each 
 
 A round only ever says "refused", and of an edit only if its own function has a line `not proved`,
 the prover finds fault at a place of its own, and every item that no edit changes is proved or waits
-for what is not. Every other edit is tried alone, as rt does it: one that changes more than the
-inside of one body or writes an item there, one whose function is `const`, in a cycle of calls or
-has a function inside, and one of which no round says that it is refused. So a mutant that survives,
-and one that does not compile, is judged alone, and once more from nothing.
+for what is not. Every other edit rt tries alone: one that changes more than the inside of one body
+or writes an item there, one whose function is `const`, in a cycle of calls or has a function
+inside, and one of which no round says that it is refused. So a mutant that survives, and one that
+does not compile, is judged alone, and once more from nothing.
 
 An edit in a form that the prover does not cover reaches no contract. rt calls it refused; here it
 is a bad edit.
@@ -198,7 +198,7 @@ class Trial:
 
     def over_copy(self, call):
         with tempfile.TemporaryDirectory(prefix="rt-round-") as room:
-            shutil.copytree(self.proof, f"{room}/kept", copy_function=os.link)
+            shutil.copytree(self.proof, f"{room}/kept", copy_function=link_modules)
             return call(f"{room}/kept")
 
     def try_together(self, edits):
@@ -217,7 +217,7 @@ class Trial:
             self.try_together(rest)
 
     def note(self, edit, text):
-        self.refused[edit.edit] = True, f"must-fail {self.crate.name}/{edit.name}: {text}"
+        self.refused[edit.edit] = f"must-fail {self.crate.name}/{edit.name}: {text}"
 
     def rests(self, edits, report):
         """The rounds that are to follow one: of the edits that it leaves open, but without those
@@ -241,17 +241,16 @@ class Trial:
 
         self.rt.checked = checked
         try:
-            told = self.over_copy(
+            verdict = self.over_copy(
                 lambda kept: self.rt.must_fail(self.crate, edit.edit, self.flags, kept)
             )
         finally:
             self.rt.checked = whole
-        if not told[0]:
+        if not verdict[0]:
             return self.rt.must_fail(self.crate, edit.edit, self.flags)
-        if edit.function and not Report(self.rt, self.crate, runs[0], {}).is_covered(edit):
-            why = "BAD EDIT: the prover does not cover this form, so no contract was tried"
-            return False, f"must-fail {self.crate.name}/{edit.name}: {why}"
-        return told
+        if not is_covered(self.rt, self.crate, edit.edit, runs[0]):
+            return False, uncovered(self.crate, edit.edit)
+        return verdict
 
 
 def kept_name(rt, crate):
@@ -271,17 +270,27 @@ def unpack(archive, folder):
     subprocess.run(["ar", "x", archive], cwd=folder, check=True)
 
 
+def link_modules(one, other):
+    """Copies a file of a proof: a checked module by a link, since no run changes one in place."""
+    return (os.link if one.endswith(".oantt") else shutil.copy2)(one, other)
+
+
+def unpack_checked(rt, crate, proof):
+    """Fills a folder with what the proof of the crate in `ci` has checked, or with nothing."""
+    made = f"{crate.folder}/{CHECKED}" if crate.is_static else crate.rlib
+    archive = os.path.abspath(f"{made}/toolchain/checked.a")
+    os.makedirs(proof, exist_ok=True)
+    if os.path.isfile(archive):
+        unpack(archive, os.path.join(proof, kept_name(rt, crate)))
+
+
 def start(rt, crate, proof, is_alone):
     """Fills a folder with what a proof of the crate has left, or with nothing."""
     own = f"{crate.folder}/out/incremental"
-    made = f"{crate.folder}/{CHECKED}" if crate.is_static else crate.rlib
-    archive = os.path.abspath(f"{made}/toolchain/checked.a")
     if is_alone and os.path.isdir(own):
-        shutil.copytree(own, proof, copy_function=os.link)
-        return
-    os.makedirs(proof, exist_ok=True)
-    if not is_alone and os.path.isfile(archive):
-        unpack(archive, os.path.join(proof, kept_name(rt, crate)))
+        shutil.copytree(own, proof, copy_function=link_modules)
+    else:
+        unpack_checked(rt, crate, proof)
 
 
 def note_states(crate, proof):
@@ -298,11 +307,35 @@ def note_states(crate, proof):
         file.writelines(f"{size} {name}\n" for size, name in sorted(rows, reverse=True))
 
 
-def try_edits(rt, crate, edits, flags, proof):
-    """Tries a crate's edits over a proof of it: for each whether it is refused, and what to say."""
+def trial_of(rt, crate, edits, flags, proof):
+    """The trial of a crate's edits, once all rounds are tried over a proof of the crate."""
     note_states(crate, proof)
     trial = Trial(rt, crate, flags, proof)
-    read = [Edit(rt, crate, it) for it in edits]
-    for each in rounds_of([it for it in read if it.function]):
+    for each in rounds_of([it for it in edits if it.function]):
         trial.try_together(each)
-    return [trial.refused.get(it.edit) or trial.try_alone(it) for it in read]
+    return trial
+
+
+def refused(rt, crate, edits, flags, proof):
+    """The edits that rounds show to be refused, each with what to say."""
+    return trial_of(rt, crate, [Edit(rt, crate, it) for it in edits], flags, proof).refused
+
+
+def try_edits(rt, crate, edits, flags, proof):
+    """Tries a crate's edits over a proof of it: for each whether it is refused, and what to say."""
+    read = [Edit(rt, crate, it) for it in edits]
+    trial = trial_of(rt, crate, read, flags, proof)
+    shown = {edit: (True, text) for edit, text in trial.refused.items()}
+    return [shown.get(it.edit) or trial.try_alone(it) for it in read]
+
+
+def is_covered(rt, crate, edit, ran):
+    """Whether the prover covers the form of an edit, by its run over the edit alone."""
+    read = Edit(rt, crate, edit)
+    return not read.function or Report(rt, crate, ran, {}).is_covered(read)
+
+
+def uncovered(crate, edit):
+    """What to say of an edit in a form that the prover does not cover."""
+    why = "BAD EDIT: the prover does not cover this form, so no contract was tried"
+    return f"must-fail {crate.name}/{os.path.basename(edit)}: {why}"
