@@ -78,7 +78,8 @@ of_shards() {
 program() {
     local version
     version=$(PKG_CONFIG_PATH="$prefix/lib/pkgconfig" pkg-config --modversion lrc_coder) \
-        && prints "lrcstore $version" "$prefix/bin/lrcstore" --version
+        && prints "lrcstore $version" "$prefix/bin/lrcstore" --version \
+        && prints "lrc $version" "$prefix/bin/lrc" --version
 }
 
 # Either kind of each library by CMake, in a folder for libraries that this system may not search.

@@ -25,7 +25,7 @@ trap 'umount "$root/proc" 2> /dev/null; rm -rf --one-file-system "$work"' EXIT
 # The version, as file names have it.
 number=$(sed -n 's/.*VERSION: &str = "\(.*\)".*/\1/p' crates/command_line/src/reading.rt)
 # What is made here, as far as the packages that it needs are here.
-kinds=(wheel crate tar assembly)
+kinds=(crate tar assembly)
 options=(--unlicensed)
 
 # logged COMMAND WORD..: runs it, and prints what it printed if it fails
@@ -49,9 +49,14 @@ clone_here() {
             commit -q --no-verify -m "ci: what is here")
 }
 
-# What Debian packages need here. What is missing is skipped.
+# What wheels and Debian packages need here. What is missing is skipped.
 choose_kinds() {
     local missing
+    if [ -e "$(tools/python_extension.py --header)" ]; then
+        kinds+=(wheel)
+    else
+        skipped+=("wheel: no python3-dev")
+    fi
     if ! has dpkg-buildpackage || ! has dh || ! has dh_python3; then
         skipped+=("Debian packages: no debhelper, dh-python")
         return
@@ -72,9 +77,12 @@ pack() {
 packs() {
     local kind
     pack "$work/dist" "${kinds[@]}" || return
-    for kind in .whl .crate 64.tar.gz assembly.tar.gz .provenance.json .cdx.json; do
+    for kind in .crate 64.tar.gz assembly.tar.gz .provenance.json .cdx.json; do
         compgen -G "$work/dist/*$kind" > /dev/null || { echo "no $kind"; return 1; }
     done
+    if [[ " ${kinds[*]} " == *" wheel "* ]]; then
+        compgen -G "$work/dist/*-cp311.py3-abi3.none-*.whl" > /dev/null || return
+    fi
     (cd "$work/dist" && sha256sum --quiet -c SHA256SUMS)
 }
 
@@ -126,7 +134,7 @@ lints() {
 # No line of a man page is too long or unknown to groff.
 man_pages() {
     local page said
-    for page in lrcstore.1 lrc_coder.3 lrc_store.3; do
+    for page in lrcstore.1 lrc.1 lrc_coder.3 lrc_store.3; do
         tar -xzOf "$work/dist/lrcstore-$number-linux-x86_64.tar.gz" \
             "lrcstore-$number/share/man/man${page##*.}/$page" > "$work/$page" || return
         said=$(LC_ALL=C.UTF-8 MANWIDTH=100 man --warnings -E UTF-8 -l -Tutf8 -Z "$work/$page" \
@@ -147,6 +155,18 @@ completions() {
     [ "$(wc -l <<< "$said")" = 6 ] || { echo "$said"; return 1; }
 }
 
+# The options of a command are those that the program has.
+completions_of_lrc() {
+    local command said
+    for command in split verify repair join show; do
+        # shellcheck disable=SC2016 # for the other shell
+        said=$(bash -c '. packaging/completion/lrc.bash; COMP_WORDS=(lrc "$1" --) COMP_CWORD=2
+            _lrc; printf "%s\n" "${COMPREPLY[@]}"' - "$command" | sort)
+        diff <("$built/lrc" "$command" --help | grep -o -e '--[a-z]*' | sort -u) - <<< "$said" \
+            || { echo "the options of $command"; return 1; }
+    done
+}
+
 clone_here || exit 1
 choose_kinds
 test_of "modules" python3 python3 logged python3 tests/release/modules.py
@@ -158,8 +178,11 @@ test_of "other archive" git git refuses_other_archive
 test_of "built archives" gcc gcc reuses
 test_of "man pages" man man-db man_pages
 test_of "completion for bash" bash bash completions
-test_of "completion for zsh" zsh zsh zsh -n packaging/completion/lrcstore.zsh
-test_of "completion for fish" fish fish fish -n packaging/completion/lrcstore.fish
+test_of "completion of lrc for bash" bash bash completions_of_lrc
+for program in lrcstore lrc; do
+    test_of "completion of $program for zsh" zsh zsh zsh -n "packaging/completion/$program.zsh"
+    test_of "completion of $program for fish" fish fish fish -n "packaging/completion/$program.fish"
+done
 if [[ " ${kinds[*]} " == *" deb "* ]]; then
     test_of "lintian" lintian lintian lints
     fresh_tests

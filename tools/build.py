@@ -19,6 +19,7 @@ import time
 TOP = os.path.dirname(os.path.dirname(os.path.abspath(__file__)))
 RT = os.path.join(TOP, "tools", "rt_once.py")
 PARTS = ("src", "specs", "proofs")
+MINUTES = {"lrcstore": "35 to 45", "lrc": "up to 25"}  # of several runs
 
 
 def dependencies():
@@ -90,13 +91,14 @@ def build_all(program, cpu="v2"):
     if not os.path.exists(os.path.join(TOP, "crates", program, "src", "main.rt")):
         sys.exit(f"{program} is no program: run `rt lib` in crates/{program}")
     built = os.path.join(TOP, "crates", program, "out", program)
-    kept, wanted = built + ".sum", sum_of(names, cpu)
-    if os.path.exists(built) and os.path.exists(kept):
-        with open(kept, encoding="utf-8") as file:
+    sum_file, wanted = built + ".sum", sum_of(names, cpu)
+    if os.path.exists(built) and os.path.exists(sum_file):
+        with open(sum_file, encoding="utf-8") as file:
             if file.read() == wanted:
                 print(f"{program} is as it was built before")
                 return built
-    print(f"{len(names)} crates. From nothing they take 35 to 45 minutes on 4 cores.", flush=True)
+    minutes = MINUTES.get(program, "some")
+    print(f"{len(names)} crates. From nothing they take {minutes} minutes on 4 cores.", flush=True)
     with subprocess.Popen(
         [sys.executable, RT, "program", program, cpu],
         env={**os.environ, "PYTHONUNBUFFERED": "1"},
@@ -107,7 +109,7 @@ def build_all(program, cpu="v2"):
         seen = follow(run.stdout, len(names))
     if run.returncode != 0 or not os.path.exists(built):
         sys.exit("".join(seen) + f"{program} is not built")
-    with open(kept, "w", encoding="utf-8") as file:
+    with open(sum_file, "w", encoding="utf-8") as file:
         file.write(wanted)
     return built
 

@@ -1,16 +1,16 @@
 #!/usr/bin/env python3
-"""Builds the program and both libraries for C, and installs them under a prefix.
+"""Builds both programs and both libraries for C, and installs them under a prefix.
 
     tools/install.py --prefix P [--destdir D] [--libdir L] [--pythondir M] [--cpu v2|v3] [--reuse]
     tools/install.py --prefix P [--destdir D] --uninstall
 
-Under P it leaves bin/lrcstore, the headers, man pages, completions for shells, the sources of the
-Rust crates and of the Go module, and for `lrc_coder` and `lrc_store` each a static library, a
-shared one, a pkg-config file, a CMake package and a Python module; and the Python package
-`lrcstore`. At its end it prints the variables to set, so that programs find them. The libraries
-have the code for x86-64-v2 and x86-64-v3 and choose when they are loaded; the program is for the
-processor that --cpu names. Libraries in the folder that LRC_LIBRARIES names are taken as they are,
-and with --reuse the program that was built before. It needs `rt`, gcc and binutils.
+Under P it leaves bin/lrcstore and bin/lrc, the headers, man pages, completions for shells, the
+sources of the Rust crates and of the Go module, and for `lrc_coder` and `lrc_store` each a static
+library, a shared one, a pkg-config file, a CMake package and a Python module; and the Python
+package `lrcstore`. At its end it prints the variables to set, so that programs find them. The
+libraries have the code for x86-64-v2 and x86-64-v3 and choose when they are loaded; the programs
+are for the processor that --cpu names. Libraries in the folder that LRC_LIBRARIES names are taken
+as they are, and with --reuse the programs that were built before. It needs `rt`, gcc and binutils.
 """
 
 import argparse
@@ -23,15 +23,16 @@ import build
 import libraries
 import package_files
 from installation import MANIFEST, Installation
+from packages import record
 
 TOP = libraries.TOP
 MODULES = f"python{sysconfig.get_python_version()}/site-packages"
 
 
-def built_program(cpu, reuse):
-    """The program's path, once it is built."""
-    path = os.path.join(TOP, "crates", "lrcstore", "out", "lrcstore")
-    return path if reuse and os.path.exists(path) else build.build_all("lrcstore", cpu)
+def built_program(name, cpu, reuse):
+    """A program's path, once it is built."""
+    path = os.path.join(TOP, "crates", name, "out", name)
+    return path if reuse and os.path.exists(path) else build.build_all(name, cpu)
 
 
 def built_libraries(folder):
@@ -47,10 +48,11 @@ def built_libraries(folder):
 
 def install(installation, cpu, reuse):
     """Proves, builds and installs all of it."""
-    program = built_program(cpu, reuse)
+    programs = [built_program(name, cpu, reuse) for name in record.PROGRAMS]
     with tempfile.TemporaryDirectory() as folder:
         ready = built_libraries(folder)
-        installation.program(program)
+        for program in programs:
+            installation.program(program)
         installation.headers()
         for name in libraries.LIBRARIES:
             installation.library(name, ready)
@@ -65,12 +67,12 @@ def remove(root, path):
     """Removes a file, what Python has kept of it, and the folders that are empty then."""
     there = os.path.join(root, path)
     folder, file = os.path.split(there)
-    kept = os.path.join(folder, "__pycache__")
-    if os.path.isdir(kept):
-        for it in os.listdir(kept):
+    cache = os.path.join(folder, "__pycache__")
+    if os.path.isdir(cache):
+        for it in os.listdir(cache):
             if it.startswith(file[: -len("py")]):
-                os.remove(os.path.join(kept, it))
-        folder = folder if os.listdir(kept) else kept
+                os.remove(os.path.join(cache, it))
+        folder = folder if os.listdir(cache) else cache
     if os.path.lexists(there):
         os.remove(there)
     while folder != root and os.path.isdir(folder) and not os.listdir(folder):

@@ -1,4 +1,4 @@
-"""The files of the program, of both libraries and of what describes them, under a prefix. An
+"""The files of the programs, of both libraries and of what describes them, under a prefix. An
 installation and every package is made of these."""
 
 import os
@@ -14,11 +14,11 @@ HEADERS = ("lrc_coder.h", "lrc_store.h", "lrc_store.hpp")
 RUST = {"lrc_coder": "rust", "lrc_store": "rust_store"}
 PACKAGE = "lrcstore"
 MANIFEST = os.path.join("share", "lrcstore", "installed.txt")
-# Where each shell looks for completions, under a prefix.
+# Where each shell looks for the completions of a program, under a prefix.
 COMPLETIONS = {
-    "bash": "share/bash-completion/completions/lrcstore",
-    "zsh": "share/zsh/site-functions/_lrcstore",
-    "fish": "share/fish/vendor_completions.d/lrcstore.fish",
+    "bash": "share/bash-completion/completions/{}",
+    "zsh": "share/zsh/site-functions/_{}",
+    "fish": "share/fish/vendor_completions.d/{}.fish",
 }
 
 
@@ -52,11 +52,13 @@ class Installation:
         os.symlink(target, self.place(path))
 
     def program(self, source):
-        """The program, its man page, and its completions for shells."""
-        self.copy(source, "bin/lrcstore", 0o755)
-        self.write(manual.of_program(), "share/man/man1/lrcstore.1")
+        """A program, its man page, and its completions for shells."""
+        name = os.path.basename(source)
+        self.copy(source, f"bin/{name}", 0o755)
+        self.write(manual.of_program(name), f"share/man/man1/{name}.1")
         for shell, path in COMPLETIONS.items():
-            self.copy(os.path.join(TOP, "packaging", "completion", f"lrcstore.{shell}"), path)
+            completion = os.path.join(TOP, "packaging", "completion", f"{name}.{shell}")
+            self.copy(completion, path.format(name))
 
     def headers(self):
         """The headers, and a man page for each library."""

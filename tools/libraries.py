@@ -11,6 +11,7 @@ needs gcc and binutils. The files depend on the archives, the sources and the co
 """
 
 import argparse
+import contextlib
 import os
 import re
 import shutil
@@ -52,12 +53,17 @@ LIBRARIES = {
             "store_mend",
             "store_name",
             "store_open",
+            "store_plan",
             "store_pool",
             "store_shards",
             "store_text",
             "store_wait",
         ),
-        {it: f"{it}_numbered" for it in ("lrc_store_open", "lrc_store_open_unjournaled")},
+        {
+            "lrc_store_open": "lrc_store_open_numbered",
+            "lrc_store_open_unjournaled": "lrc_store_open_unjournaled_numbered",
+            "lrc_store_plan_part": "lrc_store_plan_part_of_any",
+        },
         ("lrc_slot_number",),
         True,
     ),
@@ -155,9 +161,9 @@ def proved_object(library, cpu, archives, folder):
     run("ld", "-r", "-o", linked, *sorted(os.path.join(made, it) for it in os.listdir(made)))
     names = {it: library.renamed.get(it, it) for it in defined(linked) if it.startswith("lrc_")}
     renamed = write((f"{old} {cpu}_{new}" for old, new in names.items()), folder, "renamed")
-    kept = write((f"{cpu}_{new}" for new in names.values()), folder, "kept")
+    symbols = write((f"{cpu}_{new}" for new in names.values()), folder, "symbols")
     run("objcopy", f"--redefine-syms={renamed}", linked)
-    run("objcopy", f"--keep-global-symbols={kept}", linked)
+    run("objcopy", f"--keep-global-symbols={symbols}", linked)
     return linked, sorted(names.values())
 
 
@@ -193,7 +199,7 @@ def static(name, archives, folder):
     whole = os.path.join(folder, f"{name}.o")
     run("ld", "-r", "-o", whole, *objects)
     wanted = sorted([*declared(name), *library.internal])
-    run("objcopy", f"--keep-global-symbols={write(wanted, folder, 'kept')}", whole)
+    run("objcopy", f"--keep-global-symbols={write(wanted, folder, 'symbols')}", whole)
     if defined(whole) != wanted:
         wrong = " ".join(sorted(set(defined(whole)) ^ set(wanted)))
         sys.exit(f"{name}.h and the library differ in {wrong}")
@@ -225,7 +231,7 @@ def shared(name, archive, folder):
 def place(source, path):
     """Puts a copy at a path. An older file there is replaced and not written, since programs may
     have it open."""
-    shutil.copy(source, path + ".new", follow_symlinks=False)
+    shutil.copy(source, path + ".new")
     os.replace(path + ".new", path)
 
 
@@ -239,10 +245,14 @@ def build(name, to, built=None):
             archives[cpu] = archives_of(LIBRARIES[name], cpu, built, room)
         archive = static(name, archives, folder)
         made = [archive, shared(name, archive, folder)]
-        os.symlink(f"lib{name}.so", os.path.join(folder, soname(name)))
         os.makedirs(to, exist_ok=True)
-        for path in [*made, os.path.join(folder, soname(name))]:
+        for path in made:
             place(path, os.path.join(to, os.path.basename(path)))
+        alias = os.path.join(to, soname(name))
+        with contextlib.suppress(FileNotFoundError):
+            os.remove(alias)
+        # a second name: rt refuses symbolic links in a clone
+        os.link(os.path.join(to, f"lib{name}.so"), alias)
 
 
 def main():

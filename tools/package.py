@@ -1,20 +1,20 @@
 #!/usr/bin/env python3
 """Makes the packages of a release.
 
-    tools/package.py build --to BUILT [--reuse FOLDER] [--verdicts LOG]
+    tools/package.py build --to BUILT [--reuse FOLDER].. [--verdicts LOG]
     tools/package.py pack --from BUILT --to DIST [--no-plugins] [--unlicensed]
                           [deb] [wheel] [crate] [tar] [assembly]
     tools/package.py all --to DIST [--built BUILT] ..    both, with the words of both
 
-`build` needs the Rattle kit. It leaves the program, the archives of both libraries for each
+`build` needs the Rattle kit. It leaves both programs, the archives of both libraries for each
 processor, and what they come from in BUILT. With --reuse it takes from FOLDER what is built there,
 and with --verdicts the prover's last line of each crate from LOG, what `rt ci --anew` has printed.
 
 `pack` needs no kit, and takes less than a minute. It writes packages into DIST, all kinds if none
 is named, with their provenance, a bill of materials and checksums. The bytes of DIST depend on
-BUILT, the commit, and the compiler alone. It needs gcc and binutils; for `deb` debhelper,
-dh-python, and the headers of liberasurecode and Ceph, unless --no-plugins leaves these plugins out.
-Without a file LICENSE it ends, unless --unlicensed is given.
+BUILT, the commit, the compiler, and Python's headers alone. It needs gcc and binutils; for `wheel`
+python3-dev; for `deb` also debhelper, dh-python, and the headers of liberasurecode and Ceph, unless
+--no-plugins leaves these plugins out. Without a file LICENSE it ends, unless --unlicensed is given.
 """
 
 import argparse
@@ -23,7 +23,9 @@ from packages import building, packing
 
 
 def add_building(verb):
-    verb.add_argument("--reuse", metavar="FOLDER", help="take what is built there")
+    verb.add_argument(
+        "--reuse", metavar="FOLDER", action="append", default=[], help="take what is built there"
+    )
     verb.add_argument("--verdicts", metavar="LOG", help="what rt ci --anew has printed")
 
 
@@ -36,7 +38,7 @@ def add_packing(verb):
 def arguments(words=None):
     parser = argparse.ArgumentParser(description=__doc__.splitlines()[0])
     verbs = parser.add_subparsers(dest="verb", required=True)
-    first = verbs.add_parser("build", help="with the kit: the program and the archives")
+    first = verbs.add_parser("build", help="with the kit: the programs and the archives")
     first.add_argument("--to", required=True, metavar="BUILT")
     add_building(first)
     second = verbs.add_parser("pack", help="without the kit: packages")

@@ -15,7 +15,7 @@ NUMBER = libraries.version()
 ABI = libraries.abi(NUMBER)
 # Each file with a pattern, and what each place that matches it has to be.
 PLACES = [
-    ("README.md", r"^Version ([\d.]+\d),", NUMBER),
+    ("README.md", r"^> \*\*Status: ([\d.]+\d),", NUMBER),
     ("CHANGELOG.md", r"\A(?:(?!^## ).)*^## ([\d.]+\d)", NUMBER),
     ("bindings/python/lrc_coder.py", r"\.so\.(\d[\d.]*)", ABI),
     ("bindings/python/lrc_store.py", r"\.so\.(\d[\d.]*)", ABI),

@@ -63,11 +63,11 @@ ours() {
     echo "apt-get install -y --no-install-recommends$words"
 }
 
-# Both commands of README.md print the lines below them, in a system that has nothing else.
+# Both commands of docs/install.md print the lines of README.md, in a system that has nothing else.
 program() {
     local install run
-    install=$(sed -n 's/^    \(apt install .*\)/\1/p' README.md)
-    run=$(sed -n 's/^    \(lrcstore .*\)/\1/p' README.md)
+    install=$(sed -n 's/^    \(apt install .*\)/\1/p' docs/install.md)
+    run=$(sed -n 's/^    \(lrcstore .*\)/\1/p' docs/install.md)
     sed -n '/^    1 stored 1$/,/^    lawful yes$/s/^    //p' README.md > "$root/src/shown"
     [ -s "$root/src/shown" ] && [ -n "$install" ] && [ -n "$run" ] || return
     steps 'if command -v rt || command -v rattle; then exit 1; fi' || return
@@ -76,6 +76,21 @@ program() {
     steps "$run > /src/printed && cmp /src/printed /src/shown" || return
     steps 'cd /src/scripts && lrcstore degraded_read.csv --history > /src/printed
         cmp /src/printed degraded_read.txt'
+}
+
+# A file in fragments over four folders: one folder is lost, and then a fragment damaged. Each time
+# the file is the same, and a repair makes all whole.
+file_in_fragments() {
+    steps "test \"\$(lrc --version)\" = 'lrc $number'" || return
+    steps 'mkdir -p /src/files && cd /src/files && mkdir a b c d && seq 300000 > film
+        lrc split film --to a b c d --width 4096
+        lrc verify a b c d | grep -q "whole: any 3 further fragments may be lost"' || return
+    steps 'cd /src/files && rm -r b && mkdir b && lrc join a b c d --to again || test $? = 1
+        cmp film again && lrc repair a b c d && lrc verify a b c d' || return
+    steps 'cd /src/files && printf damage | dd of=a/film.00.lrc bs=1 seek=5000 conv=notrunc
+        lrc verify a b c d || test $? = 1
+        lrc repair --check a b c d && lrc verify a b c d
+        lrc join a b c d --to again --force && cmp film again'
 }
 
 in_c() {
@@ -141,12 +156,14 @@ by_pip() {
     steps 'dpkg --purge python3-lrcstore && python3 -m venv /venv
         /venv/bin/pip install --no-index /dist/lrcstore-*.whl && cd /tmp
         test "$(/venv/bin/python store.py)" = "HELLO, WORLD"
+        /venv/bin/python -c "import lrcstore._native"
         test "$(/venv/bin/python rebuild.py)" = HELL'
 }
 
 pages() {
-    steps 'man -w lrcstore && man -w lrc_store && man -w lrc_coder
-        MANPAGER=cat man lrcstore | grep -q "one thread"'
+    steps 'man -w lrcstore && man -w lrc && man -w lrc_store && man -w lrc_coder
+        MANPAGER=cat man lrcstore | grep -q "one thread"
+        MANPAGER=cat man lrc | grep -q "may be lost"'
 }
 
 in_pyeclib() {
@@ -175,11 +192,13 @@ in_ceph() {
 # Nothing of the packages stays, and the tarball needs none of them, wherever it is unpacked.
 moved() {
     steps 'apt-get purge -y $(dpkg-query -W -f "\${Package}\n" | grep -E "lrc" | xargs)
-        if find /usr -name "*lrc_*" -o -name "*lrcstore*" | grep .; then exit 1; fi' || return
+        if find /usr -name "*lrc_*" -o -name "*lrcstore*" -o -name lrc -o -name "lrc.*" -o -name \
+            _lrc | grep .; then exit 1; fi' || return
     steps 'mkdir -p "/srv/a place" && cd "/srv/a place" && tar -xzf /dist/lrcstore-*.tar.gz
         mv lrcstore-* here && cd here && sha256sum --quiet -c share/lrcstore/SHA256SUMS
         bin/lrcstore /src/scripts/degraded_read.csv --history > /src/printed
         cmp /src/printed /src/scripts/degraded_read.txt
+        bin/lrc verify /src/files/a /src/files/b /src/files/c /src/files/d
         mv "/srv/a place/here" /srv/moved
         cd /src && PYTHONPATH=/srv/moved/share/lrcstore/python python3 /tmp/store.py'
 }
@@ -202,6 +221,7 @@ fresh_tests() {
         return
     fi
     test_in "program" /usr/bin/apt-get apt program
+    test_in "files in fragments" /usr/bin/apt-get apt file_in_fragments
     debian gcc g++ libc6-dev pkg-config cmake make
     test_in "C" /usr/bin/pkg-config gcc in_c
     test_in "C, static" /usr/bin/pkg-config gcc in_c_static

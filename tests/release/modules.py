@@ -3,6 +3,7 @@
 packages of Debian. LRC_LIBRARIES names the folder of the libraries."""
 
 import hashlib
+import importlib.util
 import os
 import re
 import shutil
@@ -11,6 +12,7 @@ import sys
 import tarfile
 import tempfile
 import unittest
+import venv
 import zipfile
 from unittest import mock
 
@@ -19,6 +21,7 @@ sys.path.insert(0, os.path.join(TOP, "tools"))
 
 import libraries  # noqa: E402
 import package  # noqa: E402
+import python_extension  # noqa: E402
 from packages import (  # noqa: E402
     assembly,
     building,
@@ -36,6 +39,8 @@ from packages import (  # noqa: E402
 LINKED = os.environ["LRC_LIBRARIES"]
 WHEN = 1_700_000_001
 OPTIONS = ("width", "workers", "limit", "history", "help", "version")
+# The definitions of the options of `lrc`.
+LRC_LINE = os.path.join("crates", "lrc_line", "src", "command.rt")
 LOG = """== gf256
 fn gf256::inv: proved
 logic=proved functions=10 sum=1
@@ -60,8 +65,8 @@ class Words(unittest.TestCase):
         return [each.args for each in build.mock_calls], [each.args for each in pack.mock_calls]
 
     def test_words(self):
-        built, packed = ("b", "r", "v"), ("b", "d", ["deb"], False, True)
-        of_build = ("--reuse", "r", "--verdicts", "v")
+        built, packed = ("b", ["r", "s"], "v"), ("b", "d", ["deb"], False, True)
+        of_build = ("--reuse", "r", "--reuse", "s", "--verdicts", "v")
         of_pack = ("--no-plugins", "--unlicensed", "deb")
         self.assertEqual(self.done("build", "--to", "b", *of_build), ([built], []))
         words = ("pack", "--from", "b", "--to", "d", *of_pack)
@@ -70,7 +75,7 @@ class Words(unittest.TestCase):
         self.assertEqual(self.done(*words), ([built], [packed]))
         self.assertEqual(
             self.done("all", "--to", "d"),
-            ([("built", None, None)], [("built", "d", packing.KINDS, True, False)]),
+            ([("built", [], None)], [("built", "d", packing.KINDS, True, False)]),
         )
 
     def test_refused_words(self):
@@ -171,10 +176,10 @@ class Records(Folder):
     def test_without_a_log_there_are_no_verdicts(self):
         self.assertEqual(set(building.verdicts_of(None).values()), {None})
 
-    def test_a_release_has_the_crates_of_the_program_and_the_libraries(self):
+    def test_a_release_has_the_crates_of_the_programs_and_the_libraries(self):
         found = record.crates()
         self.assertLess(found.index("gf256"), found.index("lrcstore"))
-        for each in ("lrcstore", "coder_c", "store_c", "session"):
+        for each in ("lrcstore", "lrc", "lrc_files", "coder_c", "store_c", "session"):
             self.assertIn(each, found)
         for each in ("test_code", "bench_coder", "sharded"):
             self.assertNotIn(each, found)
@@ -190,24 +195,33 @@ class Records(Folder):
 
     def test_what_is_not_reused_is_proved_and_built(self):
         self.write("as it is", "ready", "libcoder_c_v2.a")
-        asked = []
+        self.write("as it was", "more", "libcoder_c_v2.a")
+        self.write("reused", "more", "lrc")
+        asked, programs = [], []
 
         def prove(*words):
             asked.append(words[:2])
             return self.write(" ".join(words[:2]), "proved")
 
+        def program(name):
+            programs.append(name)
+            return self.write(name, "program")
+
         os.mkdir(self.path("built"))
-        program = self.write("program", "program")
+        ready = [self.path("ready"), self.path("more")]
         with mock.patch.object(libraries, "prove", prove), mock.patch.object(
-            libraries, "kit_libc", lambda built: program
-        ), mock.patch.object(building.build, "build_all", lambda name: program):
-            building.fill(self.path("built"), self.path("ready"))
+            libraries, "kit_libc", lambda built: program("libc")
+        ), mock.patch.object(building.build, "build_all", program):
+            building.fill(self.path("built"), ready)
         self.assertEqual(sorted(os.listdir(self.path("built"))), sorted(record.FILES))
         self.assertEqual(asked, [it for it in record.ARCHIVES.values() if it != ("coder_c", "v2")])
         found = {it: reproducible.read_bytes(self.path("built", it)) for it in record.FILES}
+        self.assertEqual(programs, ["lrcstore", "libc"])
+        self.assertEqual((found["lrcstore"], found["lrc"]), (b"lrcstore", b"reused"))
         self.assertEqual(found["libcoder_c_v2.a"], b"as it is")
         self.assertEqual(found["libstore_c_v3.a"], b"store_c v3")
-        self.assertTrue(os.access(self.path("built", record.PROGRAM), os.X_OK))
+        for it in record.PROGRAMS:
+            self.assertTrue(os.access(self.path("built", it), os.X_OK))
 
     def built(self):
         """A folder as BUILT, of other bytes."""
@@ -246,7 +260,8 @@ class Records(Folder):
         self.assertEqual(parts["kit/clap"]["version"], "kit-1")
         self.assertEqual((bill["bomFormat"], bill["specVersion"]), ("CycloneDX", "1.5"))
         edges = {it["ref"]: it["dependsOn"] for it in bill["dependencies"]}
-        self.assertEqual(edges["lrcstore"], ["crate/coder_c", "crate/lrcstore", "crate/store_c"])
+        tops = ["coder_c", "lrc", "lrcstore", "store_c"]
+        self.assertEqual(edges["lrcstore"], [f"crate/{it}" for it in tops])
         self.assertEqual(edges["crate/command_line"], ["crate/script", "kit/clap"])
         used = {each for below in edges.values() for each in below}
         self.assertLessEqual(used, set(parts))
@@ -271,25 +286,93 @@ class Licences(Folder):
         self.ends("is not empty", packing.empty, self.path("dist"))
 
 
+@unittest.skipUnless(os.path.exists(python_extension.header()), "no python3-dev")
 class Wheels(Folder):
+    # Prints where a process has both libraries from.
+    MAPS = """
+lines = open("/proc/self/maps").read().split()
+print(*sorted({it for it in lines if "/liblrc_" in it}))
+"""
+
+    @classmethod
+    def setUpClass(cls):
+        cls.made = tempfile.mkdtemp()
+        cls.addClassCleanup(shutil.rmtree, cls.made)
+        (cls.wheel,) = wheel.pack(LINKED, cls.made, "0.1.0", WHEN)
+
     def setUp(self):
         super().setUp()
-        (path,) = wheel.pack(LINKED, self.folder, "0.1.0", WHEN)
-        self.name = os.path.basename(path)
-        with zipfile.ZipFile(path) as whole:
+        self.name = os.path.basename(self.wheel)
+        with zipfile.ZipFile(self.wheel) as whole:
             whole.extractall(self.path("site"))
             self.names = whole.namelist()
 
-    def test_the_modules_load_the_libraries_in_the_wheel(self):
-        code = "import lrc_store, lrc_coder; print(lrc_store._library._name, lrc_coder.encode)"
-        kept = {it: word for it, word in os.environ.items() if not it.startswith("LRC_")}
+    def printed(self, code, python=sys.executable, **more):
+        """The words that a Python prints, whose modules are in the folder `site` if none are
+        named."""
+        inherited = {it: word for it, word in os.environ.items() if not it.startswith("LRC_")}
         ran = subprocess.run(
-            [sys.executable, "-c", code],
-            env={**kept, "PYTHONPATH": self.path("site")},
+            [python, "-c", code],
+            env={**inherited, "PYTHONPATH": self.path("site"), **more},
             stdout=subprocess.PIPE,
+            stderr=subprocess.STDOUT,
             text=True,
         )
-        self.assertIn(self.path("site", "lrc_store", "liblrc_store.so"), ran.stdout)
+        self.assertEqual(ran.returncode, 0, ran.stdout)
+        return ran.stdout.split()
+
+    def library(self, name, *folder):
+        return self.path(*(folder or ("site",)), f"lrc_{name}", f"liblrc_{name}.so.0.1")
+
+    @unittest.skipUnless(importlib.util.find_spec("pip"), "no pip")
+    def test_a_fresh_environment_calls_by_the_extension(self):
+        venv.create(self.path("fresh"), symlinks=True)
+        command = [sys.executable, "-m", "pip", "install", "-qqq", "--no-index", self.wheel]
+        subprocess.run([*command, "--prefix", self.path("fresh")], check=True)
+        code = "import sys, lrcstore; from lrcstore import _store; print(_store.Calls.__module__)"
+        code += "\nstore = lrcstore.Store(4); store.put('a', b'HELLO'); print(store.get('a'))"
+        version = "python{}.{}".format(*sys.version_info)
+        site = ("fresh", "lib", version, "site-packages")
+        said = self.printed(code + self.MAPS, self.path("fresh", "bin", "python"), PYTHONPATH="")
+        self.assertEqual(said, ["lrcstore._native", "b'HELLO'", self.library("store", *site)])
+
+    def test_the_extension_finds_the_library_without_the_modules(self):
+        said = self.printed("import _native" + self.MAPS, PYTHONPATH=self.path("site", "lrcstore"))
+        self.assertEqual([os.path.realpath(it) for it in said], [self.library("store")])
+
+    def test_each_module_loads_its_library_alone(self):
+        for code, library in (
+            ("import lrc_store", "store"),
+            ("from lrcstore import Store", "store"),
+            ("import lrcstore; lrcstore.name_of('a')", "store"),
+            ("import lrc_coder", "coder"),
+            ("from lrcstore import coder; coder.encode", "coder"),
+        ):
+            self.assertEqual(self.printed(code + self.MAPS), [self.library(library)], code)
+
+    def test_the_coder_needs_no_library_of_the_store(self):
+        os.remove(self.library("store"))
+        code = "from lrcstore import coder; print(coder.is_unrecoverable(12, [3], 3))"
+        self.assertEqual(self.printed(code), ["False"])
+
+    def test_an_older_python_calls_by_ctypes(self):
+        for version, wanted in (((3, 10, 13), "_sessions"), ((3, 11, 0), "_native")):
+            code = f"import sys; sys.version_info = {version}; from lrcstore import _store"
+            said = self.printed(f"{code}; print(_store.Calls.__module__)")
+            self.assertEqual(said, [f"lrcstore.{wanted}"])
+
+    def test_its_name_and_its_tags_are_those_of_both_ways_to_call(self):
+        platform = re.search("manylinux_2_[0-9]+_x86_64", self.name).group(0)
+        self.assertEqual(self.name, f"lrcstore-0.1.0-cp311.py3-abi3.none-{platform}.whl")
+        with open(self.path("site", "lrcstore-0.1.0.dist-info", "WHEEL"), encoding="utf-8") as file:
+            listed = [line[5:].rstrip("\n") for line in file if line.startswith("Tag: ")]
+        wanted = {f"{it}-{platform}" for it in ("cp311-abi3", "cp311-none", "py3-abi3", "py3-none")}
+        self.assertEqual((set(listed), len(listed)), (wanted, 4))
+
+    def test_without_the_header_of_python_none_is_made(self):
+        with mock.patch.object(python_extension, "header", lambda: "/no/Python.h"):
+            self.ends("python3-dev", wheel.demand)
+        wheel.demand()
 
     def test_its_record_has_each_file(self):
         info = "lrcstore-0.1.0.dist-info"
@@ -391,18 +474,44 @@ class Manuals(Folder):
         self.assertEqual(manual.escaped(".x\\n-"), "\\&.x\\en\\-")
         self.assertEqual(manual.escaped("'x"), "\\&'x")
 
-    def test_the_page_of_the_program_has_each_option(self):
-        page = manual.of_program()
-        self.assertIn(f"lrcstore {libraries.version()}", page)
-        for each in OPTIONS:
-            self.assertRegex(page, rf"\\-\\-{each}\b")
+    def options(self):
+        """The options of each program: those of `lrc` are those that its crate defines."""
+        defined = r'\b(?:valued|number|listed|flag)\(\s*alloc,\s*"([a-z]+)"'
+        lrc = re.findall(defined, libraries.read(LRC_LINE))
+        self.assertGreater(len(lrc), 10)
+        return {"lrcstore": OPTIONS, "lrc": (*lrc, "help", "version")}
+
+    def test_the_page_of_each_program_has_each_option(self):
+        for program, options in self.options().items():
+            page = manual.of_program(program)
+            self.assertIn(f"lrcstore {libraries.version()}", page)
+            for each in options:
+                self.assertRegex(page, rf"\\-\\-{each}\b", program)
 
     def test_each_completion_has_each_option(self):
         folder = os.path.join("packaging", "completion")
-        for shell, before in (("bash", "--"), ("zsh", "'--"), ("fish", "-l ")):
-            text = libraries.read(folder, f"lrcstore.{shell}")
-            for each in OPTIONS:
-                self.assertRegex(text, rf"{before}{each}\b", shell)
+        for program, options in self.options().items():
+            for shell, before in (("bash", "--"), ("zsh", "--"), ("fish", "-l ")):
+                text = libraries.read(folder, f"{program}.{shell}")
+                for each in options:
+                    self.assertRegex(text, rf"{before}{each}\b", f"{program} {shell}")
+
+    def test_each_completion_of_bash_is_that_of_the_command(self):
+        said = {}
+        for command in ("split", "verify", "repair", "join", "show"):
+            script = f". packaging/completion/lrc.bash; COMP_WORDS=(lrc {command} --)"
+            script += '; COMP_CWORD=2; _lrc; printf "%s\\n" "${COMPREPLY[@]}"'
+            ran = subprocess.run(
+                ["bash", "-c", script], cwd=TOP, stdout=subprocess.PIPE, text=True, check=True
+            )
+            said[command] = set(ran.stdout.split())
+        common = said.pop("show")
+        self.assertEqual({it: said[it] - common for it in said}, {
+            "split": {"--to", "--code", "--width", "--name", "--force"},
+            "verify": {"--expect"},
+            "repair": {"--to", "--check"},
+            "join": {"--to", "--range", "--force"},
+        })
 
 
 class Comparisons(Folder):

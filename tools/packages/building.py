@@ -1,4 +1,4 @@
-"""With the kit: the program, each library's archives for each processor, and their record."""
+"""With the kit: the programs, each library's archives for each processor, and their record."""
 
 import os
 import shutil
@@ -13,7 +13,7 @@ from packages.reproducible import git, sha256
 
 def made(file, folder):
     """The path of a file of BUILT, once it is proved and built."""
-    if file == record.PROGRAM:
+    if file in record.PROGRAMS:
         return build.build_all(file)
     if file == record.LIBC:
         return libraries.kit_libc(None)
@@ -21,13 +21,14 @@ def made(file, folder):
 
 
 def fill(to, reuse):
-    """Puts all files into BUILT, those of the folder `reuse` as they are."""
+    """Puts all files into BUILT, those of the folders `reuse` as they are."""
     for file in record.FILES:
         there = os.path.join(to, file)
-        ready = os.path.join(reuse, file) if reuse else ""
+        ready = [os.path.join(it, file) for it in reuse]
+        ready = [it for it in ready if os.path.exists(it)]
         with tempfile.TemporaryDirectory() as folder:
-            shutil.copyfile(ready if os.path.exists(ready) else made(file, folder), there)
-        os.chmod(there, 0o755 if file == record.PROGRAM else 0o644)
+            shutil.copyfile(ready[0] if ready else made(file, folder), there)
+        os.chmod(there, 0o755 if file in record.PROGRAMS else 0o644)
 
 
 def verdicts_of(log):

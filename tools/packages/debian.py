@@ -11,7 +11,7 @@ import time
 
 import libraries
 from installation import Installation
-from packages import licence
+from packages import licence, record
 from packages.reproducible import environment, normalise
 
 HERE = os.path.join("packaging", "debian")
@@ -65,7 +65,8 @@ def fill(work, source, linked):
         f"lib/{multiarch}",
         "lib/python3/dist-packages",
     )
-    staged.program(os.path.join(source, "lrcstore"))
+    for name in record.PROGRAMS:
+        staged.program(os.path.join(source, name))
     staged.headers()
     for name in libraries.LIBRARIES:
         staged.library(name, linked)

@@ -1,4 +1,5 @@
-"""The man pages: that of the program is written by hand, those of the libraries are their headers.
+"""The man pages: those of the programs are written by hand, those of the libraries are their
+headers.
 
 A page of section 3 has the comments and declarations of a header in their order. The body of an
 inline function, and what only the preprocessor reads, is left out.
@@ -11,7 +12,7 @@ import libraries
 import package_files
 
 INLINE = "static inline "
-PAGE = os.path.join("packaging", "man", "lrcstore.1.in")
+PAGES = os.path.join("packaging", "man")
 # What a header has at the beginning of a line, in the order of trial.
 PARTS = re.compile(
     r"/\*(?P<comment>.*?)\*/"
@@ -115,6 +116,6 @@ def of_header(name):
     return "\n".join(page) + "\n"
 
 
-def of_program():
-    """The page of the program."""
-    return libraries.read(PAGE).replace("@VERSION@", libraries.version())
+def of_program(name):
+    """The page of a program."""
+    return libraries.read(PAGES, f"{name}.1.in").replace("@VERSION@", libraries.version())

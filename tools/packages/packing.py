@@ -39,6 +39,8 @@ def pack(source, dist, kinds, has_plugins, is_unlicensed):
     licence.demand(is_unlicensed)
     if "deb" in kinds:
         debian.demand(has_plugins)
+    if "wheel" in kinds:
+        wheel.demand()
     built, number, when = record.read_record(source), libraries.version(), moment()
     empty(dist)
     settle(when)

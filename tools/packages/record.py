@@ -12,25 +12,25 @@ import libraries
 from packages.reproducible import git, sha256
 
 RECORD = "built.json"
-PROGRAM, LIBC = "lrcstore", "liblibc_c.a"
+PROGRAMS, LIBC = ("lrcstore", "lrc"), "liblibc_c.a"
 ARCHIVES = {
     f"lib{it.crate}_{cpu}.a": (it.crate, cpu)
     for it in libraries.LIBRARIES.values()
     for cpu in it.cpus
 }
-FILES = (PROGRAM, *ARCHIVES, LIBC)
-# Of the kit, in each archive and in the program: no crate names them all.
+FILES = (*PROGRAMS, *ARCHIVES, LIBC)
+# Of the kit, in each archive and in the programs: no crate names them all.
 ALWAYS_LINKED = ("core", "std", "std_alloc", "std_heap", "libc")
 
 
 def crates():
-    """The crates of the program and of both libraries, from the bottom up."""
+    """The crates of the programs and of both libraries, from the bottom up."""
     wanted = {it for top in tops() for it in build.below(top)}
     return [it for it in build.dependencies() if it in wanted]
 
 
 def tops():
-    return (PROGRAM, *(it.crate for it in libraries.LIBRARIES.values()))
+    return (*PROGRAMS, *(it.crate for it in libraries.LIBRARIES.values()))
 
 
 def sources(crate):

@@ -26,8 +26,8 @@ def moment():
 
 def environment(when):
     """The variables of a command that makes files. New files are for all to read: see `settle`."""
-    kept = {it: os.environ[it] for it in INHERITED if it in os.environ}
-    return {**kept, "LC_ALL": "C.UTF-8", "TZ": "UTC", "SOURCE_DATE_EPOCH": str(when)}
+    inherited = {it: os.environ[it] for it in INHERITED if it in os.environ}
+    return {**inherited, "LC_ALL": "C.UTF-8", "TZ": "UTC", "SOURCE_DATE_EPOCH": str(when)}
 
 
 def settle(when):
@@ -92,7 +92,7 @@ def write_zip(path, files, when):
     with zipfile.ZipFile(path, "w") as whole:
         for name, data in files.items():
             info = zipfile.ZipInfo(name, stamp)
-            info.external_attr = (0o100755 if name.endswith(".so") else 0o100644) << 16
+            info.external_attr = (0o100755 if ".so" in name else 0o100644) << 16
             info.compress_type = zipfile.ZIP_DEFLATED
             info.create_system = 3
             whole.writestr(info, data, compresslevel=9)

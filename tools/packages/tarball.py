@@ -6,7 +6,7 @@ import tempfile
 
 import libraries
 from installation import Installation
-from packages import licence
+from packages import licence, record
 from packages.reproducible import files_below, sha256, write_tar
 
 # Nothing is at this prefix. It is none of the system's, so pkg-config's files find their own place.
@@ -25,7 +25,8 @@ def checksums(root):
 def fill(root, source, linked, provenance):
     """Puts all files below a folder."""
     files = Installation(root, PREFIX, "lib", PYTHON)
-    files.program(os.path.join(source, "lrcstore"))
+    for name in record.PROGRAMS:
+        files.program(os.path.join(source, name))
     files.headers()
     for name in libraries.LIBRARIES:
         files.library(name, linked)

@@ -1,12 +1,17 @@
 """The wheel of both Python modules and of the package over them. Each module is a folder with its
-library beside it, so that it loads this one. By ctypes it serves every Python."""
+library beside it, so that it loads this one. The package's extension module serves Python 3.11 and
+later, and finds the store's library by its path from there. By ctypes the wheel serves every
+Python."""
 
 import base64
 import hashlib
 import os
 import re
+import sys
+import tempfile
 
 import libraries
+import python_extension
 from installation import PACKAGE
 from packages import licence
 from packages.reproducible import read_bytes, write_zip
@@ -14,6 +19,8 @@ from packages.reproducible import read_bytes, write_zip
 SUMMARY = "In-memory blob store in the Local Reconstruction Code LRC(12,2,2), and its coder"
 # The oldest glibc that a wheel's tag names: pip knows no older one by numbers.
 OLDEST = (2, 17)
+# Which Pythons it serves: those of the extension's stable ABI by that, and every other by ctypes.
+PYTHONS = ("cp{}{}".format(*python_extension.OLDEST), "py3"), ("abi3", "none")
 
 
 def glibc_of(*files):
@@ -23,7 +30,13 @@ def glibc_of(*files):
     return max([OLDEST, *((int(major), int(minor)) for major, minor in found)])
 
 
-def described(number, tag):
+def tags(platform):
+    """The tags of the wheel: what its name says in short, each on its own."""
+    pythons, abis = PYTHONS
+    return [f"{python}-{abi}-{platform}" for python in pythons for abi in abis]
+
+
+def described(number, platform):
     """The texts by which pip knows the wheel, by their names."""
     text = licence.text()
     license_line = "License-File: LICENSE\n" if text else ""
@@ -32,7 +45,7 @@ def described(number, tag):
         f"Summary: {SUMMARY}\nRequires-Python: >=3.8\n{license_line}"
         "Classifier: Operating System :: POSIX :: Linux\n",
         "WHEEL": "Wheel-Version: 1.0\nGenerator: tools/package.py\nRoot-Is-Purelib: false\n"
-        f"Tag: {tag}\n",
+        + "".join(f"Tag: {it}\n" for it in tags(platform)),
         "top_level.txt": "".join(f"{it}\n" for it in (*libraries.LIBRARIES, PACKAGE)),
         **({"LICENSE": text} if text else {}),
     }
@@ -45,21 +58,34 @@ def recorded(files):
         yield f"{name},sha256={digest},{len(data)}\n"
 
 
+def demand():
+    """Ends if the wheel can't be made here."""
+    if not os.path.exists(python_extension.header()):
+        sys.exit(f"the wheel needs python3-dev: no {python_extension.header()}")
+
+
+def module(linked, folder):
+    """The extension module, which looks for the library where the wheel has it."""
+    return python_extension.build(linked, folder, "$ORIGIN/../lrc_store")
+
+
 def pack(linked, dist, number, when):
     """Writes the wheel of the libraries in a folder."""
-    shared = {it: os.path.join(linked, f"lib{it}.so") for it in libraries.LIBRARIES}
-    tag = "py3-none-manylinux_{}_{}_x86_64".format(*glibc_of(*shared.values()))
-    files = {}
-    for name, library in shared.items():
-        module = os.path.join(libraries.TOP, "bindings", "python", f"{name}.py")
-        files[f"{name}/__init__.py"] = read_bytes(module)
-        files[f"{name}/lib{name}.so"] = read_bytes(library)
-    package = os.path.join(libraries.TOP, "bindings", "python", PACKAGE)
-    for file in sorted(os.listdir(package)):
-        if file.endswith((".py", ".typed")):
-            files[f"{PACKAGE}/{file}"] = read_bytes(os.path.join(package, file))
+    files, python = {}, os.path.join(libraries.TOP, "bindings", "python")
+    for name in libraries.LIBRARIES:
+        files[f"{name}/__init__.py"] = read_bytes(python, f"{name}.py")
+        files[f"{name}/{libraries.soname(name)}"] = read_bytes(linked, f"lib{name}.so")
+    for file in sorted(os.listdir(os.path.join(python, PACKAGE))):
+        if file.endswith((".py", ".pyi", ".typed")):
+            files[f"{PACKAGE}/{file}"] = read_bytes(python, PACKAGE, file)
+    with tempfile.TemporaryDirectory() as folder:
+        binaries = [os.path.join(linked, f"lib{it}.so") for it in libraries.LIBRARIES]
+        binaries.append(module(linked, folder))
+        files[f"{PACKAGE}/{python_extension.MODULE}"] = read_bytes(binaries[-1])
+        platform = "manylinux_{}_{}_x86_64".format(*glibc_of(*binaries))
     info = f"lrcstore-{number}.dist-info"
-    for name, text in described(number, tag).items():
+    for name, text in described(number, platform).items():
         files[f"{info}/{name}"] = text.encode()
     files[f"{info}/RECORD"] = "".join([*recorded(files), f"{info}/RECORD,,\n"]).encode()
-    return [write_zip(os.path.join(dist, f"lrcstore-{number}-{tag}.whl"), files, when)]
+    short = "-".join([*(".".join(it) for it in PYTHONS), platform])
+    return [write_zip(os.path.join(dist, f"lrcstore-{number}-{short}.whl"), files, when)]
