@@ -23,23 +23,29 @@ tool() { # FOLDER WORD..
     CEPH_ARGS="--erasure_code_dir=$work/$1" ceph-erasure-code-tool "${@:2}" > "$work/printed" 2>&1
 }
 
-# The tool decodes a file from files that it finds by their places.
+# The tool decodes a file from files that it finds by their places. These sets are recoverable in
+# each order.
 decoded_by_tool() {
-    local lost set place count=0
+    local order lost set place count=0
     if ceph-osd --version | grep -q "version 20"; then
         echo "Ceph: skipped: its tool encodes only data (Ceph 20.2, of isa too)"
         return
     fi
     seq 200000 | head -c 1000000 > "$work/object"
-    tool plugins encode "$profile" 4096 "$(seq -s, 0 15)" "$work/object"
-    for lost in 0 6 7 15 "0 1" "0 8" "0 1 2" "0 1 2 8" "0 1 8 9" "0 1 6 14" "6 7 14 15"; do
-        set=$(seq 0 15 | grep -vxF "$(tr ' ' '\n' <<< "$lost")" | paste -sd,)
-        rm -rf "$work/remaining"
-        mkdir "$work/remaining"
-        for place in ${set//,/ }; do ln "$work/object.$place" "$work/remaining/object.$place"; done
-        tool plugins decode "$profile" 4096 "$set" "$work/remaining/object"
-        cmp -n 1000000 "$work/object" "$work/remaining/object"
-        count=$((count + 1))
+    for order in interleaved groups; do
+        tool plugins encode "$profile,order=$order" 4096 "$(seq -s, 0 15)" "$work/object"
+        for lost in 0 6 7 15 "0 1" "0 8" "0 1 2" "0 1 2 8" "0 1 8 9" "0 1 6 14" "6 7 14 15"; do
+            set=$(seq 0 15 | grep -vxF "$(tr ' ' '\n' <<< "$lost")" | paste -sd,)
+            rm -rf "$work/remaining"
+            mkdir "$work/remaining"
+            for place in ${set//,/ }; do
+                ln "$work/object.$place" "$work/remaining/object.$place"
+            done
+            tool plugins decode "$profile,order=$order" 4096 "$set" "$work/remaining/object"
+            cmp -n 1000000 "$work/object" "$work/remaining/object"
+            count=$((count + 1))
+        done
+        rm "$work"/object.*
     done
     echo "Ceph: its tool decodes $count lost sets"
 }
@@ -86,14 +92,14 @@ sanitized() {
     program plugin_test "${sanitizers[@]}"
     # A plugin is never unloaded, so leaks are not asked for.
     ASAN_OPTIONS=detect_leaks=0:detect_odr_violation=0 "$work/plugin_test" "$work/sanitized" \
-        tests/corpus > "$work/printed" 2>&1 || { tail -20 "$work/printed"; return 1; }
+        tests/corpus "$here/README.md" > "$work/printed" 2>&1 || { tail -20 "$work/printed"; return 1; }
     echo "Ceph: sanitizers find nothing"
 }
 
 plugins plugins
 symbols "$work/plugins/libec_azure_lrc.so"
 program plugin_test
-"$work/plugin_test" "$work/plugins" tests/corpus
+"$work/plugin_test" "$work/plugins" tests/corpus "$here/README.md"
 tool plugins test-plugin-exists azure_lrc
 tool plugins validate-profile "$profile"
 decoded_by_tool

@@ -14,7 +14,7 @@ trap 'rm -rf "$work"' EXIT
 store=("-Wl,--allow-multiple-definition" "$LRC_LIBRARIES/liblrc_store.a" -lpthread)
 coder=("$LRC_LIBRARIES/liblrc_coder.a" -lpthread)
 wrapped=("-Wl,--wrap=malloc" "-Wl,--wrap=realloc")
-flags=(--coverage -O0 -w -I include -I tests/store)
+flags=(--coverage -O0 -w -I include -I library -I tests/store)
 
 # object NAME COMPILER FILE FLAG..: $work/NAME.o, which counts its lines
 object() { "$2" "${flags[@]}" -c "$3" "${@:4}" -o "$work/$1.o"; }
@@ -42,6 +42,7 @@ c_sources() {
     object get gcc library/store_get.c
     object of_shards gcc library/store_shards.c
     object name gcc library/store_name.c
+    object plan gcc library/store_plan.c
     object store_text gcc library/store_text.c
     object coder_text gcc library/coder_text.c
     object choice gcc library/choice.c -fPIC -O1 '-DEACH(of)=of(choice_first) of(choice_second)' \
@@ -53,7 +54,7 @@ c_sources() {
             -Dlrc_store_open_unjournaled_numbered=unjournaled_numbered
     done
     for each in edges/{waits,texts,numbers,choice} library/{coder,texts} \
-        store/{waiting,pool,mending,names,shards,versions}; do
+        store/{waiting,pool,mending,handed,names,plan,shards,totals,versions}; do
         object "${each/\//_}" gcc "tests/$each.c"
     done
     run waits "$work"/{edges_waits,wait}.o "${wrapped[@]}" "${store[@]}" --
@@ -62,6 +63,9 @@ c_sources() {
         -Wl,--wrap=malloc,--wrap=calloc,--wrap=pthread_cond_clockwait "${store[@]}" --
     run sharded "$work"/{store_shards,of_shards,pool}.o \
         -Wl,--wrap=malloc,--wrap=calloc,--wrap=lrc_store_numbers_wait "${store[@]}" --
+    run totals "$work"/{store_totals,of_shards}.o -Wl,--wrap=clock_gettime --
+    run handed "$work"/{store_handed,mend}.o -lpthread --
+    run planned "$work"/{store_plan,plan}.o --
     run whole "$work"/{store_versions,get}.o "${store[@]}" --
     run named "$work"/{store_names,name}.o --
     run mended "$work"/{store_mending,mend,wait}.o \

@@ -74,6 +74,14 @@ chosen() {
 }
 choice() { chosen v3 && chosen v4 -DHAS_V4; }
 
+# The same on processors that the test makes up.
+processors() {
+    local each
+    for each in -UHAS_V4 -DHAS_V4; do
+        tested processors $each && "$work/processors" || return
+    done
+}
+
 numbers() {
     local each
     for each in first second; do
@@ -93,6 +101,7 @@ test_of "random calls by sessions handed on" g++ g++ threads handed
 test_of "waits" gcc gcc held waits
 test_of "processes" gcc gcc held processes
 test_of "choice of the processor's code" gcc gcc choice
+test_of "choice on other processors" gcc gcc processors
 test_of "numbers of stores" gcc gcc numbers
 test_of "texts of statuses" gcc gcc texts
 test_of "input and output of the program" gcc gcc python3 tests/edges/io.py

@@ -1,5 +1,6 @@
 """How a Python module finds its library: by the environment, beside itself, or by the soname."""
 
+import ctypes
 import importlib.util
 import os
 import shutil
@@ -37,6 +38,17 @@ class Loading:
     def test_by_the_environment(self):
         shutil.copy(__file__, self.beside)  # is no library, and not taken
         self.loads(self.library, **{self.variable: self.library})
+
+    def test_its_calls_let_other_threads_run(self):
+        """ctypes holds the GIL in calls of a library that is loaded as Python's own."""
+        holds = ctypes.PyDLL(None)._FuncPtr._flags_ & ~ctypes.CDLL(None)._FuncPtr._flags_
+        self.assertNotEqual(holds, 0)
+        self.assertEqual(self.module._library._FuncPtr._flags_ & holds, 0)
+
+    def test_beside_the_module_by_its_soname(self):
+        beside = os.path.join(self.folder, self.module.SONAME)
+        os.symlink(self.library, beside)
+        self.loads(beside)
 
     def test_beside_the_module(self):
         os.symlink(self.library, self.beside)

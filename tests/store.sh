@@ -61,9 +61,14 @@ refuse() {
 
 texts() { program gcc c99 tests/library/texts.c "$coder" && "$work/program"; }
 
-names() { program gcc gnu11 tests/store/names.c && "$work/program"; }
+names() { program gcc gnu11 tests/store/names.c -I library && "$work/program"; }
 
 room() { program gcc gnu11 tests/store/room.c && "$work/program"; }
+
+reads() {
+    program gcc gnu11 tests/store/reads.c -Wl,--wrap=malloc,--wrap=realloc,--wrap=free \
+        && "$work/program"
+}
 
 lost_sets() { program gcc gnu11 tests/store/lost_sets.c "$coder" && "$work/program"; }
 
@@ -142,6 +147,23 @@ shards_sanitized() {
     shards shared -g -fsanitize=thread -Wl,-rpath,"$LRC_LIBRARIES"
 }
 
+plan() {
+    gcc -std=gnu11 -O1 "${warnings[@]}" tests/store/plan.c library/store_plan.c \
+        -o "$work/program" && "$work/program"
+}
+
+# The calls on all shards, over shards that the test makes up.
+totals() {
+    gcc -std=gnu11 -O1 "${warnings[@]}" tests/store/totals.c library/store_shards.c "$@" \
+        -I library -Wl,--wrap=clock_gettime -o "$work/program" && "$work/program"
+}
+
+# handed WORD FLAG..: what threads hand back of a mending, with this word
+handed() {
+    gcc -std=gnu11 -O1 "${warnings[@]}" tests/store/handed.c library/store_mend.c "${@:2}" \
+        -lpthread -o "$work/program" && "$work/program" ${1:+"$1"}
+}
+
 # The code for either processor, chosen by the environment.
 choice() {
     program gcc gnu11 tests/store/calls.c && "$work/program" && LRC_STORE_CPU=v2 "$work/program"
@@ -164,7 +186,7 @@ rust() {
         --manifest-path bindings/rust_store/Cargo.toml "${@:2}"
 }
 in_rust() { rust run --example "$1"; }
-rust_tests() { rust test > "$work/rust" 2>&1 || { cat "$work/rust"; return 1; }; }
+rust_tests() { rust test "$@" > "$work/rust" 2>&1 || { cat "$work/rust"; return 1; }; }
 python_with() {
     LRC_STORE_SO="$LRC_LIBRARIES/liblrc_store.so" LRC_CODER_SO="$LRC_LIBRARIES/liblrc_coder.so" \
         PYTHONDONTWRITEBYTECODE=1 python3 "$@"
@@ -178,6 +200,30 @@ package() {
         && PYTHONPATH=$work/python python_with tests/store/package.py native \
         && busy_library && LD_PRELOAD=$work/busy.so PYTHONPATH=$work/python \
             python_with tests/store/package_busy.py
+}
+# The library that counts its blocks of memory, and the file of its numbers.
+counted_library() {
+    rm -f "$work/numbers"
+    [ -e "$work/counted" ] || tests/store/counted.sh "$work/counted"
+}
+# leaks native|ctypes FOLDER: what Python's modules of a folder leave of the library's memory
+leaks() {
+    counted_library && LRC_STORE_SO=$work/counted/liblrc_store.so LRC_COUNTED=$work/numbers \
+        PYTHONDONTWRITEBYTECODE=1 PYTHONPATH=$2:tests/store python3 tests/store/leaks.py "$1"
+}
+# The package with its extension module over that library.
+package_leaks() {
+    counted_library && cp -r bindings/python "$work/leaks" \
+        && tools/python_extension.py --libraries "$LRC_LIBRARIES" --to "$work/leaks/lrcstore" \
+            --rpath "$work/counted" > /dev/null && leaks native "$work/leaks"
+}
+go_leaks() {
+    counted_library && LRC_LIBRARIES=$work/counted LRC_COUNTED=$work/numbers \
+        go_tool test -count=1 -run TestLeaks .
+}
+rust_leaks() {
+    counted_library || return
+    LRC_LIBRARIES=$work/counted LRC_COUNTED=$work/numbers rust_tests --test leaks
 }
 go_tool() { tests/store/go.sh "$@" > "$work/go" 2>&1 || { cat "$work/go"; return 1; }; }
 in_go() { tests/store/go.sh run "./examples/$1"; }
@@ -212,6 +258,11 @@ test_of "order of a pool's uses, sanitizers of gcc" gcc gcc order "${sanitizers[
 test_of "mending" gcc gcc mending ""
 test_of "mending, sanitizers of gcc" gcc gcc mending "" "${sanitizers[@]}"
 test_of "mending, ThreadSanitizer" gcc gcc mending_sanitized
+test_of "mending, handed back" gcc gcc handed ""
+test_of "mending, handed back, sanitizers of gcc" gcc gcc handed "" "${sanitizers[@]}"
+test_of "mending, handed back, ThreadSanitizer" gcc gcc handed uncancelled -g -fsanitize=thread
+test_of "totals of shards, sanitizers of gcc" gcc gcc totals "${sanitizers[@]}"
+test_of "a part of a plan" gcc gcc plan
 test_of "shards" gcc gcc shards ""
 test_of "shards, sanitizers of gcc" gcc gcc shards uncancelled "${sanitizers[@]}"
 test_of "shards, ThreadSanitizer" gcc gcc shards_sanitized
@@ -221,6 +272,7 @@ test_of "refused memory" gcc gcc refuse
 test_of "refused memory, sanitizers of gcc" gcc gcc refuse "${sanitizers[@]}"
 test_of "refused memory, valgrind" valgrind valgrind memory
 test_of "lost sets" gcc gcc lost_sets
+test_of "what a repair reads" gcc gcc reads
 test_of "room of a blob" gcc gcc room
 test_of "names of keys" gcc gcc names
 test_of "C example" gcc gcc example in_c
@@ -236,11 +288,15 @@ test_of "Python example of shards" python3 python3 sharded python bindings/pytho
 test_of "Python" python3 python3 python tests/store/bindings.py
 test_of "Python package by ctypes" python3 python3 python tests/store/package.py ctypes
 test_of "Python package" "$python_header" python3-dev package
+test_of "leaks in Python by ctypes" python3 python3 leaks ctypes bindings/python
+test_of "leaks in Python" "$python_header" python3-dev package_leaks
 test_of "Go example" go golang-go example in_go store
 test_of "Go example of shards" go golang-go sharded in_go shards
 test_of "Go, vet" go golang-go go_tool vet ./...
 test_of "Go" go golang-go go_tool test -count=1 ./...
 test_of "Go, race detector" go golang-go go_tool test -count=1 -race .
 test_of "Go, busy store" go golang-go go_busy
+test_of "leaks in Go" go golang-go go_leaks
+test_of "leaks in Rust" cargo cargo rust_leaks
 test_of "limits" python3 python3 python tests/store/limits.py
 summary store

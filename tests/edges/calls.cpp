@@ -124,7 +124,9 @@ private:
                 : lrc_store_plan_part_wait(&from.slot, &to.slot, most, &items, timeout());
         const bool goes_on = to.holds == Holds::plan && to.next == to.items.size();
         const bool is_free = to.holds == Holds::nothing || goes_on;
-        judge(got, not_a_session(from).add(!is_free, LRC_STORE_OCCUPIED));
+        judge(got, not_a_session(from)
+                       .add(!is_free, LRC_STORE_OCCUPIED)
+                       .add(most == 0, LRC_STORE_BAD_ARGUMENT));
         if (got != LRC_STORE_DONE) return same(items, untouched, "`items`");
         const std::optional<model::Item> after = to.last;
         to.become(Holds::plan).items = from.store->plan_part(after, most);

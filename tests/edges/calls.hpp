@@ -32,9 +32,9 @@ struct Held {
 
     // Takes note that the slot now holds something else.
     Held &become(Holds what) {
-        const lrc_slot kept = slot;
+        const lrc_slot same_slot = slot;
         *this = Held();
-        slot = kept;
+        slot = same_slot;
         holds = what;
         return *this;
     }

@@ -36,12 +36,12 @@ public:
 
     void round() {
         for (uint64_t left = 100 + random.below(1000); left > 0; left--) step();
-        uint64_t entries = 0, kept = 0;
+        uint64_t entries = 0, expected = 0;
         uint32_t lawful = 0;
-        for (const model::Store &each : models) kept += each.journal.size();
+        for (const model::Store &each : models) expected += each.journal.size();
         call = "close";
         same(lrc_shards_close(shards, &entries, &lawful), LRC_STORE_DONE, "status");
-        same(entries, kept, "entries");
+        same(entries, expected, "entries");
         same(lawful, options.limit ? 1 : 2, "lawful");
     }
 

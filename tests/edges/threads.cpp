@@ -19,10 +19,10 @@ public:
         const std::lock_guard<std::mutex> guard(lock);
         things.push_back(std::move(thing));
     }
-    // One of them, or none if there are at most `kept`.
-    std::optional<Thing> take(size_t kept = 0) {
+    // One of them, or none if there are at most `least`.
+    std::optional<Thing> take(size_t least = 0) {
         const std::lock_guard<std::mutex> guard(lock);
-        if (things.size() <= kept) return std::nullopt;
+        if (things.size() <= least) return std::nullopt;
         Thing first = std::move(things.front());
         things.pop_front();
         return first;

@@ -87,9 +87,9 @@ public:
         note_down(session, note, status);
     }
 
-    // A range that was lent before the last `kept` of this thread.
-    std::optional<Lent> lent_longer_than(size_t kept) {
-        if (lent.size() <= kept) return std::nullopt;
+    // A range that was lent before the last `least` of this thread.
+    std::optional<Lent> lent_longer_than(size_t least) {
+        if (lent.size() <= least) return std::nullopt;
         const Lent first = lent.front();
         lent.pop_front();
         return first;

@@ -315,17 +315,17 @@ static void test_ends(size_t data_fragments) {
         for (size_t i = 0; i < 4; i++) parities[i] = ends[data_fragments + i] - len;
         CHECK(lrc_encode_arrays(data_fragments, len, left, parities) == LRC_DONE);
         for (uint8_t f = 0; f < data_fragments + 4; f++) {
-            const uint8_t *kept = left[f];
+            const uint8_t *address = left[f];
             uint8_t other = (uint8_t)((f + 1u) % (data_fragments + 4));
-            const uint8_t *kept_other = left[other];
+            const uint8_t *other_address = left[other];
             left[f] = NULL;
             CHECK(lrc_rebuild_arrays(data_fragments, len, left, f, target - len) == LRC_DONE);
-            CHECK(memcmp(target - len, kept, len) == 0);
+            CHECK(memcmp(target - len, address, len) == 0);
             left[other] = NULL;
             CHECK(lrc_rebuild_arrays(data_fragments, len, left, f, target - len) == LRC_DONE);
-            CHECK(memcmp(target - len, kept, len) == 0);
-            left[f] = kept;
-            left[other] = kept_other;
+            CHECK(memcmp(target - len, address, len) == 0);
+            left[f] = address;
+            left[other] = other_address;
         }
         for (uint8_t f = 0; f < data_fragments; f++)
             CHECK(lrc_encode_add_arrays(data_fragments, len, f, left[f], parities) == LRC_DONE);

@@ -8,8 +8,12 @@ TOP = os.path.dirname(os.path.dirname(os.path.dirname(os.path.abspath(__file__))
 
 PROGRAMS = [
     "bindings/c/store.c",
+    "bindings/cpp/store.cpp",
+    "bindings/rust_store/examples/store.rs",
     "bindings/python/store.py",
+    "bindings/go/examples/store/main.go",
     "bindings/c/rebuild.c",
+    "bindings/rust/examples/rebuild.rs",
     "bindings/python/rebuild.py",
 ]
 

@@ -54,10 +54,10 @@ static void numbers_of(unsigned lost, uint8_t numbers[4]) {
 /* Decodes by a plan from the fragments of `given` alone. */
 static uint32_t decode(const stripe *made, const uint8_t plan[LRC_PLAN_BYTES], unsigned given,
                        uint8_t targets[4][LEN]) {
-    static const uint8_t nothing = 0;
+    static const uint8_t no_bytes = 0;
     lrc_slice slices[MOST];
     for (size_t i = 0; i < MOST; i++) {
-        slices[i].at = given >> i & 1 ? made->bytes[i] : &nothing;
+        slices[i].at = given >> i & 1 ? made->bytes[i] : &no_bytes;
         slices[i].len = given >> i & 1 ? WIDTH : 0;
     }
     return lrc_plan_decode(plan, slices, FROM, LEN, targets[0], LEN, targets[1], LEN, targets[2],

@@ -468,6 +468,8 @@ void pools() {
     leases.clear();
     EXPECT(pool.close().get("a"), std::string("HELLO"));
     EXPECT(recorder::calls.back().second, 20);
+    EXPECT_ERROR(pool.take(), LRC_STORE_EMPTY, "take()");
+    EXPECT_ERROR(pool.close(), LRC_STORE_EMPTY, "close()");
     lrc::pool dropped(session::open(4));
 }
 
@@ -538,6 +540,11 @@ void shards() {
     EXPECT(store.mend(), 1u);
     EXPECT(store.take("a")->get("a"), std::string("HELLO"));
     EXPECT(store.close().is_checked, false);
+    EXPECT_ERROR(store.take("a"), LRC_STORE_EMPTY, "take()");
+    EXPECT_ERROR(store.numbers(), LRC_STORE_EMPTY, "numbers()");
+    EXPECT_ERROR(store.trim(5), LRC_STORE_EMPTY, "trim()");
+    EXPECT_ERROR(store.mend(), LRC_STORE_EMPTY, "mend()");
+    EXPECT_ERROR(store.close(), LRC_STORE_EMPTY, "close()");
     sharded_store dropped(4, 2);
 }
 
@@ -599,14 +606,93 @@ void a_lease_is_of_one_shard() {
     EXPECT(store.take(other)->get(other), std::string("HELLO"));
 }
 
-// A session that is assigned to another one of another store: both stores are closed.
+// What an assignment releases: what was there, at once, and nothing else.
+template <class Owner> void expect_released(int line, Owner &full, Owner &other, unsigned wanted) {
+    const unsigned before = recorder::released;
+    full = std::move(other);
+    expect(line, recorder::released - before, wanted);
+}
+#define EXPECT_RELEASED(full, other, wanted) expect_released(__LINE__, full, other, wanted)
+
+// A session that is assigned to another one of another store, with its timeout.
 void sessions_are_assigned() {
     session first = session::open(4, 9), second = session::open(4, 9);
     second.put("a", "HELLO");
-    first = std::move(second);
+    second.set_timeout(milliseconds(3000));
+    EXPECT_RELEASED(first, second, 1u);
+    EXPECT_ERROR(second.stat("a"), LRC_STORE_EMPTY, "stat(\"a\")");
     EXPECT(first.get("a"), std::string("HELLO"));
-    EXPECT(first.close().entries, 3u);
-    EXPECT_ERROR(first.stat("a"), LRC_STORE_EMPTY, "stat(\"a\")");
+    EXPECT(recorder::calls.back().second, 3000);
+    EXPECT_RELEASED(second, first, 0u);
+    EXPECT_RELEASED(second, second, 0u);
+    EXPECT(second.get("a"), std::string("HELLO"));
+    EXPECT(second.close().entries, 5u);
+    EXPECT_ERROR(second.stat("a"), LRC_STORE_EMPTY, "stat(\"a\")");
+}
+
+// Grants, versions and journals that are assigned to full ones.
+void full_slots_are_assigned() {
+    session s = session::open(4, 100);
+    s.put("a", "HELLO");
+    s.put("b", "WORLD!");
+    s.lose("b", 0, 0);
+    lrc::grant grant = s.read("a", 0, 5), other = s.read("b", 0, 6);
+    EXPECT_RELEASED(grant, other, 1u);
+    EXPECT(grant.str(), std::string("WORLD!"));
+    EXPECT(grant.version(), 2u);
+    grant = s.read("a", 1, 4);
+    EXPECT(grant.str(), std::string("ELLO"));
+    lrc::version version = s.hold("a"), held = s.hold("b");
+    EXPECT_RELEASED(version, held, 1u);
+    EXPECT(version.number(), 2u);
+    EXPECT(version.read(0, 6).str(), std::string("WORLD!"));
+    EXPECT_ERROR(held.shape(), LRC_STORE_EMPTY, "shape()");
+    session t = session::open(4, 100);
+    EXPECT_ERROR(t.stat("a"), LRC_STORE_NO_NAME, "stat(\"a\")");
+    lrc::journal journal = s.close_to_journal(), second = t.close_to_journal();
+    EXPECT_RELEASED(journal, second, 1u);
+    EXPECT(journal.size(), 1u);
+    EXPECT(journal.entry(0).status, uint32_t{LRC_STORE_NO_NAME});
+    EXPECT_ERROR(second.entry(0), LRC_STORE_EMPTY, "entry(0)");
+}
+
+// Views without an address are of no byte.
+void views_are_null() {
+    session s = session::open(4);
+    EXPECT(s.put("a", std::string_view()), 1u);
+    EXPECT(s.get("a"), std::string());
+    EXPECT(s.read_into("a", 0, nullptr, 0), 1u);
+    EXPECT(s.read("a", 0, 0).str(), std::string());
+    EXPECT(lrc::name_of(std::string_view()), lrc::name_of(""));
+    EXPECT_ERROR(s.put(std::string_view(), "x"), LRC_STORE_BAD_NAME, "put(\"\", 1, 12)");
+    s.put("b", "HELLO");
+    lrc::version held = s.hold("b");
+    s.lose("b", 0, 1);
+    EXPECT_ERROR(s.install(held, 0, 1, std::string_view()), LRC_STORE_BAD_ARGUMENT,
+                 "install(0, 1, 0)");
+    lrc::sharded_store store(4, 2);
+    EXPECT_ERROR(store.take(std::string_view()), LRC_STORE_BAD_NAME, "take(\"\")");
+    EXPECT(recorder::nulls, 0u);
+}
+
+// A store that is closed as it has a timeout, and a lease that is still there.
+void stores_with_a_timeout_are_closed() {
+    lrc::sharded_store store(4, 3, 10);
+    store.set_timeout(milliseconds(7));
+    {
+        auto lent = store.take("a");
+        lent->put("a", "HELLO");
+        EXPECT(recorder::calls.back().second, 7);
+        EXPECT_ERROR(store.close(), LRC_STORE_NOT_ALONE, "close()");
+        EXPECT(lent->get("a"), std::string("HELLO"));
+    }
+    EXPECT(store.mend(), 0u);
+    EXPECT(recorder::calls.back().second, 7);
+    EXPECT(store.trim(1), 2u);
+    EXPECT(recorder::calls.back().second, 7);
+    store.numbers();
+    EXPECT(recorder::calls.back().second, 7);
+    EXPECT(store.close().entries, 1u);
 }
 
 struct noted {
@@ -735,6 +821,9 @@ int main() {
     leases_give_no_session();
     a_lease_is_of_one_shard();
     sessions_are_assigned();
+    full_slots_are_assigned();
+    views_are_null();
+    stores_with_a_timeout_are_closed();
     journals();
     no_journal();
     unchecked_journals();

@@ -392,13 +392,13 @@ class Memory(unittest.TestCase):
 
     def test_it_is_given_back_at_the_end_of_a_block(self):
         before, session = resident(), Session.open(65536, 1000)
-        kept = []
+        grants = []
         for _ in range(40):
             session.put("a", bytes(4 << 20), 6)
             with session.read("a", 0, 4 << 20) as grant:
-                kept.append(grant)
+                grants.append(grant)
         self.assertLess(resident(), before + 100)
-        self.assertEqual(len(kept), 40)
+        self.assertEqual(len(grants), 40)
 
 
 class Mends(unittest.TestCase):

@@ -305,7 +305,12 @@ static void plans_in_parts(lrc_slot *slot) {
     EXPECT(lrc_store_mend_step(slot, &plan, &version), LRC_STORE_NOTHING_LEFT);
     EXPECT(lrc_store_plan_part(&none, &plan, 2, &items), LRC_STORE_EMPTY);
     lrc_slot_release(&plan);
-    EXPECT(lrc_store_plan_part(slot, &plan, 0, &items), LRC_STORE_DONE);
+    items = 77;
+    EXPECT(lrc_store_plan_part(slot, &plan, 0, &items), LRC_STORE_BAD_ARGUMENT);
+    EXPECT(lrc_store_plan_part_wait(slot, &plan, 0, &items, -1), LRC_STORE_BAD_ARGUMENT);
+    EXPECT(items, 77);
+    EXPECT(lrc_store_mend_step(slot, &plan, &version), LRC_STORE_EMPTY);
+    EXPECT(lrc_store_plan_part(slot, &plan, UINT64_MAX, &items), LRC_STORE_DONE);
     EXPECT(items, 0);
     lrc_slot_release(&plan);
     EXPECT(lrc_store_lose(slot, NAME("fox"), 1, 2, &version), LRC_STORE_DONE);

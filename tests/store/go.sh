@@ -9,5 +9,7 @@ include=$PWD/../../include
 sum=$(cksum < "$include/lrc_store.h")
 export CGO_CFLAGS="'-I$include' -Wall -Wextra -Werror -DHEADER_SUM=${sum% *}"
 export CGO_LDFLAGS="'-L$LRC_LIBRARIES' -llrc_store '-Wl,-rpath,$LRC_LIBRARIES'"
+# The library of tests/store/counted.sh counts the slots that the package makes, too.
+[ -z "${LRC_COUNTED:-}" ] || CGO_LDFLAGS+=" -Wl,--wrap=malloc,--wrap=calloc,--wrap=free"
 export GOFLAGS="-tags=nopkgconfig -mod=mod" GOPROXY=off
 exec go "$@"

@@ -114,10 +114,10 @@ def main():
     made, wrong = 0, 0
     for case in limits.cases():
         made += 1
-        told = complaint(case)
-        if told:
+        text = complaint(case)
+        if text:
             wrong += 1
-            print(f"{case.what}: {told}")
+            print(f"{case.what}: {text}")
     print(made, "cases at the limits,", wrong, "wrong")
     return 1 if wrong or not made else 0
 

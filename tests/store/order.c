@@ -30,7 +30,7 @@ static struct known *of(const lrc_slot *slot) {
 }
 
 /* One session knows of all that another one knows of. */
-static void tell(const lrc_slot *to, const lrc_slot *from) {
+static void share_knowledge(const lrc_slot *to, const lrc_slot *from) {
     pthread_mutex_lock(&guard);
     struct known *into = of(to), *known = of(from);
     for (int i = 0; i < THREADS; i++)
@@ -42,7 +42,7 @@ uint32_t __real_lrc_slot_learn(lrc_slot *slot, lrc_slot *other);
 uint32_t __wrap_lrc_slot_learn(lrc_slot *slot, lrc_slot *other);
 uint32_t __wrap_lrc_slot_learn(lrc_slot *slot, lrc_slot *other) {
     const uint32_t status = __real_lrc_slot_learn(slot, other);
-    if (status == LRC_STORE_DONE) tell(slot, other);
+    if (status == LRC_STORE_DONE) share_knowledge(slot, other);
     return status;
 }
 
@@ -50,7 +50,7 @@ uint32_t __real_lrc_store_split(lrc_slot *slot, uint32_t who, lrc_slot *other);
 uint32_t __wrap_lrc_store_split(lrc_slot *slot, uint32_t who, lrc_slot *other);
 uint32_t __wrap_lrc_store_split(lrc_slot *slot, uint32_t who, lrc_slot *other) {
     const uint32_t status = __real_lrc_store_split(slot, who, other);
-    if (status == LRC_STORE_DONE) tell(other, slot);
+    if (status == LRC_STORE_DONE) share_knowledge(other, slot);
     return status;
 }
 

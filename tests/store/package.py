@@ -5,7 +5,9 @@ import array
 import base64
 import gc
 import hashlib
+import os
 import signal
+import subprocess
 import sys
 import threading
 import unittest
@@ -242,6 +244,15 @@ class Calls(unittest.TestCase):
             self.assertRaises(ValueError, call)
         self.refused(Status.EMPTY, "hold('a')", store.hold, "a")
         self.refused(Status.NO_NAME, "hold('b')", Store(4).hold, "b")
+        store = Store(4)
+        store.put("a", blob)
+        for fragment in (15, 12, 0):
+            store.lose("a", 4, fragment)
+        held = store.hold("a")
+        self.assertEqual((held.lost(4), held.shape().lost), ([0, 12, 15], 3))
+        self.refused(Status.ALREADY_LOST, "fragment(4, 15)", held.fragment, 4, 15)
+        self.refused(Status.NO_FRAGMENT, "fragment(4, 16)", held.fragment, 4, 16)
+        self.assertEqual(len(held.fragment(3, 15)), 4)
         empty = _store.Held()
         self.assertEqual(empty.read(0, 1), (Status.EMPTY, None))
         self.assertEqual(empty.fragment(0, 1), (Status.EMPTY, None))
@@ -342,15 +353,16 @@ class Shards(unittest.TestCase):
 
     def test_a_signal_ends_a_mend(self):
         """After some of its repairs, whose number nobody gets."""
-        store, all_lost = Store(4, shards=4), 60_000
+        store, all_lost = Store(4, shards=4), 180_000  # several times what a slice mends
         for name in range(15):
             store.put(f"n{name}", bytes(4 * 12 * 4000))
         for name in range(15):
             for stripe in range(4000):
-                store.lose(f"n{name}", stripe, stripe % 16)
+                for fragment in (0, 6, 12):
+                    store.lose(f"n{name}", stripe, (stripe + fragment) % 16)
         signal.signal(signal.SIGALRM, interrupt)
-        signal.setitimer(signal.ITIMER_REAL, 0.001)
-        with self.assertRaises(Interrupted):
+        with self.assertRaises(Interrupted):  # on a busy machine even before the mend
+            signal.setitimer(signal.ITIMER_REAL, 0.001)
             store.mend()
         lost = store.numbers().lost
         self.assertTrue(0 < lost <= all_lost, lost)
@@ -375,10 +387,10 @@ class Shards(unittest.TestCase):
         store = self.filled(limit=50)
         entries = store.numbers().entries
         self.assertEqual(entries, 2 * len(self.NAMES))
-        kept = entries - store.trim(1)
-        self.assertTrue(1 < kept <= 16)
-        self.assertEqual(store.numbers().entries, kept)
-        self.assertEqual(store.close(), (kept, True))
+        remaining = entries - store.trim(1)
+        self.assertTrue(1 < remaining <= 16)
+        self.assertEqual(store.numbers().entries, remaining)
+        self.assertEqual(store.close(), (remaining, True))
 
     def test_a_fragment_is_installed_at_the_shard_of_its_name(self):
         store = self.filled()
@@ -402,7 +414,7 @@ class Threads(unittest.TestCase):
             try:
                 start.wait()
                 work(number)
-            except BaseException as error:  # told below
+            except BaseException as error:  # raised below
                 failures.append(error)
 
         threads = [threading.Thread(target=one, args=(number,)) for number in range(count)]
@@ -532,6 +544,29 @@ class Coder(unittest.TestCase):
         fragments = [*data, *coder.encode(data)]
         others = {number: it for number, it in enumerate(fragments) if number != 3}
         self.assertEqual(coder.rebuild(12, others, 3), data[3])
+
+    def test_the_coder_alone_needs_no_library_of_the_store(self):
+        code = """
+from lrcstore import coder
+import lrcstore
+assert {*lrcstore.__all__, "coder"} <= {*dir(lrcstore)}
+assert not hasattr(lrcstore, "other")
+for name in lrcstore.__all__:
+    try:
+        getattr(lrcstore, name)
+    except ImportError as error:
+        assert "set LRC_STORE_SO" in str(error)
+    else:
+        raise AssertionError(name)
+"""
+        without = {**os.environ, "LRC_STORE_SO": "/no/library"}
+        subprocess.run([sys.executable, "-c", code], env=without, check=True)
+
+    def test_each_name_is_of_the_store(self):
+        self.assertTrue({*lrcstore.__all__} <= {*dir(lrcstore)})
+        for name in lrcstore.__all__:
+            home = _store if name in ("Store", "Version") else lrc_store
+            self.assertIs(getattr(lrcstore, name), getattr(home, name))
 
 
 if __name__ == "__main__":

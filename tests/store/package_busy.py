@@ -148,6 +148,9 @@ class BusyForEver(unittest.TestCase):
             ("trim", lambda: self.store.trim(0)),
             ("mend", self.store.mend),
             ("put of a long blob", CALLS["put of a long blob"].__get__(self.store)),
+            ("get of a long range", CALLS["get of a long range"].__get__(self.store)),
+            ("read into a buffer", lambda: self.store.read_into("a", 0, bytearray(5000))),
+            ("install", lambda: self.store.install(held, 0, 1, bytes(65536))),
             ("read of a version", lambda: held.read(0, 100)),
             ("close", self.store.close),
         ):

@@ -214,6 +214,76 @@ static void lines_up(void) {
     closed(pool, SESSIONS);
 }
 
+/* Gives a session to the first in the line, which gets this one. */
+static void reaches(lrc_pool *pool, lrc_slot *session, struct waiter *waiter, pthread_t thread) {
+    lrc_pool_give(pool, session);
+    joined(thread, 0);
+    EXPECT(waiter->got == session, 1);
+}
+
+/* Several threads wait, and the last of them gives up, at its deadline or as it is cancelled. The
+ * next one that comes stands behind the others. */
+static void last_gives_up(int is_cancelled) {
+    lrc_pool *pool = opened();
+    lrc_slot *taken[SESSIONS], *none = NULL;
+    struct waiter waiters[4] = {{pool, NULL, 0}, {pool, NULL, 0}, {pool, NULL, 0}, {pool, NULL, 0}};
+    pthread_t threads[4];
+    lends_each_once(pool, taken);
+    for (int i = 0; i < 2; i++) threads[i] = waiting(&waiters[i]);
+    if (is_cancelled) {
+        const pthread_t last = waiting(&waiters[3]);
+        EXPECT(pthread_cancel(last), 0);
+        joined(last, 1);
+    } else {
+        EXPECT(lrc_pool_take(pool, &none, 20), LRC_STORE_BUSY);
+    }
+    for (int i = 2; i < 4; i++) threads[i] = waiting(&waiters[i]);
+    for (int i = 0; i < 4; i++) reaches(pool, taken[i], &waiters[i], threads[i]);
+    lrc_pool_give(pool, taken[4]);
+    EXPECT(lrc_pool_take(pool, &none, 0), LRC_STORE_DONE);
+    EXPECT(none == taken[4], 1);
+    for (int i = 0; i < SESSIONS; i++) lrc_pool_give(pool, taken[i]);
+    closed(pool, SESSIONS);
+}
+
+/* The only one that waits gives up: the next one that comes is the first. */
+static void only_one_gives_up(void) {
+    lrc_pool *pool = opened();
+    lrc_slot *taken[SESSIONS], *none = NULL;
+    struct waiter waiter = {pool, NULL, 0};
+    lends_each_once(pool, taken);
+    for (int i = 0; i < 2; i++) EXPECT(lrc_pool_take(pool, &none, 5), LRC_STORE_BUSY);
+    const pthread_t thread = waiting(&waiter);
+    reaches(pool, taken[0], &waiter, thread);
+    for (int i = 0; i < SESSIONS; i++) lrc_pool_give(pool, taken[i]);
+    closed(pool, SESSIONS);
+}
+
+/* Each session has a label of its own in the journal, and the one used last is lent next. */
+static void labels_sessions(void) {
+    lrc_pool *pool = opened();
+    lrc_slot *taken[SESSIONS], *again = NULL, slot = LRC_SLOT_EMPTY, journal = LRC_SLOT_EMPTY;
+    lrc_entry entry = {.who = 99};
+    uint64_t discarded = 99, entries = 99;
+    uint32_t lawful = 99;
+    lends_each_once(pool, taken);
+    for (int i = 0; i < SESSIONS; i++) lrc_pool_give(pool, taken[(i + 30) % SESSIONS]);
+    for (int i = SESSIONS - 1; i >= 0; i--) {
+        EXPECT(lrc_pool_take(pool, &again, 0), LRC_STORE_DONE);
+        EXPECT(again == taken[(i + 30) % SESSIONS], 1);
+    }
+    for (int i = 0; i < SESSIONS; i++) lrc_pool_give(pool, taken[i]);
+    EXPECT(lrc_pool_close(pool, &slot), LRC_STORE_DONE);
+    EXPECT(lrc_store_close_to(&slot, &journal, &discarded, &entries, &lawful), LRC_STORE_DONE);
+    EXPECT(entries, SESSIONS);
+    for (unsigned i = 0; i < SESSIONS; i++) {
+        entry.name = (lrc_slice){(const uint8_t *)"", 0};
+        EXPECT(lrc_slot_entry(&journal, i, &entry), LRC_STORE_DONE);
+        EXPECT(entry.who, i + 1);
+    }
+    lrc_slot_release(&journal);
+}
+
 /* A session comes to a thread that is cancelled before it goes on: it goes back. */
 static void cancels_when_it_came(void) {
     lrc_pool *pool = opened();
@@ -300,6 +370,10 @@ int main(int words, char **word) {
     if (words < 2) refuses_without_memory();
     lends_all();
     lines_up();
+    last_gives_up(0);
+    if (words < 2) last_gives_up(1);
+    only_one_gives_up();
+    labels_sessions();
     if (words < 2) cancels_when_it_came();
     cancels();
     serves_more_threads_than_sessions();

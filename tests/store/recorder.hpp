@@ -9,6 +9,7 @@
 #include <functional>
 #include <string_view>
 #include <tuple>
+#include <type_traits>
 #include <utility>
 #include <vector>
 
@@ -21,8 +22,17 @@ inline thread_local std::deque<uint32_t> statuses;
 // What happens after the next calls of lrc_store_stat_wait.
 inline thread_local std::deque<std::function<void()>> after_stat;
 
+// How many addresses were NULL, which the library may not get.
+inline thread_local unsigned nulls = 0;
+
+template <class Argument> bool is_null(Argument argument) {
+    if constexpr (std::is_pointer_v<Argument>) return !argument;
+    return false;
+}
+
 template <class Form, class... Arguments>
 uint32_t recorded(const char *name, Form form, Arguments... arguments) {
+    nulls += (0u + ... + (is_null(arguments) ? 1u : 0u));
     calls.emplace_back(name, std::get<sizeof...(arguments) - 1>(std::tie(arguments...)));
     uint32_t status = 0;
     if (statuses.empty()) {
@@ -48,8 +58,17 @@ template <class Close, class... Arguments> uint32_t closing(Close close, Argumen
     return status;
 }
 
+// How many slots were released that were not empty.
+inline thread_local unsigned released = 0;
+
+inline void releasing(lrc_slot *slot) {
+    released += slot->at != nullptr;
+    lrc_slot_release(slot);
+}
+
 } // namespace recorder
 
+#define lrc_slot_release(slot) recorder::releasing(slot)
 #define lrc_store_close(...) recorder::closing(lrc_store_close, __VA_ARGS__)
 #define lrc_store_close_to(...) recorder::closing(lrc_store_close_to, __VA_ARGS__)
 #define RECORDED(name, ...) recorder::recorded(#name, lrc_store_##name##_wait, __VA_ARGS__)

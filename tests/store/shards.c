@@ -58,7 +58,7 @@ static void closed(lrc_shards *shards, uint64_t wanted, uint32_t wanted_lawful) 
 }
 
 /* The shards of names, as Python counts them from the definition of the hash. */
-static void tells_the_shard(void) {
+static void finds_the_shard(void) {
     const struct {
         const char *name;
         uint32_t of_1, of_2, of_16, of_64;
@@ -457,7 +457,7 @@ static void gives_back_when_cancelled(void) {
  * library may be a shared object. */
 int main(int words, char **word) {
     alarm(60); /* a call that never returns ends the test */
-    tells_the_shard();
+    finds_the_shard();
     refuses_options();
     has_no_padding();
     closes_without_a_session();

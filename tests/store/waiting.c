@@ -10,7 +10,7 @@
 enum {
     MOST = 9,
     OTHER_STATUS = 7,
-    ROOM = 16,
+    ROOM = (4 << 20) + 3,
     SLACK_US = 60000000,
     LAST = 99,
     STORES = 5000,
@@ -30,7 +30,7 @@ static uint64_t entries;
 static unsigned put_us, reserve_us, part_us;
 
 /* What the slot of a put that is made again holds. */
-static uint8_t kept[ROOM];
+static uint8_t backing[ROOM];
 static size_t reserved;
 static unsigned releases;
 
@@ -78,7 +78,7 @@ uint32_t lrc_slot_reserve(size_t len, lrc_slot *slot) {
 
 uint32_t lrc_slot_buffer(lrc_slot *slot, lrc_buffer *buffer) {
     (void)slot;
-    *buffer = (lrc_buffer){kept, reserved};
+    *buffer = (lrc_buffer){backing, reserved};
     return LRC_STORE_DONE;
 }
 
@@ -216,7 +216,8 @@ static void arguments(int64_t timeout_ms) {
 /* A put is made of the given bytes, and then again of a copy that a slot keeps. */
 static void puts_again(int64_t timeout_ms) {
     lrc_slot s = LRC_SLOT_EMPTY;
-    uint8_t n[3] = "nam", b[ROOM + 1] = "blob";
+    static uint8_t b[ROOM + 1] = "blob";
+    uint8_t n[3] = "nam";
     uint64_t v = 0;
     calls = busy = releases = 0;
     EXPECT(lrc_store_put_wait(&s, n, 2, b, 4, 6, &v, timeout_ms), OTHER_STATUS);
@@ -227,12 +228,37 @@ static void puts_again(int64_t timeout_ms) {
     EXPECT(lrc_store_put_wait(&s, n, 2, b, 4, 6, &v, timeout_ms), OTHER_STATUS);
     EXPECT(calls, busy + 1);
     EXPECT(reserved + 10 * releases, 14);
-    EXPECT(memcmp(kept, b, 4), 0);
+    EXPECT(memcmp(backing, b, 4), 0);
     seen[3] = 0; /* the slot of the copy */
     EXPECT(memcmp(seen, ARGUMENTS(AT(&s), AT(n), 2, 0, 6, AT(&v)), sizeof seen), 0);
     calls = 0;
     EXPECT(lrc_store_put_wait(&s, n, 2, b, ROOM + 1, 6, &v, timeout_ms), LRC_STORE_NO_MEMORY);
     EXPECT(calls + 10 * releases, 11);
+}
+
+/* A put that has to wait stores all bytes that it was given, however many. */
+static void puts_long_blobs(void) {
+    static const size_t lengths[] = {1,       4095,    65535,         65536,       65537,
+                                     100000,  131072,  (1 << 20) - 1, 1 << 20,     (1 << 20) + 1,
+                                     2000003, 4 << 20, ROOM - 1,      (size_t)ROOM};
+    static uint8_t blob[ROOM], other[ROOM];
+    lrc_slot s = LRC_SLOT_EMPTY;
+    uint64_t v = 0;
+    for (size_t i = 0; i < sizeof lengths / sizeof *lengths; i++) {
+        const size_t len = lengths[i];
+        fill(blob, len, (unsigned)i);
+        memset(backing, 0xee, ROOM);
+        memset(other, 0xee, ROOM);
+        memcpy(other, blob, len);
+        calls = releases = 0;
+        busy = 4;
+        EXPECT(lrc_store_put_wait(&s, NAME("long"), blob, len, 6, &v, 60000), OTHER_STATUS);
+        EXPECT(calls, busy + 1);
+        EXPECT(reserved, len);
+        EXPECT(releases, 1);
+        EXPECT(memcmp(backing, other, ROOM), 0);
+    }
+    busy = 0;
 }
 
 static int64_t now_us(void) {
@@ -290,7 +316,7 @@ static void puts_in_time(void) {
         calls = releases = 0;
         reserved = 77;
         *(is_copy_late ? &reserve_us : &put_us) = 300000;
-        EXPECT(lrc_store_put_wait(&s, NAME("a"), kept, 4, 12, &v, 250), LRC_STORE_BUSY);
+        EXPECT(lrc_store_put_wait(&s, NAME("a"), backing, 4, 12, &v, 250), LRC_STORE_BUSY);
         EXPECT(calls, 1);
         EXPECT(reserved, is_copy_late ? 4 : 77);
         EXPECT(releases, is_copy_late);
@@ -317,11 +343,11 @@ static void trims_in_time(void) {
 }
 
 /* A mend whose calls return this, up to LAST, without waiting. */
-static void mends(const uint32_t *told, uint32_t status, uint64_t repaired) {
+static void mends(const uint32_t *statuses, uint32_t status, uint64_t repaired) {
     lrc_slot slot = LRC_SLOT_EMPTY;
     uint64_t got = 77;
     releases = 0;
-    script = told;
+    script = statuses;
     mended = &slot;
     EXPECT(lrc_store_mend_wait(&slot, &got, 0), status);
     EXPECT(got, repaired);
@@ -330,25 +356,25 @@ static void mends(const uint32_t *told, uint32_t status, uint64_t repaired) {
     script = NULL;
 }
 
-#define TOLD(...) ((const uint32_t[]){__VA_ARGS__, LAST})
+#define STATUSES(...) ((const uint32_t[]){__VA_ARGS__, LAST})
 
 /* A mend plans and repairs in parts until one is short or a call is refused. */
 static void mends_in_parts(void) {
     const uint32_t left = LRC_STORE_NOTHING_LEFT;
-    mends(TOLD(0, 0, left), LRC_STORE_DONE, 0);
-    mends(TOLD(6, 0, 0, LRC_STORE_NO_NAME, 0, LRC_STORE_UNRECOVERABLE, LRC_STORE_NO_FRAGMENT,
-               LRC_STORE_NOT_LOST, left),
+    mends(STATUSES(0, 0, left), LRC_STORE_DONE, 0);
+    mends(STATUSES(6, 0, 0, LRC_STORE_NO_NAME, 0, LRC_STORE_UNRECOVERABLE, LRC_STORE_NO_FRAGMENT,
+                   LRC_STORE_NOT_LOST, left),
           LRC_STORE_DONE, 2);
-    mends(TOLD(511, 0, 0, left), LRC_STORE_DONE, 1);
-    mends(TOLD(512, 0, 0, left, 512, 0, left, 1, 0, 0, left), LRC_STORE_DONE, 2);
+    mends(STATUSES(511, 0, 0, left), LRC_STORE_DONE, 1);
+    mends(STATUSES(512, 0, 0, left, 512, 0, left, 1, 0, 0, left), LRC_STORE_DONE, 2);
     const uint32_t stops[] = {LRC_STORE_BUSY, LRC_STORE_NO_MEMORY, LRC_STORE_JOURNAL_FULL,
                               LRC_STORE_EMPTY};
     for (size_t i = 0; i < sizeof stops / sizeof *stops; i++) {
-        mends(TOLD(0, stops[i]), stops[i], 77);
-        mends(TOLD(1, 0, stops[i]), stops[i], 77);
-        mends(TOLD(2, 0, 0, stops[i]), stops[i], 1);
-        mends(TOLD(512, 0, 0, left, 0, stops[i]), stops[i], 1);
-        mends(TOLD(512, 0, stops[i]), stops[i], 77);
+        mends(STATUSES(0, stops[i]), stops[i], 77);
+        mends(STATUSES(1, 0, stops[i]), stops[i], 77);
+        mends(STATUSES(2, 0, 0, stops[i]), stops[i], 1);
+        mends(STATUSES(512, 0, 0, left, 0, stops[i]), stops[i], 1);
+        mends(STATUSES(512, 0, stops[i]), stops[i], 77);
     }
 }
 
@@ -479,21 +505,21 @@ static void tries(void) {
     uint64_t v, x, y;
     pthread_t holder = take_turn(&forever);
     EXPECT(lrc_store_lend_wait(&s, NAME("a"), 0, 65535, &o, &v, &x, 5), LRC_STORE_BUSY);
-    EXPECT(lrc_store_read_wait(&s, NAME("a"), 0, kept, 5, &v, &x, &y, 5), LRC_STORE_BUSY);
+    EXPECT(lrc_store_read_wait(&s, NAME("a"), 0, backing, 5, &v, &x, &y, 5), LRC_STORE_BUSY);
     EXPECT(lrc_store_lose_wait(&s, NAME("a"), 0, 5, &v, 5), LRC_STORE_BUSY);
-    EXPECT(lrc_store_install_wait(&s, &o, 0, 5, kept, 65535, &v, 5), LRC_STORE_BUSY);
+    EXPECT(lrc_store_install_wait(&s, &o, 0, 5, backing, 65535, &v, 5), LRC_STORE_BUSY);
     EXPECT(calls, 0);
     EXPECT(lrc_store_lend_wait(&s, NAME("a"), 0, 65536, &o, &v, &x, 5), OTHER_STATUS);
-    EXPECT(lrc_store_read_wait(&s, NAME("a"), 0, kept, 65536, &v, &x, &y, 5), OTHER_STATUS);
+    EXPECT(lrc_store_read_wait(&s, NAME("a"), 0, backing, 65536, &v, &x, &y, 5), OTHER_STATUS);
     EXPECT(lrc_store_repair_wait(&s, NAME("a"), 0, 5, &v, 5), OTHER_STATUS);
     EXPECT(lrc_store_mend_step_wait(&s, &o, &v, 5), OTHER_STATUS);
     EXPECT(lrc_store_put_from_wait(&s, NAME("a"), &o, 12, &v, 5), OTHER_STATUS);
-    EXPECT(lrc_store_install_wait(&s, &o, 0, 5, kept, 65536, &v, 5), OTHER_STATUS);
+    EXPECT(lrc_store_install_wait(&s, &o, 0, 5, backing, 65536, &v, 5), OTHER_STATUS);
     EXPECT(calls, 6);
     busy = ~0u;
     EXPECT(lrc_store_repair_wait(&s, NAME("a"), 0, 5, &v, 5), LRC_STORE_BUSY);
     EXPECT(calls, 6 + 8);
-    EXPECT(lrc_store_put_wait(&s, NAME("a"), kept, 4, 12, &v, 5), LRC_STORE_BUSY);
+    EXPECT(lrc_store_put_wait(&s, NAME("a"), backing, 4, 12, &v, 5), LRC_STORE_BUSY);
     EXPECT(calls, 6 + 8 + 2);
     let_go(holder);
 }
@@ -509,6 +535,7 @@ int main(void) {
     trims_in_parts();
     mends_in_parts();
     arguments(-1);
+    puts_long_blobs();
     puts_again(-1);
     puts_again(60000);
     arguments(INT64_MIN);
