@@ -1,11 +1,17 @@
 /* LRC(12,2,2) and LRC(6,2,2) as an erasure code plugin of Ceph, for profiles with
  * plugin=azure_lrc.
  *
- * A chunk's place in Ceph (its shard) is not its fragment's number in lrc_coder.h. The first half
- * of the places has the first group: its data, its local parity, and the first global parity. The
- * second half has the second group and the other global parity. A CRUSH rule that takes half of the
- * places from each of two racks keeps each group in one rack. By order=parities-last a place is its
- * fragment's number. Both orders are on-disk formats. */
+ * A chunk's place in Ceph (its shard) is not its fragment's number in lrc_coder.h. The profile's
+ * order says which place a fragment has:
+ *
+ * - interleaved: the data of the first group is at the even places and that of the second group at
+ *   the odd ones, so that the object's slices are in their order; then the two local parities, and
+ *   the two global ones. Two or four places that follow each other have few chunks of one group.
+ * - groups: the first half of the places has the first group: its data, its local parity, and the
+ *   first global parity. The second half has the second group and the other global parity.
+ * - parities-last: a place is its fragment's number.
+ *
+ * Each order is an on-disk format. */
 #include "ceph_interface.h"
 #include "lrc_stripe.h"
 
@@ -27,6 +33,8 @@ using ceph::ChunkParts;
 using ceph::Chunks;
 using ceph::ErasureCodeProfile;
 using Places = std::set<int>;
+
+enum class Order { INTERLEAVED, GROUPS, PARITIES_LAST };
 
 constexpr unsigned CHUNK_ALIGN = 64;  /* a chunk's length is a multiple of it */
 constexpr unsigned BUFFER_ALIGN = 64; /* new buffers start at a multiple of it */
@@ -71,7 +79,7 @@ public:
     int encode_chunks(const Places &want, Chunks *encoded) override;
     int decode(const Places &want, const Chunks &chunks, Chunks *decoded, int chunk_size) override;
     int decode_chunks(const Places &want, const Chunks &chunks, Chunks *decoded) override;
-    const std::vector<ceph::Place> &get_chunk_mapping() const override { return place_of; }
+    const std::vector<ceph::Place> &get_chunk_mapping() const override { return mapping; }
     int decode_concat(const Chunks &chunks, ceph::buffer::list *decoded) override;
 #if CEPH_RELEASE >= 20
     int minimum_to_decode(const ceph::ShardSet &want, const ceph::ShardSet &available,
@@ -97,19 +105,22 @@ public:
 
 private:
     unsigned k = 12;
-    bool parities_last = false;
+    Order order = Order::GROUPS;
+    bool is_initialized = false;
     ErasureCodeProfile profile;
-    std::vector<ceph::Place> place_of;            /* of each fragment */
+    std::vector<ceph::Place> mapping;  /* of each slice of the object, then of parities */
+    std::vector<ceph::Place> place_of; /* of each fragment */
     uint8_t fragment_at[LRC_MOST_FRAGMENTS] = {}; /* of each place */
 
     bool is_place(int place) const { return place >= 0 && unsigned(place) < get_chunk_count(); }
     uint16_t all() const { return uint16_t((1u << get_chunk_count()) - 1); }
+    bool is_optimized() const { return order != Order::GROUPS; }
+    std::string refusal_of(const ErasureCodeProfile &asked) const;
     void set_places();
     template <class Items> bool fragments_at(const Items &items, uint16_t *fragments) const;
     template <class Items>
     int to_read(const Places &want, const Items &available, Places *read) const;
-    ceph::buffer::list data_chunk(const ceph::buffer::list &in, unsigned fragment,
-                                  unsigned len) const;
+    ceph::buffer::list data_chunk(const ceph::buffer::list &in, unsigned slice, unsigned len) const;
 #if CEPH_RELEASE >= 20
     template <class Items>
     int to_read_parts(const ceph::ShardSet &want, const Items &available, Places *read) const;
@@ -135,59 +146,125 @@ template <class Items> bool AzureLrc::fragments_at(const Items &items, uint16_t 
 void AzureLrc::set_places() {
     const unsigned group = k / 2, half = get_chunk_count() / 2;
     place_of.resize(get_chunk_count());
-    for (unsigned fragment = 0; fragment < k; fragment++)
-        place_of[fragment] = int(fragment < group ? fragment : half + fragment - group);
-    for (unsigned parity = 0; parity < LRC_PARITIES; parity++) /* two local ones, two global ones */
-        place_of[k + parity] = int(group + parity / 2 + (parity % 2 ? half : 0));
-    if (parities_last) std::iota(place_of.begin(), place_of.end(), 0);
+    std::iota(place_of.begin(), place_of.end(), 0);
+    for (unsigned fragment = 0; order == Order::INTERLEAVED && fragment < k; fragment++)
+        place_of[fragment] = int(fragment % group * 2 + fragment / group);
+    for (unsigned fragment = 0; order == Order::GROUPS && fragment < k; fragment++)
+        place_of[fragment] = int(fragment % group + fragment / group * half);
+    for (unsigned parity = 0; order == Order::GROUPS && parity < LRC_PARITIES; parity++)
+        place_of[k + parity] = int(group + parity / 2 + parity % 2 * half); /* local, then global */
+    mapping = place_of;
+    if (order == Order::INTERLEAVED) std::iota(mapping.begin(), mapping.end(), 0);
     for (unsigned fragment = 0; fragment < get_chunk_count(); fragment++)
         fragment_at[place_of[fragment]] = uint8_t(fragment);
 }
 
-/* What a profile may have. The last two are read by Ceph alone. */
+static const std::map<std::string, Order> ORDERS = {
+    {"interleaved", Order::INTERLEAVED},
+    {"groups", Order::GROUPS},
+    {"parities-last", Order::PARITIES_LAST},
+};
+
+constexpr char DOMAINS[] = "crush-num-failure-domains", EACH[] = "crush-osds-per-failure-domain";
+
+/* What a profile may have. A technique has no effect. The last two are read by Ceph alone. */
 static const std::set<std::string> PARAMETERS = {
     "plugin",
     "k",
     "m",
     "order",
+    "technique",
     "crush-root",
     "crush-failure-domain",
     "crush-device-class",
+#if CEPH_RELEASE >= 20
+    DOMAINS,
+    EACH,
+#endif
     "stripe_unit",
     "directory",
 };
 
+/* Parameters of other plugins and releases that say where chunks are. */
+static const std::set<std::string> PLACING = {"crush-locality", DOMAINS, EACH};
+
+/* A number of the profile, 0 if it has none, or nothing if it is not one below 1,000. */
+std::optional<unsigned> number_of(const ErasureCodeProfile &profile, const char *key) {
+    const auto found = profile.find(key);
+    if (found == profile.end()) return 0;
+    const std::string &text = found->second;
+    if (text.empty() || text.size() > 3 || text.find_first_not_of("0123456789") != text.npos)
+        return {};
+    return unsigned(atoi(text.c_str()));
+}
+
+/* Why the domains have no room for n chunks, or nothing. */
+std::string refusal_of_domains(const ErasureCodeProfile &asked, unsigned n) {
+    for (const char *key : {DOMAINS, EACH})
+        if (!number_of(asked, key))
+            return std::string(key) + "=" + asked.at(key) + " is no number; set one of 1 to 999";
+    const unsigned domains = *number_of(asked, DOMAINS), each = *number_of(asked, EACH);
+    if (!domains && each > 1) return std::string(EACH) + " is alone; set " + DOMAINS + ", too";
+    const unsigned room = domains * (each ? each : 1);
+    if (!domains || room >= n) return "";
+    return std::string(DOMAINS) + " times " + EACH + " is " + std::to_string(room) +
+           "; set them for " + std::to_string(n) + " chunks";
+}
+
+/* Why the profile is refused, or nothing. */
+std::string AzureLrc::refusal_of(const ErasureCodeProfile &asked) const {
+    const std::string &data = asked.at("k"), &parities = asked.at("m");
+    if ((data != "12" && data != "6") || parities != "4")
+        return "no code has k=" + data + " m=" + parities + "; set k=12 m=4 or k=6 m=4";
+    for (const auto &[key, value] : asked)
+        if (!PARAMETERS.count(key))
+            return "there is no parameter " + key + "; remove it from the profile" +
+                   (PLACING.count(key) ? ", and name a CRUSH rule when you create the pool" : "");
+    const auto named = asked.find("order");
+    if (named != asked.end() && !ORDERS.count(named->second))
+        return "no order is called " + named->second +
+               "; set order=interleaved, order=groups or order=parities-last";
+    return refusal_of_domains(asked, data == "12" ? 16 : 10);
+}
+
+/* A stored profile without an order is of pools in groups: earlier versions stored no name for that
+ * order. A monitor that makes a profile calls this twice for the same code, and stores what the
+ * second call leaves: that is a new profile, and gets the default order. */
 int AzureLrc::init(ErasureCodeProfile &asked, std::ostream *ss) {
-    const auto refuse = [ss](const std::string &text) {
-        if (ss) *ss << "azure_lrc: " << text << std::endl;
-        return -EINVAL;
-    };
-    const std::string data = value_of(asked, "k", "12"), parities = value_of(asked, "m", "4");
+    value_of(asked, "k", "12");
+    value_of(asked, "m", "4");
     value_of(asked, "crush-root", "default");
     value_of(asked, "crush-failure-domain", "host");
     asked["crush-device-class"];
-    if ((data != "12" && data != "6") || parities != "4")
-        return refuse("no code has k=" + data + " m=" + parities + "; set k=12 m=4 or k=6 m=4");
-    for (const auto &[key, value] : asked)
-        if (!PARAMETERS.count(key))
-            return refuse("there is no parameter " + key + "; remove it from the profile");
-    const auto order = asked.find("order");
-    parities_last = order != asked.end() && order->second == "parities-last";
-    if (order != asked.end() && order->second != "groups" && !parities_last)
-        return refuse("no order is called " + order->second +
-                      "; set order=groups or order=parities-last");
-    k = data == "12" ? 12 : 6;
+    const std::string refusal = refusal_of(asked);
+    if (!refusal.empty()) {
+        if (ss) *ss << "azure_lrc: " << refusal << std::endl;
+        return -EINVAL;
+    }
+    if (is_initialized) asked.emplace("order", "interleaved");
+    const auto named = asked.find("order");
+    order = named == asked.end() ? Order::GROUPS : ORDERS.at(named->second);
+    k = asked.at("k") == "12" ? 12 : 6;
     set_places();
     profile = asked;
+    is_initialized = true;
     return 0;
 }
 
 int AzureLrc::create_rule(const std::string &name, CrushWrapper &crush, std::ostream *ss) const {
-    return crush.add_simple_rule(name, profile.at("crush-root"), profile.at("crush-failure-domain"),
+    const std::string &root = profile.at("crush-root"),
+                      &domain = profile.at("crush-failure-domain"),
+                      &device_class = profile.at("crush-device-class");
 #if CEPH_RELEASE >= 20
-                                 -1, /* one failure domain for each chunk */
+    const int domains = int(*number_of(profile, DOMAINS)), each = int(*number_of(profile, EACH));
+    if (each > 1)
+        return crush.add_indep_multi_osd_per_failure_domain_rule(name, root, domain, domains, each,
+                                                                 device_class, ss);
+    return crush.add_simple_rule(name, root, domain, domains ? domains : -1, device_class, "indep",
+                                 POOL_TYPE_ERASURE, ss);
+#else
+    return crush.add_simple_rule(name, root, domain, device_class, "indep", POOL_TYPE_ERASURE, ss);
 #endif
-                                 profile.at("crush-device-class"), "indep", POOL_TYPE_ERASURE, ss);
 }
 
 unsigned AzureLrc::get_chunk_size(unsigned object_size) const {
@@ -224,12 +301,12 @@ int AzureLrc::minimum_to_decode_with_cost(const Places &want, const std::map<int
 
 /* ---- Encoding ---- */
 
-/* The chunk of a data fragment: it shares the object's bytes, unless it has to be filled up with
- * zeros. */
-ceph::buffer::list AzureLrc::data_chunk(const ceph::buffer::list &in, unsigned fragment,
+/* The chunk of a slice of the object: it shares the object's bytes, unless it has to be filled up
+ * with zeros. */
+ceph::buffer::list AzureLrc::data_chunk(const ceph::buffer::list &in, unsigned slice,
                                         unsigned len) const {
     ceph::buffer::list chunk;
-    const uint64_t from = uint64_t(fragment) * len;
+    const uint64_t from = uint64_t(slice) * len;
     const unsigned rest = from < in.length() ? in.length() - unsigned(from) : 0;
     if (rest >= len) {
         chunk.substr_of(in, unsigned(from), len);
@@ -244,13 +321,13 @@ ceph::buffer::list AzureLrc::data_chunk(const ceph::buffer::list &in, unsigned f
 
 int AzureLrc::encode(const Places &want, const ceph::buffer::list &in, Chunks *encoded) {
     const unsigned len = get_chunk_size(in.length());
-    for (unsigned fragment = 0; fragment < get_chunk_count(); fragment++) {
+    for (unsigned slice = 0; slice < get_chunk_count(); slice++) {
         ceph::buffer::list chunk;
-        if (len && fragment < k)
-            chunk = data_chunk(in, fragment, len);
+        if (len && slice < k)
+            chunk = data_chunk(in, slice, len);
         else if (len)
             chunk.push_back(new_buffer(len));
-        (*encoded)[place_of[fragment]] = std::move(chunk);
+        (*encoded)[mapping[slice]] = std::move(chunk);
     }
     if (int r = encode_chunks(want, encoded)) return r;
     for (int place : place_of)
@@ -324,8 +401,7 @@ int AzureLrc::decode_concat(const Chunks &chunks, ceph::buffer::list *decoded) {
     const Places want(place_of.begin(), place_of.begin() + k);
     Chunks whole;
     if (int r = decode(want, chunks, &whole, 0)) return r;
-    for (unsigned fragment = 0; fragment < k; fragment++)
-        decoded->claim_append(whole[place_of[fragment]]);
+    for (unsigned slice = 0; slice < k; slice++) decoded->claim_append(whole[mapping[slice]]);
     return 0;
 }
 
@@ -362,7 +438,7 @@ int AzureLrc::to_read_parts(const ceph::ShardSet &want, const Items &available,
     Places wanted = places_in(want);
     bool encodes = false;
     for (int place : wanted) encodes |= place >= int(k) && !available.count(place);
-    for (int place = 0; parities_last && encodes && place < int(k); place++) wanted.insert(place);
+    for (int place = 0; is_optimized() && encodes && place < int(k); place++) wanted.insert(place);
     return to_read(wanted, available, read);
 }
 
@@ -404,8 +480,8 @@ int AzureLrc::decode(const ceph::ShardSet &want, const ceph::ShardChunks &chunks
 int AzureLrc::decode_concat(const Places &want, const Chunks &chunks, ceph::buffer::list *decoded) {
     Chunks whole;
     if (int r = decode(want, chunks, &whole, 0)) return r;
-    for (unsigned fragment = 0; fragment < k; fragment++)
-        if (want.count(place_of[fragment])) decoded->claim_append(whole[place_of[fragment]]);
+    for (unsigned slice = 0; slice < k; slice++)
+        if (want.count(mapping[slice])) decoded->claim_append(whole[mapping[slice]]);
     return 0;
 }
 
@@ -515,15 +591,16 @@ int AzureLrc::decode_chunks(const ceph::ShardSet &, ceph::ShardBuffers &chunks,
 
 /* Without OPTIMIZED_SUPPORTED, Ceph refuses allow_ec_optimizations. Such a pool names a primary by
  * its number among the places that may be one, and takes them to be 0 and the last four: in groups
- * they are 0, 6, 7, 14 and 15. Ceph 20.2.4 then waits for ever when place 0 is lost. */
+ * they are 0, 6, 7, 14 and 15. Ceph 20.2.4 then waits for ever when place 0 is lost. Deltas are for
+ * such pools alone: so groups claims what Ceph's lrc does, which has a mapping, too. */
 uint64_t AzureLrc::get_supported_optimizations() const {
-    return ceph::PARTIAL_READ | ceph::PARTIAL_WRITE | ceph::ZERO_INPUT_ZERO_OUTPUT |
-           ceph::PARITY_DELTA | (parities_last ? uint64_t(ceph::OPTIMIZED_SUPPORTED) : 0);
+    const uint64_t always = ceph::PARTIAL_READ | ceph::PARTIAL_WRITE | ceph::ZERO_INPUT_ZERO_OUTPUT;
+    return always | (is_optimized() ? ceph::PARITY_DELTA | ceph::OPTIMIZED_SUPPORTED : 0);
 }
 
 std::string AzureLrc::get_optimizations_flags_string() const {
-    const char *const optimized = parities_last ? ",optimizedsupport" : "";
-    return std::string("partialread,partialwrite,zeroinout,paritydelta") + optimized;
+    const char *const optimized = is_optimized() ? ",paritydelta,optimizedsupport" : "";
+    return std::string("partialread,partialwrite,zeroinout") + optimized;
 }
 
 #endif

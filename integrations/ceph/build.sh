@@ -1,8 +1,9 @@
 #!/usr/bin/env bash
 # Builds libec_azure_lrc.so for the installed Ceph: build.sh FOLDER [FLAG..], with flags for g++.
 # It needs g++, libradospp-dev, ceph-osd, and the coder for C (tools/libraries.py lrc_coder).
-# CEPH_VERSION names another version than the installed one. Only releases with which the plugin was
-# tested are built for: another one may call its functions by other places of their table.
+# CEPH_VERSION names another version than the installed one. Only series with a release that the
+# plugin was tested with are built for: another one may call its functions by other places of their
+# table.
 set -eu
 here=$(dirname "$0")
 # shellcheck source=integrations/coder.sh

@@ -23,8 +23,9 @@
 #include "ceph_shards.h"
 #endif
 
-/* Ceph's map of the cluster. Of its functions this one is called: it adds a rule that chooses one
- * place of the given type for each chunk, and returns the rule's number, or an error below 0. */
+/* Ceph's map of the cluster. Of its functions these are called: each adds a rule, and returns the
+ * rule's number, or an error below 0. The first rule chooses a failure domain for each chunk, and
+ * the second one the given number of OSDs in each domain. */
 class CrushWrapper {
 public:
 #if CEPH_RELEASE >= 20
@@ -32,6 +33,10 @@ public:
     int add_simple_rule(std::string name, std::string root, std::string failure_domain, int domains,
                         std::string device_class, std::string mode, int pool_type,
                         std::ostream *err);
+    int add_indep_multi_osd_per_failure_domain_rule(std::string name, std::string root,
+                                                    std::string failure_domain, int domains,
+                                                    int osds_each, std::string device_class,
+                                                    std::ostream *err);
 #else
     int add_simple_rule(std::string name, std::string root, std::string failure_domain,
                         std::string device_class, std::string mode, int pool_type,

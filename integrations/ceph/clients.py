@@ -15,7 +15,7 @@ from cluster import free_port
 from codes import OSD_EACH, WIDE
 
 IMAGE_BYTES = 16 << 20
-LOST = (1, 2, 9, 14)  # places: two data chunks of one group, one of the other, its local parity
+LOST = (2, 4, 3, 13)  # places: two data chunks of one group, one of the other, its local parity
 
 
 def make_pools(cluster, data, app, *others):

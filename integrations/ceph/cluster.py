@@ -41,6 +41,7 @@ crash dir = {folder}/crash
 erasure code dir = {plugins}
 osd class dir = /usr/lib/x86_64-linux-gnu/rados-classes
 osd erasure code plugins = isa lrc azure_lrc
+osd pool default erasure code profile = plugin=azure_lrc k=12 m=4
 osd pool default pg autoscale mode = off
 osd crush chooseleaf type = 0
 mon allow pool delete = true

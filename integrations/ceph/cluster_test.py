@@ -45,8 +45,9 @@ POOLS = {
     "lrc_kml": ["plugin=lrc", "k=12", "m=2", "l=7"],
     "lrc_layers": ["plugin=lrc", "mapping=DDDDDDDDDDDD____", f"layers={LAYERS}"],
 }
+CLAY = ["plugin=clay", "k=12", "m=4", "d=15"]
 HEAD = (1 << 64) - 2  # the number of the snapshot that is none
-GLOBAL_PARITIES = (7, 15)  # their places
+GLOBAL_PARITIES = (14, 15)  # their places
 LOST_OSD = 5
 WAITING = 2  # seconds for which a call that has to wait is watched
 RACKS = """    id 99
@@ -126,6 +127,33 @@ def check_profile_in_use(cluster, report):
             printed = str(error)
         report.check(f"{prefix} is refused for a profile in use", "of_a_pool" in printed, printed)
     cluster.remove_pool("of_a_pool")
+
+
+def check_orders(cluster, report, objects=8):
+    """A new profile has the default order. The cluster was made with a default profile of the
+    plugin, which the monitor stores as it is: it names no order, as profiles of earlier versions,
+    and its pools are in groups."""
+    cluster.command("osd erasure-code-profile set", name="of_now", profile=WIDE.profile)
+    orders = [
+        cluster.command("osd erasure-code-profile get", name=name).get("order")
+        for name in ("of_now", "default")
+    ]
+    report.check("a new profile is stored with order=interleaved", orders[0] == "interleaved")
+    report.check("the cluster's own profile names no order", orders[1] is None, str(orders[1]))
+    words = {"pg_num": 1, "pgp_num": 1, "pool_type": "erasure", "erasure_code_profile": "default"}
+    cluster.command("osd pool create", pool="early", **words)
+    cluster.command("osd pool application enable", pool="early", app="rados")
+    cluster.command("osd pool set", pool="early", var="min_size", val="12")
+    cluster.wait_clean()
+    cluster.fill("early", objects)
+    osds = cluster.places("early")[0][:4]
+    cluster.kill(osds)
+    inactive = cluster.until("inactive", lambda: cluster.is_inactive("early"))
+    report.check("a pool of it is in groups: without places 0 to 3 it is inactive", inactive)
+    cluster.revive(osds)
+    equal = cluster.wait_clean() and cluster.equal_objects("early", objects)
+    report.check(f"its objects read back: {equal} of {objects}", equal == objects)
+    cluster.remove_pool("early")
 
 
 # ---- lost sets, in a pool of one placement group
@@ -208,7 +236,7 @@ def check_unrecoverable(cluster, report, pool, code, lost, objects):
 def check_min_size(cluster, report, objects=24):
     """With Ceph's own min_size three lost chunks are served, with 12 four as well."""
     places = cluster.places("one")[0]
-    osds = [places[place] for place in (1, 2, 9, 10)]
+    osds = [places[place] for place in (2, 4, 3, 5)]
     cluster.command("osd pool set", pool="one", var="min_size", val="13")
     cluster.kill(osds[:3])
     equal = cluster.equal_objects("one", objects)
@@ -219,7 +247,7 @@ def check_min_size(cluster, report, objects=24):
     cluster.command("osd pool set", pool="one", var="min_size", val="12")
     equal = cluster.equal_objects("one", objects)
     report.check("with min_size 12 the objects read back", equal == objects)
-    osds.append(places[4])
+    osds.append(places[6])
     cluster.kill(osds[4:])
     inactive = cluster.until("inactive", lambda: cluster.is_inactive("one"))
     report.check("with a fifth lost it is inactive", inactive, cluster.state("one"))
@@ -248,8 +276,8 @@ def check_beside_lrc(cluster, report):
     cluster.make_pool("layers", POOLS["lrc_layers"] + [OSD_EACH], 1, min_size=12)
     cluster.wait_clean()
     for name, ours, theirs in (
-        ("a data chunk and the local parity of its group", [0, 6], [0, 12]),
-        ("three data chunks of a group", [0, 1, 2], [0, 1, 2]),
+        ("a data chunk and the local parity of its group", [0, 12], [0, 12]),
+        ("three data chunks of a group", [0, 2, 4], [0, 1, 2]),
     ):
         for pool, lost in (("one", ours), ("layers", theirs)):
             osds = [cluster.places(pool)[0][place] for place in lost]
@@ -321,17 +349,17 @@ def ratio_of(cluster, report, name, reads, places):
 
 
 def is_exact(read, places):
-    """Six chunks of the half where the lost one is, or twelve if that is a global parity."""
+    """The six others of the lost one's group, or twelve if that is a global parity."""
     lost = places[read.group].index(LOST_OSD)
     if lost in GLOBAL_PARITIES:
         return len(read.places) == 12
-    return len(read.places) == 6 and all(place // 8 == lost // 8 for place in read.places)
+    return any(set(read.places) == group - {lost} for group in WIDE.groups)
 
 
 def check_places(report, reads, places):
     ours, isa = reads["azure_lrc"], reads["isa"]
     report.check(
-        f"{len(ours)} reads of azure_lrc: six chunks of one half, or twelve for a global parity",
+        f"{len(ours)} reads of azure_lrc: six chunks of a group, or twelve for a global parity",
         ours and all(is_exact(read, places) for read in ours),
     )
     report.check(
@@ -356,11 +384,11 @@ def check_out(cluster, report, count=96):
     cluster.command("osd set", key="noout")
 
 
-def counted_ratio(cluster, report, name, count=48, length=4 << 20):
+def counted_ratio(cluster, report, name, profile, count=48, length=4 << 20):
     """Bytes read for each byte rebuilt, by the counters of the OSDs' stores, and the share of
     chunks at the places of global parities. There is no pool beside this one."""
     pool = f"large_{name}"
-    cluster.make_pool(pool, POOLS[name] + [OSD_EACH], 32)
+    cluster.make_pool(pool, [*profile, OSD_EACH], 32)
     cluster.wait_clean()
     cluster.fill(pool, count, length)
     places = cluster.places(pool)
@@ -373,7 +401,7 @@ def counted_ratio(cluster, report, name, count=48, length=4 << 20):
     read, sent = ((now - then) / whole for now, then in zip(cluster.bytes_moved(others), before))
     wide = sum(place in GLOBAL_PARITIES for place in rebuilt)
     report.note(
-        f"{name}: {len(rebuilt)} chunks rebuilt, {wide} of them at places 7 and 15; for each byte "
+        f"{name}: {len(rebuilt)} chunks rebuilt, {wide} of them at places 14 and 15; for each byte "
         f"rebuilt, the stores read {read:.2f} bytes, and the OSDs sent {sent:.2f}"
     )
     equal = cluster.equal_objects(pool, count, length)
@@ -384,9 +412,10 @@ def counted_ratio(cluster, report, name, count=48, length=4 << 20):
 
 def check_counters(cluster, report):
     """A global parity is rebuilt from twelve chunks, and how many there are is chance."""
-    ours, wide = counted_ratio(cluster, report, "azure_lrc")
-    counted_ratio(cluster, report, "lrc_kml")
-    ratio = ours / counted_ratio(cluster, report, "isa")[0]
+    ours, wide = counted_ratio(cluster, report, "azure_lrc", POOLS["azure_lrc"])
+    counted_ratio(cluster, report, "lrc_kml", POOLS["lrc_kml"])
+    counted_ratio(cluster, report, "clay", CLAY)
+    ratio = ours / counted_ratio(cluster, report, "isa", POOLS["isa"])[0]
     report.check(
         "by the counters, half of what isa reads, and all of it for global parities",
         ratio <= 0.55 + 0.5 * wide,
@@ -402,7 +431,7 @@ def check_snapshots(cluster, report, objects=8):
     cluster.make_pool("kept", POOLS["azure_lrc"] + [OSD_EACH], 1, min_size=12)
     cluster.wait_clean()
     cluster.fill("kept", objects)
-    lost = [cluster.places("kept")[0][place] for place in (0, 1, 8, 9)]
+    lost = [cluster.places("kept")[0][place] for place in (0, 2, 1, 3)]
     with cluster.rados.open_ioctx("kept") as io:
         io.create_snap("first")
         number = io.lookup_snap("first").snap_id
@@ -422,18 +451,21 @@ def check_snapshots(cluster, report, objects=8):
     report.check("written over without four OSDs, objects are as they were written", now)
     report.check("a snapshot has them as they were before", then)
     report.check("one is rolled back to it", back == 1, f"{back} are as before")
+    cluster.remove_pool("kept")
 
 
 def check_stopped(cluster, report, objects=24):
-    """Two OSDs that do not answer, and are not yet known to be down, in a pool with fast_read."""
-    cluster.command("osd pool set", pool="kept", var="fast_read", val="1")
-    cluster.fill("kept", objects)
-    stopped = [cluster.daemons[f"osd.{cluster.places('kept')[0][place]}"] for place in (9, 13)]
+    """Two OSDs that do not answer, and are not yet known to be down, in a pool with fast_read. It
+    is a new pool: in one that still trims snapshots, a read waits for the end of that."""
+    cluster.make_pool("fast", POOLS["azure_lrc"] + [OSD_EACH], 1, fast_read="1")
+    cluster.wait_clean()
+    cluster.fill("fast", objects)
+    stopped = [cluster.daemons[f"osd.{cluster.places('fast')[0][place]}"] for place in (9, 13)]
     for daemon in stopped:
         daemon.send_signal(signal.SIGSTOP)
     began = time.monotonic()
     try:
-        equal = cluster.equal_objects("kept", objects)
+        equal = cluster.equal_objects("fast", objects)
     finally:
         for daemon in stopped:
             daemon.send_signal(signal.SIGCONT)
@@ -442,7 +474,7 @@ def check_stopped(cluster, report, objects=24):
         equal == objects,
         f"{time.monotonic() - began:.1f} s",
     )
-    cluster.remove_pool("kept")
+    cluster.remove_pool("fast")
 
 
 def check_migration(cluster, report, objects=24):
@@ -468,14 +500,14 @@ def is_20(version):
 
 def check_racks(cluster, report):
     cluster.add_rule("racks", RACKS)
-    cluster.make_pool("in_racks", POOLS["azure_lrc"], 16, "racks")
+    cluster.make_pool("in_racks", [*POOLS["azure_lrc"], "order=groups"], 16, "racks")
     clean = cluster.wait_clean()
     halves = [
         ({osd % 2 for osd in group[:8]}, {osd % 2 for osd in group[8:]})
         for group in cluster.places("in_racks")
     ]
     report.check(
-        "by a rule of two racks, each group is in a rack of its own",
+        "by a rule of two racks and order=groups, each group is in a rack of its own",
         clean
         and all(
             len(first) == 1 and len(second) == 1 and first != second for first, second in halves
@@ -486,7 +518,7 @@ def check_racks(cluster, report):
 
 
 def check_small(cluster, report):
-    cluster.make_pool("small", ["plugin=azure_lrc", "k=6", "m=4", OSD_EACH], 8)
+    cluster.make_pool("small", [*SMALL.profile, OSD_EACH], 8)
     clean = cluster.wait_clean()
     cluster.fill("small", 16)
     report.check(
@@ -530,24 +562,31 @@ def check_optimized(cluster, report):
     """A pool of Ceph 20 whose small writes change the parities by deltas. Without the places of a
     data chunk and of its local parity, and then without a global parity and the first place."""
     refused = ""
+    cluster.make_pool("in_groups", [*SMALL.profile, "order=groups", OSD_EACH], 1)
     try:
-        cluster.command("osd pool set", pool="small", var="allow_ec_optimizations", val="true")
+        cluster.command("osd pool set", pool="in_groups", var="allow_ec_optimizations", val="true")
     except RuntimeError as error:
         refused = str(error)
+    cluster.remove_pool("in_groups")
     words = "not currently supported"
     report.check("allow_ec_optimizations is refused with order=groups", words in refused, refused)
-    for pool, k, lost in (("deltas", 12, (1, 12)), ("small_deltas", 6, (0, 8))):
-        profile = ["plugin=azure_lrc", f"k={k}", "m=4", "order=parities-last"]
-        optimized = {"allow_ec_optimizations": "true", "min_size": k}
+    for pool, code, lost, order in (
+        ("deltas", WIDE, (2, 12), "interleaved"),
+        ("small_deltas", SMALL, (0, 8), "interleaved"),
+        ("last_deltas", WIDE, (1, 12), "parities-last"),
+    ):
+        optimized = {"allow_ec_optimizations": "true", "min_size": code.k}
+        profile = [*code.profile, f"order={order}"]
         check_overwrites(cluster, report, pool, profile, lost, **optimized)
 
 
-def check_missing_plugin(cluster, report, folder, version):
-    """An OSD that has no file of the plugin. At the start, Ceph 20 ends without a word of it."""
-    at_start = "libec_azure_lrc.so: cannot open shared object file"
-    for named, words in (
-        ("isa lrc azure_lrc", "" if is_20(version) else at_start),
-        ("isa lrc", "FAILED ceph_assert(ec_impl)"),
+def check_missing_plugin(cluster, report, folder):
+    """An OSD that has no file of the plugin ends. At the start it may end before it has written to
+    its log which file is missing."""
+    check_tool(report, folder)
+    for named, words, is_sure in (
+        ("isa lrc azure_lrc", "libec_azure_lrc.so: cannot open shared object file", False),
+        ("isa lrc", "FAILED ceph_assert(ec_impl)", True),
     ):
         osd = min(cluster.up())
         cluster.kill([osd])
@@ -568,27 +607,40 @@ def check_missing_plugin(cluster, report, folder, version):
             printed = words in file.read()
         report.check(
             f"an OSD without the plugin ends, with osd_erasure_code_plugins = {named}",
-            ended and printed,
-            words if printed else "",
+            ended and (printed or not is_sure),
+            words if printed else "no word of it",
         )
         cluster.revive([osd])
+
+
+def check_tool(report, folder):
+    """Ceph's tool says whether a daemon would find the file, before one is started."""
+    statuses = []
+    for name in "plugins", "without":
+        options = dict(os.environ, CEPH_ARGS=f"--erasure_code_dir={folder}/{name}")
+        words = ["ceph-erasure-code-tool", "test-plugin-exists", "azure_lrc"]
+        done = subprocess.run(words, env=options, capture_output=True, check=False)
+        statuses.append(done.returncode)
+    there, missing = statuses
+    report.check("ceph-erasure-code-tool finds the plugin, or not", missing > there == 0)
 
 
 # ---- the parts
 
 
 def overwritten(cluster, report):
-    check_overwrites(cluster, report, "over", POOLS["azure_lrc"], (1, 2), min_size=12, fast_read=1)
+    check_overwrites(cluster, report, "over", POOLS["azure_lrc"], (2, 4), min_size=12, fast_read=1)
 
 
 NAMES = (
     *("profiles", "lost", "recovery", "counters", "operators"),
     *("damage", "units", "storm", "benchmark", "images", "files", "buckets"),
+    "domains",
     *("racks", "small", "overwrites"),  # these leave pools there, which `damage` would reach
     "missing",
 )
 PARTS = {
-    "profiles": (check_profiles, check_profile_in_use),
+    "profiles": (check_profiles, check_profile_in_use, check_orders),
     "lost": (check_lost_sets, check_min_size, check_min_sizes, check_beside_lrc),
     "recovery": (check_recovery, check_out),
     "counters": (check_counters,),
@@ -603,6 +655,7 @@ def work(report, folder, options):
     """These modules want python3-rados, which the interpreter finds only after it was installed."""
     import clients
     import damage
+    import domains
     import loads
     from cluster import OSDS, Cluster
 
@@ -613,13 +666,14 @@ def work(report, folder, options):
         cluster.command("osd set", key="noout")
         version = cluster.run("ceph-osd", "--version").split(" (")[0]
         report.check(f"{OSDS} OSDs are up", len(cluster.up()) == OSDS, version)
-        parts = {**PARTS, **damage.PARTS, **loads.PARTS, **clients.PARTS}
+        parts = {**PARTS, **damage.PARTS, **domains.PARTS, **loads.PARTS, **clients.PARTS}
+        later = (check_optimized, domains.check_own_rule) if not is_20(version) else ()
         for name in NAMES:
             for check in parts.get(name, ()) if name in options.only else ():
-                if check is not check_optimized or is_20(version):
+                if check not in later:
                     check(cluster, report)
         if "missing" in options.only:
-            check_missing_plugin(cluster, report, folder, version)
+            check_missing_plugin(cluster, report, folder)
     finally:
         cluster.stop()
 

@@ -1,4 +1,5 @@
-"""The plugin's two codes by their places in a placement group, and lost sets that the tests try."""
+"""The plugin's two codes by their places in the order `interleaved`, and lost sets that the tests
+try."""
 
 import random
 from dataclasses import dataclass
@@ -36,32 +37,32 @@ class Code:
                 yield lost
 
 
-# Places 0 to 5 and 8 to 13 are data, 6 and 14 local parities, 7 and 15 global ones.
+# Places 0 to 11 are data, 12 and 13 local parities, 14 and 15 global ones.
 WIDE = Code(
     12,
-    ({0, 1, 2, 3, 4, 5, 6}, {8, 9, 10, 11, 12, 13, 14}),
+    (set(range(0, 14, 2)), set(range(1, 14, 2))),
     (
         [0],
-        [6],
+        [12],
         [15],
-        [0, 6],
-        [0, 8],
+        [0, 12],
         [0, 1],
-        [7, 15],
-        [0, 1, 8],
-        [0, 6, 7],
-        [0, 1, 2, 8],
-        [0, 1, 8, 9],
-        [0, 8, 7, 15],
-        [0, 1, 6, 14],
-        [6, 14, 7, 15],
+        [0, 2],
+        [14, 15],
+        [0, 2, 1],
+        [0, 12, 14],
+        [0, 2, 4, 1],
+        [0, 2, 1, 3],
+        [0, 1, 14, 15],
+        [0, 2, 12, 13],
+        [12, 13, 14, 15],
     ),
-    ([0, 1, 2, 3],),
+    ([0, 2, 4, 6],),
 )
-# Places 0 to 2 and 5 to 7 are data, 3 and 8 local parities, 4 and 9 global ones.
+# Places 0 to 5 are data, 6 and 7 local parities, 8 and 9 global ones.
 SMALL = Code(
     6,
-    ({0, 1, 2, 3}, {5, 6, 7, 8}),
-    ([0, 1, 2], [3, 4, 9], [0, 1, 5, 6], [0, 3, 4, 8], [3, 4, 8, 9]),
-    ([0, 1, 2, 3], [5, 6, 7, 9], [0, 1, 4, 5, 6]),
+    ({0, 2, 4, 6}, {1, 3, 5, 7}),
+    ([0, 2, 4], [6, 8, 9], [0, 2, 1, 3], [0, 6, 8, 7], [6, 8, 7, 9]),
+    ([0, 2, 4, 6], [1, 3, 5, 9], [0, 2, 8, 1, 3]),
 )

@@ -14,8 +14,8 @@ from cluster import content
 from codes import OSD_EACH, WIDE
 
 # Of each object, the places whose shards are changed. All of these sets are recoverable.
-CHANGED = ([0], [0, 1], [6], [7], [2, 3, 10], [0, 1, 8, 9])
-GROUP = [0, 1, 2, 3]  # data of one group: unrecoverable
+CHANGED = ([0], [0, 2], [12], [14], [4, 5, 6], [0, 1, 2, 3])
+GROUP = [0, 2, 4, 6]  # data of one group: unrecoverable
 SECONDS = 10  # how long a read that Ceph may hold back is waited for
 
 
@@ -191,7 +191,7 @@ def check_errors(cluster, report, objects=8):
     places = cluster.places("errors")[0]
     for osd in places:
         inject(cluster, osd, "true")
-    for number, lost in enumerate(([0], [0, 1], [0, 1, 8], [0, 1, 8, 9])):
+    for number, lost in enumerate(([0], [0, 2], [0, 1, 2], [0, 1, 2, 3])):
         for place in lost:
             words = {"pool": "errors", "objname": f"o{number}", "shardid": place}
             cluster.osd_command(places[place], "injectdataerr", binary=True, **words)

@@ -5,7 +5,7 @@
 #include "plugin_loader.h"
 
 #include <algorithm>
-#include <chrono>
+#include <ctime>
 #include <functional>
 #include <unistd.h>
 
@@ -24,31 +24,88 @@ static const std::vector<Peer> peers = {
      {{"mapping", "DDDDDDDDDDDD____"},
       {"layers", "[[\"DDDDDDDDDDDD__cc\",\"\"],[\"DDDDDD______c___\",\"\"],[\"______DDDDDD_c__"
                  "\",\"\"]]"}}},
+    {"clay 12+4 d=15", "clay", {{"k", "12"}, {"m", "4"}, {"d", "15"}}},
 };
 
+/* What minimum_to_decode names for lost chunks: of each chunk to read, parts of so many bytes. */
+static ceph::ChunkParts parts_to_read(ErasureCodeInterface &code, unsigned lost) {
+    ceph::ChunkParts parts;
+    if (code.minimum_to_decode(places_of(lost), places_of(all_of(code) & ~lost), &parts))
+        parts.clear();
+    return parts;
+}
+
+/* The parts of the chunks that are read, of each chunk one after the other. */
+static Chunks read_parts(ErasureCodeInterface &code, const Chunks &whole,
+                         const ceph::ChunkParts &parts) {
+    Chunks chunks;
+    for (const auto &[place, of] : parts) {
+        const unsigned size = whole.at(place).length() / unsigned(code.get_sub_chunk_count());
+        for (const auto &[first, count] : of) {
+            buffer::list part;
+            part.substr_of(whole.at(place), unsigned(first) * size, unsigned(count) * size);
+            chunks[place].claim_append(part);
+        }
+    }
+    return chunks;
+}
+
+/* The chunks that are read, of which some may be read in part. */
+static double sum_of(ErasureCodeInterface &code, const ceph::ChunkParts &parts) {
+    double sum = 0;
+    for (const auto &chunk : parts)
+        for (const auto &part : chunk.second)
+            sum += double(part.second) / code.get_sub_chunk_count();
+    return sum;
+}
+
+/* Whether lost chunks are decoded without an error, and are not what they were. */
+static bool is_wrong(ErasureCodeInterface &code, const Chunks &whole, unsigned lost) {
+    Chunks made;
+    const int len = int(whole.at(0).length());
+    if (code.decode(places_of(lost), chunks_at(whole, all_of(code) & ~lost), &made, len))
+        return false;
+    bool same = true;
+    for (int place : places_of(lost))
+        same = same && made.count(place) && made.at(place).contents_equal(whole.at(place));
+    return !same;
+}
+
 /* Of the sets of at most four lost chunks: for how many all chunks are recoverable, which is what
- * Ceph asks of a placement group, and for how many the data, which a client reads. */
+ * Ceph asks of a placement group, for how many the data, which a client reads, and how many are
+ * decoded to wrong bytes without an error. */
 static void count_sets(const Peer &peer, ErasureCodeInterface &code) {
     const unsigned n = code.get_chunk_count(), all = all_of(code), data = data_of(code);
-    unsigned sets = 0, recoverable = 0, readable = 0, single = 0;
+    unsigned sets = 0, recoverable = 0, readable = 0, wrong = 0, accepted = 0;
+    double single = 0;
+    Chunks whole;
+    code.encode(places_of(all), random_bytes(12 * 4096, 1), &whole);
     for (unsigned lost = 0; lost <= all; lost++) {
         unsigned read;
         if (count_of(lost) > 4) continue;
         sets++;
         readable += !to_read(code, data, all & ~lost, &read);
-        recoverable += !to_read(code, all, all & ~lost, &read);
-        if (count_of(lost) == 1 && !to_read(code, lost, all & ~lost, &read))
-            single += count_of(read);
+        const bool is_recoverable = !to_read(code, all, all & ~lost, &read);
+        recoverable += is_recoverable;
+        if (is_wrong(code, whole, lost)) {
+            wrong++;
+            accepted += is_recoverable;
+        }
+        if (count_of(lost) == 1) single += sum_of(code, parts_to_read(code, lost));
     }
-    printf("%-18s  of %u sets: all chunks recoverable in %u, data readable in %u; one lost chunk "
-           "reads %.2f\n",
-           peer.name, sets, recoverable, readable, double(single) / n);
+    printf(
+        "%-18s  of %u sets: all chunks recoverable in %u, data readable in %u, decoded wrong "
+        "without an error %u, of which minimum_to_decode accepts %u; one lost chunk reads %.2f\n",
+        peer.name, sets, recoverable, readable, wrong, accepted, single / n);
 }
 
+/* What the work takes of the processor, so that other work of the machine counts little. */
 static double seconds_of(const std::function<void()> &work) {
-    const auto start = std::chrono::steady_clock::now();
+    timespec start, end;
+    clock_gettime(CLOCK_THREAD_CPUTIME_ID, &start);
     work();
-    return std::chrono::duration<double>(std::chrono::steady_clock::now() - start).count();
+    clock_gettime(CLOCK_THREAD_CPUTIME_ID, &end);
+    return double(end.tv_sec - start.tv_sec) + double(end.tv_nsec - start.tv_nsec) / 1e9;
 }
 
 /* A code with a stripe of its own, and the sets that it is timed with. */
@@ -60,7 +117,7 @@ public:
         for (unsigned lost = 1; lost <= all; lost++) {
             unsigned read;
             if (count_of(lost) <= 4 && !to_read(*code, lost, all & ~lost, &read))
-                sets[count_of(lost)].push_back({lost, read});
+                sets[count_of(lost)].push_back({lost, parts_to_read(*code, lost)});
         }
     }
 
@@ -74,8 +131,9 @@ public:
             return;
         }
         const auto &some = sets[lost]; /* sixteen of them, evenly */
-        const auto &[set, read] = some[round % 16 * some.size() / 16];
-        if (code->decode(places_of(set), chunks_at(whole, read), &made, int(whole.at(0).length())))
+        const auto &[set, parts] = some[round % 16 * some.size() / 16];
+        if (code->decode(places_of(set), read_parts(*code, whole, parts), &made,
+                         int(whole.at(0).length())))
             printf("not decoded: lost places %#x\n", set);
     }
 
@@ -84,8 +142,8 @@ private:
     const buffer::list &in;
     const unsigned all;
     Chunks whole;
-    std::vector<std::pair<unsigned, unsigned>>
-        sets[5]; /* by the number of lost chunks: lost, read */
+    std::vector<std::pair<unsigned, ceph::ChunkParts>>
+        sets[5]; /* by the number of lost chunks: lost, and the parts to read */
 };
 
 /* The best of nine rounds, which all contestants take in turn. */
@@ -103,7 +161,8 @@ static std::vector<double> best_of(const std::vector<Contestant> &contestants, u
     return best;
 }
 
-/* GB/s of object bytes, and in brackets how many times as fast as isa. */
+/* GB of object bytes in a second of the processor, and in brackets how many times as fast as isa.
+ */
 static void time_stripe(unsigned unit, const std::vector<ErasureCodeInterfaceRef> &codes) {
     const buffer::list in = random_bytes(12 * unit, 5);
     std::vector<Contestant> contestants;
@@ -115,7 +174,7 @@ static void time_stripe(unsigned unit, const std::vector<ErasureCodeInterfaceRef
         const auto best = best_of(contestants, lost, times);
         for (const double seconds : best)
             if (seconds > 0)
-                printf(" %.1f (%.2f) |", 12.0 * unit * times / seconds / 1e9, best[1] / seconds);
+                printf(" %.3g (%.3g) |", 12.0 * unit * times / seconds / 1e9, best[1] / seconds);
             else
                 printf(" - |");
         printf("\n");
@@ -137,10 +196,12 @@ int main(int argc, char **argv) {
         }
         count_sets(peer, *codes.back());
     }
-    printf("\nGB/s of object bytes, one thread; in brackets how many times as fast as isa\n\n| "
-           "Stripe | Work |");
+    printf(
+        "\nGB of object bytes in a second of the processor, one thread; in brackets how many times "
+        "as fast as isa\n\n| "
+        "Stripe | Work |");
     for (const Peer &peer : peers) printf(" %s |", peer.name);
-    printf("\n|---|---|---|---|---|---|---|\n");
+    printf("\n|---|---|---|---|---|---|---|---|\n");
     for (unsigned unit : {4096u, 65536u, 1048576u}) time_stripe(unit, codes);
     fflush(stdout);
     _exit(0); /* a plugin is never unloaded */

@@ -130,6 +130,17 @@ static int to_read(ErasureCodeInterface &code, unsigned want, unsigned available
     return r;
 }
 
+/* Four lost places of a group, which are unrecoverable, and another one that is recoverable beside
+ * them. */
+inline std::pair<unsigned, unsigned> losses_of(ErasureCodeInterface &code) {
+    const unsigned all = all_of(code);
+    unsigned group = 0xF, other = 1, read;
+    while (count_of(group) != 4 || !to_read(code, all, all & ~group, &read)) group++;
+    while (group >> other & 1 || to_read(code, 1u << other, all & ~group & ~(1u << other), &read))
+        other++;
+    return {group, other};
+}
+
 static Chunks chunks_at(const Chunks &whole, unsigned set) {
     Chunks chunks;
     for (int place : places_of(set)) chunks[place] = whole.at(place);

@@ -1,7 +1,8 @@
-/* Tests libec_azure_lrc.so without a cluster: plugin_test FOLDER CORPUS [shards]
+/* Tests libec_azure_lrc.so without a cluster: plugin_test FOLDER CORPUS PAGE|shards
  *
- * FOLDER has the plugin and Ceph's own, CORPUS is tests/corpus. By the third word, only the calls
- * that Ceph 20.2 adds are tested, and FOLDER needs no plugin of Ceph. */
+ * FOLDER has the plugin and Ceph's own, CORPUS is tests/corpus, and PAGE is README.md of this
+ * folder, whose table of failure domains is compared. By the word shards, only what Ceph 20.2 adds
+ * is tested, and FOLDER needs no plugin of Ceph. */
 #include "plugin_loader.h"
 #if CEPH_RELEASE >= 20
 #include "shards_test.h"
@@ -14,6 +15,7 @@
 #include <fstream>
 #include <functional>
 #include <iterator>
+#include <numeric>
 #include <unistd.h>
 
 static int passed, failed;
@@ -349,18 +351,24 @@ private:
 
 /* ---- The calls ---- */
 
-static const std::vector<int> places_of_12 = {0, 1, 2, 3, 4, 5, 8, 9, 10, 11, 12, 13, 6, 14, 7, 15};
-static const std::vector<int> places_of_6 = {0, 1, 2, 5, 6, 7, 3, 8, 4, 9};
+static const std::vector<int> groups_of_12 = {0, 1, 2, 3, 4, 5, 8, 9, 10, 11, 12, 13, 6, 14, 7, 15};
+static const std::vector<int> groups_of_6 = {0, 1, 2, 5, 6, 7, 3, 8, 4, 9};
+
+/* Whether the code has the mapping of the order. Only groups has one that is not the identity. */
+static bool is_mapped(ErasureCodeInterface &code, const std::string &order) {
+    const auto &mapping = code.get_chunk_mapping();
+    std::vector<int> expected(code.get_chunk_count());
+    std::iota(expected.begin(), expected.end(), 0);
+    if (order == "groups") expected = expected.size() == 16 ? groups_of_12 : groups_of_6;
+    return std::vector<int>(mapping.begin(), mapping.end()) == expected;
+}
 
 static void test_shape(const std::string &name, ErasureCodeInterface &code, unsigned k) {
     check(code.get_chunk_count() == k + 4 && code.get_data_chunk_count() == k &&
               code.get_coding_chunk_count() == 4 && code.get_sub_chunk_count() == 1,
           name + ": counts");
-    const auto &mapping = code.get_chunk_mapping();
-    check(std::vector<int>(mapping.begin(), mapping.end()) ==
-              (k == 12 ? places_of_12 : places_of_6),
-          name + ": places");
     const auto &profile = code.get_profile();
+    check(is_mapped(code, profile.at("order")), name + ": places");
     check(profile.at("crush-failure-domain") == "host" && profile.at("crush-root") == "default" &&
               profile.at("k") == std::to_string(k) && profile.at("m") == "4",
           name + ": the profile has the defaults");
@@ -455,10 +463,11 @@ static void test_refusals(const std::string &name, ErasureCodeInterface &code) {
           name + ": with costs, the same is read");
 }
 
-/* Place 0 is unrecoverable, place n / 2 is not: neither is written. */
+/* Place 0 is unrecoverable, the other lost place is not: neither is written. */
 static void test_unchanged(const std::string &name, ErasureCodeInterface &code) {
-    const unsigned n = code.get_chunk_count(), all = all_of(code), other = n / 2,
-                   lost = 0xFu | 1u << other;
+    const unsigned n = code.get_chunk_count(), all = all_of(code);
+    const auto [group, other] = losses_of(code);
+    const unsigned lost = group | 1u << other;
     Chunks whole, own = filled(n, 64, 'U');
     code.encode(places_of(all), random_bytes(code.get_data_chunk_count() * 64, 7), &whole);
     for (int place : places_of(all & ~lost)) own[place] = whole[place];
@@ -471,7 +480,7 @@ static void test_unchanged(const std::string &name, ErasureCodeInterface &code) 
 }
 
 static void test_profiles() {
-    const std::vector<std::pair<ErasureCodeProfile, std::string>> bad = {
+    std::vector<std::pair<ErasureCodeProfile, std::string>> bad = {
         {{{"k", "10"}}, "azure_lrc: no code has k=10 m=4; set k=12 m=4 or k=6 m=4"},
         {{{"m", "3"}}, "azure_lrc: no code has k=12 m=3; set k=12 m=4 or k=6 m=4"},
         {{{"k", "12x"}}, "azure_lrc: no code has k=12x m=4; set k=12 m=4 or k=6 m=4"},
@@ -479,15 +488,21 @@ static void test_profiles() {
         {{{"l", "6"}}, "azure_lrc: there is no parameter l; remove it from the profile"},
         {{{"mapping", "DD"}},
          "azure_lrc: there is no parameter mapping; remove it from the profile"},
-        {{{"technique", "x"}},
-         "azure_lrc: there is no parameter technique; remove it from the profile"},
+        {{{"crush-locality", "rack"}},
+         "azure_lrc: there is no parameter crush-locality; remove it from the profile, and name a "
+         "CRUSH rule when you create the pool"},
         {{{"k", "6"}, {"K", "6"}},
          "azure_lrc: there is no parameter K; remove it from the profile"},
         {{{"order", "data-first"}},
-         "azure_lrc: no order is called data-first; set order=groups or order=parities-last"},
+         "azure_lrc: no order is called data-first; set order=interleaved, order=groups or "
+         "order=parities-last"},
         {{{"crush-failure-domian", "osd"}},
          "azure_lrc: there is no parameter crush-failure-domian; remove it from the profile"},
     };
+    if (CEPH_RELEASE < 20)
+        bad.push_back({{{"crush-num-failure-domains", "8"}},
+                       "azure_lrc: there is no parameter crush-num-failure-domains; remove it from "
+                       "the profile, and name a CRUSH rule when you create the pool"});
     for (const auto &[profile, words] : bad) {
         std::string error;
         check(!make_code("azure_lrc", profile, &error) && error == words + "\n",
@@ -500,6 +515,8 @@ static void test_profiles() {
         {"crush-root", "default"},
         {"crush-device-class", ""},
         {"crush-failure-domain", "osd"},
+        {"order", "interleaved"},
+        {"technique", "reed_sol_van"}, /* of Ceph's default profile: Rook passes it */
         {"stripe_unit", "4096"},
         {"directory", "/usr/lib/ceph/erasure-code"},
     };
@@ -525,13 +542,65 @@ int CrushWrapper::add_simple_rule(std::string name, std::string root, std::strin
     return 5;
 }
 
-static void test_rule() {
-    auto code = code_of("azure_lrc", {{"crush-root", "r"}, {"crush-device-class", "ssd"}});
+#if CEPH_RELEASE >= 20
+int CrushWrapper::add_indep_multi_osd_per_failure_domain_rule(std::string name, std::string root,
+                                                              std::string failure_domain,
+                                                              int domains, int osds_each,
+                                                              std::string device_class,
+                                                              std::ostream *) {
+    rule = {name,        root, failure_domain, std::to_string(domains), std::to_string(osds_each),
+            device_class};
+    return 6;
+}
+#endif
+
+/* Whether a profile makes this rule. */
+static bool makes_rule(ErasureCodeProfile profile, const std::vector<std::string> &expected) {
     CrushWrapper crush;
+    profile["crush-root"] = "r";
+    profile["crush-device-class"] = "ssd";
+    auto code = code_of("azure_lrc", profile);
+    return code && code->create_rule("name", crush, nullptr) > 4 && rule == expected;
+}
+
+static void test_rule() {
     std::vector<std::string> expected = {"name", "r", "host", "ssd", "indep", "3"};
     if (CEPH_RELEASE >= 20) expected.push_back("-1");
-    check(code && code->create_rule("name", crush, nullptr) == 5 && rule == expected,
-          "the rule for CRUSH");
+    check(makes_rule({}, expected), "the rule for CRUSH");
+}
+
+/* Rules for several OSDs in each failure domain, which Ceph 19 and later make. */
+static void test_domains() {
+#if CEPH_RELEASE >= 20
+    const std::string domains = "crush-num-failure-domains", each = "crush-osds-per-failure-domain";
+    const std::vector<std::string> many = {"name", "r", "host", "8", "2", "ssd"},
+                                   single = {"name", "r", "host", "ssd", "indep", "3", "16"},
+                                   small = {"name", "r", "rack", "5", "2", "ssd"};
+    check(makes_rule({{domains, "8"}, {each, "2"}}, many), "a rule for two OSDs in each domain");
+    check(makes_rule({{domains, "16"}, {each, "1"}}, single), "a rule for sixteen domains");
+    check(makes_rule({{"k", "6"}, {domains, "5"}, {each, "2"}, {"crush-failure-domain", "rack"}},
+                     small),
+          "a rule for five domains");
+    const std::string no_number = "azure_lrc: crush-num-failure-domains=";
+    std::vector<std::pair<ErasureCodeProfile, std::string>> bad = {
+        {{{domains, "7"}, {each, "2"}},
+         "azure_lrc: crush-num-failure-domains times crush-osds-per-failure-domain is 14; set them "
+         "for 16 chunks"},
+        {{{domains, "9"}, {"k", "6"}},
+         "azure_lrc: crush-num-failure-domains times crush-osds-per-failure-domain is 9; set them "
+         "for 10 chunks"},
+        {{{each, "2"}},
+         "azure_lrc: crush-osds-per-failure-domain is alone; set crush-num-failure-domains, too"},
+        {{{domains, "x8"}}, no_number + "x8 is no number; set one of 1 to 999"},
+        {{{domains, "1000"}}, no_number + "1000 is no number; set one of 1 to 999"},
+        {{{domains, ""}}, no_number + " is no number; set one of 1 to 999"},
+    };
+    for (const auto &[profile, words] : bad) {
+        std::string error;
+        check(!make_code("azure_lrc", profile, &error) && error == words + "\n",
+              "refused: " + words + ", printed: " + error);
+    }
+#endif
 }
 
 /* ---- Stored chunks ---- */
@@ -544,9 +613,11 @@ static std::string bytes_of_file(const std::string &path) {
 /* Chunks that an earlier version stored, one after the other by their places: the object encodes to
  * them, and they are decoded without each recoverable set of at most four. */
 static void test_corpus(const std::string &corpus, ErasureCodeInterface &code, unsigned k) {
-    const std::string name = "corpus, k=" + std::to_string(k),
+    const std::string order = code.get_profile().at("order"),
+                      name = "corpus, k=" + std::to_string(k) + " " + order,
                       object = bytes_of_file(corpus + "/object");
-    const std::string stored = bytes_of_file(corpus + "/ceph_" + std::to_string(k) + "_4");
+    const std::string stored = bytes_of_file(corpus + "/ceph_" + std::to_string(k) + "_4" +
+                                             (order == "groups" ? "" : "_" + order));
     const unsigned n = code.get_chunk_count(), all = all_of(code),
                    len = code.get_chunk_size(unsigned(object.size()));
     if (!check(!object.empty() && stored.size() == n * len,
@@ -578,27 +649,29 @@ static void test_shards(const std::string &plugin, ErasureCodeProfile profile) {
     const std::string order = profile["order"];
     ShardsTest test(plugin + " k=" + profile["k"] + " " + order, *code, check);
     test.test();
-    test.test_optimized(plugin == "isa" || order == "parities-last");
+    test.test_optimized(plugin == "isa" || order != "groups");
     if (plugin == "azure_lrc") test.test_refused();
 #endif
 }
 
-/* In this order a place is its fragment's number, and a chunk has the same bytes. */
+static ErasureCodeProfile profile_of(unsigned k, const std::string &order) {
+    return {{"k", std::to_string(k)}, {"m", "4"}, {"order", order}};
+}
+
+/* In this order a place is its fragment's number, and a chunk has the same bytes as in groups. */
 static void test_parities_last(unsigned k) {
     const std::string name = "k=" + std::to_string(k) + ", parities last";
-    const ErasureCodeProfile profile = {{"k", std::to_string(k)}, {"m", "4"}};
-    ErasureCodeProfile last = profile;
-    last["order"] = "parities-last";
-    auto groups = code_of("azure_lrc", profile), code = code_of("azure_lrc", last);
+    auto groups = code_of("azure_lrc", profile_of(k, "groups")),
+         code = code_of("azure_lrc", profile_of(k, "parities-last"));
     if (!groups || !code) return;
-    const auto &mapping = code->get_chunk_mapping(), &in_groups = groups->get_chunk_mapping();
+    const auto &in_groups = groups->get_chunk_mapping();
     const buffer::list in = random_bytes(k * 4096, k);
     Chunks chunks, expected;
-    bool good = !code->encode(places_of(all_of(*code)), in, &chunks) &&
+    bool good = is_mapped(*code, "parities-last") &&
+                !code->encode(places_of(all_of(*code)), in, &chunks) &&
                 !groups->encode(places_of(all_of(*code)), in, &expected);
     for (unsigned fragment = 0; fragment < k + 4; fragment++)
-        good = good && mapping[fragment] == int(fragment) &&
-               chunks[int(fragment)].contents_equal(expected[in_groups[fragment]]);
+        good = good && chunks[int(fragment)].contents_equal(expected[in_groups[fragment]]);
     check(good, name + ": the chunks");
     check(code->get_profile().at("order") == "parities-last", name + ": the profile");
     unsigned read = 0;
@@ -606,10 +679,60 @@ static void test_parities_last(unsigned k) {
           name + ": a local parity is read from its group");
 }
 
-static void test_code(unsigned k, const std::string &corpus) {
-    const std::string name = "k=" + std::to_string(k);
-    auto code = code_of("azure_lrc", {{"k", std::to_string(k)}, {"m", "4"}});
+/* In this order a group is at the even places or at the odd ones, up to those of the global
+ * parities. */
+static void test_interleaved(unsigned k) {
+    auto code = code_of("azure_lrc", profile_of(k, "interleaved"));
+    bool good = bool(code);
+    for (unsigned place = 0; good && place < k + 2; place++) {
+        const unsigned group = (place % 2 ? 0xAAAAu : 0x5555u) & ((1u << (k + 2)) - 1);
+        unsigned read = 0;
+        good = !to_read(*code, 1u << place, all_of(*code) & ~(1u << place), &read) &&
+               read == (group & ~(1u << place));
+    }
+    check(good, "k=" + std::to_string(k) + ", interleaved: a chunk is read from its group");
+}
+
+/* The profile that a monitor stores: it has the plugin make a code, and initializes that once more
+ * with what the plugin has completed. */
+static ErasureCodeProfile stored_by_monitor(const ErasureCodeProfile &asked) {
+    auto code = code_of("azure_lrc", asked);
+    if (!code) return {};
+    ErasureCodeProfile profile = code->get_profile();
+    check(!code->init(profile, nullptr) && profile == code->get_profile(), "initialized again");
+    check(is_mapped(*code, profile["order"]), "and has the order of the profile");
+    return profile;
+}
+
+/* A new profile is interleaved, and says so. A profile that names no order was stored by an earlier
+ * version, which had groups by default; or raw, as the default of a new cluster. */
+static void test_default_order(unsigned k) {
+    const std::string name = "k=" + std::to_string(k) + ": ", data = std::to_string(k);
+    const ErasureCodeProfile raw = {{"plugin", "azure_lrc"}, {"k", data}, {"m", "4"}};
+    ErasureCodeProfile complete = raw, changed = raw;
+    complete.insert(
+        {{"crush-device-class", ""}, {"crush-failure-domain", "host"}, {"crush-root", "default"}});
+    changed["order"] = "groups";
+    for (const auto &profile : {raw, complete}) {
+        auto code = code_of("azure_lrc", profile);
+        check(code && is_mapped(*code, "groups") && code->get_profile() == complete,
+              name + "a stored profile that names no order is of groups");
+    }
+    ErasureCodeProfile expected = complete;
+    expected["order"] = "interleaved";
+    check(stored_by_monitor(raw) == expected, name + "a new profile is interleaved");
+    check(stored_by_monitor(expected) == expected, name + "a stored profile keeps its order");
+    auto code = code_of("azure_lrc", expected);
+    check(code && is_mapped(*code, "interleaved"), name + "the order that was stored");
+    check(stored_by_monitor(changed).at("order") == "groups",
+          name + "the order that was asked for");
+}
+
+static void test_code(const ErasureCodeProfile &profile, const std::string &corpus) {
+    auto code = code_of("azure_lrc", profile);
     if (!code) return;
+    const unsigned k = code->get_data_chunk_count();
+    const std::string name = "k=" + std::to_string(k) + " " + profile.at("order");
     test_shape(name, *code, k);
     bool lengths = true;
     for (unsigned len :
@@ -620,6 +743,12 @@ static void test_code(unsigned k, const std::string &corpus) {
     test_refusals(name, *code);
     test_unchanged(name, *code);
     test_corpus(corpus, *code, k);
+}
+
+static void test_sets(unsigned k) {
+    const std::string name = "k=" + std::to_string(k);
+    auto code = code_of("azure_lrc", profile_of(k, "interleaved"));
+    if (!code) return;
     LostSets sets(name, *code, k == 12 ? 4 : 10);
     sets.test();
     check(k == 12 ? sets.right == 2265 && sets.refused == 252
@@ -627,25 +756,79 @@ static void test_code(unsigned k, const std::string &corpus) {
           name + ": the numbers of sets decoded and refused");
 }
 
+/* ---- Whole failure domains ---- */
+
+/* How many sets of so many lost domains there are, and of how many all chunks are recoverable. Each
+ * domain has `each` places that follow each other. */
+static std::pair<unsigned, unsigned> domains_of(ErasureCodeInterface &code, unsigned each,
+                                                unsigned lost_domains) {
+    const unsigned all = all_of(code), domains = code.get_chunk_count() / each;
+    unsigned sets = 0, served = 0;
+    for (unsigned some = 0; some < 1u << domains; some++) {
+        unsigned lost = 0, read;
+        if (count_of(some) != lost_domains) continue;
+        for (int domain : places_of(some)) lost |= ((1u << each) - 1) << unsigned(domain) * each;
+        sets++;
+        served += !to_read(code, all, all & ~lost, &read);
+    }
+    return {sets, served};
+}
+
+static std::string with_commas(unsigned number) {
+    const std::string digits = std::to_string(number);
+    return number < 1000
+               ? digits
+               : digits.substr(0, digits.size() - 3) + "," + digits.substr(digits.size() - 3);
+}
+
+/* The rows of the table of README.md. */
+static void test_page(const std::string &path) {
+    const std::string page = bytes_of_file(path);
+    for (const auto &[k, each, lost] : std::vector<std::array<unsigned, 3>>{
+             {12, 1, 4}, {12, 2, 2}, {12, 4, 1}, {6, 1, 4}, {6, 2, 2}}) {
+        std::string row;
+        for (const char *order : {"interleaved", "groups", "parities-last", "isa"}) {
+            const bool is_isa = std::string(order) == "isa";
+            ErasureCodeProfile profile = profile_of(k, order);
+            if (is_isa) profile.erase("order");
+            auto code = code_of(is_isa ? "isa" : "azure_lrc", profile);
+            if (!code) return;
+            const auto [sets, served] = domains_of(*code, each, lost);
+            if (row.empty())
+                row = "| " + std::to_string(k) + " | " + std::to_string((k + 4) / each) + " | " +
+                      std::to_string(each) + " | any " + std::to_string(lost) + " | " +
+                      with_commas(sets) + " |";
+            row += " " + with_commas(served) + " |";
+        }
+        check(page.find("\n" + row + "\n") != page.npos, path + " has no row " + row);
+    }
+}
+
 int main(int argc, char **argv) {
-    const bool whole = argc == 3;
-    if ((!whole && argc != 4) || !begin(argv[1])) {
-        fprintf(stderr, "usage: plugin_test FOLDER CORPUS [shards]\n");
+    if (argc != 4 || !begin(argv[1])) {
+        fprintf(stderr, "usage: plugin_test FOLDER CORPUS PAGE|shards\n");
         return 2;
     }
+    const bool whole = std::string(argv[3]) != "shards";
     if (whole) {
         test_tables();
         test_profiles();
         test_shards("isa", {{"k", "12"}, {"m", "4"}});
-        test_code(12, argv[2]);
-        test_code(6, argv[2]);
-        test_parities_last(12);
-        test_parities_last(6);
+        for (unsigned k : {12u, 6u}) {
+            test_default_order(k);
+            for (const char *order : {"interleaved", "groups"})
+                test_code(profile_of(k, order), argv[2]);
+            test_sets(k);
+            test_interleaved(k);
+            test_parities_last(k);
+        }
+        test_page(argv[3]);
     }
     test_rule();
-    for (const char *k : {"12", "6"})
-        for (const char *order : {"groups", "parities-last"})
-            test_shards("azure_lrc", {{"k", k}, {"m", "4"}, {"order", order}});
+    test_domains();
+    for (unsigned k : {12u, 6u})
+        for (const char *order : {"interleaved", "groups", "parities-last"})
+            test_shards("azure_lrc", profile_of(k, order));
     printf("Ceph: %d checks of the plugin passed, %d failed\n", passed, failed);
     fflush(stdout);
     _exit(failed ? 1 : 0); /* a plugin is never unloaded */

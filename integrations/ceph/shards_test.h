@@ -44,10 +44,10 @@ public:
 
     /* Whether a pool may have allow_ec_optimizations. */
     void test_optimized(bool is_optimized) {
-        const std::string words = "partialread,partialwrite,zeroinout,paritydelta";
-        check(code.get_supported_optimizations() == (is_optimized ? 0x57 : 0x17) &&
+        const std::string words = "partialread,partialwrite,zeroinout";
+        check(code.get_supported_optimizations() == (is_optimized ? 0x57 : 0x7) &&
                   code.get_optimizations_flags_string() ==
-                      words + (is_optimized ? ",optimizedsupport" : ""),
+                      words + (is_optimized ? ",paritydelta,optimizedsupport" : ""),
               name + ": what it supports");
     }
 
@@ -320,14 +320,15 @@ private:
     /* A chunk that is to be decoded is lost, also if it is given. */
     bool test_unrecoverable() {
         Set want;
-        Buffers buffers(n), decoded(n), blanks(n);
-        const unsigned lost = 0xFu;
-        fill(all & ~0xEu, &buffers);
-        blank(lost | 1u << (n / 2), &decoded);
+        Buffers buffers(n), decoded(n);
+        const auto [group, other] = losses_of(code);
+        const unsigned lost = group | 1u << other, given = group & -group;
+        fill((all & ~lost) | given, &buffers);
+        blank(lost, &decoded);
         Chunks untouched;
         for (int place : places_of(all)) untouched[place].append(std::string(len, 'U'));
         bool good = code.decode_chunks(want, buffers, decoded) == -EIO;
-        for (int place : places_of(lost | 1u << (n / 2))) good &= holds(decoded, place, untouched);
+        for (int place : places_of(lost)) good &= holds(decoded, place, untouched);
         return good;
     }
 };

@@ -492,16 +492,27 @@ def of_process(*words):
     ).stdout
 
 
+def series_in_control(tested):
+    """The dependencies that Swift of these series fulfils, and of no other. Debian's `2.31~` is
+    before each package of 2.31, and before those of its candidates."""
+    ends = [f"2.{int(series.split('.')[1]) + 1}~" for series in tested]
+    gaps = [
+        f"python3-swift (<< {end}) | python3-swift (>= {series})"
+        for end, series in zip(ends, tested[1:])
+    ]
+    first, last = f"python3-swift (>= {tested[0]})", f"python3-swift (<< {ends[-1]})"
+    return ", ".join([first, *gaps, last])
+
+
 def test_releases(tested):
     listed = f"{', '.join(tested[:-1])} and {tested[-1]}"
     for version in ("2.31.0", "2.3.0", "2.300.1", "3.30.0"):
         wanted = f"tested with Swift {listed}, and this is {version}: "
         assert of_process("refused", version).count(wanted) == 2, version
-    last = int(tested[-1].split(".")[1]) + 1
     for name, words in {
         "README.md": f"For operators of Swift {listed}:",
         "lrcstore_swift-0.1.0.dist-info/METADATA": f"OpenStack Swift {listed} ",
-        "../../packaging/debian/control": f"(>= {tested[0]}), python3-swift (<< 2.{last}~)",
+        "../../packaging/debian/control": f" {series_in_control(tested)}, ",
         "../../docs/choose.md": f"OpenStack Swift {listed} |",
         "../../packaging/README.md": f"(../integrations/swift/README.md) {listed} |",
     }.items():
