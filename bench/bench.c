@@ -24,8 +24,8 @@ Allocated rattle_alloc(size_t size, size_t align) {
     return (Allocated){address != NULL, address};
 }
 
-Allocated rattle_realloc(void *old, size_t kept, size_t size, size_t align) {
-    (void)kept, (void)align;
+Allocated rattle_realloc(void *old, size_t old_size, size_t size, size_t align) {
+    (void)old_size, (void)align;
     void *address = realloc(old, size ? size : 1);
     return (Allocated){address != NULL, address};
 }
@@ -213,7 +213,7 @@ static void make_plan(uint8_t *plan, uint16_t gone, const uint8_t numbers[4]) {
     static void v##_local(long n) {                                                                \
         seen = v##_timed_rebuild(made[0], width, stripe, FRAGMENTS, LOCAL, 0, false, n);           \
     }                                                                                              \
-    static void v##_local_kept(long n) {                                                           \
+    static void v##_local_plans(long n) {                                                          \
         seen = v##_timed_rebuild(made[0], width, stripe, FRAGMENTS, LOCAL, 0, true, n);            \
     }                                                                                              \
     static void v##_global_kernel(long n) {                                                        \
@@ -225,7 +225,7 @@ static void make_plan(uint8_t *plan, uint16_t gone, const uint8_t numbers[4]) {
     static void v##_global(long n) {                                                               \
         seen = v##_timed_rebuild(made[0], width, stripe, FRAGMENTS, GLOBAL, 0, false, n);          \
     }                                                                                              \
-    static void v##_global_kept(long n) {                                                          \
+    static void v##_global_plans(long n) {                                                         \
         seen = v##_timed_rebuild(made[0], width, stripe, FRAGMENTS, GLOBAL, 0, true, n);           \
     }
 #define C_CALLS(v)                                                                                 \
@@ -343,7 +343,7 @@ typedef struct {
 #define REBUILD(v, work)                                                                           \
     ROW(#v " combine_lists", v##_##work##_kernel, 1), ROW(#v " rebuild_to", v##_##work##_to, 1),   \
         REBUILD_CALLS(v, work), ROW(#v " rebuild", v##_##work, 2),                                 \
-        ROW(#v " Plans::rebuild", v##_##work##_kept, 2)
+        ROW(#v " Plans::rebuild", v##_##work##_plans, 2)
 
 #define DECODE(v)                                                                                  \
     ROW(#v " lrc_decode", v##_decode, 0), ROW(#v " lrc_plan_decode", v##_decode_by_plan, 0),       \

@@ -1,13 +1,13 @@
 #!/usr/bin/env python3
-"""Measures the library beside the same in plain Rust.
+"""Measures the library, and the same in plain Rust.
 
     bench/library.py [--times N] [--millis M] [--folder FOLDER] [CLIENTS ..]
 
 It needs rustc. The clients of bench/clients are a crate over `shared`: their files, and those of
 the crates below, are copied into FOLDER, where `rt` proves and builds them, at first in some 6
 minutes. bench/store.rs is the plain store. Each is run N times (9 without the option) for M
-milliseconds (500), in turn; the greatest number of calls a second is told, and the median. CLIENTS
-are earlier builds of the clients, to be run beside.
+milliseconds (500), in turn. It prints the greatest number of calls a second, and the median.
+CLIENTS are earlier builds of the clients, which are run too.
 """
 
 import argparse
@@ -38,12 +38,12 @@ def copied(name, folder):
     if ran.returncode != 0:
         sys.exit(ran.stdout + f"{name} is not built")
     for part in PARTS:
-        kept, to = os.path.join(TOP, "crates", name, part), os.path.join(
+        source, to = os.path.join(TOP, "crates", name, part), os.path.join(
             folder, "crates", name, part
         )
         shutil.rmtree(to, ignore_errors=True)
-        if os.path.isdir(kept):
-            shutil.copytree(kept, to)
+        if os.path.isdir(source):
+            shutil.copytree(source, to)
 
 
 def sources():
@@ -89,7 +89,7 @@ def plain(folder):
     return program
 
 
-def told(program, *words):
+def run_figures(program, *words):
     """What a run prints, as numbers by their names."""
     printed = subprocess.run(
         [program, *words], stdout=subprocess.PIPE, check=True, text=True
@@ -99,7 +99,7 @@ def told(program, *words):
 
 def rate(program, calls, threads, millis):
     """Million calls a second."""
-    run = told(program, calls, str(threads), str(millis))
+    run = run_figures(program, calls, str(threads), str(millis))
     if run["failed"] or (run["bytes"] == 0) != (calls == "reads"):
         sys.exit(f"{program}: {run}")
     return run["calls"] * 1000 / run["nanos"]
@@ -130,7 +130,7 @@ def main():
                     flush=True,
                 )
     for program in programs[:-1]:
-        trims = [told(program, "trims") for _ in range(given.times)]
+        trims = [run_figures(program, "trims") for _ in range(given.times)]
         mean, greatest = min(run["mean"] for run in trims), sorted(run["greatest"] for run in trims)
         print(
             f"a trim among 30,000 names: {mean / 1000:.1f} microseconds in the mean, "

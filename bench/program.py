@@ -26,11 +26,12 @@ MIB_12 = 12 << 20
 START = """
 import os, sys, time
 none = os.open(os.devnull, os.O_WRONLY)
+actions = [(os.POSIX_SPAWN_DUP2, none, 1), (os.POSIX_SPAWN_DUP2, none, 2)]
 start = time.monotonic()
-child = os.posix_spawn(sys.argv[1], sys.argv[1:], os.environ, file_actions=[(os.POSIX_SPAWN_DUP2,
-none, 1), (os.POSIX_SPAWN_DUP2, none, 2)]) _, status, used = os.wait4(child, 0)
-print(os.waitstatus_to_exitcode(status), used.ru_utime + used.ru_stime, time.monotonic() - start,
-used.ru_maxrss)
+child = os.posix_spawn(sys.argv[1], sys.argv[1:], os.environ, file_actions=actions)
+_, status, used = os.wait4(child, 0)
+seconds = used.ru_utime + used.ru_stime
+print(os.waitstatus_to_exitcode(status), seconds, time.monotonic() - start, used.ru_maxrss)
 """
 
 
@@ -96,13 +97,13 @@ def measured(program, words):
     A process of its own starts the run, since what the system tells of a child's peak is no less
     than its parent had when it started it.
     """
-    told = subprocess.run(
+    figures = subprocess.run(
         [sys.executable, "-I", "-c", START, program, *words],
         stdout=subprocess.PIPE,
         check=True,
         text=True,
     ).stdout.split()
-    return Run(int(told[0]), float(told[1]), float(told[2]), int(told[3]) * 1024)
+    return Run(int(figures[0]), float(figures[1]), float(figures[2]), int(figures[3]) * 1024)
 
 
 def run(program, script, options, folder):

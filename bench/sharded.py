@@ -65,7 +65,7 @@ def measured(programs, rounds, millis):
     rates = dict.fromkeys(cases(), 0.0)
     for _ in range(rounds):
         for case in rates:
-            run = library.told(*command(programs, case, str(millis)))
+            run = library.run_figures(*command(programs, case, str(millis)))
             if run["failed"]:
                 sys.exit(f"{case}: {run}")
             rates[case] = max(rates[case], run["calls"] * 1000 / run["nanos"])
@@ -108,7 +108,8 @@ LINES = [
     ("64 shards", SHARDED, 64, INK, False),
     ("plain Rust, 16 mutexes", PLAIN, 16, GREY, True),
 ]
-WIDTH, HEIGHT, LEFT, GAP, TOP_EDGE = 300, 220, 50, 70, 50
+WIDTH, HEIGHT, LEFT, GAP, TOP_EDGE = 300, 220, 50, 70, 96
+TITLE = "Calls a second by threads, each on a name of its own"
 
 
 def polyline(points, colour, is_dashed):
@@ -124,7 +125,8 @@ def panel(rates, calls, left, most):
     def at(threads, ratio):
         return left + THREADS.index(threads) * WIDTH / 2, TOP_EDGE + HEIGHT * (1 - ratio / most)
 
-    yield middle(left + WIDTH / 2, TOP_EDGE - 18, f"{calls}, a name for each thread", 14, bold=True)
+    yield text(left - 18, TOP_EDGE - 34, calls, 14, bold=True)
+    yield text(left - 18, TOP_EDGE - 14, "times one thread on a plain store", 12, fill=GREY)
     for tick in range(most + 1):
         (x, y), (end, _) = at(THREADS[0], tick), at(THREADS[-1], tick)
         yield line(x, y, end, y, "#e3e7eb", 1)
@@ -140,18 +142,31 @@ def panel(rates, calls, left, most):
         yield from (f"<circle cx='{x:.1f}' cy='{y:.1f}' r='3' fill='{colour}'/>" for x, y in points)
 
 
+def description(rates):
+    """What is seen, in a sentence."""
+    one, sixteen = (
+        rates["reads", "own", 4, program, shards] / base(rates, "reads")
+        for program, shards in ((STORE, 1), (SHARDED, 16))
+    )
+    return (
+        "Four threads that each read one name make "
+        f"{one:.1f} times the reads of one thread at a store with one lock, and {sixteen:.1f} "
+        "times at one with 16 shards."
+    )
+
+
 def picture(rates):
     """Two panels and what their lines are."""
     greatest = max(rate / base(rates, case[0]) for case, rate in rates.items() if case[1] == "own")
     most = int(greatest) + 1
     second = LEFT + WIDTH + GAP
-    shapes = [*panel(rates, "reads", LEFT, most), *panel(rates, "walks", second, most)]
+    shapes = [text(24, 30, TITLE, 16, bold=True)]
+    shapes += [*panel(rates, "reads", LEFT, most), *panel(rates, "walks", second, most)]
     for number, (word, *_, colour, is_dashed) in enumerate(LINES):
         x, y = LEFT + number * 130, TOP_EDGE + HEIGHT + 66
         shapes.append(polyline([(x, y - 4), (x + 24, y - 4)], colour, is_dashed))
         shapes.append(text(x + 30, y, word, 12))
-    title = "Calls a second, in times what one thread makes of a plain store"
-    return drawing(second + WIDTH + 40, TOP_EDGE + HEIGHT + 84, title, shapes)
+    return drawing(second + WIDTH + 40, TOP_EDGE + HEIGHT + 84, TITLE, description(rates), shapes)
 
 
 # ---- what is kept
@@ -176,7 +191,7 @@ def keep(rates):
         rows.writerows((*case, f"{rate:.3f}", machine()) for case, rate in rates.items())
 
 
-def kept():
+def results():
     """The kept figures, and the machine that they are of."""
     with open(RESULTS, encoding="utf-8", newline="") as rows:
         found = list(csv.DictReader(rows))
@@ -188,21 +203,27 @@ def kept():
     return rates, found[0]["machine"]
 
 
+def wrapped(words):
+    """Some words on lines of at most 100 characters."""
+    return textwrap.wrap(words, 100, break_long_words=False, break_on_hyphens=False)
+
+
 def section(rates, where):
     """The section of docs/performance.md."""
     words = (
-        "Each figure is in times the calls that one thread makes of a plain store, by the greatest "
-        f"of many short runs. The machine: {where}. "
+        "Each figure is how many calls a second a case makes, divided by those that one thread "
+        "makes of a plain store. It is the greatest of many short runs, on a machine with "
+        f"{where}. "
         "[Threads](threads.md#when-to-shard) says when to shard."
     )
     yield from (
         HEADING,
         "",
-        *textwrap.wrap(words, 100, break_long_words=False, break_on_hyphens=False),
+        *wrapped(words),
         "",
         "    bench/sharded.py --write",
         "",
-        "![Calls a second by threads and shards](pictures/sharded.svg)",
+        *wrapped(f"![{description(rates)}](pictures/sharded.svg)"),
         "",
         *table(rates),
         "",
@@ -221,7 +242,7 @@ def wrong_pages():
     """The page, where it is not as the kept figures make it."""
     if not os.path.exists(RESULTS):
         return []
-    made = "\n".join(section(*kept())).strip()
+    made = "\n".join(section(*results())).strip()
     complaint = "docs/performance.md: bench/sharded.py makes another section of its kept figures"
     return [] if made in read(PAGE) else [complaint]
 
@@ -246,7 +267,7 @@ def main():
     rates = measured(programs, given.rounds, given.millis)
     if given.write:
         keep(rates)
-        rates, where = kept()
+        rates, where = results()
         write(PICTURE, picture(rates))
         write(PAGE, with_section(read(PAGE), section(rates, where)))
     print(*table(rates), sep="\n")

@@ -25,7 +25,7 @@ struct worker {
     lrc_slot *session; /* of the plain store */
     lrc_shards *shards;
     lrc_pool *pools[SHARDS];
-    lrc_slot *kept[SHARDS];
+    lrc_slot *sessions[SHARDS];
     char names[MOST_NAMES][NAME];
 };
 
@@ -49,7 +49,7 @@ static void call_by_way(const struct worker *worker, const char *name, uint8_t *
     if (worker->way == KEPT) {
         done("lrc_store_shard",
              lrc_store_shard((const uint8_t *)name, strlen(name), SHARDS, &shard));
-        session = worker->kept[shard];
+        session = worker->sessions[shard];
     } else if (worker->way == TAKEN) {
         done("lrc_shards_find",
              lrc_shards_find(worker->shards, (const uint8_t *)name, strlen(name), &pool));
@@ -118,7 +118,8 @@ static void prepare(struct worker *workers, size_t len, size_t count, lrc_slot *
         done("lrc_store_split", lrc_store_split(plain, i + 1, worker->session));
         for (uint32_t shard = 0; shard < SHARDS; shard++) {
             done("lrc_shards_at", lrc_shards_at(shards, shard, &worker->pools[shard]));
-            done("lrc_pool_take", lrc_pool_take(worker->pools[shard], &worker->kept[shard], -1));
+            done("lrc_pool_take",
+                 lrc_pool_take(worker->pools[shard], &worker->sessions[shard], -1));
         }
         for (unsigned k = 0; k < count; k++) {
             snprintf(worker->names[k], NAME, "w%u-%u", i, k);
