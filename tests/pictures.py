@@ -72,7 +72,7 @@ def wrong_pictures():
             printed, 1, "The run of " + script, draw_run.has_only_mends(path)
         )
     if os.path.exists(sharded.RESULTS):
-        wanted["sharded.svg"] = sharded.picture(sharded.kept()[0])
+        wanted["sharded.svg"] = sharded.picture(sharded.results()[0])
     unknown = set(os.listdir(PICTURES)) - set(wanted)
     if not are_calls_noted():
         unknown.add("passes_and_history.svg")

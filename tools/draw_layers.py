@@ -11,6 +11,7 @@ from svg import (
     GREY,
     MADE,
     SECOND,
+    SECOND_PARITY,
     box,
     drawing,
     line,
@@ -24,6 +25,10 @@ LANE, SWEEPS, SORTED, EDGE = 6, 2000, 20, "#8d98a5"
 CAPTION = (
     "A line leads from a crate to the nearest ones that it uses. Tests and demos are left out."
 )
+DESCRIPTION = (
+    "The crates in layers, from the field at the bottom to the programs at the top, with a line "
+    "from each crate to the nearest ones that it uses."
+)
 # The colours of the crates, by what they are for.
 KINDS = [
     ("coding", FIRST, "gf256 kernels lrc_code one_pass syndromes decode"),
@@ -35,6 +40,12 @@ KINDS = [
     ),
     ("scripts", MADE, "script command_line transcript rounds play program lrcstore"),
     ("for C", GLOBAL, "coder_c session pool_order store_c"),
+    (
+        "files",
+        SECOND_PARITY,
+        "fragment_header fragments fragment_files lrc_files lrc_line lrc_json lrc_report"
+        " lrc_commands lrc",
+    ),
 ]
 
 
@@ -173,4 +184,4 @@ def layers():
             shapes.append(line(x, y, x, y + HIGH, EDGE, 1))
     y = TOP_EDGE + len(rows) * ROW - 8
     shapes.append(text(LEFT, y, CAPTION, 12, fill=GREY))
-    return drawing(right - left + 2 * LEFT, y + 16, "The crates in layers", shapes)
+    return drawing(right - left + 2 * LEFT, y + 16, "The crates in layers", DESCRIPTION, shapes)

@@ -16,6 +16,7 @@ from draw_planner import planner
 from draw_repair import repair
 from svg import (
     FIRST,
+    GLOBAL,
     GREY,
     INK,
     MADE,
@@ -33,6 +34,7 @@ from svg import (
 CODE = "Wide"
 DATA, ALL = lrc.data_fragments(CODE), lrc.fragments(CODE)
 HALF = DATA // 2
+PLAIN = "#f4f6f8"
 GLOBALS = (
     f"{DATA + 2} and {DATA + 3} sum both groups, each fragment times its weight, "
     "or its weight squared."
@@ -116,7 +118,11 @@ def blob_in_stripes():
         shapes += stripe_of(blob, stripe, width, left, j)
     sums = f"Parity {DATA} is the sum of group X, {DATA + 1} that of Y. {GLOBALS}"
     shapes += [text(left, 380, sums, 12), text(left, 399, FILLING, 12)]
-    return drawing(930, 416, "A blob in its stripes", shapes)
+    description = (
+        f"A blob of {len(blob)} bytes is cut into {-(-len(blob) // stripe)} stripes, each with "
+        f"{DATA} data fragments in two groups, two local parities and two global parities."
+    )
+    return drawing(930, 416, "A blob in its stripes", description, shapes)
 
 
 def groups_legend(y):
@@ -133,38 +139,58 @@ def groups_legend(y):
         yield text(x + 22, y, name, 12, fill=GREY)
 
 
+def fragment_box(x, y, f, paint, is_lost, is_open, is_read):
+    """A fragment: struck out if it is lost, crossed out if it is unrecoverable, thick if it is
+    read."""
+    ink, thick = RED if is_lost else INK, 2.8 if is_read else 1.2
+    yield box(x, y, 44, 34, WHITE if is_lost else paint, ink, thick, is_lost)
+    yield middle(x + 22, y + 22, f, 14, ink, is_read)
+    if is_lost:
+        yield line(x + 7, y + 6, x + 37, y + 28, RED, 1.2)
+    if is_open:
+        yield line(x + 7, y + 28, x + 37, y + 6, RED, 1.2)
+
+
+def rebuilt(y, lost, built_from, x_of):
+    """The rebuilt fragment below its stripe, with a line from each that it is rebuilt from."""
+    x = x_of(lost)
+    for f in built_from:
+        yield line(x_of(f) + 22, y, x + 22, y + 27)
+    yield box(x, y + 27, 44, 26, MADE)
+    yield middle(x + 22, y + 45, lost, 14, bold=True)
+    yield text(x + 54, y + 45, f"rebuilt from {len(built_from)} fragments", 12)
+
+
 def stripe_row(y, title, below, lost, built_from):
     """One stripe with its lost fragments, and those that the first one is rebuilt from, if any."""
-    left, shapes = 24, [text(24, y, title, 14, bold=True), text(24, y + 18, below, 12, fill=GREY)]
+
+    def x_of(f):
+        return place(f, 24, 50)
+
+    yield text(24, y, title, 14, bold=True)
+    yield text(24, y + 18, below, 12, fill=GREY)
     for f in range(ALL):
-        x, is_lost = place(f, left, 50), f in lost
         is_open = lrc.is_open(CODE, frozenset(lost), f)
-        stroke = RED if is_lost else INK
-        is_read = f in built_from
-        shapes.append(
-            box(
-                x,
-                y + 30,
-                44,
-                34,
-                WHITE if is_lost else fill(f),
-                stroke,
-                2.8 if is_read else 1.2,
-                is_lost,
-            )
-        )
-        shapes.append(middle(x + 22, y + 52, f, 14, RED if is_lost else INK, is_read))
-        if is_lost:
-            shapes.append(line(x + 7, y + 36, x + 37, y + 58, RED, 1.2))
-        if is_open:
-            shapes.append(line(x + 7, y + 58, x + 37, y + 36, RED, 1.2))
+        yield from fragment_box(x_of(f), y + 30, f, fill(f), f in lost, is_open, f in built_from)
     if built_from:
-        x = place(lost[0], left, 50)
-        for f in built_from:
-            shapes.append(line(place(f, left, 50) + 22, y + 65, x + 22, y + 92))
-        shapes += [box(x, y + 92, 44, 26, MADE), middle(x + 22, y + 110, lost[0], 14, bold=True)]
-        shapes.append(text(x + 54, y + 110, f"rebuilt from {len(built_from)} fragments", 12))
-    return shapes
+        yield from rebuilt(y + 65, lost[0], built_from, x_of)
+
+
+def reed_solomon_row(y):
+    """A stripe of Reed-Solomon, whose fragment 0 is rebuilt from twelve others, whichever they
+    are."""
+
+    def x_of(f):
+        return 24 + f * 50 + (14 if f >= DATA else 0)
+
+    read = range(1, DATA + 1)
+    yield text(24, y, "Reed-Solomon 12+4", 14, bold=True)
+    below = f"each parity is a sum of all data, so any {DATA} of the others are read"
+    yield text(24, y + 18, below, 12, fill=GREY)
+    for f in range(ALL):
+        paint = PLAIN if f < DATA else GLOBAL
+        yield from fragment_box(x_of(f), y + 30, f, paint, f == 0, False, f in read)
+    yield from rebuilt(y + 65, 0, read, x_of)
 
 
 def recipes():
@@ -177,14 +203,33 @@ def recipes():
     return found
 
 
+def marks(words):
+    """What the marks of fragments mean."""
+    return text(24, 50, words, 12, fill=GREY)
+
+
 def degraded_read():
+    built = recipes()[0,]
+    title = "What is read to rebuild a lost fragment"
+    group = "the rest of the group and its parity are read, and added up by XOR"
+    meaning = "Struck out: lost. Thick: read. Yellow: rebuilt."
+    shapes = [
+        text(24, 30, title, 16, bold=True),
+        marks(f"{meaning} White: data of a code without groups."),
+        *groups_legend(74),
+        *reed_solomon_row(112),
+        *stripe_row(260, "LRC(12,2,2) of lrcstore", group, (0,), built),
+    ]
+    description = (
+        f"To rebuild fragment 0, Reed-Solomon 12+4 reads {DATA} other fragments, and LRC(12,2,2) "
+        f"reads {len(built)}: the rest of its group and the group's parity."
+    )
+    return drawing(880, 392, title, description, shapes)
+
+
+def several_losses():
     built = recipes()
     rows = [
-        (
-            (0,),
-            "Fragment 0 is lost",
-            "the only loss of its group: the sum of the rest of the group and its parity",
-        ),
         (
             (0, 1),
             "Two of one group are lost",
@@ -193,62 +238,42 @@ def degraded_read():
         ((0, 1, 6, 7), "Two of each group are lost", "both global parities are needed"),
         ((0, 1, 2, 3), "Four of one group are lost", UNRECOVERABLE),
     ]
+    title = "Several lost fragments of a stripe"
+    meaning = "Struck out: lost. Crossed out: unrecoverable. Thick: read to rebuild fragment 0."
     shapes = [
-        text(24, 30, "Reading lost fragments", 16, bold=True),
-        text(
-            24,
-            50,
-            "Struck out: lost. Crossed out: unrecoverable. Thick: read to rebuild fragment 0."
-            " Yellow: rebuilt.",
-            12,
-            fill=GREY,
-        ),
+        text(24, 30, title, 16, bold=True),
+        marks(f"{meaning} Yellow: rebuilt."),
+        *groups_legend(74),
     ]
-    shapes += groups_legend(74)
-    for place_of_row, (lost, title, below) in enumerate(rows):
-        shapes += stripe_row(112 + place_of_row * 148, title, below, lost, built[lost])
-    return drawing(880, 646, "Reading lost fragments", shapes)
-
-
-def steps_of_a_call():
-    """What a thread does in the critical section."""
-    steps = [
-        ("1  enter", "word 0 to 1"),
-        ("2  the value out", "slot emptied"),
-        ("3  the value in", "slot filled"),
-        ("4  leave", "word 1 to 0"),
-    ]
-    for i, (step, what) in enumerate(steps):
-        x = 24 + i * 218
-        yield box(x, 48, 176, 50, "#eef2f7")
-        yield middle(x + 88, 69, step, 13, bold=True)
-        yield middle(x + 88, 88, what, 12, GREY)
-        if i < 3:
-            yield line(x + 178, 73, x + 215, 73, arrow=True)
-    below = "between 2 and 3 the call is made on the book, and its note becomes the next entry"
-    yield middle(439, 118, below, 12, GREY)
+    for number, (lost, name, below) in enumerate(rows):
+        shapes += stripe_row(112 + number * 148, name, below, lost, built[lost])
+    description = (
+        "If two fragments of one group are lost, or two of each group, fragment 0 is rebuilt from "
+        f"{len(built[0, 1])} others; if four of one group are lost, they are unrecoverable."
+    )
+    return drawing(880, 498, title, description, shapes)
 
 
 def history_row(colour):
     """The calls in the order in which they entered."""
-    yield text(24, 156, "the history, in the order in which p and q entered", bold=True)
+    yield text(24, 58, "the history: five calls, in the order in which p and q entered", bold=True)
     for i, (who, call) in enumerate(CALLS):
         x = 24 + i * 174
-        yield box(x, 168, 168, 44, colour[who])
-        yield middle(x + 84, 187, f"{i}: {who}", 12, bold=True)
-        yield middle(x + 84, 204, call, 12)
+        yield box(x, 70, 168, 44, colour[who])
+        yield middle(x + 84, 89, f"{i}: {who}", 12, bold=True)
+        yield middle(x + 84, 106, call, 12)
 
 
 def shown_by_passes(colour):
     """What each pass shows after its call."""
     title = "what each pass shows after its call; coloured: the places of its own calls"
-    yield text(24, 250, title, bold=True)
+    yield text(24, 152, title, bold=True)
     for seen, (who, call) in enumerate(CALLS, 1):
-        y = 262 + (seen - 1) * 32
+        y = 164 + (seen - 1) * 32
         yield text(24, y + 17, f"{who}, after its {call.split()[0]}", 12)
         for i in range(len(CALLS)):
             own, is_seen = CALLS[i][0] == who, i < seen
-            paint = colour[who] if own else "#f4f6f8"
+            paint = colour[who] if own else PLAIN
             stroke, paint = (INK, paint) if is_seen else ("#c5ccd3", WHITE)
             yield box(170 + i * 56, y, 50, 24, paint, stroke, dashed=not is_seen)
             if is_seen:
@@ -256,7 +281,11 @@ def shown_by_passes(colour):
 
 
 def passes_and_history():
-    colour = {"p": FIRST, "q": SECOND}
+    colour, title = {"p": FIRST, "q": SECOND}, "Two threads, their passes, and the one history"
+    description = (
+        "Threads p and q make five calls that stand in one history, and after each call the "
+        "thread's pass shows a beginning of that history which ends with this call."
+    )
     words = [
         "After an answered call the history begins with",
         "all that the pass had seen, and ends with this call,",
@@ -266,18 +295,18 @@ def passes_and_history():
         "are joined, every place is the pass's own.",
     ]
     shapes = [
-        text(24, 30, "Threads, their passes, and the one history", 16, bold=True),
-        *steps_of_a_call(),
+        text(24, 30, title, 16, bold=True),
         *history_row(colour),
         *shown_by_passes(colour),
-        *(text(480, 280 + 20 * i, sentence, 12) for i, sentence in enumerate(words)),
+        *(text(480, 182 + 20 * i, sentence, 12) for i, sentence in enumerate(words)),
     ]
-    return drawing(910, 436, "Threads, their passes, and the one history", shapes)
+    return drawing(910, 338, title, description, shapes)
 
 
 PICTURES = {
     "blob_in_stripes.svg": blob_in_stripes,
     "degraded_read.svg": degraded_read,
+    "several_losses.svg": several_losses,
     "passes_and_history.svg": passes_and_history,
     "layers.svg": layers,
     "planner.svg": planner,

@@ -5,9 +5,10 @@ import re
 import lrc
 from svg import FIRST_PARITY, GREY, INK, RED, SECOND_PARITY, box, drawing, line, middle, text
 
+TITLE = "What may be lost, and what a rebuild reads"
 CODES = [
-    ("LRC(12,2,2), 1.33 bytes a byte", FIRST_PARITY),
-    ("LRC(6,2,2), 1.67 bytes a byte", SECOND_PARITY),
+    ("LRC(12,2,2), 1.33 bytes stored", FIRST_PARITY),
+    ("LRC(6,2,2), 1.67 bytes stored", SECOND_PARITY),
 ]
 LEFT, TOP_EDGE, HEIGHT, STEP, BAR, SECOND_LEFT = 64, 76, 180, 76, 26, 520
 
@@ -59,11 +60,20 @@ def panel(left, title, most, marks, values, lines):
     yield middle(left + 2.5 * STEP, TOP_EDGE + HEIGHT + 38, "lost fragments of a stripe", 12, GREY)
 
 
+def description(wide):
+    """What is seen, in a sentence."""
+    return (
+        "Up to three lost fragments are always recoverable, and four in "
+        f"{wide[3][1]:.0f} percent of the sets; a rebuild in LRC(12,2,2) reads {wide[0][2]:.3g} to "
+        f"{wide[3][2]:.3g} fragments on average, where Reed-Solomon 12+4 reads 12."
+    )
+
+
 def planner():
     wide, small = figures()
     whole = {a[0]: (a[1], b[1]) for a, b in zip(wide, small)}
     reads = {a[0]: (a[2], b[2]) for a, b in zip(wide, small)}
-    shapes = [text(24, 30, "What may be lost, and what a rebuild reads", 16, bold=True)]
+    shapes = [text(24, 30, TITLE, 16, bold=True)]
     for number, (code, colour) in enumerate(CODES):
         shapes += [
             box(456 + number * 232, 18, 16, 14, colour),
@@ -77,6 +87,4 @@ def planner():
     shapes += [
         line(SECOND_LEFT, TOP_EDGE + HEIGHT, SECOND_LEFT + 5 * STEP, TOP_EDGE + HEIGHT, INK, 1)
     ]
-    return drawing(
-        930, TOP_EDGE + HEIGHT + 52, "What may be lost, and what a rebuild reads", shapes
-    )
+    return drawing(930, TOP_EDGE + HEIGHT + 52, TITLE, description(wide), shapes)

@@ -3,27 +3,49 @@ of sixteen.
 
 Each place has its share of a disk's chunks. What is read goes to the primary, which is the first
 place that is not lost, but what it has itself. The primary sends the rebuilt chunk to the new disk.
+Clay reads one of four parts of each of the other chunks, as small pieces that are spread over it.
+The places of azure_lrc are those of its order `interleaved`.
 """
 
 import lrc
-from svg import FIRST, FIRST_PARITY, GREY, INK, SECOND, SECOND_PARITY, box, drawing, line, text
+from svg import FIRST, FIRST_PARITY, GREY, INK, SECOND, SECOND_PARITY, box, drawing, line
+from svg import middle, text
 
-TITLE = "To rebuild a lost disk in Ceph: bytes read and sent for each byte of it"
-NOTE = "Means over all places of the lost disk. clay: by the formula of its page, d / (d - k + 1)."
+TITLE = "What Ceph reads and sends to rebuild a lost disk"
+AXIS = "bytes for each byte of the lost disk, mean over its places in a stripe"
 CHUNKS, DATA = 16, 12
-LEFT, TOP_EDGE, STEP, HIGH, SCALE = 190, 74, 50, 18, 42
+LEFT, TOP_EDGE, STEP, HIGH, SCALE = 190, 62, 50, 18, 42
+TICKS = (0, 3, 6, 9, 12)
 
 
 def others(lost):
     return [place for place in range(CHUNKS) if place != lost]
 
 
+# Of how many parts of a chunk clay reads one, and into how many pieces it cuts a chunk.
+PARTS = CHUNKS - DATA
+PIECES = PARTS ** (CHUNKS // PARTS)
+NOTES = [
+    f"clay reads {PIECES // PARTS} of the {PIECES} pieces of each of {CHUNKS - 1} chunks, if one "
+    "is lost: fewer bytes, more seeks.",
+    f"Its figures are by the formula of its page, d / (d - k + 1) = {CHUNKS - 1} / {PARTS}.",
+]
+
+# The place of each fragment: data of one group and of the other in turn, then the parities.
+PLACES = [*range(0, DATA, 2), *range(1, DATA, 2), *range(DATA, CHUNKS)]
+
+
+def interleaved(lost):
+    fragment = PLACES.index(lost)
+    return [PLACES[one] for one in lrc.rebuilt_from("Wide", frozenset([fragment]), fragment)]
+
+
 # For each code, the chunks that are read for the one at a place, and what part of each.
 CODES = {
-    "azure_lrc k=12 m=4": (lambda lost: lrc.rebuilt_from("Wide", frozenset([lost]), lost), 1),
+    "azure_lrc k=12 m=4": (interleaved, 1),
     "lrc k=12 m=2 l=7": (lambda lost: [it for it in others(lost) if it // 8 == lost // 8], 1),
     "isa k=12 m=4": (lambda lost: others(lost)[:DATA], 1),
-    "clay k=12 m=4 d=15": (others, 1 / (15 - DATA + 1)),
+    "clay k=12 m=4 d=15": (others, 1 / PARTS),
 }
 
 
@@ -49,13 +71,30 @@ def bars(place, code, read, sent):
         yield text(LEFT + value * SCALE + 8, at + 14, f"{round(value, 2):g} {word}", 12)
 
 
+def axis(bottom):
+    """The axis of bytes below the bars, with lines up to the top."""
+    for tick in TICKS:
+        x = LEFT + tick * SCALE
+        yield line(x, TOP_EDGE - 8, x, bottom, INK if tick == 0 else "#dde2e7", 1)
+        yield middle(x, bottom + 16, tick, 11, GREY)
+    yield line(LEFT, bottom, LEFT + TICKS[-1] * SCALE, bottom, INK, 1)
+    yield middle(LEFT + TICKS[-1] * SCALE / 2, bottom + 34, AXIS, 12, GREY)
+
+
+def description():
+    """What is seen, in a sentence."""
+    read = {code.split()[0]: f"{figures(*shares)[0]:g}" for code, shares in CODES.items()}
+    return (
+        f"For each byte of a lost disk, azure_lrc reads {read['azure_lrc']} bytes, Ceph's lrc "
+        f"{read['lrc']}, isa {read['isa']}, and clay {read['clay']} in small pieces of "
+        f"{CHUNKS - 1} chunks."
+    )
+
+
 def repair():
-    bottom = TOP_EDGE + len(CODES) * STEP
-    shapes = [
-        text(24, 30, TITLE, 16, bold=True),
-        text(24, 50, NOTE, 12, fill=GREY),
-        line(LEFT, TOP_EDGE - 6, LEFT, bottom - 6, INK, 1),
-    ]
+    bottom = TOP_EDGE + len(CODES) * STEP - 4
+    shapes = [text(24, 30, TITLE, 16, bold=True), *axis(bottom)]
     for place, (code, shares) in enumerate(CODES.items()):
         shapes += bars(place, code, *figures(*shares))
-    return drawing(790, bottom + 8, TITLE, shapes)
+    shapes += [text(24, bottom + 60 + 18 * i, note, 12) for i, note in enumerate(NOTES)]
+    return drawing(790, bottom + 92, TITLE, description(), shapes)

@@ -194,7 +194,12 @@ def draw(printed, width, title, is_mend=False):
     for panel in made:
         more, y = panel.draw(y)
         shapes += more
-    return drawing(910, y - 20, title, shapes)
+    calls = sum(len(panel.calls) for panel in made)
+    description = (
+        f"{title} has {calls} calls, drawn in order, each with its reply and with the fragments "
+        "after it."
+    )
+    return drawing(910, y - 20, title, description, shapes)
 
 
 def main(words):

@@ -50,7 +50,9 @@ def group_fill(code_data, f):
     return (FIRST_PARITY, SECOND_PARITY, GLOBAL, GLOBAL)[f - code_data]
 
 
-def drawing(width, height, title, shapes):
+def drawing(width, height, title, description, shapes):
+    """A picture with its title, and in one sentence what is seen, as pages have it for readers who
+    see no picture."""
     head = (
         "<defs><marker id='head' viewBox='0 0 10 10' refX='9' refY='5' markerWidth='7' "
         "markerHeight='7' orient='auto'>"
@@ -63,6 +65,7 @@ def drawing(width, height, title, shapes):
     parts = [
         start,
         f"<title>{escape(title)}</title>",
+        f"<desc>{escape(description)}</desc>",
         head,
         f"<rect width='{width:g}' height='{height:g}' fill='white'/>",
         *shapes,
