@@ -2,9 +2,9 @@
 """Writes the pages that come from the code: tools/reference.py [--write]
 
 docs/api.md and docs/api/ from docstrings, signatures and clauses of the crates that users call;
-docs/c-api.md from the headers; crates/README.md from crates.txt and the crates' own README.md; and
-the line of README.md with the sizes. Without --write it names the pages that are not what it would
-write, or have a heading twice, and fails if there is one.
+docs/c-api.md from the headers; and crates/README.md from crates.txt, the crates' own README.md and
+their sizes. Without --write it names the pages that are not what it would write, or have a heading
+twice, and fails if there is one.
 """
 
 import functools
@@ -13,9 +13,9 @@ import re
 import sys
 
 TOP = os.path.dirname(os.path.dirname(os.path.abspath(__file__)))
-README = os.path.join(TOP, "README.md")
 sys.path[:0] = [os.path.join(TOP, "tests"), os.path.join(TOP, "tools")]
 
+import draw_layers  # noqa: E402
 import reference_c  # noqa: E402
 import reference_rattle  # noqa: E402
 import sources  # noqa: E402
@@ -46,7 +46,9 @@ def crates_page():
             "own `README.md`."
         ),
         "",
-        "![The crates in layers, and which use which](../docs/pictures/layers.svg)",
+        *filled(sizes()),
+        "",
+        *filled(f"![{draw_layers.DESCRIPTION}](../docs/pictures/layers.svg)"),
     )
     here = {name for _, name, _ in layers()}
     last = None
@@ -69,9 +71,6 @@ def crates_page():
 # ---- the sizes
 
 
-SIZES = re.compile(r"^[\d,]+ lines of code, .*$", re.M)
-
-
 def lines_of(folder, ending, comment):
     """How many lines the crates' files in a folder have, without blank ones and comments."""
     count = 0
@@ -86,14 +85,15 @@ def lines_of(folder, ending, comment):
 
 
 def sizes():
-    """The line of README.md: lines to two digits, clauses and mutants as tests/promises.py does."""
+    """How large they are: lines to two digits, clauses and mutants as tests/promises.py does."""
     crates = sources.crates().values()
     code, specs = lines_of("src", ".rt", "//"), lines_of("specs", ".antt", "--")
     clauses = sum(len(f.clauses) for crate in crates for f in crate.public())
     mutants = sum(len(crate.edits) for crate in crates)
     return (
-        f"{code} lines of code, {specs} of specs, {lines_of('proofs', '.antt', '--')} of proofs; "
-        f"{clauses:,} public clauses; {mutants} rejected mutants."
+        f"They have {code} lines of code, {specs} of definitions and "
+        f"{lines_of('proofs', '.antt', '--')} of proofs. The public functions have {clauses:,} "
+        f"clauses, and the prover rejects {mutants} mutants."
     )
 
 
@@ -126,8 +126,6 @@ def wrong_pages():
         if not os.path.exists(full) or sources.read(full) != wanted:
             yield f"{path}: tools/reference.py --write makes another page"
         yield from (f"{path}: the heading #{one} is there twice" for one in headings_twice(wanted))
-    if SIZES.findall(sources.read(README)) != [sizes()]:
-        yield "README.md: tools/reference.py --write makes another line of sizes"
 
 
 def write(path, text):
@@ -140,7 +138,6 @@ def main(words):
     if "--write" in words:
         for path, page in PAGES.items():
             write(os.path.join(TOP, path), "\n".join(page()) + "\n")
-        write(README, SIZES.sub(sizes(), sources.read(README)))
     wrong = list(wrong_pages())
     print(*wrong, f"{len(PAGES)} pages, {len(wrong)} wrong", sep="\n")
     return 1 if wrong else 0

@@ -1,4 +1,5 @@
-"""The page of the C API, docs/c-api.md: a table of the functions, and each under its own heading.
+"""The page of the C API, docs/c-api.md: the functions by task, then a table of those of each
+header, and each under its own heading.
 
 What a function does is a sentence of its comment. It waits if it takes a deadline. Whether it can
 lack memory is what its contract in crates/store_c says, or else its comment.
@@ -12,13 +13,88 @@ import sources
 from reference_rattle import filled
 
 HEADERS = {
+    "lrc_coder.h": "No function of the coder waits or allocates.",
     "lrc_store.h": (
         "Under *waits*, `_wait` means that the function does not wait, and has a form that does. "
         "Under *out of memory*, *no* means that no call returns `LRC_STORE_NO_MEMORY` or "
         "`LRC_STORE_NOT_REBUILT`."
     ),
-    "lrc_coder.h": "No function waits or allocates.",
 }
+# What callers do with the functions of each header, in the order of use. A form that waits stands
+# with the one that does not.
+TASKS = {
+    "lrc_coder.h": [
+        ("encode a stripe", "lrc_encode lrc_encode_arrays"),
+        ("rebuild a lost fragment", "lrc_rebuild lrc_rebuild_arrays"),
+        ("rebuild up to four at once", "lrc_decode lrc_decode_arrays"),
+        ("do so in many stripes that lack the same fragments", "lrc_plan lrc_plan_decode"),
+        ("rebuild from fragments as they arrive", "lrc_recipe lrc_add"),
+        ("ask whether a fragment can be rebuilt", "lrc_is_unrecoverable lrc_is_open"),
+        ("change data and parities in place", "lrc_encode_add lrc_encode_add_arrays"),
+        ("print a status, or the processor level", "lrc_coder_text lrc_coder_cpu"),
+    ],
+    "lrc_store.h": [
+        (
+            "open a store, and close it",
+            "lrc_store_open_unjournaled lrc_store_open lrc_store_close",
+        ),
+        ("put a blob", "lrc_store_put"),
+        ("put bytes without a copy", "lrc_slot_reserve lrc_slot_buffer lrc_store_put_from"),
+        ("read bytes, or a whole blob", "lrc_store_read lrc_store_get_wait"),
+        ("read without a copy", "lrc_store_lend lrc_slot_runs lrc_slot_slices"),
+        (
+            "keep a version, and read it later",
+            "lrc_store_hold lrc_slot_shape lrc_slot_lend lrc_slot_lost lrc_slot_fragment",
+        ),
+        ("delete a blob, or ask for its shape", "lrc_store_delete lrc_store_stat"),
+        ("report a lost fragment", "lrc_store_lose"),
+        ("repair one, also from bytes of your own", "lrc_store_repair lrc_store_install"),
+        ("repair all that is lost", "lrc_store_mend_wait"),
+        (
+            "do so with several threads",
+            "lrc_mending_open lrc_mending_work lrc_mending_close",
+        ),
+        (
+            "choose what is repaired",
+            "lrc_store_plan lrc_store_plan_part lrc_slot_items lrc_store_mend_step lrc_slot_skip",
+        ),
+        ("give each thread a session", "lrc_store_split lrc_store_join lrc_slot_learn"),
+        (
+            "lend sessions to threads that come and go",
+            "lrc_pool_open lrc_pool_take lrc_pool_give lrc_pool_close",
+        ),
+        (
+            "use shards",
+            "lrc_shards_open lrc_shards_find lrc_shards_at lrc_shards_numbers lrc_shards_mend "
+            "lrc_shards_trim lrc_shards_close lrc_store_shard",
+        ),
+        ("watch a store", "lrc_store_numbers"),
+        (
+            "trim a journal, and get its entries",
+            "lrc_store_trim lrc_store_trim_part lrc_store_close_to lrc_slot_entry",
+        ),
+        ("empty a slot", "lrc_slot_release"),
+        ("make a name of any key", "lrc_store_name"),
+        ("print a status, or the processor level", "lrc_store_text lrc_store_cpu"),
+    ],
+}
+RULES = [
+    "**Arguments.** Each function validates its arguments. You ensure what it cannot check: an "
+    "address is not `NULL`, also at length 0, and is valid for its length. An output overlaps no "
+    "other argument.",
+    "**Results.** Each function that can fail returns a status, and 0 means that it is done. On "
+    "any other status the outputs are unchanged, unless its comment says otherwise. "
+    "[Errors](errors.md) lists all statuses, and what to do about each.",
+    "**Codes.** A code is named by its number of data fragments, 12 or 6. Fragments have numbers "
+    "from 0, and a set of lost ones is a number in which bit i stands for fragment i.",
+    "**Slots.** The store gives you what it owns in an `lrc_slot`. Initialise it with "
+    "`LRC_SLOT_EMPTY`, pass only its address, and let one thread at a time use it.",
+    "**Waiting.** A call of the store returns `LRC_STORE_BUSY` if another thread is in the "
+    "critical section. Its form with `_wait` at the end of the name waits, at most as long as its "
+    "timeout. So do the functions of pools, shards and mendings that have a `timeout_ms`.",
+    "**Signals and forks.** The coder may be called anywhere, and the store "
+    "[hardly](threads.md#signals-and-fork) in a signal handler or a forked child.",
+]
 DECLARATION = re.compile(
     r"/\*.*?\*/"
     r"|^typedef struct (?:\{.*?^\} \w+|\w+ \w+);"
@@ -200,17 +276,32 @@ def header_lines(header, note, contracts):
         yield from function_lines(one, names)
 
 
+def overview(header):
+    """What a header is for, by task."""
+    yield from ("", f"### The functions of `{header}`, by task", "", "| To | Call |", "|---|---|")
+    for task, names in TASKS[header]:
+        yield f"| {task} | {', '.join(f'[`{one}`](#{one})' for one in names.split())} |"
+
+
 def page():
     yield from (
         "# C API",
         "",
         *filled(
-            "For developers in C and C++: the functions of `include/lrc_store.h` and "
-            "`include/lrc_coder.h`, in a table and then with their comments. "
-            "`tools/reference.py --write` writes this page. [The tutorial](library.md) has whole "
-            "programs, and [errors](errors.md) all statuses beside those of other interfaces."
+            "For developers in C and C++. Afterwards you know which function to call, and what it "
+            "promises. The overview lists the functions of `include/lrc_coder.h` and "
+            "`include/lrc_store.h` by task. Then each function follows with its comment. [The "
+            "tutorial](library.md) has whole programs. `tools/reference.py --write` makes this "
+            "page from the headers."
         ),
+        "",
+        "## Overview",
     )
+    for header in HEADERS:
+        yield from overview(header)
+    yield from ("", "### Rules for all functions", "")
+    for rule in RULES:
+        yield from filled(rule, "- ", "  ")
     for header, note in HEADERS.items():
         contracts = Contracts() if header == "lrc_store.h" else None
         yield from header_lines(header, note, contracts)

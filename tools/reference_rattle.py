@@ -12,20 +12,53 @@ import believed
 import sources
 
 TOP = sources.TOP
-# The crates that users call, from the top down.
-API = [
-    "shared",
-    "mender",
-    "sharded",
-    "one_map",
-    "rounds",
-    "requests",
-    "lent",
-    "book",
-    "history",
-    "sealed",
-    "lrc_code",
-    "decode",
+# The crates that users call, by what for, in the order of use.
+GROUPS = [
+    (
+        "Put, read and repair",
+        "`shared` is enough for a program that puts, reads and repairs: it re-exports what its "
+        "calls name. The other crates have the types that its calls take and return.",
+        ["shared", "history", "book", "lent", "sealed"],
+    ),
+    (
+        "Mend by workers",
+        "`mender` repairs everything that is lost, by any number of threads.",
+        ["mender"],
+    ),
+    (
+        "Shards",
+        "`sharded` has the calls of `shared` and of `mender`, over a lock for each shard.",
+        ["sharded", "one_map"],
+    ),
+    (
+        "Lists of calls",
+        "A service that gets calls as values hands them to `Store::run` or to `run_round`.",
+        ["requests", "rounds"],
+    ),
+    (
+        "The codes",
+        "These two crates encode and decode fragments that a program keeps itself.",
+        ["lrc_code", "decode"],
+    ),
+]
+API = [name for _, _, crates in GROUPS for name in crates]
+# The types and functions that a caller meets first, in the order of use. Others follow by name.
+FIRST_TYPES = {
+    "shared": ["Store", "Pass"],
+    "sharded": ["ShardedStore", "ShardedPass"],
+    "mender": ["Drawer", "Tickets", "Done", "Report"],
+    "history": ["Name", "Limit"],
+    "book": ["Answer"],
+    "lent": ["Grant", "Piece", "Walk", "PlannedWalk", "Snapshot", "Asked"],
+    "sealed": ["Fault"],
+    "lrc_code": ["Code", "LostSet"],
+    "requests": ["Ask", "Job", "Pace", "Reply"],
+    "rounds": ["Pool", "Errand", "Work"],
+}
+FIRST_CALLS = [
+    *("put", "put_as", "put_copy", "read", "snapshot", "lose", "repair", "install", "delete"),
+    *("stat", "plan", "plan_part", "scrub", "work", "gather", "trim", "trim_part", "numbers"),
+    *("split", "join", "receipt", "accept", "close"),
 ]
 CLAUSE = re.compile(r"\s*(requires|ensures)\*?(?:\s+(\w+))?\s*\{")
 TYPE = re.compile(
@@ -113,9 +146,16 @@ class Function:
         self.clauses = list(self.clauses_at(text, code, stop))
 
     def rank(self):
-        """Functions that make a value come first, and forms that return `Busy` last."""
+        """Functions that make a value come first, and forms that return `Busy` last. The others
+        come in the order of use."""
         is_maker = self.owner and "self" not in self.signature.split("->")[0]
-        return 0 if is_maker else 2 if self.name.startswith("try_") else 1
+        name = self.name[len("try_") :] if self.does_not_wait() else self.name
+        first = FIRST_CALLS.index(name) if name in FIRST_CALLS else len(FIRST_CALLS)
+        return 0 if is_maker else 2 if self.does_not_wait() else 1, 0 if is_maker else first
+
+    def does_not_wait(self):
+        """Whether it is a form that returns `Busy`."""
+        return self.name.startswith("try_")
 
     def clauses_at(self, text, code, stop):
         """The word, name and content of each clause."""
@@ -180,14 +220,22 @@ class Crate:
             if function.is_public and (function.path(), tuple(function.clauses)) in public:
                 self.functions.append((Function(text, function), text))
 
+    def place(self, name):
+        """Where a type comes in the order of use, and "" for functions of none at the end."""
+        first = FIRST_TYPES.get(self.name, [])
+        return name == "", first.index(name) if name in first else len(first), name
+
+    def type_names(self):
+        return sorted((one.name for one in self.types), key=self.place)
+
     def owners(self):
         """Each type, and "" for functions of none, with its functions."""
-        owned = {one.name: [] for one in sorted(self.types, key=lambda one: one.name)}
+        owned = {name: [] for name in self.type_names()}
         for function, text in self.functions:
             owned.setdefault(function.owner, []).append((function, text))
         for functions in owned.values():
             functions.sort(key=lambda pair: pair[0].rank())
-        return sorted(owned.items(), key=lambda pair: (pair[0] == "", pair[0]))
+        return sorted(owned.items(), key=lambda pair: self.place(pair[0]))
 
 
 class Pages:
@@ -246,9 +294,13 @@ class Pages:
         """The table at the top of a page."""
         yield from ("", "| Type | Functions |", "|---|---|")
         for owner, functions in crate.owners():
-            links = [f"[`{f.name}`](#{anchor(f.heading)})" for f, _ in functions]
-            first = f"[`{owner}`](#{anchor(owner)})" if owner else "[none](#functions)"
-            yield f"| {first} | {', '.join(links)} |"
+            first = f"[`{owner}`](#{anchor(owner)})" if owner else "[no type](#functions)"
+            waiting = [f for f, _ in functions if not f.does_not_wait()]
+            others = [f for f, _ in functions if f.does_not_wait()]
+            for which, listed in ((first, waiting), (f"{first}, without waiting", others)):
+                links = [f"[`{f.name}`](#{anchor(f.heading)})" for f in listed]
+                if links or which == first:
+                    yield f"| {which} | {', '.join(links)} |"
         for home, words in crate.uses.items():
             links = ", ".join(self.link(crate.name, one) for one in words if one in self.homes)
             yield f"| re-exported from [`{home}`]({home}.md) | {links} |"
@@ -260,9 +312,10 @@ class Pages:
         yield from (
             "",
             *filled(
-                f"For developers who call it. [What the clauses' words mean](../api.md#clauses), "
-                f"[mutants and tests](../promises.md#{name}), "
-                f"[the crate's own page](../../crates/{name}/README.md)."
+                f"For developers who call it. Each public type and function follows, with what is "
+                f"proved of it. [The legend](../api.md#clauses) explains the words of the clauses. "
+                f"[Mutants and tests](../../tests/promises.md#{name}) are listed by clause. "
+                f"[The crate's own page](../../crates/{name}/README.md) says how it is made."
             ),
         )
         yield from self.contents(crate)
@@ -277,31 +330,35 @@ class Pages:
             for function, text in functions:
                 yield from self.function_lines(name, function, text)
 
+    def row(self, crate):
+        """A crate's row of the table of crates."""
+        name = crate.name
+        first = re.split(r"(?<=[.:]) ", " ".join(purpose(name).split()))[0].rstrip(":.")
+        first = first.replace("](../../docs/", "](")
+        links = ", ".join(f"[`{one}`](api/{name}.md#{anchor(one)})" for one in crate.type_names())
+        return f"| [`{name}`](api/{name}.md) | {first} | {links} |"
+
     def index(self):
         yield from (
             "# Rattle API",
             "",
             *filled(
-                "For developers who call the crates: a page for each, with every public type and "
-                "function. `tools/reference.py --write` writes these pages. A program that puts "
-                "and reads needs `shared` alone: see [the tutorial](guide.md)."
+                "For developers who call the crates from Rattle. Afterwards you know which crate "
+                "has the call that you need, and how to read what is proved of it. Each crate has "
+                "a page with every public type and function. [The tutorial](guide.md) has a whole "
+                "program. `tools/reference.py --write` writes these pages."
             ),
-            "",
-            "| Crate | What it is | Types |",
-            "|---|---|---|",
         )
-        for name, crate in self.crates.items():
-            first = re.split(r"(?<=[.:]) ", " ".join(purpose(name).split()))[0].rstrip(":.")
-            first = first.replace("](../../docs/", "](")
-            types = sorted(one.name for one in crate.types)
-            links = ", ".join(f"[`{one}`](api/{name}.md#{anchor(one)})" for one in types)
-            yield f"| [`{name}`](api/{name}.md) | {first} | {links} |"
+        for title, words, crates in GROUPS:
+            yield from ("", f"## {title}", "", *filled(words))
+            yield from ("", "| Crate | What it is | Types |", "|---|---|---|")
+            yield from (self.row(self.crates[name]) for name in crates)
         yield from ("", "## Clauses", "")
         yield from filled(
             "A clause is what the prover shows for every call that meets the `requires`. Its words "
             "are those below, and the definitions that are linked under each function's clauses. "
-            "Start with [the theorem](theorem.md), [the definitions](definitions.md) and [the "
-            "glossary](glossary.md)."
+            "Start with [the theorem](review/theorem.md), [the definitions](review/definitions.md) "
+            "and [the glossary](glossary.md)."
         )
         yield from ("", "| Word | Meaning |", "|---|---|")
         yield from (f"| {word} | {meaning} |" for word, meaning in LEGEND)
