@@ -1,10 +1,10 @@
 #!/usr/bin/env python3
 """Which definitions a reader has to believe: tests/believed.py [--list]
 
-For each door of the product they are those that the clauses of its public functions cite, with what
-these stand on, all the way down to the kit's words. It prints the table of docs/definitions.md: how
-many definitions and lines, without comments, a user of a door has to read. With --list it prints
-their names, by file. It fails if the page has another row.
+For each part of the product they are those that the clauses of its public functions cite, with what
+these stand on, all the way down to the kit's words. It prints the table of
+docs/review/definitions.md: how many definitions and lines, without comments, a user of a part has
+to read. With --list it prints their names, by file. It fails if the page has another row.
 """
 
 import os
@@ -15,7 +15,7 @@ from collections import defaultdict
 from sources import CRATES, blanked, closing, files_of, functions_of, read
 
 # What a user calls, and the crates and types that have these functions.
-DOORS = {
+PARTS = {
     "the program": [("program", "")],
     "the store, passes and grants": [
         ("shared", "Store"),
@@ -137,9 +137,9 @@ class Definitions:
         return {key for key in seen if key in self.bodies}
 
 
-def roots(definitions, door):
-    """What the clauses of the public functions of a door cite."""
-    for crate, owner in DOORS[door]:
+def roots(definitions, part):
+    """What the clauses of the public functions of a part cite."""
+    for crate, owner in PARTS[part]:
         for path in files_of(os.path.join(CRATES, crate, "src")):
             text = read(path)
             for function in functions_of(text):
@@ -149,7 +149,7 @@ def roots(definitions, door):
 
 
 def row(what, believed, definitions):
-    """A row of the table of docs/definitions.md."""
+    """A row of the table of docs/review/definitions.md."""
     lines = sum(definitions.lines[key] for key in believed)
     return f"| {what} | {len(believed):,} | {lines:,} |"
 
@@ -165,17 +165,17 @@ def listed(believed):
 
 def main(arguments):
     definitions = Definitions()
-    believed = {door: definitions.below(roots(definitions, door)) for door in DOORS}
+    believed = {part: definitions.below(roots(definitions, part)) for part in PARTS}
     if "--list" in arguments:
-        for door in DOORS:
-            print(f"{door}:", *listed(believed[door]), "", sep="\n")
-    rows = [row(door, believed[door], definitions) for door in DOORS]
-    rows.append(row("all doors together", set().union(*believed.values()), definitions))
+        for part in PARTS:
+            print(f"{part}:", *listed(believed[part]), "", sep="\n")
+    rows = [row(part, believed[part], definitions) for part in PARTS]
+    rows.append(row("all parts together", set().union(*believed.values()), definitions))
     rows.append(row("all definitions of the repository", definitions.lines, definitions))
-    page = read(os.path.join(os.path.dirname(CRATES), "docs", "definitions.md"))
+    page = read(os.path.join(os.path.dirname(CRATES), "docs", "review", "definitions.md"))
     print(*rows, sep="\n")
     if not all(one in page.split("\n") for one in rows):
-        sys.exit("docs/definitions.md has another row: copy those above into its table")
+        sys.exit("docs/review/definitions.md has another row: copy those above into its table")
 
 
 if __name__ == "__main__":

@@ -1,16 +1,18 @@
 #!/usr/bin/env python3
 """The documents' code is the code: tests/documents.py
 
-Each block of Rattle is part of `demo_hello` or `demo_guide`, each block of C, C++ or Python part of
-a file in bindings/ or examples/, and each block `text` a clause of a function, or what a program
-prints. Links lead to files and headings, paths exist, and scripts can be executed. Pages that a
-script writes are what it writes. Each step of a walk in docs/architecture.md is a function of the
-named crate and file, which the step above calls, and each form a type. Every crate has a README.md,
-every page a line in docs/README.md, every status a place in docs/errors.md. Figures with
-another in brackets are those of bench/results/.
+Each block of Rattle is part of `demo_hello` or `demo_guide`, each block of C, C++, Python or Go
+part of a file in bindings/ or examples/, and each block `text` a clause of a function, or what a
+program prints. Links lead to files and headings, paths exist, and scripts can be executed. Pages
+that a script writes are what it writes. What a page says of a picture is what the picture says of
+itself. Each step of a walk in docs/architecture.md is a function of the named crate and file, which
+the step above calls, and each form a type. Every crate has a README.md, every page a line in
+docs/README.md, every status a place in docs/errors.md. Figures with another in brackets are those
+of bench/results/.
 """
 
 import glob
+import html
 import os
 import re
 import sys
@@ -25,20 +27,23 @@ import sharded  # noqa: E402
 
 PROGRAMS = ("demo_hello", "demo_guide")
 PRINTING = (*PROGRAMS, "demo_survey")
+CODE = (".c", ".cpp", ".py", ".rs", ".go")
 FENCE = re.compile(r"^```(\w*)\n(.*?)^```$", re.M | re.S)
 QUOTED = re.compile(r"^(?:\d +)?([\w:]+) +(ensures .*)$")
 NAMED = re.compile(r"`([A-Za-z]\w*(?:::\w+)*)`: (`\w+`(?:, `\w+`)*)")
 LINK = re.compile(r"\]\(([^)#:\s]*)(?:#([\w-]+))?\)")
 FOLDERS = "bench|bindings|crates|docs|examples|include|integrations|packaging|scripts|tests|tools"
+PICTURE = re.compile(r"!\[([^\]]*)\]\(([^)]*\.svg)\)")
 PATH = re.compile(rf"`((?:{FOLDERS})/[\w./-]*\w)`")
 COMMAND = re.compile(rf"(?<![\w./$-])((?:{FOLDERS})/[\w./-]*\w)")
 FIGURE = re.compile(r"\b\d[\d.]* \(\d+\.\d+\)")
+REVIEW = os.path.join(TOP, "docs", "review")
 FLOW = "docs/architecture.md"
 WALKS, FORMS = ("A script", "A put", "A degraded read"), ("Forms",)
 STEP = re.compile(r"( *)(\w+)::(\w+(?:::\w+)?) +(\w+\.rt) +\S")
 NAME = re.compile(r"`(\w+)::(\w+(?:::\w+)?)`")
 TYPE = re.compile(r"^pub(?:\(\w+\))? (?:struct|enum) (\w+)", re.M)
-CHECKED_CLAUSES = ("README.md", "docs/theorem.md", "docs/proof.md", "docs/codes.md")
+CHECKED_CLAUSES = ("README.md", "docs/review/theorem.md", "docs/review/proof.md", "docs/codes.md")
 
 
 def documents():
@@ -47,9 +52,10 @@ def documents():
     for pattern in (
         "*.md",
         "docs/*.md",
-        "docs/api/*.md",
+        "docs/*/*.md",
         "integrations/*/*.md",
         "packaging/*.md",
+        "tests/*.md",
         "tests/corpus/*.md",
         "crates/*.md",
         "crates/*/README.md",
@@ -92,7 +98,7 @@ class Code:
         printed = [os.path.join(CRATES, name, "stdout") for name in PRINTING]
         printed += glob.glob(os.path.join(TOP, "scripts", "*.txt"))
         self.rust = [read(path) for path in rattle]
-        self.bound = [read(path) for path in bound if path.endswith((".c", ".cpp", ".py", ".rs"))]
+        self.bound = [read(path) for path in bound if path.endswith(CODE)]
         self.printed = [read(path) for path in printed]
         texts = [read(path) for path in sources.files_of(CRATES)]
         self.functions = [(text, f) for text in texts for f in sources.functions_of(text)]
@@ -104,9 +110,9 @@ class Code:
     def texts(self, language):
         if language == "rust":
             return self.rust + self.bound
-        return {"c": self.bound, "cpp": self.bound, "python": self.bound, "text": self.printed}.get(
-            language
-        )
+        if language in ("c", "cpp", "python", "go"):
+            return self.bound
+        return self.printed if language == "text" else None
 
     def is_clause(self, function, clause):
         """Whether a clause is in the header of a function of this name."""
@@ -149,6 +155,16 @@ def anchors(text):
     """The anchors of a page's headings, as web hosts make them."""
     for heading in re.findall(r"^#+ (.*)$", text, re.M):
         yield re.sub(r"[^\w\- ]", "", heading.lower().replace("`", "")).replace(" ", "-")
+
+
+def wrong_pictures(name, text):
+    """Pictures whose words, for readers who see none, are not those of the picture itself."""
+    folder = os.path.dirname(os.path.join(TOP, name))
+    for words, link in PICTURE.findall(text):
+        path = os.path.join(folder, link)
+        found = re.search(r"<desc>(.*?)</desc>", read(path)) if os.path.exists(path) else None
+        if not found or html.unescape(found.group(1)) != spaced(words):
+            yield f"{name}: {link} shows something else than: {spaced(words)}"
 
 
 def wrong_links(name, text):
@@ -242,15 +258,20 @@ def wrong_readme(text):
     figures = FIGURE.findall(text)
     shown = read(os.path.join(TOP, "docs", "performance.md"))
     results = sorted(glob.glob(os.path.join(TOP, "bench", "results", "*.txt")))
-    kept = "\n".join(map(read, results))
+    results_text = "\n".join(map(read, results))
     yield from (
         f"README.md: docs/performance.md has no figure {f}" for f in figures if f not in shown
     )
     yield from (
         f"docs/performance.md: bench/results/ has no figure {f}"
         for f in FIGURE.findall(shown)
-        if f not in kept
+        if f not in results_text
     )
+
+
+def in_review(page):
+    """A reviewers' page, from the folder of the documents."""
+    return f"review/{page}"
 
 
 def unlisted():
@@ -261,7 +282,8 @@ def unlisted():
     index, errors = read(os.path.join(TOP, "docs", "README.md")), read(
         os.path.join(TOP, "docs", "errors.md")
     )
-    for page in sorted(os.listdir(os.path.join(TOP, "docs"))):
+    pages = [*os.listdir(os.path.join(TOP, "docs")), *map(in_review, os.listdir(REVIEW))]
+    for page in sorted(pages):
         if page.endswith(".md") and page != "README.md" and f"]({page})" not in index:
             yield f"docs/README.md does not list {page}"
     for header, prefix in (("lrc_store.h", "LRC_STORE_"), ("lrc_coder.h", "LRC_")):
@@ -290,6 +312,7 @@ def main():
         if name not in reference.PAGES:
             wrong += wrong_blocks(name, text, code)
         wrong += wrong_links(name, text)
+        wrong += wrong_pictures(name, text)
     wrong += wrong_walks(FLOW, read(os.path.join(TOP, FLOW)), code)
     wrong += wrong_readme(read(os.path.join(TOP, "README.md")))
     wrong += [*unlisted(), *reference.wrong_pages(), *sharded.wrong_pages()]

@@ -1,5 +1,5 @@
 #!/usr/bin/env python3
-"""Holds the table of clauses about what a caller passes, in docs/promises.md, to the code.
+"""Holds the table of clauses about what a caller passes, in tests/promises.md, to the code.
 
 A clause may speak of what the logic knows of a caller's reader, writer, closure or pace. Where it
 knows nothing, as of a file, such a clause says nothing. So each has a row with what it says at the
@@ -34,7 +34,7 @@ def clauses():
 
 
 def main():
-    page = read(os.path.join(TOP, "docs", "promises.md"))
+    page = read(os.path.join(TOP, "tests", "promises.md"))
     rows = {row[:3] for row in ROW.findall(page.partition(HEADING)[2])}
     found = set(clauses())
     for one in sorted(found - rows):

@@ -15,9 +15,11 @@ from sources import CRATES, read
 
 TABLES = {"gate", "ledger", "mender"}  # each table has a rule, seats, and what these show
 SAME = {
+    "AreParitiesOf": "that four blocks are the parities of a stripe's bytes, by two definitions",
     "IsSeat": "a seat between two calls, of a gate and of a shard",
     "code_with": "the code whose stripes have so many data fragments, for either library",
     "is_gone": "that a blob is gone, as an answer and as a note",
+    "is_member": "that a number is in a list, in two crates of which neither uses the other",
     "is_not_lost": "that a fragment is not lost, as an answer and as a note",
     "is_repaired": "that a fragment is repaired, as an answer and as a note",
     "is_unrecoverable": "that a fragment is unrecoverable, as an answer and as a note",

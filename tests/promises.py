@@ -1,5 +1,5 @@
 #!/usr/bin/env python3
-"""Holds docs/promises.md to the code: tests/promises.py [--write | --edits]
+"""Holds tests/promises.md to the code: tests/promises.py [--write | --edits]
 
 It fails if a clause of a public function, a mutant (a must-fail edit) or a test is not named there,
 or if something is named that is not there. With --write it removes the names of mutants and tests
@@ -15,7 +15,7 @@ import sys
 import sources
 from sources import RESULT, TOP
 
-PROMISES = os.path.join(TOP, "docs", "promises.md")
+PROMISES = os.path.join(TOP, "tests", "promises.md")
 HEAD = ["| Function, clauses | What it says | Mutants | Test |", "|---|---|---|---|"]
 INDEX = "Mutants, and what rejects them"
 OTHERS = "## The other crates"
@@ -42,8 +42,8 @@ class Row:
 
     def take_out(self, cell, name):
         """Takes a name that is gone out of a list of names."""
-        kept = [part for part in re.split(r"[,;] ", self.cells[cell]) if f"`{name}`" not in part]
-        self.cells[cell] = ", ".join(kept) or "none"
+        others = [part for part in re.split(r"[,;] ", self.cells[cell]) if f"`{name}`" not in part]
+        self.cells[cell] = ", ".join(others) or "none"
 
     def line(self):
         return "| " + " | ".join(self.cells) + " |"
@@ -217,7 +217,7 @@ class Check:
     def report(self):
         """Prints what is wrong, and gives how much it is."""
         for number, complaint in sorted(self.wrong):
-            print(f"docs/promises.md:{number}: {complaint}")
+            print(f"tests/promises.md:{number}: {complaint}")
         for crate, function, lacking in self.uncovered:
             print(f"{crate}: no row has of `{function.path()}` the clauses " + ", ".join(lacking))
         for crate, edit in self.unnamed_edits:

@@ -219,6 +219,8 @@ def crate(name):
     for file in sorted(os.listdir(edits)) if os.path.isdir(edits) else []:
         if file.endswith(".edit"):
             place, _, name = file[: -len(".edit")].rpartition(".")
+            if name in result.edits:
+                result.misnamed.append((file, "a name of its own in its crate"))
             result.edits[name] = path, target, _ = edit_target(
                 read(os.path.join(edits, file)), texts, functions
             )
