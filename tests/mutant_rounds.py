@@ -113,6 +113,11 @@ OPEN = {
         "fn small::first: no proof: expected first_spec; the borrow checker does not cover this"
     ],
 }
+# Lines beside it with which a report has to refuse it.
+SHOWN = [
+    ["fn small::first: not proved", "fn small::same: proved"],
+    ["fn small::first: not proved; it calls `small::same`, which is not proved"],
+]
 
 
 def write_crate(top):
@@ -148,7 +153,7 @@ def judged_wrong(top):
 
 
 def refused_wrong(folder):
-    """The reports that refuse a mutant of `first` though they may not, and one that has to."""
+    """The reports that refuse a mutant of `first` though they may not, or do not and have to."""
     rt = types.SimpleNamespace(
         read_edit=lambda path, _: ({"src/lib.rt": SOURCE.replace("let _b = b;", "")}, None),
         rtlib=types.SimpleNamespace(STALE=re.compile("Run the lower steps again")),
@@ -156,13 +161,12 @@ def refused_wrong(folder):
     )
     crate = types.SimpleNamespace(name="small", folder=folder)
     edit = rounds.Edit(rt, crate, os.path.join(folder, "must-fail", "first.calls_second.edit"))
-    reports = {**OPEN, "": ["fn small::first: not proved", "fn small::same: proved"]}
-    for why, lines in reports.items():
+    for why, lines in [*OPEN.items(), *(("", lines) for lines in SHOWN)]:
         text = "\n".join([OWN, *lines, "logic=not-proved"])
         report = rounds.Report(rt, crate, types.SimpleNamespace(stdout=text, returncode=1), {})
         report.drop_unless_of([edit])
         if bool(report.refusal(edit)) != (why == ""):
-            yield f"refused although {why}" if why else "not refused"
+            yield f"refused although {why}" if why else f"not refused: {lines[0]}"
 
 
 def main():
@@ -170,7 +174,7 @@ def main():
         folder = write_crate(top)
         wrong = [*refused_wrong(folder), *judged_wrong(top)]
     print(*wrong, sep="\n", end="\n" if wrong else "")
-    tests = len(MUTANTS) + len(OPEN) + 2
+    tests = len(MUTANTS) + len(OPEN) + len(SHOWN) + 1
     print(f"{tests - len(wrong)} tests of the rounds passed, {len(wrong)} failed")
     return 1 if wrong else 0
 

@@ -36,9 +36,10 @@ SAID = re.compile(r"^(?:const|enum|fn|impl|static|struct|trait|type|union) (\S+)
 PLACE = re.compile(r"(note: )?(?:\./)?([^\s:]+):(\d+):\d+: (error: )?")
 # The lines of comments and attributes above a function.
 ATTRIBUTES = r"(?m)(^[ \t]*(#\[|///).*\n)*[ \t]*\Z"
-# What the prover says of a function that it refuses; and of an item that waits for another: of one
-# that calls it or an `impl` with it, and of one that calls a function whose form is not covered.
-REFUSED = re.compile(r"not proved$|no proof: expected ")
+# What the prover says of a function that it refuses, also where that one calls another that is not
+# proved; and of an item that waits for another: of one that calls it or an `impl` with it, and of
+# one that calls a function whose form is not covered.
+REFUSED = re.compile(r"not proved($|; it calls `)|no proof: expected ")
 WAITS = (
     "no proof: it calls `",
     "not proved; it waits for the proof of `",
