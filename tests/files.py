@@ -358,6 +358,10 @@ ERRORS = [
     (["verify", "made", "film"], 0, "not of the set: film: no header is whole"),
     (["show", "made"], 0, "# whole"),
     (["repair", "made"], 0, "all fragments are whole"),
+    (["verify", "made", "mad"], 0, "not of the set: mad: there is no such file"),
+    (["show", "mad", "made"], 0, "not of the set: mad: there is no such file"),
+    (["repair", "made", "mad"], 0, "not of the set: mad: there is no such file"),
+    (["join", "made", "mad", "--to", "-", "--range", "0-0"], 0, "set: mad: there is no such file"),
 ]
 
 
@@ -575,12 +579,15 @@ def check_rights():
 
 
 def check_readme():
-    """The commands of README.md print the lines below them."""
+    """The commands of README.md print the lines below them, and are those of demo_files."""
     section = read(os.path.join(TOP, "README.md")).decode()
     section = section.split("### A file in fragments", 1)[1].split("\n### ", 1)[0]
     shown = re.findall("^    (.*)$", section, re.M)
-    commands = [it for it in shown if re.match("(mkdir|lrc|rm) ", it)]
-    lines = [it for it in shown if it not in commands and not it.startswith("tools/build.py")]
+    commands = [it for it in shown if re.match("(mkdir|seq|lrc|rm|cmp) ", it)]
+    lines = [it for it in shown if it not in commands and not re.match(r"tools/|\(cd ", it)]
+    demo = read(os.path.join(TOP, "crates", "demo_files", "stdout")).decode()
+    typed = [it.partition(" --id ")[0] for it in re.findall(r"^\$ (.*)$", demo, re.M)]
+    expect(typed == commands, "the commands of demo_files", typed, commands)
     path = {**os.environ, "PATH": os.path.dirname(PROGRAM) + ":" + os.environ["PATH"]}
     printed = ""
     with tempfile.TemporaryDirectory(dir=MEMORY) as folder:
@@ -593,9 +600,10 @@ def check_readme():
                 text=True,
                 check=False,
             )
-            expect(ran.returncode == (command == "lrc show a b c d"), command, ran.returncode)
+            is_degraded = command in ("lrc verify a b c d", "lrc show a b c d")
+            expect(ran.returncode == is_degraded, command, ran.returncode)
             printed += ran.stdout
-    expect(len(commands) == 6 and len(lines) == 8, commands, lines)
+    expect(len(commands) == 9 and len(lines) == 8, commands, lines)
     expect("\n".join(lines[:6]) in printed, printed)
     expect("\n".join(lines[6:]) in printed, printed)
     return len(commands)
@@ -612,7 +620,9 @@ KEYS = {
     "split": "command status name set digest code bytes width stripes fragments".split(),
     "verify": SET_KEYS,
     "show": SET_KEYS,
-    "repair": "command status set written unrecoverable bytes_read read_from is_checked".split(),
+    "repair": (
+        "command status set written unrecoverable bytes_read read_from is_checked others"
+    ).split(),
     "join": "command status set path bytes bytes_read rebuilt_stripes stopped others".split(),
 }
 STATE_KEYS = "number state path details lost_records first_lost_stripe".split()
@@ -653,8 +663,10 @@ def check_objects():
         expect(done["bytes"] == len(content) and done["path"] == out, "what join says", done)
         expect(done["rebuilt_stripes"] == 5 and done["stopped"] is None, "what join says", done)
         length = WIDTH + 32
-        (done,) = objects("repair", folder)
+        (done,) = objects("repair", folder + "x", *paths)
         expect(done["written"] == [placed[8]] and not done["is_checked"], "repair", done)
+        said = [{"path": folder + "x", "reason": "there is no such file"}]
+        expect(done["others"] == said, "what repair did not find", done)
         said = (done["bytes_read"], done["read_from"])
         expect(said == (6 * 5 * length, [6, 7, 9, 10, 11, 13]), "what repair reads", done)
         (done,) = objects("verify", folder, "--expect", "00" * 32, status=2)

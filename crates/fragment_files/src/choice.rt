@@ -96,7 +96,7 @@ fn most(sources: &[Source], id: Option<[u8; 16]>) -> Option<Candidate>
     best
 }
 
-/// The fragments of the set that is meant, and the other files. The set is the one with this
+/// The fragments of the set that is meant, and the other paths. The set is the one with this
 /// identifier, or else the one that most fragments are of. None if there is no fragment of it. Of
 /// two sets with equally many fragments none is chosen: that is a failure.
 pub fn choose(
@@ -112,8 +112,6 @@ pub fn choose(
     let Found {
         sources,
         mut strays,
-        missing: _,
-        folders: _,
     } = found;
     let Some(best) = most(sources.as_slice(), id) else {
         return Ok((None, strays));

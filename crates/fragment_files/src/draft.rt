@@ -1,6 +1,7 @@
 //! Files that appear under their names complete or not at all.
 
 use crate::failure::{Failure, file_failure, usage};
+use crate::names::parent_of;
 use std::fs;
 use std::fs::{File, OpenOptions};
 use std::io::ErrorKind;
@@ -71,8 +72,17 @@ pub fn check_free<R: Files<File = File> + AllocGlobal>(
     Err(usage(format!(in alloc; "{path} exists already; --force replaces it")))
 }
 
+/// Syncs a folder, so that the names of its files outlive a loss of power. Some file systems can't:
+/// what was written there is as safe as they make it.
+fn sync_folder<R: Files<File = File>>(rt: &R, folder: &str) {
+    if let Ok(opened) = fs::open(rt, folder) {
+        let _ = opened.sync_all();
+    }
+}
+
 impl Draft {
-    /// Syncs the file, and gives it its name. Without `may_replace` it fails if the name is taken.
+    /// Syncs the file, gives it its name and syncs the folder, if the system can. Without
+    /// `may_replace` it fails if the name is taken.
     pub fn publish<R: Files<File = File> + AllocGlobal>(
         &self,
         rt: &R,
@@ -87,10 +97,11 @@ impl Draft {
         } else {
             self.publish_new(rt)
         };
-        match named {
-            Ok(()) => Ok(()),
-            Err(error) => Err(file_failure(alloc, "can't name", self.path.as_str(), error)),
+        if let Err(error) = named {
+            return Err(file_failure(alloc, "can't name", self.path.as_str(), error));
         }
+        sync_folder(rt, parent_of(self.path.as_str()));
+        Ok(())
     }
 
     /// Gives the file its name, which no other file has.

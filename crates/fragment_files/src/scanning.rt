@@ -10,9 +10,11 @@ use std::fs::File;
 use std::rt::Files;
 use std::{fs, io};
 
-/// Why a file is not a fragment of the set.
+/// Why a path is not that of a fragment of the set.
 #[derive(Drop)]
 pub enum Reason {
+    /// There is no such file.
+    Missing,
     /// It has no header that is whole.
     NoHeader,
     /// It can't be opened or read.
@@ -21,10 +23,10 @@ pub enum Reason {
     OtherSet([u8; 16]),
 }
 
-/// A file that is not a fragment of the set.
+/// A path that is not that of a fragment of the set.
 #[derive(Drop)]
 pub struct Stray {
-    /// The file's path.
+    /// The path.
     pub path: String,
     /// Why.
     pub reason: Reason,
@@ -46,12 +48,8 @@ pub struct Set {
 pub struct Found {
     /// The fragments.
     pub sources: Vec<Source>,
-    /// The other files.
+    /// The other paths, also those with no file.
     pub strays: Vec<Stray>,
-    /// The paths with no file.
-    pub missing: Vec<String>,
-    /// The paths that are folders.
-    pub folders: Vec<String>,
 }
 
 impl Set {
@@ -144,25 +142,17 @@ fn has_path(paths: &[String], path: &str) -> bool {
     false
 }
 
-/// The paths of the files that words name, each once, and the folders among the words.
-#[derive(Drop)]
-struct Named {
-    paths: Vec<String>,
-    folders: Vec<String>,
-}
-
-/// Adds what a word names.
+/// Adds the paths of the files that a word names, each once.
 fn add_word<R: Files<File = File> + AllocGlobal + Clone + Drop>(
     rt: &R,
     word: &str,
-    named: &mut Named,
+    paths: &mut Vec<String>,
 ) -> Result<(), Failure> {
     if is_folder(rt, word) {
-        named.folders.push(String::from_str(rt.alloc(), word)?)?;
-        return list_folder(rt, word, &mut named.paths);
+        return list_folder(rt, word, paths);
     }
-    if !has_path(named.paths.as_slice(), word) {
-        named.paths.push(String::from_str(rt.alloc(), word)?)?;
+    if !has_path(paths.as_slice(), word) {
+        paths.push(String::from_str(rt.alloc(), word)?)?;
     }
     Ok(())
 }
@@ -184,19 +174,13 @@ pub fn scan<R: Files<File = File> + AllocGlobal + Clone + Drop>(
     words: &[&str],
 ) -> Result<Found, Failure> {
     let alloc = rt.alloc();
-    let mut named = Named {
-        paths: Vec::new(alloc),
-        folders: Vec::new(alloc),
-    };
+    let mut paths = Vec::new(alloc);
     for word in words {
-        add_word(rt, word, &mut named)?;
+        add_word(rt, word, &mut paths)?;
     }
-    let Named { paths, folders } = named;
     let mut found = Found {
         sources: Vec::new(alloc),
         strays: Vec::new(alloc),
-        missing: Vec::new(alloc),
-        folders,
     };
     for path in paths.iter() {
         add_path(rt, path.as_str(), &mut found)?;
@@ -209,16 +193,16 @@ impl Found {
     fn add(&mut self, path: String, looked: Looked) -> Result<(), Failure> {
         match looked {
             Looked::Fragment(source) => self.sources.push(source)?,
-            Looked::Missing => self.missing.push(path)?,
-            Looked::NoHeader => self.strays.push(Stray {
-                path,
-                reason: Reason::NoHeader,
-            })?,
-            Looked::Unreadable(error) => self.strays.push(Stray {
-                path,
-                reason: Reason::Unreadable(error),
-            })?,
+            Looked::Missing => self.add_stray(path, Reason::Missing)?,
+            Looked::NoHeader => self.add_stray(path, Reason::NoHeader)?,
+            Looked::Unreadable(error) => self.add_stray(path, Reason::Unreadable(error))?,
         }
+        Ok(())
+    }
+
+    /// Adds a path that is not that of a fragment.
+    fn add_stray(&mut self, path: String, reason: Reason) -> Result<(), AllocError> {
+        self.strays.push(Stray { path, reason })?;
         Ok(())
     }
 }

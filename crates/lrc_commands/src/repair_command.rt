@@ -2,12 +2,14 @@
 
 use crate::check::set_of;
 use crate::folders::check_folders;
-use fragment_files::{Failure, Set, fragment_path, parent_of, record_len, stem_of, stripe_count};
+use fragment_files::{
+    Failure, Set, Stray, fragment_path, parent_of, record_len, stem_of, stripe_count,
+};
 use lrc_code::{LostSet, is_open_in};
 use lrc_files::{Repaired, Status, Wanted, folder_of, repair, survey_set};
 use lrc_json::{FileObject, RepairObject, push_object};
 use lrc_line::RepairLine;
-use lrc_report::{add_numbers, file_object, has, push_hex, push_numbers};
+use lrc_report::{add_numbers, add_others, file_object, has, push_hex, push_numbers, push_strays};
 use std::alloc::Global;
 use std::fmt::Write;
 use std::fs::File;
@@ -38,6 +40,8 @@ struct Progress {
     set: [u8; 16],
     /// The files that were written.
     files: Vec<FileObject>,
+    /// The paths that are not of the set, at the last look.
+    strays: Vec<Stray>,
 }
 
 /// The fragments with no file that has both headers and the right length, as bits.
@@ -178,6 +182,7 @@ impl Progress {
             record: 0,
             set: [0; 16],
             files: Vec::new(alloc),
+            strays: Vec::new(alloc),
         }
     }
 
@@ -306,13 +311,15 @@ fn repair_once<R: Files<File = File> + AllocGlobal + Threads + Sync + Clone + Dr
     line: &RepairLine,
     progress: &mut Progress,
 ) -> Result<bool, Failure> {
-    let (set, _strays) = set_of(rt, line.fragments.as_slice(), line.id)?;
+    let (set, strays) = set_of(rt, line.fragments.as_slice(), line.id)?;
     progress.set = set.header.set;
+    progress.strays = strays;
     repair_set(rt, line, &set, progress)
 }
 
 /// Appends the report.
 fn push_report(text: &mut String, progress: &Progress) -> Result<(), Failure> {
+    push_strays(text, progress.strays.as_slice())?;
     for file in progress.files.iter() {
         let number = file.number;
         let path = file.path.as_str();
@@ -347,6 +354,7 @@ fn bare_object(alloc: Global, progress: &mut Progress, status: Status) -> Repair
         bytes_read: progress.bytes_read(),
         read_from: Vec::new(alloc),
         is_checked: progress.is_checked,
+        others: Vec::new(alloc),
     }
 }
 
@@ -362,6 +370,7 @@ fn push_repair_object(
     push_hex(&mut object.set, &set)?;
     add_numbers(&mut object.unrecoverable, progress.hopeless)?;
     add_numbers(&mut object.read_from, progress.read_from())?;
+    add_others(alloc, &mut object.others, progress.strays.as_slice())?;
     push_object(text, alloc, &object)?;
     Ok(())
 }

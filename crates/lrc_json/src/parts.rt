@@ -28,10 +28,10 @@ pub struct FragmentObject {
     pub first_lost_stripe: Option<u64>,
 }
 
-/// A file that is not of the set.
+/// A path that is not of the set.
 #[derive(Drop, Serialize)]
 pub struct OtherObject {
-    /// The path of the file.
+    /// The path.
     pub path: String,
     /// Why it is not of the set.
     pub reason: String,

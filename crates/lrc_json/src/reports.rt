@@ -53,7 +53,7 @@ pub struct SetObject {
     pub fragments: Vec<FragmentObject>,
     /// Further files of fragments.
     pub again: Vec<FileObject>,
-    /// The files that are not of the set.
+    /// The paths that are not of the set.
     pub others: Vec<OtherObject>,
     /// The sets of lost fragments with an unrecoverable one: their first stripe, and how many.
     pub unrecoverable: Vec<StripesObject>,
@@ -82,6 +82,8 @@ pub struct RepairObject {
     pub read_from: Vec<u8>,
     /// Whether every record was checked.
     pub is_checked: bool,
+    /// The paths that are not of the set.
+    pub others: Vec<OtherObject>,
 }
 
 /// What `lrc join` wrote.
@@ -103,7 +105,7 @@ pub struct JoinObject {
     pub rebuilt_stripes: u64,
     /// The stripe that ended the join, or null.
     pub stopped: Option<StopObject>,
-    /// The files that are not of the set.
+    /// The paths that are not of the set.
     pub others: Vec<OtherObject>,
 }
 

@@ -21,7 +21,7 @@ pub struct Findings<'a> {
     pub found: &'a Survey,
     /// The states of the fragments.
     pub states: &'a [State<'a>],
-    /// The files that are not of the set.
+    /// The paths that are not of the set.
     pub strays: &'a [Stray],
     /// The digest that was expected.
     pub expect: Option<[u8; 32]>,
@@ -79,6 +79,7 @@ pub fn push_set_object(
 /// Appends the picture of a set.
 pub fn push_shown(text: &mut String, findings: &Findings) -> Result<(), Failure> {
     push_set(text, findings.set)?;
+    push_strays(text, findings.strays)?;
     push_picture(text, findings.set, findings.found)?;
     push_verdict(text, findings.set, findings.found, findings.status)
 }

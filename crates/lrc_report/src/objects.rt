@@ -29,7 +29,7 @@ pub fn file_object(alloc: Global, number: u8, path: &str) -> Result<FileObject, 
     Ok(FileObject { number, path })
 }
 
-/// The object of a file that is not of the set.
+/// The object of a path that is not of the set.
 fn other_object(alloc: Global, stray: &Stray) -> Result<OtherObject, Failure> {
     let mut reason = String::new(alloc);
     push_reason(&mut reason, &stray.reason)?;
@@ -37,7 +37,7 @@ fn other_object(alloc: Global, stray: &Stray) -> Result<OtherObject, Failure> {
     Ok(OtherObject { path, reason })
 }
 
-/// Appends the objects of the files that are not of the set.
+/// Appends the objects of the paths that are not of the set.
 pub fn add_others(
     alloc: Global,
     others: &mut Vec<OtherObject>,

@@ -65,9 +65,10 @@ pub fn push_duplicates(text: &mut String, set: &Set) -> Result<(), Failure> {
     Ok(())
 }
 
-/// Appends why a file is not of the set.
+/// Appends why a path is not of the set.
 pub fn push_reason(text: &mut String, reason: &Reason) -> Result<(), Failure> {
     match reason {
+        Reason::Missing => text.push_str("there is no such file")?,
         Reason::NoHeader => text.push_str("no header is whole")?,
         Reason::Unreadable(error) => write!(text, "can't be read: {error}")?,
         Reason::OtherSet(id) => {
@@ -78,7 +79,7 @@ pub fn push_reason(text: &mut String, reason: &Reason) -> Result<(), Failure> {
     Ok(())
 }
 
-/// Appends the files that are not of the set.
+/// Appends the paths that are not of the set.
 pub fn push_strays(text: &mut String, strays: &[Stray]) -> Result<(), Failure> {
     for stray in strays {
         let path = stray.path.as_str();
