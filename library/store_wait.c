@@ -8,8 +8,9 @@
  * A call that may copy, rebuild or encode much is first tried without the turn, so that other
  * threads need not wait for that.
  *
- * The turns lie in a table. A store has one while a thread has or wants it, and no two stores have
- * the same, so a call never waits for one of another store. */
+ * The turns lie in a table, and each store has several places there. It has one turn while a thread
+ * has or wants it, and no two stores have the same, so a call never waits for one of another store.
+ * If other stores have all places of a store, its calls are made without a turn. */
 #define _GNU_SOURCE
 #include "deadline.h"
 #include "lrc_store.h"
@@ -40,10 +41,15 @@ enum { MOST_ENTRIES = 1 << 20 };
 /* A thread that waits for its turn can be cancelled once in this time. */
 enum { SLICE_NS = 50 * NS_OF_MS };
 
-enum { TURN_BITS = 10, TURNS = 1 << TURN_BITS, USER_BITS = 16, CACHE_LINE = 64 };
+enum { TURN_BITS = 10, TURNS = 1 << TURN_BITS, PLACES = 8, CACHE_LINE = 64 };
 
-/* A turn, and the store that has it: a mark of the store, and in the lowest bits how many threads
- * have or want it. If there are none, any store can have it. */
+/* Of the 64 sessions of a store each is used by one thread, and no system has 2^22 threads. */
+enum { USER_BITS = 8, PASSER_BITS = 22, MARK_BITS = 64 - USER_BITS - PASSER_BITS };
+static const uint64_t PASSER = UINT64_C(1) << USER_BITS;
+
+/* A turn, and the store that has it. From the lowest bits on: how many threads have or want it; how
+ * many threads have or want a later place of their store, for which they passed this one; and a
+ * mark of the store. */
 static struct turn {
     _Alignas(CACHE_LINE) pthread_mutex_t mutex;
     _Atomic uint64_t store;
@@ -56,23 +62,62 @@ __attribute__((constructor(101))) static void make_turns(void) {
 
 static int64_t least(int64_t a, int64_t b) { return a < b ? a : b; }
 
-static uint64_t users_of(uint64_t store) { return store & ((UINT64_C(1) << USER_BITS) - 1); }
+static uint64_t users_of(uint64_t store) { return store & (PASSER - 1); }
 
-/* The turn of a store, which counts a thread more, or NULL if other stores have all turns. */
+static uint64_t mark_of(uint64_t store) {
+    return store >> (USER_BITS + PASSER_BITS) << (USER_BITS + PASSER_BITS);
+}
+
+/* Multiplied, so that numbers in a row have places apart. */
+static uint64_t mark_of_number(uint64_t number) {
+    return mark_of(number * UINT64_C(0x9E3779B97F4A7C15));
+}
+
+/* The places of a store, no two of them equal. */
+static struct turn *place_of(uint64_t mark, unsigned i) {
+    const uint64_t first = mark >> (64 - TURN_BITS), step = mark >> (64 - MARK_BITS) | 1;
+    return &turns[(first + i * step) % TURNS];
+}
+
+/* Whether a store can have a turn that no thread has or wants. One that threads passed is kept free
+ * until they have left, since they may be of the same store. Its last place none of them passed. */
+static int is_free(uint64_t store, unsigned place) {
+    return !users_of(store) && (store - mark_of(store) < PASSER || place == PLACES - 1);
+}
+
+/* Counts a thread more at a place of a store, or passes it. Returns whether the store has it. */
+static int enter_place(uint64_t mark, unsigned place) {
+    _Atomic uint64_t *const at = &place_of(mark, place)->store;
+    uint64_t store = *at, next;
+    int has;
+    do {
+        has = is_free(store, place) || (users_of(store) && mark_of(store) == mark);
+        next = has ? mark + (store - mark_of(store)) + 1 : store + PASSER;
+    } while (!atomic_compare_exchange_weak(at, &store, next));
+    return has;
+}
+
+/* Takes back that a thread passed so many places of a store. */
+static void unpass(uint64_t mark, unsigned places) {
+    while (places--) atomic_fetch_sub(&place_of(mark, places)->store, PASSER);
+}
+
+/* The turn of a store, which counts a thread more, or NULL if other stores have all its places. */
 static struct turn *enter(uint64_t number) {
-    /* multiplied, so that numbers in a row lie apart */
-    const uint64_t spread = number * UINT64_C(0x9E3779B97F4A7C15), mark = spread - users_of(spread);
-    for (unsigned i = 0; i < TURNS; i++) {
-        struct turn *turn = &turns[((spread >> (64 - TURN_BITS)) + i) % TURNS];
-        uint64_t store = turn->store;
-        while (!users_of(store) || store - users_of(store) == mark)
-            if (atomic_compare_exchange_weak(&turn->store, &store, mark + users_of(store) + 1))
-                return turn;
-    }
+    const uint64_t mark = mark_of_number(number);
+    for (unsigned place = 0; place < PLACES; place++)
+        if (enter_place(mark, place)) return place_of(mark, place);
+    unpass(mark, PLACES);
     return NULL;
 }
 
-static void leave(void *turn) { atomic_fetch_sub(&((struct turn *)turn)->store, 1); }
+static void leave(void *argument) {
+    struct turn *const turn = argument;
+    const uint64_t mark = mark_of(atomic_fetch_sub(&turn->store, 1));
+    unsigned passed = 0;
+    while (place_of(mark, passed) != turn) passed++;
+    unpass(mark, passed);
+}
 
 /* Locks a turn that another thread has. Returns 0 if the deadline passes before. */
 static int locks(struct turn *turn, int64_t deadline) {
