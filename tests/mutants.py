@@ -126,6 +126,18 @@ def store_program(file, words="", **others):
     )
 
 
+def explored(name, source):
+    """The orders of a source's threads, by tests/explore. The calls of ThreadSanitizer that the
+    source makes are those of races.c, so its library is not linked."""
+    c = f"{C} -I library -ffunction-sections"
+    own = [f"tests/explore/{each}.c" for each in ("explore", "races", name)]
+    called = objects(f"{c} -fsanitize=thread -include tests/explore/shim.h", source)
+    names = " ".join(os.path.basename(each).split(".")[0] + ".o" for each in (*own, source))
+    return Test(
+        f"{objects(c, *own)} && {called} && {c} {names} -Wl,--gc-sections -o program", "./program"
+    )
+
+
 def copy_of_open(name):
     """Compiles library/store_open.c with other names."""
     return (
@@ -194,6 +206,9 @@ TESTS = {
         ),
         "./program",
     ),
+    "explore_pool": explored("pool", "library/store_pool.c"),
+    "explore_mend": explored("mend", "library/store_mend.c"),
+    "explore_wait": explored("wait", "tests/explore/turns.c"),
     "shards": Test(program(C, SHARDS, OF_SHARDS), "./program"),
     "totals": Test(
         program(

@@ -1,10 +1,10 @@
 #!/usr/bin/env bash
 # All tests but those of `rt ci`, whose programs they run: documents and commits, the program, the
-# libraries in each language, packages, the edges, their coverage and their mutants. The archives
-# are built once, unless LRC_BUILT names a folder with them, which tools/package.py build has
-# filled, or LRC_LIBRARIES one with the libraries. Parts that need the libraries run side by side, as many
-# as processors. The last line counts all tests, and the lines before it have the seconds of the
-# parts.
+# libraries in each language, packages, the edges, the orders of threads, coverage and mutants. The
+# archives are built once, unless LRC_BUILT names a folder with them, which tools/package.py build
+# has filled, or LRC_LIBRARIES one with the libraries. Parts that need the libraries run side by
+# side, as many as processors. The last line counts all tests, and the lines before it have the
+# seconds of the parts.
 #
 #     tests/programs.sh [PASSED]    so many tests passed before
 set -u
@@ -47,7 +47,7 @@ if [ -z "${LRC_LIBRARIES:-}" ]; then
     export LRC_LIBRARIES=$work/libraries
     part tools/libraries.py --from "$LRC_BUILT" --to "$LRC_LIBRARIES"
 fi
-parts=(tests/{store,library,coverage,edges,install,services}.sh)
+parts=(tests/{store,library,coverage,edges,explore,install,services}.sh)
 if [ -n "${LRC_BUILT:-}" ]; then
     parts=(tests/release.sh "${parts[@]}")
 else
