@@ -123,8 +123,58 @@ pub(crate) fn count_entries(alloc: Global, books: &[Book]) -> Result<u64> {
     Ok(count)
 }
 
-/// A call by a second pass, which hands on a receipt and is then joined. The closed books have this
-/// call alone.
+/// A call of a pass, and a receipt of it.
+fn call_and_hand_on<R: Wait>(
+    rt: &R,
+    alloc: Global,
+    store: &ShardedStore,
+    pass: &mut ShardedPass,
+) -> Result<ShardedReceipt>
+    requires { store_of pass.old ≡ store.now }
+    ensures pass { store_of pass.new ≡ store.now }
+    ensures given { IfOk result (λ r. receipt_store r ≡ store.now) }
+{
+    let name = Name::new("no-blob")?;
+    let step = (Call::Stat, Note::NoName);
+    expect(rt, alloc, store, pass, &name, Form::Waits, step)?;
+    receipt_of(alloc, store, pass)
+}
+
+/// Fails unless a pass has split off another one.
+fn check_rooms(pass: &ShardedPass, other: &ShardedPass) -> Result<()> {
+    ensure!(pass.room() == 63 && other.room() == 1, "other rooms");
+    Ok(())
+}
+
+/// A call by a second pass, which hands on a receipt and is then joined.
+fn use_second_pass<R: Wait>(
+    rt: &R,
+    alloc: Global,
+    store: &ShardedStore,
+    pass: &mut ShardedPass,
+) -> Result<()>
+    requires { store_of pass.old ≡ store.now }
+    ensures { store_of pass.new ≡ store.now }
+{
+    let mut other = split(alloc, store, pass, 7)?;
+    check_rooms(pass, &other)?;
+    let receipt = call_and_hand_on(rt, alloc, store, &mut other)?;
+    pass.accept(store, receipt);
+    check_rooms(pass, &other)?;
+    pass.join(store, other);
+    Ok(())
+}
+
+/// Fails unless there are so many books, with one entry in all.
+fn check_books(alloc: Global, books: &[Book], count: usize) -> Result<()> {
+    ensure!(
+        books.len() == count && count_entries(alloc, books)? == 1,
+        "other books"
+    );
+    Ok(())
+}
+
+/// A call by a second pass. The closed books have this call alone.
 pub(crate) fn split_and_close<R: Wait>(
     rt: &R,
     alloc: Global,
@@ -133,20 +183,8 @@ pub(crate) fn split_and_close<R: Wait>(
 ) -> Result<()>
     requires { store_of pass ≡ store }
 {
-    let mut other = split(alloc, &store, &mut pass, 7)?;
-    ensure!(pass.room() == 63 && other.room() == 1, "other rooms");
-    let name = Name::new("no-blob")?;
-    let step = (Call::Stat, Note::NoName);
-    expect(rt, alloc, &store, &mut other, &name, Form::Waits, step)?;
-    let receipt = receipt_of(alloc, &store, &mut other)?;
-    pass.accept(&store, receipt);
-    ensure!(pass.room() == 63 && other.room() == 1, "other rooms");
-    pass.join(&store, other);
+    use_second_pass(rt, alloc, &store, &mut pass)?;
     let count = store.count_shards();
     let books = close(alloc, store, pass)?;
-    ensure!(
-        books.len() == count && count_entries(alloc, &books)? == 1,
-        "other books"
-    );
-    Ok(())
+    check_books(alloc, &books, count)
 }
