@@ -22,6 +22,35 @@
 #include <stddef.h>
 #include <stdint.h>
 
+/* Attributes. At the end of a declaration stands what a compiler can warn of, if it has the
+ * attribute. LRC_NONNULL: an address is NULL. LRC_STATUS: that, or the caller ignores the status.
+ * LRC_FILLS(n): the slot of parameter n is not initialised. LRC_READS(n, m), LRC_WRITES(n, m) and
+ * LRC_UPDATES(n, m): the address of parameter n is not valid for the length of parameter m. They
+ * are empty if LRC_NO_ATTRIBUTES is defined. */
+#ifndef LRC_ATTRIBUTES
+#define LRC_ATTRIBUTES
+#if defined(__has_attribute) && !defined(LRC_NO_ATTRIBUTES)
+#if __has_attribute(nonnull) && __has_attribute(warn_unused_result)
+#define LRC_NONNULL __attribute__((nonnull))
+#define LRC_STATUS __attribute__((nonnull, warn_unused_result))
+#endif
+#if __has_attribute(access)
+#define LRC_ACCESS(of) __attribute__((access of))
+#endif
+#endif
+#ifndef LRC_NONNULL
+#define LRC_NONNULL
+#define LRC_STATUS
+#endif
+#ifndef LRC_ACCESS
+#define LRC_ACCESS(of)
+#endif
+#define LRC_FILLS(slot) LRC_ACCESS((read_write, slot))
+#define LRC_READS(at, len) LRC_ACCESS((read_only, at, len))
+#define LRC_WRITES(at, len) LRC_ACCESS((write_only, at, len))
+#define LRC_UPDATES(at, len) LRC_ACCESS((read_write, at, len))
+#endif
+
 #ifdef __cplusplus
 extern "C" {
 #endif
@@ -55,7 +84,8 @@ typedef struct {
  * parities are not all equal. */
 uint32_t lrc_encode(const lrc_slice *data, size_t data_fragments, uint8_t *first, size_t first_len,
                     uint8_t *second, size_t second_len, uint8_t *third, size_t third_len,
-                    uint8_t *fourth, size_t fourth_len);
+                    uint8_t *fourth, size_t fourth_len) LRC_NONNULL LRC_READS(1, 2) LRC_WRITES(3, 4)
+    LRC_WRITES(5, 6) LRC_WRITES(7, 8) LRC_WRITES(9, 10);
 
 /* Adds the data fragment with the number `fragment` to the four parities. Calling it once for each
  * data fragment, in any order, on zeroed parities gives the result of lrc_encode. To overwrite a
@@ -65,7 +95,8 @@ uint32_t lrc_encode(const lrc_slice *data, size_t data_fragments, uint8_t *first
 uint32_t lrc_encode_add(size_t data_fragments, uint8_t fragment, const uint8_t *source,
                         size_t source_len, uint8_t *first, size_t first_len, uint8_t *second,
                         size_t second_len, uint8_t *third, size_t third_len, uint8_t *fourth,
-                        size_t fourth_len);
+                        size_t fourth_len) LRC_NONNULL LRC_READS(3, 4) LRC_UPDATES(5, 6)
+    LRC_UPDATES(7, 8) LRC_UPDATES(9, 10) LRC_UPDATES(11, 12);
 
 /* LRC_UNRECOVERABLE if and only if `fragment` is. LRC_BAD_ARGUMENT if and only if there is no
  * such code or fragment. */
@@ -78,7 +109,8 @@ uint32_t lrc_is_open(size_t data_fragments, uint16_t lost, uint8_t fragment);
  * there is no such code or fragment; the fragment is not in `lost`; a remaining fragment has fewer
  * than from+len bytes; that sum is more than SIZE_MAX. */
 uint32_t lrc_rebuild(size_t data_fragments, const lrc_slice fragments[16], uint16_t lost,
-                     uint8_t fragment, size_t from, uint8_t *target, size_t len);
+                     uint8_t fragment, size_t from, uint8_t *target, size_t len) LRC_STATUS
+    LRC_WRITES(6, 7);
 
 /* Writes the bytes from..from+len of up to four lost fragments at once, which takes less time than
  * one call of lrc_rebuild for each. `numbers` has the number of the fragment for each of the four
@@ -91,7 +123,8 @@ uint32_t lrc_rebuild(size_t data_fragments, const lrc_slice fragments[16], uint1
 uint32_t lrc_decode(size_t data_fragments, const lrc_slice fragments[16], uint16_t lost,
                     const uint8_t numbers[4], size_t from, size_t len, uint8_t *first,
                     size_t first_len, uint8_t *second, size_t second_len, uint8_t *third,
-                    size_t third_len, uint8_t *fourth, size_t fourth_len);
+                    size_t third_len, uint8_t *fourth, size_t fourth_len) LRC_STATUS
+    LRC_WRITES(7, 8) LRC_WRITES(9, 10) LRC_WRITES(11, 12) LRC_WRITES(13, 14);
 
 /* The bytes of a plan. */
 enum { LRC_PLAN_BYTES = 24 };
@@ -106,7 +139,7 @@ enum { LRC_PLAN_BYTES = 24 };
  * fragment is unrecoverable. LRC_BAD_ARGUMENT if and only if there is no such code, or a numbered
  * fragment is not the code's or not in `lost`. */
 uint32_t lrc_plan(size_t data_fragments, uint16_t lost, const uint8_t numbers[4],
-                  uint8_t plan[LRC_PLAN_BYTES], uint16_t *reads);
+                  uint8_t plan[LRC_PLAN_BYTES], uint16_t *reads) LRC_STATUS;
 
 /* lrc_decode of the fragments that a plan is for. The slices of fragments that it does not read are
  * ignored, and the targets are those of its numbers. Any bytes are safe as a plan; by bytes that
@@ -117,7 +150,8 @@ uint32_t lrc_plan(size_t data_fragments, uint16_t lost, const uint8_t numbers[4]
 uint32_t lrc_plan_decode(const uint8_t plan[LRC_PLAN_BYTES], const lrc_slice fragments[16],
                          size_t from, size_t len, uint8_t *first, size_t first_len, uint8_t *second,
                          size_t second_len, uint8_t *third, size_t third_len, uint8_t *fourth,
-                         size_t fourth_len);
+                         size_t fourth_len) LRC_STATUS LRC_WRITES(5, 6) LRC_WRITES(7, 8)
+    LRC_WRITES(9, 10) LRC_WRITES(11, 12);
 
 /* Writes a recipe for the lost `fragment`: the numbers of other fragments, a coefficient for each,
  * and their count, at most 15. The fragment is their sum, each times its coefficient. If it is the
@@ -125,13 +159,13 @@ uint32_t lrc_plan_decode(const uint8_t plan[LRC_PLAN_BYTES], const lrc_slice fra
  * LRC_UNRECOVERABLE as from lrc_rebuild. LRC_BAD_ARGUMENT if and only if there is no such code or
  * fragment, or it is not in `lost`. */
 uint32_t lrc_recipe(size_t data_fragments, uint16_t lost, uint8_t fragment, uint8_t fragments[16],
-                    uint8_t coefficients[16], uint32_t *count);
+                    uint8_t coefficients[16], uint32_t *count) LRC_STATUS;
 
 /* Adds `source` times `coefficient` to `target`, byte by byte, in the field. With lrc_recipe it
  * rebuilds as fragments arrive: call it on a zeroed target, once for each term, in any order and in
  * any parts. LRC_BAD_ARGUMENT if and only if the lengths differ. */
 uint32_t lrc_add(uint8_t *target, size_t target_len, uint8_t coefficient, const uint8_t *source,
-                 size_t source_len);
+                 size_t source_len) LRC_NONNULL LRC_UPDATES(1, 2) LRC_READS(4, 5);
 
 /* What a status means, in English and without a full stop. "unknown status" for a number that is
  * none. The text is never freed. */

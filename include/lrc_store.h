@@ -43,6 +43,35 @@
 #include <stddef.h>
 #include <stdint.h>
 
+/* Attributes. At the end of a declaration stands what a compiler can warn of, if it has the
+ * attribute. LRC_NONNULL: an address is NULL. LRC_STATUS: that, or the caller ignores the status.
+ * LRC_FILLS(n): the slot of parameter n is not initialised. LRC_READS(n, m), LRC_WRITES(n, m) and
+ * LRC_UPDATES(n, m): the address of parameter n is not valid for the length of parameter m. They
+ * are empty if LRC_NO_ATTRIBUTES is defined. */
+#ifndef LRC_ATTRIBUTES
+#define LRC_ATTRIBUTES
+#if defined(__has_attribute) && !defined(LRC_NO_ATTRIBUTES)
+#if __has_attribute(nonnull) && __has_attribute(warn_unused_result)
+#define LRC_NONNULL __attribute__((nonnull))
+#define LRC_STATUS __attribute__((nonnull, warn_unused_result))
+#endif
+#if __has_attribute(access)
+#define LRC_ACCESS(of) __attribute__((access of))
+#endif
+#endif
+#ifndef LRC_NONNULL
+#define LRC_NONNULL
+#define LRC_STATUS
+#endif
+#ifndef LRC_ACCESS
+#define LRC_ACCESS(of)
+#endif
+#define LRC_FILLS(slot) LRC_ACCESS((read_write, slot))
+#define LRC_READS(at, len) LRC_ACCESS((read_only, at, len))
+#define LRC_WRITES(at, len) LRC_ACCESS((write_only, at, len))
+#define LRC_UPDATES(at, len) LRC_ACCESS((read_write, at, len))
+#endif
+
 #ifdef __cplusplus
 extern "C" {
 #endif
@@ -145,52 +174,53 @@ enum {
 /* Opens a store whose fragments have `width` bytes and whose journal holds at most `limit`
  * entries. Each blob except an empty one takes at least 16 (or 10) fragments, however few bytes it
  * has. Puts the store's first session into the empty `slot`. The session has its 64 places. */
-uint32_t lrc_store_open(uint32_t width, uint32_t limit, lrc_slot *slot);
+uint32_t lrc_store_open(uint32_t width, uint32_t limit, lrc_slot *slot) LRC_STATUS LRC_FILLS(3);
 
 /* Does the same for a store without a journal, as a service wants it: no call is refused for a full
  * journal before 2^62 calls, none takes memory for an entry, and there is nothing to trim. The
  * store counts its calls. */
-uint32_t lrc_store_open_unjournaled(uint32_t width, lrc_slot *slot);
+uint32_t lrc_store_open_unjournaled(uint32_t width, lrc_slot *slot) LRC_STATUS LRC_FILLS(2);
 
 /* Splits a session off the one in `slot` and puts it into the empty `other`. Its journal entries
  * have the label `who`. The new session takes one of the places of the old one, which keeps at
  * least one: LRC_STORE_NO_PASS if it has only one. */
-uint32_t lrc_store_split(lrc_slot *slot, uint32_t who, lrc_slot *other);
+uint32_t lrc_store_split(lrc_slot *slot, uint32_t who, lrc_slot *other) LRC_STATUS LRC_FILLS(3);
 
 /* Joins the session in `other` into the one in `slot`, which then counts as the caller of all
  * its calls and has the places of both. `other` is empty afterwards. Any two sessions of a store
  * can be joined. LRC_STORE_BAD_ARGUMENT if they are of two stores, whatever libraries opened
  * them. */
-uint32_t lrc_store_join(lrc_slot *slot, lrc_slot *other);
+uint32_t lrc_store_join(lrc_slot *slot, lrc_slot *other) LRC_NONNULL;
 
 /* Has the session in `slot` learn all that the one in `other` has seen: whatever it does next
  * stands after all of that in the history of the store. Nothing else changes, and `other` is as it
  * was. It takes no lock, does not wait and does not allocate. LRC_STORE_BAD_ARGUMENT if the two are
  * of two stores. */
-uint32_t lrc_slot_learn(lrc_slot *slot, lrc_slot *other);
+uint32_t lrc_slot_learn(lrc_slot *slot, lrc_slot *other) LRC_NONNULL;
 
 /* Closes the store of the last session, and empties `slot`. `entries` gets the number of journal
  * entries. `lawful` gets 1 if a check found them to be a legal history, and 2 if there was no
  * memory for the check, or no journal. The check is proved never to fail. LRC_STORE_NOT_ALONE if
  * the session does not have all 64 places. */
-uint32_t lrc_store_close(lrc_slot *slot, uint64_t *entries, uint32_t *lawful);
+uint32_t lrc_store_close(lrc_slot *slot, uint64_t *entries, uint32_t *lawful) LRC_STATUS;
 
 /* Does the same, and puts the journal into the empty `other`. `discarded` gets the number of calls
  * that have no entry: of those whose entry was trimmed, or without a journal of all. Releasing
  * `other` frees the memory of the store. */
 uint32_t lrc_store_close_to(lrc_slot *slot, lrc_slot *other, uint64_t *discarded, uint64_t *entries,
-                            uint32_t *lawful);
+                            uint32_t *lawful) LRC_STATUS LRC_FILLS(2);
 
 /* Writes the entry of a journal at an index, from 0. Before the call `entry->name` is a valid
  * slice, such as { (const uint8_t *)"", 0 }. Afterwards it is valid until the slot is passed to
  * another function. LRC_STORE_NOTHING_LEFT if the journal has no such entry. */
-uint32_t lrc_slot_entry(lrc_slot *slot, size_t index, lrc_entry *entry);
+uint32_t lrc_slot_entry(lrc_slot *slot, size_t index, lrc_entry *entry) LRC_STATUS;
 
 /* Stores a copy of the blob under the name, in place of an older one. The code is LRC(12,2,2) or
  * LRC(6,2,2) if `data_fragments` is 12 or 6. `version` gets the number of this put in the
  * store's history. */
 uint32_t lrc_store_put(lrc_slot *slot, const uint8_t *name, size_t name_len, const uint8_t *blob,
-                       size_t blob_len, uint32_t data_fragments, uint64_t *version);
+                       size_t blob_len, uint32_t data_fragments, uint64_t *version) LRC_STATUS
+    LRC_READS(2, 3) LRC_READS(4, 5);
 
 /* A put without a copy, in three steps. lrc_slot_reserve puts a buffer of `len` zero bytes into
  * the empty slot. lrc_slot_buffer gives its address, which the caller fills. lrc_store_put_from
@@ -204,30 +234,32 @@ uint32_t lrc_store_put(lrc_slot *slot, const uint8_t *name, size_t name_len, con
  * written again if and only if lrc_slot_buffer returns LRC_STORE_DONE: so after LRC_STORE_BAD_NAME
  * and LRC_STORE_BAD_ARGUMENT, unless they could not before, and sometimes after
  * LRC_STORE_NO_MEMORY. */
-uint32_t lrc_slot_reserve(size_t len, lrc_slot *slot);
-uint32_t lrc_slot_buffer(lrc_slot *slot, lrc_buffer *buffer);
+uint32_t lrc_slot_reserve(size_t len, lrc_slot *slot) LRC_STATUS LRC_FILLS(2);
+uint32_t lrc_slot_buffer(lrc_slot *slot, lrc_buffer *buffer) LRC_NONNULL;
 uint32_t lrc_store_put_from(lrc_slot *slot, const uint8_t *name, size_t name_len, lrc_slot *other,
-                            uint32_t data_fragments, uint64_t *version);
+                            uint32_t data_fragments, uint64_t *version) LRC_STATUS LRC_READS(2, 3);
 
 /* Copies `len` bytes of the blob, from the byte `start` on, into `target`, and rebuilds those of
  * lost fragments. `lent` and `built` get the numbers of bytes copied from fragments and of bytes
  * rebuilt. */
 uint32_t lrc_store_read(lrc_slot *slot, const uint8_t *name, size_t name_len, uint64_t start,
                         uint8_t *target, size_t len, uint64_t *version, uint64_t *lent,
-                        uint64_t *built);
+                        uint64_t *built) LRC_STATUS LRC_READS(2, 3) LRC_WRITES(5, 6);
 
 /* Lends `len` bytes of the blob, from the byte `start` on, and puts the range into the empty
  * `other`. `pieces` gets the number of pieces for lrc_slot_slices. The call allocates a list of
  * the pieces, and the bytes of lost fragments. Until `other` is released the bytes do not
  * change, even if threads put, lose, repair and delete, or the store is closed. */
 uint32_t lrc_store_lend(lrc_slot *slot, const uint8_t *name, size_t name_len, uint64_t start,
-                        uint64_t len, lrc_slot *other, uint64_t *version, uint64_t *pieces);
+                        uint64_t len, lrc_slot *other, uint64_t *version,
+                        uint64_t *pieces) LRC_STATUS LRC_READS(2, 3) LRC_FILLS(6);
 
 /* Writes the pieces of a lent range into `slices`, in order, as many as there are and at most
  * `capacity`. Before the call each element of `slices` is a valid slice, such as { (const
  * uint8_t *)"", 0 }. `count` gets the number of written pieces. They are valid until the slot is
  * passed to a function other than this one and lrc_slot_runs. */
-uint32_t lrc_slot_slices(lrc_slot *slot, lrc_slice *slices, size_t capacity, uint64_t *count);
+uint32_t lrc_slot_slices(lrc_slot *slot, lrc_slice *slices, size_t capacity,
+                         uint64_t *count) LRC_NONNULL LRC_UPDATES(2, 3);
 
 /* Writes runs of a lent range into `runs`, from the byte `from` of the range on, in order, as many
  * as there are and at most `capacity`. A run joins pieces that lie one behind another in memory. A
@@ -237,59 +269,64 @@ uint32_t lrc_slot_slices(lrc_slot *slot, lrc_slice *slices, size_t capacity, uin
  * further runs, behind the bytes of these. It is 0 if the range ends at `from` or before. The runs
  * are valid as long as the pieces are. */
 uint32_t lrc_slot_runs(lrc_slot *slot, uint64_t from, lrc_slice *runs, size_t capacity,
-                       uint64_t *count);
+                       uint64_t *count) LRC_NONNULL LRC_UPDATES(3, 4);
 
 /* Lose a fragment of a stripe, as after a disk failure, and repair one from the remaining
  * fragments. Stripes and fragments count from 0. */
 uint32_t lrc_store_lose(lrc_slot *slot, const uint8_t *name, size_t name_len, uint64_t stripe,
-                        uint64_t fragment, uint64_t *version);
+                        uint64_t fragment, uint64_t *version) LRC_NONNULL LRC_READS(2, 3);
 uint32_t lrc_store_repair(lrc_slot *slot, const uint8_t *name, size_t name_len, uint64_t stripe,
-                          uint64_t fragment, uint64_t *version);
+                          uint64_t fragment, uint64_t *version) LRC_NONNULL LRC_READS(2, 3);
 
 /* Deletes the blob. `version` gets the version that it had. */
-uint32_t lrc_store_delete(lrc_slot *slot, const uint8_t *name, size_t name_len, uint64_t *version);
+uint32_t lrc_store_delete(lrc_slot *slot, const uint8_t *name, size_t name_len,
+                          uint64_t *version) LRC_NONNULL LRC_READS(2, 3);
 
 /* Writes the shape of the blob: its version, its length in bytes, and the numbers of stripes and
  * lost fragments. */
 uint32_t lrc_store_stat(lrc_slot *slot, const uint8_t *name, size_t name_len, uint64_t *version,
-                        uint64_t *len, uint64_t *stripes, uint64_t *lost);
+                        uint64_t *len, uint64_t *stripes, uint64_t *lost) LRC_STATUS
+    LRC_READS(2, 3);
 
 /* Discards all journal entries except the last `keep`. `discarded` gets how many it discarded. */
-uint32_t lrc_store_trim(lrc_slot *slot, uint64_t keep, uint64_t *discarded);
+uint32_t lrc_store_trim(lrc_slot *slot, uint64_t keep, uint64_t *discarded) LRC_NONNULL;
 
 /* Discards at most `most` of them, the oldest first. So a long journal can be trimmed in steps,
  * between which other threads call. If it discards fewer than `most`, none are left. */
-uint32_t lrc_store_trim_part(lrc_slot *slot, uint64_t keep, uint64_t most, uint64_t *discarded);
+uint32_t lrc_store_trim_part(lrc_slot *slot, uint64_t keep, uint64_t most,
+                             uint64_t *discarded) LRC_NONNULL;
 
 /* Puts a plan to repair all lost fragments of all blobs into the empty `other`. `items` gets
  * their number. */
-uint32_t lrc_store_plan(lrc_slot *slot, lrc_slot *other, uint64_t *items);
+uint32_t lrc_store_plan(lrc_slot *slot, lrc_slot *other, uint64_t *items) LRC_STATUS LRC_FILLS(2);
 
 /* Puts a part of such a plan into `other`: the first `most` of its items if `other` is empty, or
  * those behind the part that it holds, of which no item may be left. `items` gets their number: if
  * it is below `most`, no other part is behind. So a long plan can be made in steps, between which
  * other threads call. LRC_STORE_BAD_ARGUMENT if `most` is 0. A plan in `other` is of this store,
  * which is not checked. */
-uint32_t lrc_store_plan_part(lrc_slot *slot, lrc_slot *other, uint64_t most, uint64_t *items);
+uint32_t lrc_store_plan_part(lrc_slot *slot, lrc_slot *other, uint64_t most,
+                             uint64_t *items) LRC_STATUS LRC_FILLS(2);
 
 /* Writes the next items of a plan into `items`, in order, as many as remain and at most `capacity`.
  * Before the call the name of each element is a valid slice, such as { (const uint8_t *)"", 0 }.
  * `count` gets the number of written items. Their names are valid until the slot is passed to
  * another function. */
-uint32_t lrc_slot_items(lrc_slot *slot, lrc_item *items, size_t capacity, uint64_t *count);
+uint32_t lrc_slot_items(lrc_slot *slot, lrc_item *items, size_t capacity,
+                        uint64_t *count) LRC_NONNULL LRC_UPDATES(2, 3);
 
 /* Repairs the next fragment of the plan in `other`, and returns the status of lrc_store_repair. The
  * plan is of this store, which is not checked: with another one, names of this store are repaired.
  * After LRC_STORE_BUSY, LRC_STORE_NO_MEMORY and LRC_STORE_JOURNAL_FULL the fragment stays the
  * next one. After any other status the next call takes the next fragment. */
-uint32_t lrc_store_mend_step(lrc_slot *slot, lrc_slot *other, uint64_t *version);
+uint32_t lrc_store_mend_step(lrc_slot *slot, lrc_slot *other, uint64_t *version) LRC_NONNULL;
 
 /* Leaves out the next item of a plan. LRC_STORE_NOTHING_LEFT if none remains. */
-uint32_t lrc_slot_skip(lrc_slot *slot);
+uint32_t lrc_slot_skip(lrc_slot *slot) LRC_NONNULL;
 
 /* Writes the numbers of the store. It takes the same time for each store, allocates nothing, and
  * makes no journal entry. */
-uint32_t lrc_store_numbers(lrc_slot *slot, lrc_numbers *numbers);
+uint32_t lrc_store_numbers(lrc_slot *slot, lrc_numbers *numbers) LRC_STATUS;
 
 /* Holds the version that the name's blob has now, and puts it into the empty `other`. `version`
  * gets its number and `len` its bytes. The journal entry is that of a read of no byte. The version
@@ -297,29 +334,30 @@ uint32_t lrc_store_numbers(lrc_slot *slot, lrc_numbers *numbers);
  * is closed. It shares its fragments with the store and copies none. Until then a loss or a repair
  * of the blob does not change it in place, so that it takes longer. */
 uint32_t lrc_store_hold(lrc_slot *slot, const uint8_t *name, size_t name_len, lrc_slot *other,
-                        uint64_t *version, uint64_t *len);
+                        uint64_t *version, uint64_t *len) LRC_STATUS LRC_READS(2, 3) LRC_FILLS(4);
 
 /* The functions from here to lrc_slot_fragment read the version in `slot`. They are no calls of the
  * store: they take no lock, and make no journal entry.
  *
  * Writes its shape. The number of lost fragments is counted through all stripes. */
-uint32_t lrc_slot_shape(lrc_slot *slot, lrc_shape *shape);
+uint32_t lrc_slot_shape(lrc_slot *slot, lrc_shape *shape) LRC_NONNULL;
 
 /* Writes which fragments of a stripe were lost when the version was held: bit `f` of `lost` is set
  * if and only if fragment `f` was. LRC_STORE_NO_FRAGMENT if there is no such stripe. */
-uint32_t lrc_slot_lost(lrc_slot *slot, uint64_t stripe, uint16_t *lost);
+uint32_t lrc_slot_lost(lrc_slot *slot, uint64_t stripe, uint16_t *lost) LRC_STATUS;
 
 /* Lends `len` bytes of the version, from the byte `start` on, and puts the range into the empty
  * `other`, as lrc_store_lend does. `pieces` gets the number of pieces. LRC_STORE_NO_MEMORY if
  * out of memory, also for rebuilding lost fragments. */
 uint32_t lrc_slot_lend(lrc_slot *slot, uint64_t start, uint64_t len, lrc_slot *other,
-                       uint64_t *pieces);
+                       uint64_t *pieces) LRC_STATUS LRC_FILLS(4);
 
 /* Lends a fragment of a stripe, data or parity, which has as many bytes as the store's width.
  * Before the call `*bytes` is a valid slice, such as { (const uint8_t *)"", 0 }. Afterwards it is
  * valid until the slot is passed to another function. LRC_STORE_ALREADY_LOST if the fragment was
  * lost when the version was held. LRC_STORE_NO_FRAGMENT if there is no such fragment. */
-uint32_t lrc_slot_fragment(lrc_slot *slot, uint64_t stripe, uint64_t fragment, lrc_slice *bytes);
+uint32_t lrc_slot_fragment(lrc_slot *slot, uint64_t stripe, uint64_t fragment,
+                           lrc_slice *bytes) LRC_STATUS;
 
 /* Repairs a lost fragment of the name of the version in `other`, which stays there, with a copy of
  * the bytes. The caller ensures that the fragment has these bytes in that version. They may come
@@ -332,15 +370,17 @@ uint32_t lrc_slot_fragment(lrc_slot *slot, uint64_t stripe, uint64_t fragment, l
  * Nothing is done on LRC_STORE_BAD_ARGUMENT, if the slots are of two stores or `len` is not the
  * store's width, and on LRC_STORE_NO_FRAGMENT, if the version has no such fragment. */
 uint32_t lrc_store_install(lrc_slot *slot, lrc_slot *other, uint64_t stripe, uint64_t fragment,
-                           const uint8_t *bytes, size_t len, uint64_t *version);
+                           const uint8_t *bytes, size_t len, uint64_t *version) LRC_STATUS
+    LRC_READS(5, 6);
 
 /* Writes the shard of a name in a store of `shards` shards, 1 to 64: a number below `shards`, which
  * depends on the two alone. LRC_STORE_BAD_ARGUMENT for another number of shards. */
-uint32_t lrc_store_shard(const uint8_t *name, size_t name_len, uint32_t shards, uint32_t *shard);
+uint32_t lrc_store_shard(const uint8_t *name, size_t name_len, uint32_t shards,
+                         uint32_t *shard) LRC_STATUS LRC_READS(1, 2);
 
 /* Empties the slot, whatever it holds. If a session is released and not joined, its places are
  * gone, and its store can't be closed. Releasing the last session frees the store. */
-void lrc_slot_release(lrc_slot *slot);
+void lrc_slot_release(lrc_slot *slot) LRC_NONNULL;
 
 /* What a status means, in English and without a full stop. "unknown status" for a number that is
  * none. The text is never freed. */
@@ -353,7 +393,7 @@ enum { LRC_STORE_NAME_LEN = 32 };
  * has LRC_STORE_NAME_LEN bytes. A key of at most 19 bytes is written backwards in base32, and
  * filled with dots. Of a longer one it is the BLAKE2s hash of 160 bits, in base32: nobody has found
  * two of them with one name. */
-void lrc_store_name(const uint8_t *key, size_t key_len, uint8_t *name);
+void lrc_store_name(const uint8_t *key, size_t key_len, uint8_t *name) LRC_NONNULL LRC_READS(1, 2);
 
 /* The processor level whose code is used, "x86-64-v3" or "x86-64-v2". The library chooses when it
  * is loaded. LRC_STORE_CPU=v2 in the environment forces the second. */
@@ -368,52 +408,59 @@ const char *lrc_store_cpu(void);
  * thread has precedence. */
 uint32_t lrc_store_put_wait(lrc_slot *slot, const uint8_t *name, size_t name_len,
                             const uint8_t *blob, size_t blob_len, uint32_t data_fragments,
-                            uint64_t *version, int64_t timeout_ms);
+                            uint64_t *version, int64_t timeout_ms) LRC_STATUS LRC_READS(2, 3)
+    LRC_READS(4, 5);
 uint32_t lrc_store_put_from_wait(lrc_slot *slot, const uint8_t *name, size_t name_len,
                                  lrc_slot *other, uint32_t data_fragments, uint64_t *version,
-                                 int64_t timeout_ms);
+                                 int64_t timeout_ms) LRC_STATUS LRC_READS(2, 3);
 uint32_t lrc_store_read_wait(lrc_slot *slot, const uint8_t *name, size_t name_len, uint64_t start,
                              uint8_t *target, size_t len, uint64_t *version, uint64_t *lent,
-                             uint64_t *built, int64_t timeout_ms);
+                             uint64_t *built, int64_t timeout_ms) LRC_STATUS LRC_READS(2, 3)
+    LRC_WRITES(5, 6);
 uint32_t lrc_store_lend_wait(lrc_slot *slot, const uint8_t *name, size_t name_len, uint64_t start,
                              uint64_t len, lrc_slot *other, uint64_t *version, uint64_t *pieces,
-                             int64_t timeout_ms);
+                             int64_t timeout_ms) LRC_STATUS LRC_READS(2, 3) LRC_FILLS(6);
 uint32_t lrc_store_lose_wait(lrc_slot *slot, const uint8_t *name, size_t name_len, uint64_t stripe,
-                             uint64_t fragment, uint64_t *version, int64_t timeout_ms);
+                             uint64_t fragment, uint64_t *version, int64_t timeout_ms) LRC_NONNULL
+    LRC_READS(2, 3);
 uint32_t lrc_store_repair_wait(lrc_slot *slot, const uint8_t *name, size_t name_len,
                                uint64_t stripe, uint64_t fragment, uint64_t *version,
-                               int64_t timeout_ms);
+                               int64_t timeout_ms) LRC_NONNULL LRC_READS(2, 3);
 uint32_t lrc_store_delete_wait(lrc_slot *slot, const uint8_t *name, size_t name_len,
-                               uint64_t *version, int64_t timeout_ms);
+                               uint64_t *version, int64_t timeout_ms) LRC_NONNULL LRC_READS(2, 3);
 uint32_t lrc_store_stat_wait(lrc_slot *slot, const uint8_t *name, size_t name_len,
                              uint64_t *version, uint64_t *len, uint64_t *stripes, uint64_t *lost,
-                             int64_t timeout_ms);
+                             int64_t timeout_ms) LRC_STATUS LRC_READS(2, 3);
 /* It trims in parts of 512 entries, between which other threads call, and at most 1,048,576 in all.
  * If a part is refused after others, or the deadline passes between two, `discarded` gets how many
  * entries these had. */
 uint32_t lrc_store_trim_wait(lrc_slot *slot, uint64_t keep, uint64_t *discarded,
-                             int64_t timeout_ms);
-uint32_t lrc_store_plan_wait(lrc_slot *slot, lrc_slot *other, uint64_t *items, int64_t timeout_ms);
+                             int64_t timeout_ms) LRC_NONNULL;
+uint32_t lrc_store_plan_wait(lrc_slot *slot, lrc_slot *other, uint64_t *items,
+                             int64_t timeout_ms) LRC_STATUS LRC_FILLS(2);
 uint32_t lrc_store_plan_part_wait(lrc_slot *slot, lrc_slot *other, uint64_t most, uint64_t *items,
-                                  int64_t timeout_ms);
+                                  int64_t timeout_ms) LRC_STATUS LRC_FILLS(2);
 uint32_t lrc_store_mend_step_wait(lrc_slot *slot, lrc_slot *other, uint64_t *version,
-                                  int64_t timeout_ms);
-uint32_t lrc_store_numbers_wait(lrc_slot *slot, lrc_numbers *numbers, int64_t timeout_ms);
+                                  int64_t timeout_ms) LRC_NONNULL;
+uint32_t lrc_store_numbers_wait(lrc_slot *slot, lrc_numbers *numbers,
+                                int64_t timeout_ms) LRC_STATUS;
 uint32_t lrc_store_hold_wait(lrc_slot *slot, const uint8_t *name, size_t name_len, lrc_slot *other,
-                             uint64_t *version, uint64_t *len, int64_t timeout_ms);
+                             uint64_t *version, uint64_t *len, int64_t timeout_ms) LRC_STATUS
+    LRC_READS(2, 3) LRC_FILLS(4);
 /* Lends all bytes of the version that the name's blob has now, and puts them into the empty
  * `other`, as lrc_store_hold and lrc_slot_lend do. `version` and `len` are written if a version was
  * held, also on LRC_STORE_UNRECOVERABLE, LRC_STORE_OCCUPIED and, if lost fragments are to be
  * rebuilt, LRC_STORE_NO_MEMORY. */
 uint32_t lrc_store_get_wait(lrc_slot *slot, const uint8_t *name, size_t name_len, lrc_slot *other,
-                            uint64_t *version, uint64_t *len, uint64_t *pieces, int64_t timeout_ms);
+                            uint64_t *version, uint64_t *len, uint64_t *pieces,
+                            int64_t timeout_ms) LRC_STATUS LRC_READS(2, 3) LRC_FILLS(4);
 uint32_t lrc_store_install_wait(lrc_slot *slot, lrc_slot *other, uint64_t stripe, uint64_t fragment,
                                 const uint8_t *bytes, size_t len, uint64_t *version,
-                                int64_t timeout_ms);
+                                int64_t timeout_ms) LRC_STATUS LRC_READS(5, 6);
 /* Repairs all lost fragments that can be rebuilt, by plans of at most 512 items, and returns
  * LRC_STORE_DONE. The deadline is for each of its steps. If one is refused, it stops and returns
  * that status. `repaired` gets how many it repaired, unless that is none and it was refused. */
-uint32_t lrc_store_mend_wait(lrc_slot *slot, uint64_t *repaired, int64_t timeout_ms);
+uint32_t lrc_store_mend_wait(lrc_slot *slot, uint64_t *repaired, int64_t timeout_ms) LRC_NONNULL;
 
 /* ---- A pool of the sessions of a store, for threads that come and go. Any threads may share it.
  * Each takes a session, makes its calls on it, and gives it back. The calls of each use, from the
@@ -423,7 +470,7 @@ typedef struct lrc_pool lrc_pool;
 
 /* Makes a pool of the session in `slot`, which is empty afterwards. LRC_STORE_NO_MEMORY leaves it
  * as it was. */
-uint32_t lrc_pool_open(lrc_slot *slot, lrc_pool **pool);
+uint32_t lrc_pool_open(lrc_slot *slot, lrc_pool **pool) LRC_STATUS;
 
 /* Lends a session to the calling thread until lrc_pool_give. There are as many as the session that
  * the pool was made of has places, less one, of which the others learn what was seen: 63, if it was
@@ -431,14 +478,14 @@ uint32_t lrc_pool_open(lrc_slot *slot, lrc_pool **pool);
  * in a line for one: up to `timeout_ms`, and not if that is 0, after which it returns
  * LRC_STORE_BUSY; without a deadline if it is negative. LRC_STORE_NO_MEMORY if a session cannot be
  * made. */
-uint32_t lrc_pool_take(lrc_pool *pool, lrc_slot **session, int64_t timeout_ms);
+uint32_t lrc_pool_take(lrc_pool *pool, lrc_slot **session, int64_t timeout_ms) LRC_STATUS;
 
 /* Gives a session back. The first thread in the line gets it. */
-void lrc_pool_give(lrc_pool *pool, lrc_slot *session);
+void lrc_pool_give(lrc_pool *pool, lrc_slot *session) LRC_NONNULL;
 
 /* Joins all sessions into one in the empty `slot`, and frees the pool. LRC_STORE_NOT_ALONE if a
  * session is lent. No thread may use the pool meanwhile or afterwards. */
-uint32_t lrc_pool_close(lrc_pool *pool, lrc_slot *slot);
+uint32_t lrc_pool_close(lrc_pool *pool, lrc_slot *slot) LRC_NONNULL LRC_FILLS(2);
 
 /* ---- A store of several shards, for threads that come and go. Any threads may share it. Each
  * shard is a store with a critical section of its own, and holds the names that lrc_store_shard
@@ -462,40 +509,42 @@ typedef struct {
 /* Opens a store. LRC_STORE_BAD_WIDTH and LRC_STORE_NO_MEMORY as lrc_store_open.
  * LRC_STORE_BAD_ARGUMENT for a limit or a number of shards that is out of range, and for options
  * that this version does not know: other bytes than 0 behind `limit`, up to `size`. */
-uint32_t lrc_shards_open(const lrc_options *options, lrc_shards **shards);
+uint32_t lrc_shards_open(const lrc_options *options, lrc_shards **shards) LRC_STATUS;
 
 /* Writes the pool of the shard of a name. LRC_STORE_BAD_NAME if it is none. */
-uint32_t lrc_shards_find(lrc_shards *shards, const uint8_t *name, size_t name_len, lrc_pool **pool);
+uint32_t lrc_shards_find(lrc_shards *shards, const uint8_t *name, size_t name_len,
+                         lrc_pool **pool) LRC_STATUS LRC_READS(2, 3);
 
 /* Writes the pool of a shard. LRC_STORE_NOTHING_LEFT if there are not so many. */
-uint32_t lrc_shards_at(lrc_shards *shards, uint32_t shard, lrc_pool **pool);
+uint32_t lrc_shards_at(lrc_shards *shards, uint32_t shard, lrc_pool **pool) LRC_STATUS;
 
 /* Writes the numbers of all shards together. Each shard is counted at a moment of its own, on a
  * session of its pool: LRC_STORE_NO_MEMORY if none can be made. */
-uint32_t lrc_shards_numbers(lrc_shards *shards, lrc_numbers *numbers, int64_t timeout_ms);
+uint32_t lrc_shards_numbers(lrc_shards *shards, lrc_numbers *numbers,
+                            int64_t timeout_ms) LRC_STATUS;
 
 /* Trims the journal of each shard, as lrc_store_trim_wait does, also with LRC_STORE_NO_MEMORY. If a
  * shard is refused after others, `discarded` gets how many entries these had. */
 uint32_t lrc_shards_trim(lrc_shards *shards, uint64_t keep, uint64_t *discarded,
-                         int64_t timeout_ms);
+                         int64_t timeout_ms) LRC_NONNULL;
 
 /* Repairs all lost fragments that can be rebuilt, as lrc_store_mend_wait does, also with
  * LRC_STORE_NO_MEMORY. Threads that mend at once begin with different shards. */
-uint32_t lrc_shards_mend(lrc_shards *shards, uint64_t *repaired, int64_t timeout_ms);
+uint32_t lrc_shards_mend(lrc_shards *shards, uint64_t *repaired, int64_t timeout_ms) LRC_NONNULL;
 
 /* Closes the store and frees it. `entries` and `lawful` are those of lrc_store_close, of all
  * journals. LRC_STORE_NOT_ALONE if a session is lent: the store is as before. LRC_STORE_EMPTY if a
  * session was released or replaced while it was lent: the store is freed all the same, `entries`
  * are those of the other shards, and `lawful` is 2. No thread may use the store meanwhile or
  * afterwards. */
-uint32_t lrc_shards_close(lrc_shards *shards, uint64_t *entries, uint32_t *lawful);
+uint32_t lrc_shards_close(lrc_shards *shards, uint64_t *entries, uint32_t *lawful) LRC_NONNULL;
 
 /* ---- A mending: one plan of repairs that any number of threads work off, each on a session of
  * its own. It is made in parts, so that other threads call between them. */
 typedef struct lrc_mending lrc_mending;
 
 /* Begins a mending. LRC_STORE_NO_MEMORY if out of memory. */
-uint32_t lrc_mending_open(lrc_mending **mending);
+uint32_t lrc_mending_open(lrc_mending **mending) LRC_STATUS;
 
 /* Repairs lost fragments that no other thread of the mending repairs, and returns LRC_STORE_DONE
  * once there are no more. The sessions of a mending are of one store. The deadline is for each of
@@ -503,10 +552,10 @@ uint32_t lrc_mending_open(lrc_mending **mending);
  * status; its fragment is left to the next call of any thread. `repaired` gets how many it
  * repaired, unless that is none and it was refused. */
 uint32_t lrc_mending_work(lrc_mending *mending, lrc_slot *session, uint64_t *repaired,
-                          int64_t timeout_ms);
+                          int64_t timeout_ms) LRC_NONNULL;
 
 /* Frees the mending. No thread may use it meanwhile or afterwards. */
-void lrc_mending_close(lrc_mending *mending);
+void lrc_mending_close(lrc_mending *mending) LRC_NONNULL;
 
 #ifdef __cplusplus
 }

@@ -6,8 +6,13 @@ and has one type for u64 and size.
 
 import os
 import re
+import sys
 
 TOP = os.path.dirname(os.path.dirname(os.path.abspath(__file__)))
+sys.path.append(os.path.join(TOP, "tools"))
+
+import libraries  # noqa: E402
+
 # What C passes for a parameter of each type of an export. A slice is an address and a length.
 RATTLE = {
     "Global": [],
@@ -83,7 +88,7 @@ def c_type(parameter):
 
 def in_header(text):
     """The functions that return a status or nothing."""
-    text = re.sub(r"/\*.*?\*/", "", text, flags=re.S)
+    text = re.sub(r"/\*.*?\*/", "", libraries.without_attributes(text), flags=re.S)
     functions = re.findall(r"^(?:uint32_t|void) (\w+)\(([^)]*)\);", text, flags=re.M)
     return {name: [*map(c_type, parameters.split(","))] for name, parameters in functions}
 

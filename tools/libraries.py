@@ -105,6 +105,12 @@ def abi(number):
     return major if major != "0" else f"{major}.{minor}"
 
 
+def without_attributes(header):
+    """A header's text without the attributes for compilers, and without what defines them."""
+    text = re.sub(r"/\* Attributes\..*?\n#endif\n\n(?=#ifdef __cplusplus)", "", header, flags=re.S)
+    return re.sub(r"\)(?:\s+LRC_[A-Z]+(?:\([\d, ]+\))?)+;", ");", text)
+
+
 def declared(name):
     """The functions that a library's header declares and does not define."""
     text = re.sub(r"/\*.*?\*/", "", read("include", f"{name}.h"), flags=re.S)

@@ -9,6 +9,7 @@ import os
 import re
 
 import believed
+import libraries
 import sources
 from reference_rattle import filled
 
@@ -113,8 +114,8 @@ GENERAL = {("store_c", "OnSession", "IsAfterBusy")}
 
 
 def items(header):
-    """The comments and declarations of a header, without guards and bodies."""
-    text = sources.read(os.path.join(sources.TOP, "include", header))
+    """The comments and declarations of a header, without guards, attributes and bodies."""
+    text = libraries.without_attributes(libraries.read("include", header))
     for found in DECLARATION.finditer(text):
         said = found.group()
         is_code = FUNCTION.match(said)

@@ -157,7 +157,8 @@ static void closes_without_a_session(void) {
             uint64_t version, len, stripes, fragments;
             EXPECT(lrc_shards_at(shards, shard, &pool), LRC_STORE_DONE);
             EXPECT(lrc_pool_take(pool, &session, 0), LRC_STORE_DONE);
-            lrc_store_stat(session, NAME("a"), &version, &len, &stripes, &fragments);
+            EXPECT(lrc_store_stat(session, NAME("a"), &version, &len, &stripes, &fragments),
+                   LRC_STORE_NO_NAME);
             lrc_pool_give(pool, session);
         }
         if (lost == 1) EXPECT(lrc_store_open(4, 10, &other), LRC_STORE_DONE);
@@ -434,7 +435,7 @@ static void has_one_deadline(void) {
 static void *count_for_ever(void *argument) {
     lrc_numbers numbers;
     (void)argument;
-    lrc_shards_numbers(shared, &numbers, -1);
+    EXPECT(lrc_shards_numbers(shared, &numbers, -1), LRC_STORE_DONE); /* until it is cancelled */
     return NULL;
 }
 

@@ -92,8 +92,9 @@ def declarations(text):
 
 def of_header(name):
     """The page of a library."""
-    first, *_ = PARTS.finditer(libraries.read("include", f"{name}.h"))
-    rest = libraries.read("include", f"{name}.h")[first.end() :]
+    text = libraries.without_attributes(libraries.read("include", f"{name}.h"))
+    first, *_ = PARTS.finditer(text)
+    rest = text[first.end() :]
     other = next(it for it in libraries.LIBRARIES if it != name)
     page = [
         f'.TH {name.upper()} 3 "" "lrcstore {libraries.version()}" "lrcstore"',
