@@ -93,6 +93,26 @@ def in_header(text):
     return {name: [*map(c_type, parameters.split(","))] for name, parameters in functions}
 
 
+def attributes(text):
+    """What a header declares that a compiler can check, and what follows from its parameters: for
+    each function whether its status may be ignored, and where an address has a length."""
+    text = re.sub(r"/\*.*?\*/", "", text, flags=re.S)
+    pattern = r"^(?:uint32_t|void) (\w+)\(([^)]*\*[^)]*)\)([^;{]*);"
+    for name, parameters, words in re.findall(pattern, text, flags=re.M):
+        given = re.findall(r"LRC_\w+(?:\([\d, ]+\))?", words)
+        kinds = [it for it in given if not it.startswith("LRC_FILLS")]
+        parameters = [" ".join(it.split()) for it in parameters.split(",")]
+        wanted = [kinds[0]]
+        for at, (one, after) in enumerate(zip(parameters, parameters[1:]), 1):
+            if "*" in one and re.fullmatch(r"size_t (\w*len|capacity|data_fragments)", after):
+                is_updated = re.match("lrc_(slice|item)", one) or name.startswith("lrc_encode_add")
+                is_updated = is_updated or (name, at) == ("lrc_add", 1)
+                kind = "UPDATES" if is_updated else "WRITES"
+                kind = "READS" if one.startswith("const") else kind
+                wanted.append(f"LRC_{kind}({at}, {at + 1})")
+        yield name, kinds, wanted
+
+
 def in_rust(text):
     def shown(type_):
         start, _, name = type_.rpartition(" ")

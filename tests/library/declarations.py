@@ -58,6 +58,10 @@ def main():
     rust = declared.read("bindings", "rust", "src", "lib.rs")
     wanted = declared.exported(rattle)
     assert declared.in_header(header) == wanted, "the header"
+    for name, kinds, follow in declared.attributes(header):
+        assert kinds == follow, f"the attributes of {name}"
+        is_plain = name in ("lrc_encode", "lrc_encode_add", "lrc_add")
+        assert kinds[0] == ("LRC_NONNULL" if is_plain else "LRC_STATUS"), f"those of {name}"
     assert declared.in_rust(rust) == wanted, "the Rust crate"
     python = {name: [PYTHON[word] for word in lrc_coder.DECLARED[name]] for name in wanted}
     assert python == declared.of_ctypes(wanted), "the Python module"

@@ -33,6 +33,12 @@ PYTHON = {
 # The functions that are plain C, beside the waiting forms.
 UNPROVED = re.compile("_pool_|_mending_|_shards_|lrc_store_name")
 CALLS = ("PUT", "READ", "LOSE", "REPAIR", "DELETE", "STAT")
+# What callers may ignore the status of: what has no output that they have to have, what they know
+# to be done, and the ends of pools and shards, after which there is nothing else to do.
+IGNORED = "store_(lose|repair|delete|trim|trim_part|mend_step)(_wait)?|store_mend_wait"
+IGNORED += "|shards_(trim|mend|close)|mending_work|store_join|slot_(learn|skip)|pool_close"
+IGNORED += "|slot_(slices|runs|items|buffer|shape)"
+NO_STATUS = "slot_release|store_name|pool_give|mending_close"
 
 
 class Declarations(unittest.TestCase):
@@ -65,6 +71,14 @@ class Declarations(unittest.TestCase):
             name: [PYTHON[type_] for type_ in types] for name, types in lrc_store.DECLARED.items()
         }
         self.assertEqual(python, declared.of_ctypes({name: header[name] for name in python}))
+
+    def test_attributes(self):
+        declarations = list(declared.attributes(self.header))
+        self.assertEqual(len(declarations), 68)
+        for name, kinds, wanted in declarations:
+            self.assertEqual(kinds, wanted, name)
+            is_plain = re.fullmatch(f"lrc_({IGNORED}|{NO_STATUS})", name)
+            self.assertEqual(kinds[0], "LRC_NONNULL" if is_plain else "LRC_STATUS", name)
 
     def test_structures(self):
         for name, rust, python in (

@@ -46,11 +46,11 @@ static int64_t now_us(void) {
 }
 
 static lrc_pool *opened(void) {
-    lrc_slot slot = LRC_SLOT_EMPTY;
+    lrc_slot slot = LRC_SLOT_EMPTY, other = LRC_SLOT_EMPTY;
     lrc_pool *pool = NULL;
     EXPECT(lrc_store_open(4, 100000, &slot), LRC_STORE_DONE);
     EXPECT(lrc_pool_open(&slot, &pool), LRC_STORE_DONE);
-    EXPECT(lrc_store_split(&slot, 1, &slot), LRC_STORE_EMPTY);
+    EXPECT(lrc_store_split(&slot, 1, &other), LRC_STORE_EMPTY);
     return pool;
 }
 

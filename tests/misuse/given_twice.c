@@ -1,0 +1,15 @@
+/* A session is given back twice. */
+#include "misuse.h"
+
+int main(void) {
+    lrc_slot slot = LRC_SLOT_EMPTY, *session = NULL;
+    lrc_pool *pool = NULL;
+    open_store(&slot);
+    EXPECT(lrc_pool_open(&slot, &pool), LRC_STORE_DONE);
+    EXPECT(lrc_pool_take(pool, &session, 0), LRC_STORE_DONE);
+    lrc_pool_give(pool, session);
+    lrc_pool_give(pool, session);
+    EXPECT(lrc_pool_close(pool, &slot), LRC_STORE_DONE);
+    lrc_slot_release(&slot);
+    return report("misuse");
+}
