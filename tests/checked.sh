@@ -109,6 +109,17 @@ linked() {
     [ $? = 99 ] && is_report "lrc_store_put: name is NULL" null_name
 }
 
+# docs/library.md shows a report as it is.
+on_page() {
+    local line
+    compiled given_twice -rdynamic || return
+    under given_twice
+    grep -q "^$work/given_twice(main+0x" "$work/printed" || { wrong "no main"; return 1; }
+    while IFS= read -r line; do
+        grep -qxF "$line" docs/library.md || { echo "docs/library.md has not '$line'"; return 1; }
+    done < <(head -n 2 "$work/printed")
+}
+
 # Each program has a line here.
 listed() {
     local each
@@ -158,6 +169,7 @@ test_of "status ignored, not found" gcc gcc misses status_ignored
 test_of "going on after a report" gcc gcc goes_on
 test_of "output before the end" gcc gcc is_written
 test_of "linked with the library" gcc gcc linked
+test_of "report of the page" gcc gcc on_page
 
 # ---- Honest programs.
 

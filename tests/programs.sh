@@ -47,7 +47,7 @@ if [ -z "${LRC_LIBRARIES:-}" ]; then
     export LRC_LIBRARIES=$work/libraries
     part tools/libraries.py --from "$LRC_BUILT" --to "$LRC_LIBRARIES"
 fi
-parts=(tests/{store,library,coverage,edges,explore,install,services}.sh)
+parts=(tests/{store,library,coverage,edges,explore,install,services,checked}.sh)
 if [ -n "${LRC_BUILT:-}" ]; then
     parts=(tests/release.sh "${parts[@]}")
 else

@@ -4,6 +4,7 @@ installation and every package is made of these."""
 import os
 import shutil
 
+import checked_library
 import libraries
 import package_files
 import python_extension
@@ -79,6 +80,12 @@ class Installation:
         self.write(text, f"{self.libdir}/pkgconfig/{name}.pc")
         for file, text in package_files.cmake(name, self.libdir).items():
             self.write(text, f"{self.libdir}/cmake/{name}/{file}")
+
+    def checked(self, folder, has_path=True):
+        """The library that checks callers, over the store's in a folder. It finds the installed one
+        beside it, or as the system's loader does."""
+        there = os.path.dirname(self.place(f"{self.libdir}/{checked_library.NAME}"))
+        checked_library.build(folder, there, "$ORIGIN" if has_path else None)
 
     def module(self, name):
         """A Python module, which loads the library that the system's loader finds."""

@@ -60,7 +60,6 @@ static _Thread_local struct call *inside; /* the call that this thread makes */
 static unsigned long calls, reports;
 static int goes_on, counts, is_cut_off;
 static nlink_t threads; /* when the process forked */
-static pid_t process;
 
 /* Prints a stack without the first frames, which are of this library. */
 static void print_stack(void *const *stack, int depth) {
@@ -366,7 +365,6 @@ __attribute__((constructor)) static void at_start(void) {
     void *stack[1];
     goes_on = words && strstr(words, "warn");
     counts = words && strstr(words, "count");
-    process = getpid();
     backtrace(stack, 1); /* the first time it allocates */
     pthread_atfork(before_fork, NULL, in_child);
 }
@@ -393,7 +391,6 @@ static void check_leak(const void *node, VISIT visit, int level) {
 }
 
 __attribute__((destructor)) static void at_end(void) {
-    if (getpid() != process) return;
     pthread_mutex_lock(&mutex);
     const unsigned long before = reports;
     twalk(things, check_leak);

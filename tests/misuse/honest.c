@@ -4,8 +4,15 @@
 #include <sys/wait.h>
 #include <unistd.h>
 
-/* The program ends with it. */
+/* The program ends with it. It was moved there. */
 static lrc_slot for_ever;
+
+static void opens_for_ever(void) {
+    lrc_slot slot = LRC_SLOT_EMPTY;
+    open_store(&slot);
+    for_ever = slot;
+    put(&for_ever, "a");
+}
 
 /* As a constructor of C++ moves it: the first slot is used anew before the second one. */
 static void moves(void) {
@@ -68,14 +75,14 @@ static void takes_what_is_beside(void) {
     uint64_t number[3] = {0, 0, 0};
     open_store(&slot);
     put(&slot, "a");
-    EXPECT(lrc_store_read(&slot, NAME("a"), 0, (uint8_t *)number, 0, &number[0], &number[1],
+    EXPECT(lrc_store_read(&slot, NAME("a"), 0, (uint8_t *)number + 4, 0, &number[0], &number[1],
                           &number[2]),
            LRC_STORE_DONE);
     lrc_slot_release(&slot);
 }
 
 int main(void) {
-    open_store(&for_ever);
+    opens_for_ever();
     moves();
     forks();
     takes_the_memory_of_a_pool();

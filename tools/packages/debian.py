@@ -72,6 +72,7 @@ def fill(work, source, linked):
         staged.library(name, linked)
         staged.module(name)
         staged.rust(name)
+    staged.checked(linked, has_path=False)
     staged.python_package(linked, has_path=False)
     staged.go()
     for part in PARTS:

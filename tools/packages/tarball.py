@@ -32,6 +32,7 @@ def fill(root, source, linked, provenance):
         files.library(name, linked)
         files.python(name)
         files.rust(name)
+    files.checked(linked)
     files.python_package(linked)
     files.go()
     files.copy(provenance, "share/lrcstore/provenance.json")
