@@ -125,7 +125,7 @@ listed() {
     local each
     for each in tests/misuse/*.c; do
         each=$(basename "$each" .c)
-        grep -qE "^(found|.* misses|.* honest) (tests/misuse/)?$each(\.c)?( |$)" tests/checked.sh \
+        grep -qE "^(found|.* misses|.* honest|.* gcc) (tests/misuse/)?$each(\.c)?( |$)" tests/checked.sh \
             || { echo "$each stands in no line of tests/checked.sh"; return 1; }
     done
 }
@@ -185,6 +185,14 @@ quiet() {
 honest() {
     gcc "${flags[@]}" -I library "$1" "${@:3}" "${store[@]}" -o "$work/program" \
         && quiet "$work/program" ${2:+"$2"}
+}
+
+# A call that waits ends also if its thread is cancelled. The wrappers call the store that is busy.
+cancelled() {
+    gcc "${flags[@]}" -shared -fPIC tests/store/busy.c -o "$work/busy.so" \
+        && compiled cancelled "$work/busy.so" || return
+    LD_PRELOAD="$checked $work/busy.so" timeout 300 "$work/cancelled" > "$work/printed" 2>&1 \
+        || wrong "cancelled: a report, or no end"
 }
 
 honest_cpp() {
@@ -261,4 +269,5 @@ if [ "${1:-}" != misuse ]; then
     test_of "Go package" go golang-go go_package
 fi
 test_of "what looks like a mistake" gcc gcc honest tests/misuse/honest.c ""
+test_of "thread that is cancelled" gcc gcc cancelled
 summary "checked library"

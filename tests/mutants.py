@@ -275,7 +275,6 @@ TESTS = {
     ),
     "release": Test("true", "python3 tests/release/modules.py -f"),
     "checked": Test("true", "tests/checked.sh misuse"),
-    "checked_mending": Test("true", "LRC_TEST=mending tests/checked.sh"),
     "python_coder": Test("true", "python3 tests/library/bindings.py -f"),
     "python_store": Test("true", "python3 tests/store/bindings.py"),
     "python_package": Test(
