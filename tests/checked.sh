@@ -122,44 +122,51 @@ on_page() {
 
 # Each program has a line here.
 listed() {
-    local each
+    local each before="reports |misses |honest tests/misuse/|gcc "
     for each in tests/misuse/*.c; do
         each=$(basename "$each" .c)
-        grep -qE "^(found|.* misses|.* honest|.* gcc) (tests/misuse/)?$each(\.c)?( |$)" tests/checked.sh \
+        grep -qE "^ *test_of .* ($before)$each(\.c)?( |$)" tests/checked.sh \
             || { echo "$each stands in no line of tests/checked.sh"; return 1; }
     done
 }
 
-# found NAME PATTERN: a test of that report
-found() { test_of "${1//_/ }" gcc gcc reports "$1" "$2"; }
-# warned NAME COMPILER OPTION: a test of that warning
-warned() { test_of "${1//_/ }, $2" "$2" "$2" warns "$@"; }
-
 content="slot was not initialised, was overwritten, or is a copy of a slot used since"
 build || exit 1
-warned null_name gcc nonnull
-warned null_name clang nonnull
-warned uninitialised_slot gcc maybe-uninitialized
-warned status_ignored gcc unused-result
-warned status_ignored clang unused-result
-warned length_too_long gcc stringop-overread
-found null_name "lrc_store_put: name is NULL"
-found unmapped_target "lrc_store_read: target has 10 bytes at 0x[0-9a-f]+, not all of them mapped"
-found same_slot_twice "lrc_store_lend: other is the same slot as slot"
-found overlapping_outputs "lrc_store_read: version overlaps lent"
-found uninitialised_slot "lrc_store_open_unjournaled: $content"
-found overwritten_slot "lrc_slot_release: $content"
-found copied_slot "lrc_store_put: $content"
-found two_threads "lrc_store_put: slot is in use by lrc_store_put of thread [0-9]+"
-found signal_handler "lrc_store_delete is called by a signal handler inside lrc_store_put"
-found forked_child "lrc_store_put is called in the child of a process with threads"
-found given_own_session "lrc_pool_give: session is of no pool"
-found given_twice "lrc_pool_give: session was given back before"
-found given_to_another_pool "lrc_pool_give: session is of another pool"
-found given_while_in_use "lrc_pool_give: session is in use by lrc_store_put of thread [0-9]+"
-found used_after_give "lrc_store_put: slot was given back to its pool"
-found released_while_lent "lrc_slot_release: slot was emptied while its pool lends it"
-found leak "lrc_slot_release was not called for what lrc_store_open left in a slot"
+test_of "null name, gcc" gcc gcc warns null_name gcc nonnull
+test_of "null name, clang" clang clang warns null_name clang nonnull
+test_of "uninitialised slot, gcc" gcc gcc warns uninitialised_slot gcc maybe-uninitialized
+test_of "status ignored, gcc" gcc gcc warns status_ignored gcc unused-result
+test_of "status ignored, clang" clang clang warns status_ignored clang unused-result
+test_of "length too long, gcc" gcc gcc warns length_too_long gcc stringop-overread
+test_of "null name" gcc gcc reports null_name "lrc_store_put: name is NULL"
+test_of "unmapped target" gcc gcc reports unmapped_target \
+    "lrc_store_read: target has 10 bytes at 0x[0-9a-f]+, not all of them mapped"
+test_of "same slot twice" gcc gcc reports same_slot_twice \
+    "lrc_store_lend: other is the same slot as slot"
+test_of "overlapping outputs" gcc gcc reports overlapping_outputs \
+    "lrc_store_read: version overlaps lent"
+test_of "uninitialised slot" gcc gcc reports uninitialised_slot \
+    "lrc_store_open_unjournaled: $content"
+test_of "overwritten slot" gcc gcc reports overwritten_slot "lrc_slot_release: $content"
+test_of "copied slot" gcc gcc reports copied_slot "lrc_store_put: $content"
+test_of "two threads" gcc gcc reports two_threads \
+    "lrc_store_put: slot is in use by lrc_store_put of thread [0-9]+"
+test_of "signal handler" gcc gcc reports signal_handler \
+    "lrc_store_delete is called by a signal handler inside lrc_store_put"
+test_of "forked child" gcc gcc reports forked_child \
+    "lrc_store_put is called in the child of a process with threads"
+test_of "given own session" gcc gcc reports given_own_session "lrc_pool_give: session is of no pool"
+test_of "given twice" gcc gcc reports given_twice "lrc_pool_give: session was given back before"
+test_of "given to another pool" gcc gcc reports given_to_another_pool \
+    "lrc_pool_give: session is of another pool"
+test_of "given while in use" gcc gcc reports given_while_in_use \
+    "lrc_pool_give: session is in use by lrc_store_put of thread [0-9]+"
+test_of "used after give" gcc gcc reports used_after_give \
+    "lrc_store_put: slot was given back to its pool"
+test_of "released while lent" gcc gcc reports released_while_lent \
+    "lrc_slot_release: slot was emptied while its pool lends it"
+test_of "leak" gcc gcc reports leak \
+    "lrc_slot_release was not called for what lrc_store_open left in a slot"
 # It sees calls, and no use of what they gave: that would need copies of all that is lent.
 test_of "lent after release, not found" gcc gcc misses lent_after_release
 # All 1,600 bytes are mapped. AddressSanitizer would know where the block ends.

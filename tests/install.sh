@@ -117,6 +117,18 @@ package() {
         && [ -e "$root/lib/python3/dist-packages/liblrc_store.so" ]
 }
 
+# The program of the tutorial makes no mistake, as the installed library says. That finds the store
+# by itself.
+checked() {
+    env LD_PRELOAD="$prefix/lib/liblrc_store_checked.so" /bin/true || return
+    cp bindings/c/store.c "$work/checked.c"
+    PKG_CONFIG_PATH=$prefix/lib/pkgconfig bash -c \
+        "gcc '$work/checked.c' \$(pkg-config --cflags --libs lrc_store) -o '$work/checked'" || return
+    LRC_STORE_CHECK=count LD_PRELOAD=$prefix/lib/liblrc_store_checked.so \
+        logged "$work/checked" || return
+    grep -q "^lrc_store_checked: 8 calls, 0 reports$" "$work/log"
+}
+
 sonames() {
     local name
     for name in lrc_coder lrc_store; do
@@ -142,6 +154,7 @@ test_of "shards in each language" go golang-go of_shards
 test_of "both kinds of each library" cmake cmake with_cmake
 test_of "versions that CMake accepts" cmake cmake cmake_versions
 test_of "package" pkg-config pkg-config package
+test_of "checked library" pkg-config pkg-config checked
 test_of "sonames" readelf binutils sonames
 test_of "uninstall" python3 python3 uninstall
 summary installation

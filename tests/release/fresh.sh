@@ -98,7 +98,9 @@ in_c() {
         test "$(./store)" = "HELLO, WORLD" && test "$(LRC_STORE_CPU=v2 ./store)" = "HELLO, WORLD"
         gcc bindings/c/rebuild.c $(pkg-config --cflags --libs lrc_coder) -o rebuild
         test "$(./rebuild)" = HELL && test "$(LRC_CODER_CPU=v2 ./rebuild)" = HELL
-        ldd store | grep -q liblrc_store.so.0.1'
+        ldd store | grep -q liblrc_store.so.0.1
+        LRC_STORE_CHECK=count LD_PRELOAD=liblrc_store_checked.so ./store 2> calls
+        grep -q " calls, 0 reports" calls'
 }
 
 in_c_static() {
