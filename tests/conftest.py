@@ -3,20 +3,44 @@ has the text. Each `test_of` of a shell script is a test, and so is each check o
 tests/parts.sh and tests/programs.sh. tests/release.sh is one test, as its parts need those before
 them."""
 
+import atexit
 import os
 import re
+import shutil
 import subprocess
+import sys
+import tempfile
 
 import pytest
 
 HERE = os.path.dirname(os.path.abspath(__file__))
 TOP = os.path.dirname(HERE)
+sys.path.append(os.path.join(TOP, "tools"))
+
+import python_extension  # noqa: E402
+
 LIBRARIES = os.environ.get("LRC_LIBRARIES")
-# What loads the libraries is not collected without them.
+HAS_HEADER = os.path.exists(python_extension.header())
+# What loads the libraries is not collected without them, nor Python's coder if it isn't compiled.
 collect_ignore = [] if LIBRARIES else ["library", "release", "services", "store"]
+collect_ignore += [] if HAS_HEADER else ["library", "services"]
+
+
+def compile_coder():
+    """Puts a copy of Python's modules before them, with the extension module of the coder."""
+    folder = tempfile.mkdtemp()
+    atexit.register(shutil.rmtree, folder)
+    copy = os.path.join(folder, "python")
+    shutil.copytree(os.path.join(TOP, "bindings", "python"), copy)
+    ready = os.path.abspath(LIBRARIES)
+    python_extension.build("_coder", ready, os.path.join(copy, "lrcstore"), ready)
+    sys.path.insert(0, copy)
+    os.environ["PYTHONPATH"] = copy
 
 
 def pytest_configure():
+    if LIBRARIES and HAS_HEADER:
+        compile_coder()
     for name in ("coder", "store"):
         if LIBRARIES:
             path = os.path.join(os.path.abspath(LIBRARIES), f"liblrc_{name}.so")

@@ -94,14 +94,18 @@ python_module() {
         > "$work/printed" 2>&1 || { cat "$work/printed"; exit 1; }
 }
 
-# The package with its extension module, in a copy.
+# The package with its extension modules, in a copy.
 python_extension() {
-    local headers
+    local headers each
     headers=$(dirname "$(PYTHONPATH=tools /usr/bin/python3 tools/python_extension.py --header)")
     cp -r bindings/python "$work/package"
-    object native gcc bindings/python/lrcstore/_native.c -I "$headers" -fPIC
-    gcc --coverage -shared "$work/native.o" "$LRC_LIBRARIES/liblrc_store.so" \
-        -o "$work/package/lrcstore/_native.abi3.so"
+    for each in native/store coder/coder; do
+        object "py_${each%/*}" gcc "bindings/python/lrcstore/_${each%/*}.c" -I "$headers" -fPIC
+        gcc --coverage -shared "$work/py_${each%/*}.o" "$LRC_LIBRARIES/liblrc_${each#*/}.so" \
+            -o "$work/package/lrcstore/_${each%/*}.abi3.so"
+    done
+    gcc -w -I include -fPIC -shared tests/library/watched.c -o "$work/watched.so"
+    LD_PRELOAD=$work/watched.so PYTHONPATH=$work/package python_module tests/library/bindings.py
     gcc -w -I include -fPIC -shared tests/store/busy.c -o "$work/busy.so"
     PYTHONPATH=$work/package python_module tests/store/package.py native
     LD_PRELOAD=$work/busy.so PYTHONPATH=$work/package python_module tests/store/package_busy.py
@@ -110,7 +114,6 @@ python_extension() {
 python_modules() {
     export PYTHONDONTWRITEBYTECODE=1 PYTHONPATH=$PWD/bindings/python COVERAGE_FILE=$work/python
     export LRC_STORE_SO=$LRC_LIBRARIES/liblrc_store.so LRC_CODER_SO=$LRC_LIBRARIES/liblrc_coder.so
-    python_module tests/library/bindings.py
     python_module tests/store/bindings.py
     python_module tests/store/package.py ctypes
     python_extension

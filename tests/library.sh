@@ -10,6 +10,7 @@ cd "$(dirname "$0")/.." || exit
 . tests/libraries.sh
 archive=$LRC_LIBRARIES/liblrc_coder.a
 backend=integrations/liberasurecode
+python_header=$(tools/python_extension.py --header)
 read -ra levels <<< "$(tests/levels.sh)"
 
 warnings=(-Wall -Wextra -Wpedantic -Wconversion -Wshadow -Werror -I include)
@@ -93,9 +94,25 @@ shared_library() {
     c_program gcc c11 tests/library/coder.c -Wl,-rpath,"$LRC_LIBRARIES"
 }
 
+# The package with its extension module. Its test is run under functions that watch its calls.
 python() {
+    [ -e "$work/python" ] || python_package "$work/python" "$LRC_LIBRARIES" _coder || return
     LRC_CODER_SO="$LRC_LIBRARIES/liblrc_coder.so" PYTHONDONTWRITEBYTECODE=1 \
-        PYTHONPATH=bindings/python python3 "$@"
+        PYTHONPATH=$work/python python3 "$@"
+}
+python_calls() {
+    gcc -std=gnu11 -O1 "${warnings[@]}" -shared -fPIC tests/library/watched.c \
+        -o "$work/watched.so" && LD_PRELOAD=$work/watched.so python tests/library/bindings.py
+}
+
+# The source of the extension module without a warning of either compiler.
+python_source() {
+    local compiler
+    for compiler in gcc clang; do
+        "$compiler" -std=gnu11 -O2 -fPIC "${warnings[@]}" -Wno-missing-field-initializers \
+            -isystem "${python_header%/*}" -c bindings/python/lrcstore/_coder.c \
+            -o "$work/source.o" || return
+    done
 }
 
 rust() {
@@ -119,15 +136,19 @@ is() {
 # has them as they are.
 examples() {
     local each
-    for each in c python rust; do
+    for each in c rust; do
         is HELL "example_in_$each" || return
     done
     is "$(printf 'HELL\nHALL\nHALLO, F')" c_program gcc c11 bindings/c/network.c || return
     python3 tests/library/examples.py
 }
 
+python_examples() {
+    is HELL example_in_python rebuild && is "HELLO, FRAGMENTS OF DATA" example_in_python stripes
+}
+
 example_in_c() { c_program gcc c11 bindings/c/rebuild.c; }
-example_in_python() { python bindings/python/rebuild.py; }
+example_in_python() { python "$work/python/$1.py"; }
 example_in_rust() { rust run --example rebuild; }
 
 liberasurecode() {
@@ -174,8 +195,10 @@ test_of "C++" g++ g++ c_program g++ c++17 tests/library/coder.cpp
 test_of "C++, sanitizers of gcc" g++ g++ sanitized g++ c++17 tests/library/coder.cpp
 test_of "C++, sanitizers of clang" clang++ clang sanitized clang++ c++17 tests/library/coder.cpp
 test_of "shared library" gcc gcc shared_library
-test_of "Python" python3 python3 python tests/library/bindings.py
-test_of "declarations" python3 python3 python tests/library/declarations.py
+test_of "Python" "$python_header" python3-dev python_calls
+test_of "source for Python" "$python_header" python3-dev python_source
+test_of "examples in Python" "$python_header" python3-dev python_examples
+test_of "declarations" python3 python3 python3 tests/library/declarations.py
 test_of "Rust" cargo cargo rust_tests
 test_of "examples" cargo cargo examples
 header=/usr/include/liberasurecode/erasurecode_backend.h

@@ -275,7 +275,14 @@ TESTS = {
     ),
     "release": Test("true", "python3 tests/release/modules.py -f"),
     "checked": Test("true", "tests/checked.sh misuse"),
-    "python_coder": Test("true", "python3 tests/library/bindings.py -f"),
+    "python_coder": Test(
+        "tools/python_extension.py --libraries $LRC_LIBRARIES --rpath $LRC_LIBRARIES"
+        f" --to bindings/python/lrcstore _coder && {C} -shared -fPIC tests/library/watched.c"
+        " -o watched.so",
+        "LD_PRELOAD=./watched.so python3 tests/library/bindings.py -f",
+        needs=(python_extension.header(), "python3-dev"),
+        reads=("include/", "tools/", "tests/", "bindings/python/lrcstore/_coder.c"),
+    ),
     "python_store": Test("true", "python3 tests/store/bindings.py"),
     "python_package": Test(
         "tools/python_extension.py --libraries $LRC_LIBRARIES --rpath $LRC_LIBRARIES"
@@ -288,7 +295,7 @@ TESTS = {
     # What bindings leave of the memory of a library that counts its blocks.
     "python_leaks": Test(
         "tools/python_extension.py --libraries $LRC_LIBRARIES --rpath $PWD/counted"
-        " --to bindings/python/lrcstore",
+        " --to bindings/python/lrcstore _native",
         leaks("native"),
         prepare=COUNTED,
         needs=(python_extension.header(), "python3-dev"),

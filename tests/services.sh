@@ -30,7 +30,10 @@ over() {
         PYTHONDONTWRITEBYTECODE=1 PYTHONPATH=$1 python3 "${@:2}"
 }
 http() { over "$1" tests/services/http_server.py; }
-nodes() { over "$PWD/bindings/python" tests/services/nodes.py; }
+nodes() {
+    python_package "$work/coder" "$LRC_LIBRARIES" _coder \
+        && over "$work/coder" tests/services/nodes.py
+}
 # By the Python of the system, which has fusepy.
 mounted() {
     LRC_STORE_SO="$LRC_LIBRARIES/liblrc_store.so" LRC_CODER_SO="$LRC_LIBRARIES/liblrc_coder.so" \
@@ -52,9 +55,8 @@ cache() {
 
 # The package with its extension module, over the library that counts its blocks of memory.
 with_extension() {
-    cp -r bindings/python "$work/python" && tests/store/counted.sh "$work/counted" \
-        && tools/python_extension.py --libraries "$LRC_LIBRARIES" --to "$work/python/lrcstore" \
-            --rpath "$work/counted" > /dev/null \
+    tests/store/counted.sh "$work/counted" \
+        && python_package "$work/python" "$work/counted" _native \
         && LRC_STORE_SO=$work/counted/liblrc_store.so LRC_COUNTED=$work/numbers \
             PYTHONDONTWRITEBYTECODE=1 PYTHONPATH=$work/python:tests/store \
             python3 tests/services/http_server.py
@@ -71,7 +73,7 @@ test_of "Redis's protocol" gcc gcc resp_counted
 test_of "Redis's protocol, sanitizers of gcc" gcc gcc resp "${sanitizers[@]}"
 test_of "HTTP by ctypes" python3 python3 http bindings/python
 test_of "HTTP" "$(tools/python_extension.py --header)" python3-dev with_extension
-test_of "objects over nodes" python3 python3 nodes
+test_of "objects over nodes" "$(tools/python_extension.py --header)" python3-dev nodes
 test_of "cache" cargo cargo cache
 test_of "file system" "$(fuse)" "FUSE or python3-fusepy" mounted
 test_of "types of the servers" mypy mypy types

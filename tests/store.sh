@@ -194,9 +194,7 @@ python_with() {
 python() { PYTHONPATH=bindings/python python_with "$@"; }
 # The package with its extension module, and a store that is busy for ever.
 package() {
-    cp -r bindings/python "$work/python" \
-        && tools/python_extension.py --libraries "$LRC_LIBRARIES" --to "$work/python/lrcstore" \
-            --rpath "$LRC_LIBRARIES" > /dev/null \
+    python_package "$work/python" "$LRC_LIBRARIES" \
         && PYTHONPATH=$work/python python_with tests/store/package.py native \
         && busy_library && LD_PRELOAD=$work/busy.so PYTHONPATH=$work/python \
             python_with tests/store/package_busy.py
@@ -213,9 +211,8 @@ leaks() {
 }
 # The package with its extension module over that library.
 package_leaks() {
-    counted_library && cp -r bindings/python "$work/leaks" \
-        && tools/python_extension.py --libraries "$LRC_LIBRARIES" --to "$work/leaks/lrcstore" \
-            --rpath "$work/counted" > /dev/null && leaks native "$work/leaks"
+    counted_library && python_package "$work/leaks" "$work/counted" _native \
+        && leaks native "$work/leaks"
 }
 go_leaks() {
     counted_library && LRC_LIBRARIES=$work/counted LRC_COUNTED=$work/numbers \

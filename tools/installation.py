@@ -99,17 +99,19 @@ class Installation:
         self.link(os.path.relpath(library, self.pythondir), f"{self.pythondir}/lib{name}.so")
 
     def python_package(self, folder, has_path=True):
-        """The Python package, and its extension module if this machine can compile it over the
-        libraries in a folder. It finds the installed one by a path, or as the system's loader does.
-        """
+        """The Python package, and its extension modules if this machine can compile them over the
+        libraries in a folder. They find the installed ones by a path, or as the system's loader
+        does."""
         source, to = os.path.join(TOP, "bindings", "python", PACKAGE), f"{self.pythondir}/{PACKAGE}"
         for file in sorted(os.listdir(source)):
             if file.endswith((".py", ".pyi", ".typed")):
                 self.copy(os.path.join(source, file), f"{to}/{file}")
-        if os.path.exists(python_extension.header()):
-            there = os.path.dirname(self.place(f"{to}/{python_extension.MODULE}"))
-            library = f"$ORIGIN/{os.path.relpath(self.libdir, to)}"
-            python_extension.build(folder, there, library if has_path else None)
+        if not os.path.exists(python_extension.header()):
+            return
+        rpath = f"$ORIGIN/{os.path.relpath(self.libdir, to)}" if has_path else None
+        for name in python_extension.MODULES:
+            there = os.path.dirname(self.place(f"{to}/{python_extension.file_of(name)}"))
+            python_extension.build(name, folder, there, rpath)
 
     def rust(self, name):
         """The sources of a Rust crate, which links the library by pkg-config."""

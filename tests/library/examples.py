@@ -15,6 +15,7 @@ PROGRAMS = [
     "bindings/c/rebuild.c",
     "bindings/rust/examples/rebuild.rs",
     "bindings/python/rebuild.py",
+    "bindings/python/stripes.py",
 ]
 
 

@@ -158,7 +158,7 @@ by_pip() {
     steps 'dpkg --purge python3-lrcstore && python3 -m venv /venv
         /venv/bin/pip install --no-index /dist/lrcstore-*.whl && cd /tmp
         test "$(/venv/bin/python store.py)" = "HELLO, WORLD"
-        /venv/bin/python -c "import lrcstore._native"
+        /venv/bin/python -c "import lrcstore._native, lrcstore._coder"
         test "$(/venv/bin/python rebuild.py)" = HELL'
 }
 

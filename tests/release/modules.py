@@ -336,9 +336,11 @@ print(*sorted({it for it in lines if "/liblrc_" in it}))
         said = self.printed(code + self.MAPS, self.path("fresh", "bin", "python"), PYTHONPATH="")
         self.assertEqual(said, ["lrcstore._native", "b'HELLO'", self.library("store", *site)])
 
-    def test_the_extension_finds_the_library_without_the_modules(self):
-        said = self.printed("import _native" + self.MAPS, PYTHONPATH=self.path("site", "lrcstore"))
-        self.assertEqual([os.path.realpath(it) for it in said], [self.library("store")])
+    def test_each_extension_finds_its_library_without_the_modules(self):
+        for module, library in (("_coder", "coder"), ("_native", "store")):
+            code = f"import {module}{self.MAPS}"
+            said = self.printed(code, PYTHONPATH=self.path("site", "lrcstore"))
+            self.assertEqual([os.path.realpath(it) for it in said], [self.library(library)])
 
     def test_each_module_loads_its_library_alone(self):
         for code, library in (
@@ -360,6 +362,16 @@ print(*sorted({it for it in lines if "/liblrc_" in it}))
             code = f"import sys; sys.version_info = {version}; from lrcstore import _store"
             said = self.printed(f"{code}; print(_store.Calls.__module__)")
             self.assertEqual(said, [f"lrcstore.{wanted}"])
+
+    def test_an_older_python_has_no_coder(self):
+        code = """
+import sys; sys.version_info = 3, 10, 13
+try:
+    import lrcstore.coder
+except ImportError as error:
+    print(error)
+"""
+        self.assertIn("needs Python 3.11,", " ".join(self.printed(code)))
 
     def test_its_name_and_its_tags_are_those_of_both_ways_to_call(self):
         platform = re.search("manylinux_2_[0-9]+_x86_64", self.name).group(0)

@@ -5,6 +5,7 @@ import array
 import base64
 import gc
 import hashlib
+import importlib
 import os
 import signal
 import subprocess
@@ -533,13 +534,20 @@ class Order(unittest.TestCase):
         self.assertEqual(later, [(made, first), (first, made)])
 
 
+@unittest.skipUnless(_store.Calls.__module__ == CTYPES, "the coder has its module")
+class NoCoder(unittest.TestCase):
+    def test_the_import_says_what_is_missing(self):
+        with self.assertRaises(ImportError) as caught:
+            importlib.import_module("lrcstore.coder")
+        wanted = "the coder needs Python 3.11, and a module that tools/python_extension.py compiles"
+        self.assertEqual(str(caught.exception).rpartition(": ")[2], wanted)
+
+
+@unittest.skipUnless(_store.Calls.__module__ == NATIVE, "the coder has no module")
 class Coder(unittest.TestCase):
     def test_the_coder_is_in_the_package(self):
-        import lrc_coder
         from lrcstore import coder
 
-        for name in coder.__all__:
-            self.assertIs(getattr(coder, name), getattr(lrc_coder, name))
         data = [bytes([number]) * 8 for number in range(12)]
         fragments = [*data, *coder.encode(data)]
         others = {number: it for number, it in enumerate(fragments) if number != 3}

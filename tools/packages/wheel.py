@@ -1,7 +1,7 @@
 """The wheel of both Python modules and of the package over them. Each module is a folder with its
-library beside it, so that it loads this one. The package's extension module serves Python 3.11 and
-later, and finds the store's library by its path from there. By ctypes the wheel serves every
-Python."""
+library beside it, so that it loads this one. The package's extension modules serve Python 3.11 and
+later, and find their libraries by the path from there. By ctypes the wheel serves every Python with
+the store."""
 
 import base64
 import hashlib
@@ -64,9 +64,10 @@ def demand():
         sys.exit(f"the wheel needs python3-dev: no {python_extension.header()}")
 
 
-def module(linked, folder):
-    """The extension module, which looks for the library where the wheel has it."""
-    return python_extension.build(linked, folder, "$ORIGIN/../lrc_store")
+def modules(linked, folder):
+    """The extension modules, each of which looks for its library where the wheel has it."""
+    for name, library in python_extension.MODULES.items():
+        yield python_extension.build(name, linked, folder, f"$ORIGIN/../{library}")
 
 
 def pack(linked, dist, number, when):
@@ -80,8 +81,9 @@ def pack(linked, dist, number, when):
             files[f"{PACKAGE}/{file}"] = read_bytes(python, PACKAGE, file)
     with tempfile.TemporaryDirectory() as folder:
         binaries = [os.path.join(linked, f"lib{it}.so") for it in libraries.LIBRARIES]
-        binaries.append(module(linked, folder))
-        files[f"{PACKAGE}/{python_extension.MODULE}"] = read_bytes(binaries[-1])
+        for built in modules(linked, folder):
+            binaries.append(built)
+            files[f"{PACKAGE}/{os.path.basename(built)}"] = read_bytes(built)
         platform = "manylinux_{}_{}_x86_64".format(*glibc_of(*binaries))
     info = f"lrcstore-{number}.dist-info"
     for name, text in described(number, platform).items():

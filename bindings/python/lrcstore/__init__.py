@@ -1,8 +1,9 @@
 """An in-memory blob store that the threads of a process share, and the coder that it uses.
 
 `Store` keeps each blob in a Local Reconstruction Code, so it can read and repair blobs while
-fragments are lost. `lrcstore.coder` encodes and rebuilds fragments of your own. The first use of a
-name of the store loads liblrc_store.so, and importing the coder loads liblrc_coder.so alone.
+fragments are lost. `lrcstore.coder` encodes and rebuilds fragments of your own, by an extension
+module. The first use of a name of the store loads liblrc_store.so, and importing the coder loads
+liblrc_coder.so alone.
 """
 
 import importlib
