@@ -209,6 +209,16 @@ def store_conclusions(text):
     yield f"they make {sixteen:.1f} times."
 
 
+def python_rows():
+    """The rows of its table of the coder from Python, which are kept by the bytes of a fragment."""
+    kept = page("bench", "results", "python_coder.txt")
+    for name, small in re.findall(r"^(.+) \| \d+ \| ([\d.]+)$", kept.split("\n65536 ")[0], re.M):
+        large = re.search(
+            rf"^{re.escape(name)} \| \d+ \| ([\d.]+)$", kept.split("\n65536 ")[1], re.M
+        )
+        yield f"| {name} | {small} | {large.group(1)} |"
+
+
 def shard_conclusions():
     """What docs/threads.md concludes from the kept figures of shards from C."""
     kept = page("bench", "results", "shards.txt")
@@ -222,7 +232,10 @@ def wrong_conclusions():
     """What pages conclude from figures, in sentences of their own."""
     text = page("docs", "performance.md")
     for name, wanted in (
-        ("performance.md", [*coder_conclusions(text), *store_conclusions(text)]),
+        (
+            "performance.md",
+            [*coder_conclusions(text), *store_conclusions(text), *python_rows()],
+        ),
         ("threads.md", shard_conclusions()),
     ):
         words = " ".join(page("docs", name).split())
