@@ -11,6 +11,7 @@ lrcstore is neither used nor changed."""
 import argparse
 import collections
 import concurrent.futures
+import ctypes
 import hashlib
 import itertools
 import os
@@ -24,7 +25,7 @@ import time
 sys.dont_write_bytecode = True
 HERE = os.path.dirname(os.path.abspath(__file__))
 TOP = os.path.dirname(os.path.dirname(HERE))
-sys.path[:0] = [HERE, os.path.dirname(HERE), f"{TOP}/bindings/python"]
+sys.path[:0] = [HERE, os.path.dirname(HERE)]
 import harness  # noqa: E402
 from cluster import (  # noqa: E402
     DATA,
@@ -93,9 +94,9 @@ except RuntimeError as error:
 
 
 def build(folder):
-    """What an administrator installs: the library, and the Python modules. Besides, the coder for
-    Python, to compare with, and a library that can't be loaded, for none."""
-    os.environ["LRC_CODER_SO"] = f"{harness.coder_folder()}/liblrc_coder.so"
+    """What an administrator installs: the library, and the Python modules. Besides, a library that
+    can't be loaded, for none."""
+    harness.coder_folder()
     os.mkdir(f"{folder}/lib")
     subprocess.run([f"{TOP}/integrations/liberasurecode/build.sh", f"{folder}/lib"], check=True)
     os.mkdir(f"{folder}/none")
@@ -145,11 +146,26 @@ def exclusive_or(bodies):
     return total.to_bytes(len(bodies[0]), "little")
 
 
+class Slice(ctypes.Structure):
+    _fields_ = [("at", ctypes.c_char_p), ("len", ctypes.c_size_t)]
+
+
+def encoded(data):
+    """The parities of data fragments, by the C library."""
+    library = ctypes.CDLL(f"{harness.coder_folder()}/liblrc_coder.so")
+    width = len(data[0])
+    parities = [ctypes.create_string_buffer(width + 1) for _ in range(4)]
+    targets = [word for parity in parities for word in (parity, ctypes.c_size_t(width))]
+    slices = (Slice * DATA)(*((each, len(each)) for each in data))
+    status = library.lrc_encode(slices, ctypes.c_size_t(DATA), *targets)
+    if status:
+        raise ValueError(f"lrc_encode: status {status}")
+    return [parity.raw[:width] for parity in parities]
+
+
 def check_fragments(report, cluster, path, body):
     """Compares what Swift has written with the C library, and the local parities with the plain
     exclusive or."""
-    import lrc_coder
-
     files = cluster.fragments(LRC, path)
     stripes = list(zip(*(segments(contents(files[i])) for i in range(FRAGMENTS))))
     bodies = [[fragment[3] for fragment in stripe] for stripe in stripes]
@@ -158,7 +174,7 @@ def check_fragments(report, cluster, path, body):
             b"".join(each[:DATA])[: stripe[0][2]] for each, stripe in zip(bodies, stripes)
         )
         == body,
-        "parities": all(each[DATA:] == lrc_coder.encode(each[:DATA]) for each in bodies),
+        "parities": all(each[DATA:] == encoded(each[:DATA]) for each in bodies),
         "local": all(
             each[DATA + g] == exclusive_or(each[6 * g : 6 * g + 6])
             for each in bodies
