@@ -100,9 +100,24 @@ python() {
     LRC_CODER_SO="$LRC_LIBRARIES/liblrc_coder.so" PYTHONDONTWRITEBYTECODE=1 \
         PYTHONPATH=$work/python python3 "$@"
 }
-python_calls() {
-    gcc -std=gnu11 -O1 "${warnings[@]}" -shared -fPIC tests/library/watched.c \
-        -o "$work/watched.so" && LD_PRELOAD=$work/watched.so python tests/library/bindings.py
+watched() {
+    gcc -std=gnu11 -O1 "${warnings[@]}" -shared -fPIC tests/library/watched.c -o "$work/watched.so"
+}
+python_calls() { watched && LD_PRELOAD=$work/watched.so python tests/library/bindings.py; }
+
+# All but the test of leaks, which counts what Python's own allocator has.
+python_sanitized() {
+    local asan
+    asan=$(gcc -print-file-name=libasan.so)
+    watched && cp -r bindings/python "$work/sanitized" \
+        && gcc -std=gnu11 -O1 -fPIC -shared "${sanitizers[@]}" -I include \
+            -I "${python_header%/*}" bindings/python/lrcstore/_coder.c \
+            "$LRC_LIBRARIES/liblrc_coder.so" -Wl,-rpath,"$LRC_LIBRARIES" \
+            -o "$work/sanitized/lrcstore/_coder.abi3.so" \
+        && ASAN_OPTIONS=detect_leaks=0:allocator_may_return_null=1 PYTHONMALLOC=malloc \
+            LRC_CODER_SO="$LRC_LIBRARIES/liblrc_coder.so" PYTHONDONTWRITEBYTECODE=1 \
+            LD_PRELOAD="$asan $work/watched.so" PYTHONPATH=$work/sanitized \
+            python3 tests/library/bindings.py Calls Targets Buffers Stripes Watched Threads
 }
 
 # The source of the extension module without a warning of either compiler.
@@ -196,6 +211,7 @@ test_of "C++, sanitizers of gcc" g++ g++ sanitized g++ c++17 tests/library/coder
 test_of "C++, sanitizers of clang" clang++ clang sanitized clang++ c++17 tests/library/coder.cpp
 test_of "shared library" gcc gcc shared_library
 test_of "Python" "$python_header" python3-dev python_calls
+test_of "Python, sanitizers of gcc" "$python_header" python3-dev python_sanitized
 test_of "source for Python" "$python_header" python3-dev python_source
 test_of "examples in Python" "$python_header" python3-dev python_examples
 test_of "declarations" python3 python3 python3 tests/library/declarations.py
