@@ -159,7 +159,8 @@ by_pip() {
         /venv/bin/pip install --no-index /dist/lrcstore-*.whl && cd /tmp
         test "$(/venv/bin/python store.py)" = "HELLO, WORLD"
         /venv/bin/python -c "import lrcstore._native, lrcstore._coder"
-        test "$(/venv/bin/python rebuild.py)" = HELL'
+        test "$(/venv/bin/python rebuild.py)" = HELL' || return
+    steps "test \"\$(/venv/bin/lrc --version)\" = 'lrc $number'"
 }
 
 pages() {

@@ -298,7 +298,8 @@ print(*sorted({it for it in lines if "/liblrc_" in it}))
     def setUpClass(cls):
         cls.made = tempfile.mkdtemp()
         cls.addClassCleanup(shutil.rmtree, cls.made)
-        (cls.wheel,) = wheel.pack(LINKED, cls.made, "0.1.0", WHEN)
+        shutil.copy("/bin/true", os.path.join(cls.made, "lrc"))
+        (cls.wheel,) = wheel.pack(cls.made, LINKED, cls.made, "0.1.0", WHEN)
 
     def setUp(self):
         super().setUp()
@@ -335,6 +336,7 @@ print(*sorted({it for it in lines if "/liblrc_" in it}))
         site = ("fresh", "lib", version, "site-packages")
         said = self.printed(code + self.MAPS, self.path("fresh", "bin", "python"), PYTHONPATH="")
         self.assertEqual(said, ["lrcstore._native", "b'HELLO'", self.library("store", *site)])
+        subprocess.run([self.path("fresh", "bin", "lrc")], check=True)
 
     def test_each_extension_finds_its_library_without_the_modules(self):
         for module, library in (("_coder", "coder"), ("_native", "store")):

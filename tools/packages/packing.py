@@ -51,7 +51,7 @@ def pack(source, dist, kinds, has_plugins, is_unlicensed):
         if "deb" in kinds:
             made += debian.pack(source, linked, made[0], dist, number, when, has_plugins)
         if "wheel" in kinds:
-            made += wheel.pack(linked, dist, number, when)
+            made += wheel.pack(source, linked, dist, number, when)
         if "crate" in kinds:
             made += crates.pack(linked, dist, number, when)
         if "tar" in kinds:

@@ -92,7 +92,8 @@ def write_zip(path, files, when):
     with zipfile.ZipFile(path, "w") as whole:
         for name, data in files.items():
             info = zipfile.ZipInfo(name, stamp)
-            info.external_attr = (0o100755 if ".so" in name else 0o100644) << 16
+            is_open = ".so" in name or ".data/scripts/" in name
+            info.external_attr = (0o100755 if is_open else 0o100644) << 16
             info.compress_type = zipfile.ZIP_DEFLATED
             info.create_system = 3
             whole.writestr(info, data, compresslevel=9)

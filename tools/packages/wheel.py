@@ -1,7 +1,7 @@
 """The wheel of both Python modules and of the package over them. Each module is a folder with its
 library beside it, so that it loads this one. The package's extension modules serve Python 3.11 and
 later, and find their libraries by the path from there. By ctypes the wheel serves every Python with
-the store."""
+the store. It has the program `lrc` too."""
 
 import base64
 import hashlib
@@ -16,6 +16,8 @@ from installation import PACKAGE
 from packages import licence
 from packages.reproducible import read_bytes, write_zip
 
+# What pip puts into the folder of an environment's programs.
+PROGRAM = "lrc"
 SUMMARY = "In-memory blob store in the Local Reconstruction Code LRC(12,2,2), and its coder"
 # The oldest glibc that a wheel's tag names: pip knows no older one by numbers.
 OLDEST = (2, 17)
@@ -70,8 +72,8 @@ def modules(linked, folder):
         yield python_extension.build(name, linked, folder, f"$ORIGIN/../{library}")
 
 
-def pack(linked, dist, number, when):
-    """Writes the wheel of the libraries in a folder."""
+def pack(source, linked, dist, number, when):
+    """Writes the wheel of a program in BUILT and of the libraries in a folder."""
     files, python = {}, os.path.join(libraries.TOP, "bindings", "python")
     for name in libraries.LIBRARIES:
         files[f"{name}/__init__.py"] = read_bytes(python, f"{name}.py")
@@ -84,6 +86,8 @@ def pack(linked, dist, number, when):
         for built in modules(linked, folder):
             binaries.append(built)
             files[f"{PACKAGE}/{os.path.basename(built)}"] = read_bytes(built)
+        binaries.append(os.path.join(source, PROGRAM))
+        files[f"lrcstore-{number}.data/scripts/{PROGRAM}"] = read_bytes(binaries[-1])
         platform = "manylinux_{}_{}_x86_64".format(*glibc_of(*binaries))
     info = f"lrcstore-{number}.dist-info"
     for name, text in described(number, platform).items():
