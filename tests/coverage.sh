@@ -102,7 +102,7 @@ python_extension() {
     for each in native/store coder/coder; do
         object "py_${each%/*}" gcc "bindings/python/lrcstore/_${each%/*}.c" -I "$headers" -fPIC
         gcc --coverage -shared "$work/py_${each%/*}.o" "$LRC_LIBRARIES/liblrc_${each#*/}.so" \
-            -o "$work/package/lrcstore/_${each%/*}.abi3.so"
+            -Wl,-rpath,"$LRC_LIBRARIES" -o "$work/package/lrcstore/_${each%/*}.abi3.so"
     done
     gcc -w -I include -fPIC -shared tests/library/watched.c -o "$work/watched.so"
     LD_PRELOAD=$work/watched.so PYTHONPATH=$work/package python_module tests/library/bindings.py
