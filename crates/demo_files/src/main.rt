@@ -1,5 +1,5 @@
-//! Files in fragments: splits a file over four folders, removes a fragment, repairs it, and joins the
-//! fragments. It prints each command and the output of that command.
+//! Files in fragments: splits a file over four folders, removes a fragment, repairs it, and joins
+//! the fragments. It prints each command and the output of that command.
 #![tactic(auto)]
 
 use anyhow::{Result, bail};
