@@ -360,7 +360,9 @@ ERRORS = [
     (["repair", "made"], 0, "all fragments are whole"),
     (["verify", "made", "mad"], 0, "not of the set: mad: there is no such file"),
     (["show", "mad", "made"], 0, "not of the set: mad: there is no such file"),
-    (["repair", "made", "mad"], 0, "not of the set: mad: there is no such file"),
+    (["repair", "made", "mad"], 3, "there is no file or folder mad: correct the word"),
+    (["repair", "made", "film"], 0, "not of the set: film: no header is whole"),
+    (["repair", "made", "film.16.lrc"], 0, "set: film.16.lrc: there is no such file"),
     (["join", "made", "mad", "--to", "-", "--range", "0-0"], 0, "set: mad: there is no such file"),
 ]
 
@@ -663,10 +665,13 @@ def check_objects():
         expect(done["bytes"] == len(content) and done["path"] == out, "what join says", done)
         expect(done["rebuilt_stripes"] == 5 and done["stopped"] is None, "what join says", done)
         length = WIDTH + 32
-        (done,) = objects("repair", folder + "x", *paths)
+        (done,) = objects("repair", folder + "x", *paths, status=3)
+        expect("no file or folder" in done["error"], "a folder that is not there", done)
+        expect(not os.path.exists(paths[8]), "repair writes although a folder is not there")
+        (done,) = objects("repair", film, *paths)
         expect(done["written"] == [placed[8]] and not done["is_checked"], "repair", done)
-        said = [{"path": folder + "x", "reason": "there is no such file"}]
-        expect(done["others"] == said, "what repair did not find", done)
+        said = [{"path": film, "reason": "no header is whole"}]
+        expect(done["others"] == said, "what is no fragment", done)
         said = (done["bytes_read"], done["read_from"])
         expect(said == (6 * 5 * length, [6, 7, 9, 10, 11, 13]), "what repair reads", done)
         (done,) = objects("verify", folder, "--expect", "00" * 32, status=2)

@@ -3,7 +3,7 @@
 use crate::check::set_of;
 use crate::folders::check_folders;
 use fragment_files::{
-    Failure, Set, Stray, fragment_path, parent_of, record_len, stem_of, stripe_count,
+    Failure, Reason, Set, Stray, fragment_path, parent_of, record_len, stem_of, stripe_count, usage,
 };
 use lrc_code::{LostSet, is_open_in};
 use lrc_files::{Repaired, Status, Wanted, folder_of, repair, survey_set};
@@ -305,6 +305,27 @@ fn repair_set<R: Files<File = File> + AllocGlobal + Threads + Sync>(
     Ok(!is_done && progress.damaged != 0)
 }
 
+/// Whether a word names no file, and is not the path of a fragment, which could be written there.
+fn is_unknown(stray: &Stray) -> bool {
+    match &stray.reason {
+        Reason::Missing => stem_of(stray.path.as_str()).is_none(),
+        _ => false,
+    }
+}
+
+/// Fails if a word names nothing: the fragments of a misspelled folder would be written elsewhere.
+fn check_words(alloc: Global, strays: &[Stray]) -> Result<(), Failure> {
+    for stray in strays {
+        if is_unknown(stray) {
+            let path = stray.path.as_str();
+            return Err(usage(format!(in alloc;
+                "there is no file or folder {path}: correct the word, or leave it out"
+            )));
+        }
+    }
+    Ok(())
+}
+
 /// Writes fragments once. Returns false if there is nothing more to write.
 fn repair_once<R: Files<File = File> + AllocGlobal + Threads + Sync + Clone + Drop>(
     rt: &R,
@@ -312,6 +333,7 @@ fn repair_once<R: Files<File = File> + AllocGlobal + Threads + Sync + Clone + Dr
     progress: &mut Progress,
 ) -> Result<bool, Failure> {
     let (set, strays) = set_of(rt, line.fragments.as_slice(), line.id)?;
+    check_words(rt.alloc(), strays.as_slice())?;
     progress.set = set.header.set;
     progress.strays = strays;
     repair_set(rt, line, &set, progress)
