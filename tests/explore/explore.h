@@ -72,8 +72,8 @@ long points(void);
 /* Its number, or MOST outside of the threads. */
 int self(void);
 
-/* The calling thread makes a call with this timeout. None of its waits may end after the deadline,
- * but for so many nanoseconds. */
+/* The calling thread makes a call with this timeout. Its waits may end `slack_ns` nanoseconds after
+ * the deadline, and no later. */
 void begin_call(int64_t timeout_ms, int64_t slack_ns);
 
 /* Whether the deadline of its call has come. */

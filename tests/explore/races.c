@@ -10,7 +10,7 @@
 /* The cells of the table, the bytes of memory of each, and the atomic objects of a run at most. */
 enum { CELLS = 1 << 13, CELL_BYTES = 8, ATOMICS = 16 };
 
-/* Who wrote and who read these bytes last, and in which of their steps: 0 if in none. */
+/* The last thread that wrote these bytes, and the steps of the last write and reads: 0 if none. */
 struct cell {
     uintptr_t place;
     uint32_t run, writer, written, read[MOST];

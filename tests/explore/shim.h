@@ -1,6 +1,6 @@
 /* What library/ calls of pthread and of the clock, in place of it: each call that can block or hand
- * over is a point at which explore.c decides which thread goes on. The compiler is told to include
- * this file before a source. */
+ * over is a point at which explore.c decides which thread goes on. The compiler includes this
+ * file before a source. */
 #ifndef SHIM_H
 #define SHIM_H
 #define _GNU_SOURCE
