@@ -2,3 +2,4 @@ pub mod Lists
 pub mod Moves
 pub mod Opening
 pub mod Values
+pub mod Listing

@@ -1,7 +1,8 @@
 -- The keeper in a lock has all acts between the values that were left there.
-use Rattle.std.proofs.Common.{◌≡◌, ℕ, List, [], ◌∷◌, ◌++◌, Some, ap, sym, subst, ◌∙◌, append_assoc, append-nil}
+use Rattle.std.proofs.Common.{◌≡◌, ℕ, ◌+◌, List, [], ◌∷◌, ◌++◌, Some, length, ap, sym, subst, ◌∙◌, arith, append_assoc, append-nil, length-append}
 use mathlib.Core.List.{IsPrefix}
-use Rattle.gate.specs.Places.{last_of, IsChain}
+use Rattle.gate.specs.Places.{last_of, times, IsChain, IsWithin, HasAll}
+use Rattle.gate.proofs.Lists.{once_later-here}
 use Rattle.gate.proofs.Lists.{last_of-snoc}
 use Rattle.gate.proofs.Events.{chain_from, history-append}
 use Rattle.ledger.specs.declared.held.Held.{Held}
@@ -54,3 +55,30 @@ module _ {T A : Type 0} (between : T → T → List A) where
             ∙ (ap (λ (r : KeeperState A). grown r (acts_to between xs h.value)) (found has.0 has.1 ∙ has.2)
             ∙ ap (λ (l : List A). record { ledger = id; shard = k; acts = l }) (ap (λ (l : List A). acts_left between xs ++ l) (acts_to-last xs has.0 h.value has.1) ∙ sym (acts-snoc xs has.0 h has.1))),
       )
+
+-- a list whose places but the opening one are all own is the one that a seat showed, since no own place is past that one's end
+pub whole_shown : {X : Type 0} (xs ys : List X) (x : X) (own : List ℕ) → last_of xs ≡ Some x → IsPrefix xs ys → IsWithin xs own → HasAll ys own → ys ≡ xs
+whole_shown [] ys x own e begins within has = absurd (cc)
+whole_shown (z ∷ zs) ys x own e ([], whole) within has = sym whole ∙ append-nil (z ∷ zs)
+whole_shown (z ∷ zs) ys x own e (y ∷ more, whole) within has =
+    let k : ℕ = length (z ∷ zs) in
+    let long : length ys ≡ k + length (y ∷ more) = ap length (sym whole) ∙ length-append (z ∷ zs) (y ∷ more) in
+    let one : times k own ≡ 1 = has.0 k ∙ once_later-here (length ys) k (omega arith) (omega arith) in
+    let none : times k own ≡ 0 = within k (omega arith) in
+    absurd (omega arith)
+
+module _ {T A : Type 0} (between : T → T → List A) where
+  -- the value that is taken is the last one that the seat showed, and it had left all others
+  pub taken_last : (id : TableId) (k : ℕ) (xs ys : List (Held T A)) (y : Held T A) (own : List ℕ) → KeepsAll between id k xs → IsPrefix xs ys → IsWithin xs own → last_of ys ≡ Some y → HasAll ys own
+      → (last_of xs ≡ Some y) × (y.keeper ≡ record { ledger = id; shard = k; acts = acts_left between xs }) × HasAll xs own
+  taken_last id k xs ys y own keeps begins within last has =
+      let same : ys ≡ xs = whole_shown xs ys keeps.0 own keeps.1 begins within has in
+      let there : last_of xs ≡ Some y = ap last_of (sym same) ∙ last in
+      let is : y ≡ keeps.0 = by_some (sym there ∙ keeps.1) in (
+        there,
+        ap (λ (h : Held T A). h.keeper) is ∙ keeps.2,
+        subst (λ (l : List (Held T A)). HasAll l own) same has,
+      )
+    where
+      by_some : {X : Type 0} {a b : X} → Some a ≡ Some b → a ≡ b
+      by_some e = cc (e)

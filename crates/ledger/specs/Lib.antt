@@ -1,3 +1,4 @@
 pub mod Acts
 pub mod Rule
 pub mod Values
+pub mod Visits

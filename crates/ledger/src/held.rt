@@ -3,7 +3,7 @@
 ghost use Rattle.std.specs.Prelude.{◌≡◌, ◌+◌, ℕ, false, true, ◌++◌, ◌∷◌, [], length, Some, None};
 ghost use Rattle.std.specs.Prelude.{IfOk, IfSome, IfNone};
 ghost use mathlib.Core.List.{IsPrefix};
-ghost use Rattle.gate.specs.Places.{last_of, IsChain, HasAll as HasAllPlaces};
+ghost use Rattle.gate.specs.Places.{last_of, HasAll as HasAllPlaces, IsWithin as IsWithinPlaces};
 ghost use Rattle.ledger.specs.Acts.{IsRecorded, acts_at, AreLegal, IsWithin, HasAll};
 ghost use Rattle.ledger.specs.Values.{MayFollowHeld, KeepsAll, acts_left, acts_to, left_beside};
 
@@ -62,32 +62,9 @@ impl<A: Lawful> Ledger<A> {
         }
     }
 
-    /// Waits for a shard's lock and enters it. The keeper that lies there has all acts of the
-    /// shard.
-    pub fn enter<T: Changes<A>, R: Wait>(
-        &self,
-        rt: &R,
-        gate: &Gate<Held<T, A>>,
-        seat: &mut Seat<Held<T, A>>,
-    ) -> Inside<Held<T, A>>
-        requires gate { seat.old.gate ≡ gate.now }
-        requires outside { seat.old.inside ≡ false }
-        ensures unchanged { (seat.new.gate ≡ seat.old.gate) × (seat.new.room ≡ seat.old.room)
-            × (seat.new.own ≡ seat.old.own) × (seat.new.inside ≡ true) }
-        ensures seen { IsPrefix seat.old.list seat.new.list
-            × IsChain (MayFollowHeld T.between T.follows) seat.new.list }
-        ensures found { last_of seat.new.list ≡ Some result.value }
-        ensures lone { seat.old.room ≡ 64 → HasAllPlaces seat.new.list seat.new.own }
-        ensures keeps { (k : ℕ) → KeepsAll T.between self.now.table k seat.old.list
-            → KeepsAll T.between self.now.table k seat.new.list }
-    {
-        gate.enter(rt, seat)
-    }
-
     /// Leaves a value. The acts between the value that was found and this one are the next acts of
-    /// the shard. In the list of all shards they stand after all that the follower had seen. Call
-    /// `Gate::wake` after it: a thread that is not woken sleeps for at most 1.6 milliseconds.
-    pub fn leave<T: Changes<A>>(
+    /// the shard. In the list of all shards they stand after all that the follower had seen.
+    pub(crate) fn leave<T: Changes<A>>(
         &self,
         gate: &Gate<Held<T, A>>,
         seat: &mut Seat<Held<T, A>>,
@@ -158,17 +135,18 @@ impl<A: Lawful> Ledger<A> {
         gate.leave(seat, inside);
     }
 
-    /// Closes a lock whose seats are all joined, and returns the value that was left last. The
-    /// follower has then seen the list of all shards whole. The acts of this shard in it are those
-    /// between the values that were left here.
-    pub fn close_gate<T: Changes<A>>(
+    /// Takes the value that was left last out of a lock whose seats are all joined. The lock may be
+    /// shared, and nobody enters it again. The follower has then seen the list of all shards whole.
+    /// The acts of this shard in it are those between the values that were left here.
+    pub fn take_value<T: Changes<A>>(
         &self,
-        gate: Gate<Held<T, A>>,
+        gate: &Gate<Held<T, A>>,
         seat: Seat<Held<T, A>>,
         follower: &mut Follower<A>,
     ) -> T
-        requires gate { seat.gate ≡ gate }
+        requires gate { seat.gate ≡ gate.now }
         requires outside { seat.inside ≡ false }
+        requires within { IsWithinPlaces seat.list seat.own }
         requires lone { seat.room ≡ 64 }
         requires ledger { follower.old.ledger ≡ self.now }
         requires keeps { (k : ℕ) × KeepsAll T.between self.now.table k seat.list }
@@ -182,7 +160,7 @@ impl<A: Lawful> Ledger<A> {
         ensures all { follower.old.room ≡ 64
             → (follower.new ≡ follower.old) × HasAll follower.new.list follower.new.own }
     {
-        let Held { value, mut keeper } = gate.close(seat);
+        let Held { value, mut keeper } = gate.take(seat);
         follower.observe(self, &mut keeper);
         value
     }

@@ -1,6 +1,7 @@
 //! One list of the acts of many shards, each with its shard. It exists in proofs alone.
 #![tactic(auto)]
 
+mod entry;
 mod held;
 mod ledger;
 mod steps;
