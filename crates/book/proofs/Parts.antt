@@ -192,7 +192,7 @@ all_behind : (items : List Item) → items_after None items ≡ items
 all_behind [] = refl
 all_behind (item ∷ items) = ap (λ (l : List Item). item ∷ l) (all_behind items)
 
-whole_part : (m : ℕ) (whole items : List Item) → items ≡ take m (items_after None whole) → length items < m → items ≡ whole
+pub whole_part : (m : ℕ) (whole items : List Item) → items ≡ take m (items_after None whole) → length items < m → items ≡ whole
 whole_part m whole items is few =
     let fewer : length (items_after None whole) < m = omega (arith, ap length is, length-take m (items_after None whole), few) in
     is ∙ take_all m (items_after None whole) (omega arith) ∙ all_behind whole

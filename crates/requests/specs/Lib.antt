@@ -2,3 +2,4 @@ pub mod Bytes
 pub mod Between
 pub mod Requests
 pub mod Inspections
+pub mod Visits
