@@ -4,5 +4,6 @@ pub mod Requests
 pub mod Grants
 pub mod Mends
 pub mod Looks
+pub mod Visits
 pub mod Serving
 pub mod Snapshots

@@ -1,7 +1,5 @@
 -- What a plan, a trim and the numbers make of a pass.
-use Rattle.std.proofs.Common.{◌≡◌, ℕ, ◌+◌, ◌-◌, ◌<◌, ◌≤◌, [], ◌++◌, length, max, List, None, Result, Ok, Err, IfOk, OnErr, refl, ap, sym, subst, ◌∙◌, arith}
-use Rattle.std.specs.Prelude.{MatchResult, is_ok}
-use Rattle.std.specs.declared.alloc.AllocError.{AllocError}
+use Rattle.std.proofs.Common.{◌≡◌, ℕ, ◌+◌, ◌-◌, ◌<◌, ◌≤◌, [], ◌++◌, length, max, take, List, None, Result, Ok, Err, IfOk, OnErr, refl, ap, sym, subst, ◌∙◌, arith}
 use Rattle.std.proofs.lemmas.List.{append-nil}
 use Rattle.gate.specs.Places.{SeatState}
 use Rattle.sealed.specs.declared.fault.Fault.{Fault}
@@ -18,6 +16,8 @@ use Rattle.book.specs.Serial.{events_in, given_in}
 use Rattle.shared.specs.Passes.{Shows, Which, acts_of, seen_of, shows, limit_of, trimmed_of}
 use Rattle.shared.specs.Deeds.{trim_deed, Takes}
 use Rattle.book.proofs.Journals.{kept_count, part_few, part_whole}
+use Rattle.book.proofs.Parts.{whole_part}
+use Rattle.book.specs.Plan.{items_after}
 use Rattle.requests.proofs.Between.{GoesOn, told_length}
 use Rattle.shared.proofs.Steps.{Stepped, told_history, calls_found, still_goes_on, takes}
 
@@ -66,15 +66,17 @@ whole_trim (Err e) keep v w part few whole = part.2
 whole_trim (Ok n) keep v w part few whole = whole (omega (arith, few.1))
 
 -- the items that the book lists are those of the history that was seen
-pub planned : (items_of : History → List Item) (found : Result Plan AllocError) (r : Result Plan Fault) (p q : SeatState BoxedBook) (x : BoxedBook) (Q : AllocError → Type 0) → Stepped p q x [] 0 → is_ok r ≡ is_ok found
-    → MatchResult found (λ plan. r ≡ Ok plan) Q → IfOk found (λ plan. (h : History) → HoldsHistory x.0.value h → plan.items.items ≡ items_of h)
+pub planned : (items_of : History → List Item) (r : Result Plan Fault) (p q : SeatState BoxedBook) (x : BoxedBook) → Stepped p q x [] 0 → IfOk r (λ plan. (h : History) → HoldsHistory x.0.value h → plan.items.items ≡ items_of h)
     → IfOk r (λ plan. plan.items.items ≡ items_of (seen_of q.list))
-planned items_of (Ok plan) r p q x Q step both same is =
+planned items_of (Ok plan) p q x step is =
     let h : History = seen_of p.list ++ events_in step.others in
-    subst (λ (s : Result Plan Fault). IfOk s (λ plan. plan.items.items ≡ items_of (seen_of q.list))) (sym same)
-    (is h (told_history p q x [] 0 step) ∙ ap items_of (sym (step.seen ∙ append-nil h)))
-planned items_of (Err e) (Ok plan) p q x Q step both same is = absurd (cc (both))
-planned items_of (Err e) (Err f) p q x Q step both same is = tt
+    is h (told_history p q x [] 0 step) ∙ ap items_of (sym (step.seen ∙ append-nil h))
+planned items_of (Err e) p q x step is = tt
+
+-- a part of at most 2^64 - 1 items is the whole plan
+pub whole_plan_of : (r : Result Plan Fault) (whole : List Item) → IfOk r (λ plan. plan.items.items ≡ take 18446744073709551615 (items_after None whole)) → IfOk r (λ plan. plan.items.items ≡ whole)
+whole_plan_of (Err e) whole part = tt
+whole_plan_of (Ok plan) whole part = whole_part 18446744073709551615 whole plan.items.items part (omega (arith, plan.items.ok, plan.items.small))
 
 -- ---- the numbers of the book are those of what was seen
 module _ (p q : SeatState BoxedBook) (x : BoxedBook) (who : ℕ) (store : Which) (step : Stepped p q x [] 0) (here : (shows p who).store ≡ store) where

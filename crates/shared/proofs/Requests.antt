@@ -1,5 +1,5 @@
 -- What a pass may ask, and what is refused it.
-use Rattle.std.proofs.Common.{◌≡◌, ◌⊎◌, ℕ, ◌+◌, ◌<◌, ◌≤◌, List, [], ◌∷◌, ◌++◌, length, None, Err, refl, ap, sym, subst, ◌∙◌, ⊎_elim, arith, append_assoc, length-append}
+use Rattle.std.proofs.Common.{◌≡◌, ◌⊎◌, ℕ, ◌+◌, ◌<◌, List, ◌++◌, length, None, Err, refl, ap, sym, subst, ◌∙◌, ⊎_elim, arith, append_assoc}
 use mathlib.Core.List.{IsPrefix}
 use Rattle.gate.specs.Places.{SeatState}
 use Rattle.sealed.specs.declared.fault.Fault.{Fault}
@@ -91,12 +91,8 @@ pub finds_busy : (p q : SeatState BoxedBook) (who : ℕ) (v : Shows) → FoundIn
 finds_busy p q who v found is = subst (λ (u : Shows). FindsBusy u (shows q who)) is (found.0, ap (λ (s : SeatState BoxedBook). shows s who) found.1)
 
 -- a pass that was let in
-pub visits_once : (p m q : SeatState BoxedBook) (who : ℕ) (v : Shows) (y : BoxedBook) → (m.expected_length ≡ p.expected_length) × (p.expected_length ≤ length m.list) → q.list ≡ m.list ++ y ∷ [] → length q.own ≡ length p.own + 1
-    → shows p who ≡ v → VisitsOnce v (shows q who)
-visits_once p m q who v y expected list own is =
-    let more : length q.list ≡ length m.list + 1 = ap length list ∙ length-append m.list (y ∷ []) in
-    let least = expected.1 in
-    subst (λ (u : Shows). VisitsOnce u (shows q who)) is (own, omega arith)
+pub visits_once : (p q : SeatState BoxedBook) (who : ℕ) (v : Shows) → p.expected_length < length q.list → length q.own ≡ length p.own + 1 → shows p who ≡ v → VisitsOnce v (shows q who)
+visits_once p q who v expected own is = subst (λ (u : Shows). VisitsOnce u (shows q who)) is (own, omega arith)
 
 -- a pass that found another inside
 pub was_busy : (p q : SeatState BoxedBook) (who : ℕ) (v : Shows) (o : Operation) → IsPass p → FoundInside p q → shows p who ≡ v → Called v o (Err Busy) (shows q who)

@@ -26,10 +26,6 @@ abbrev pub IsOutside : Shows → Operation → Shows → Type 0
 IsOutside v (put n code b) w = w ≡ v
 IsOutside v operation w = ⊥
 
--- a put was refused before it entered: sealing was out of memory, or the blob is too long
-abbrev pub IsRefusedOutside : Shows → Result Answer Fault → Shows → Type 0
-IsRefusedOutside v r w = (w ≡ v) × ((r ≡ Err NoMemory) ⊎ (r ≡ Err TooLong))
-
 -- What the pass shows afterwards: with an answer the call was made, and with a fault it was not.
 -- Memory was refused where the journal had fewer entries than its limit, or outside. A blob that is
 -- too long is refused outside

@@ -8,14 +8,12 @@ use Rattle.sealed.specs.declared.value.Sealed.{Sealed}
 use Rattle.sealed.specs.Layout.{HasFragment}
 use Rattle.sealed.specs.Rebuilding.{IsFragmentOf}
 use Rattle.history.specs.State.{Blob}
-use Rattle.history.specs.Step.{put, read}
+use Rattle.history.specs.Step.{put}
 use Rattle.history.specs.History.{History, HasPut, state_of}
 use Rattle.book.specs.declared.answer.Answer.{Answer}
 use Rattle.book.specs.declared.answer.Answer.TheVariants.{Granted}
 use Rattle.book.specs.Known.{IsFragmentIn}
 use Rattle.book.specs.Holds.{Represents}
-use Rattle.shared.specs.Passes.{Shows}
-use Rattle.shared.specs.Calls.{Called}
 
 -- what the answer to a read of no byte gives: the version that a grant holds, none if the name has
 -- no blob, or the same fault. Such a read has no other answer
@@ -23,12 +21,6 @@ abbrev pub version_held_by : Result Answer Fault → Result (Option Sealed) Faul
 version_held_by (Ok (Granted g)) = Ok (Some g.sealed.value)
 version_held_by (Ok answer) = Ok None
 version_held_by (Err e) = Err e
-
--- the pass read no byte of the name, and the result is what the answer gives
-pub record TakesSnapshot (v : Shows) (n : List ℕ) (result : Result (Option Sealed) Fault) (w : Shows) : Type 0 where
-  pub answer : Result Answer Fault
-  pub called : Called v (read n 0 0) answer w
-  pub held : result ≡ version_held_by answer
 
 -- After the history the name has a blob, which the value represents. The blob was put in the
 -- history under its version, and no other put has this version.

@@ -7,7 +7,7 @@ ghost use Rattle.shared.specs.Requests.{CanAsk, IsGrantedTo, WantedFor};
 
 use crate::{Pass, Store};
 use book::{Answer, Fault};
-use requests::Request;
+use requests::{Request, RequestVisit};
 use std::sync::Wait;
 
 impl Store {
@@ -26,17 +26,15 @@ impl Store {
             → WantedFor pass.new.seen self.now.width request }
         ensures faults { IfErr result (IsFaultOf request) }
     {
-        let mut inside = self.gate.enter(rt, &mut pass.seat);
-        let result = request.make_on(&mut inside.value, pass.who);
-        self.gate.leave(&mut pass.seat, inside);
-        self.gate.wake();
-        result
+        let who = pass.who;
+        let visit = RequestVisit { who, request };
+        self.gate.make_visit(rt, &mut pass.seat, visit)
     }
 
     /// As `make`, if no other thread is in the critical section. Else `Busy`, which never comes
     /// with a room of 64: another thread has been in the critical section since the pass was, or is
     /// there now. The request is lost; `try_prepared` gives it back.
-    pub fn try_make(&self, pass: &mut Pass, request: Request) -> Result<Answer, Fault>
+    pub(crate) fn try_make(&self, pass: &mut Pass, request: Request) -> Result<Answer, Fault>
         requires store { pass.old.store ≡ self.now }
         requires can { CanAsk pass.old request }
         ensures called { Called pass.old (operation_of request) result pass.new }

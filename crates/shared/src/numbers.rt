@@ -7,6 +7,7 @@ ghost use Rattle.shared.specs.Passes.{FindsBusy, VisitsOnce};
 
 use crate::{Pass, Store};
 use book::{Fault, Numbers};
+use requests::NumbersVisit;
 use std::sync::Wait;
 
 impl Store {
@@ -20,11 +21,7 @@ impl Store {
         ensures entries { result.entries
             ≡ journaled self.now.limit (length pass.new.seen - pass.new.trimmed) }
     {
-        let inside = self.gate.enter(rt, &mut pass.seat);
-        let numbers = inside.value.numbers();
-        self.gate.leave(&mut pass.seat, inside);
-        self.gate.wake();
-        numbers
+        self.gate.make_visit(rt, &mut pass.seat, NumbersVisit)
     }
 
     /// As `numbers`, if no other thread is in the critical section. Else `Busy`, which never comes
@@ -41,11 +38,9 @@ impl Store {
         ensures entered { result ≢ Err Fault.Busy → VisitsOnce pass.old pass.new }
         ensures lone { pass.old.room ≡ 64 → result ≢ Err Fault.Busy }
     {
-        let Some(inside) = self.gate.try_enter(&mut pass.seat) else {
+        let Ok(numbers) = self.gate.try_visit(&mut pass.seat, NumbersVisit) else {
             return Err(Fault::Busy);
         };
-        let numbers = inside.value.numbers();
-        self.gate.leave(&mut pass.seat, inside);
         Ok(numbers)
     }
 }

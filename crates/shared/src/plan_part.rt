@@ -8,6 +8,7 @@ ghost use Rattle.shared.specs.Passes.{FindsBusy, VisitsOnce};
 
 use crate::{Pass, Store};
 use book::{Fault, Item, Plan};
+use requests::PlanPartVisit;
 use std::alloc::Global;
 use std::sync::Wait;
 
@@ -32,11 +33,8 @@ impl Store {
             (plan_of (state_of pass.new.seen)))) }
         ensures faults { IfErr result (λ e. e ≡ Fault.NoMemory) }
     {
-        let inside = self.gate.enter(rt, &mut pass.seat);
-        let part = inside.value.plan_part(alloc, after, most);
-        self.gate.leave(&mut pass.seat, inside);
-        self.gate.wake();
-        part.map_err(|_| Fault::NoMemory)
+        let visit = PlanPartVisit { alloc, after, most };
+        self.gate.make_visit(rt, &mut pass.seat, visit)
     }
 
     /// As `plan_part`, if no other thread is in the critical section. Else `Busy`, as `try_plan`
@@ -58,11 +56,10 @@ impl Store {
         ensures entered { result ≢ Err Fault.Busy → VisitsOnce pass.old pass.new }
         ensures lone { pass.old.room ≡ 64 → result ≢ Err Fault.Busy }
     {
-        let Some(inside) = self.gate.try_enter(&mut pass.seat) else {
+        let visit = PlanPartVisit { alloc, after, most };
+        let Ok(reply) = self.gate.try_visit(&mut pass.seat, visit) else {
             return Err(Fault::Busy);
         };
-        let part = inside.value.plan_part(alloc, after, most);
-        self.gate.leave(&mut pass.seat, inside);
-        part.map_err(|_| Fault::NoMemory)
+        reply
     }
 }

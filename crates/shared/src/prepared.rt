@@ -1,7 +1,6 @@
 //! Calls that are prepared outside the critical section, and can be tried more than once.
-ghost use Rattle.std.specs.Prelude.{◌≡◌, ◌⊎◌, ◌↔◌, ◌<◌, ◌+◌, ℕ, List, Err, length, IfOk, IfErr};
+ghost use Rattle.std.specs.Prelude.{◌≡◌, ◌⊎◌, ◌↔◌, ◌<◌, ℕ, List, Err, length, IfOk, IfErr};
 ghost use Rattle.std.specs.Prelude.{IsOk};
-ghost use Rattle.sealed.specs.declared.fault.Fault.{Fault};
 ghost use Rattle.sealed.specs.Blob.{nothing};
 ghost use Rattle.sealed.specs.Layout.{stripe_count};
 ghost use Rattle.sealed.specs.Sealed.{StandsFor};
@@ -9,14 +8,14 @@ ghost use Rattle.history.specs.Step.{put as put_of};
 ghost use Rattle.book.specs.Holds.{IsCallFault};
 ghost use Rattle.requests.specs.Requests.{operation_of, IsFaultOf};
 ghost use Rattle.shared.specs.Calls.{Called};
-ghost use Rattle.shared.specs.Passes.{Shows, FindsBusy, VisitsOnce};
+ghost use Rattle.shared.specs.Passes.{FindsBusy, VisitsOnce};
 ghost use Rattle.shared.specs.Requests.{CanAsk, IsGrantedTo, WantedFor};
 
 use crate::{Pass, Store};
 use book::{Answer, Fault, Name};
 use bytes::Bytes;
 use lrc_code::Code;
-use requests::Request;
+use requests::{Request, RequestVisit};
 use sealed::{Sealed, Width, seal_as, seal_copy};
 use std::alloc::Global;
 
@@ -52,57 +51,6 @@ impl Store {
         ensures faults { IfErr result (λ e. (e ≡ Fault.NoMemory) ⊎ (e ≡ Fault.TooLong)) }
     {
         seal_copy(alloc, bytes, self.width, code)
-    }
-
-    /// Prepares a put of a blob under a name, in this code. It seals the blob as `seal` does, and
-    /// enters no critical section. Every pass to the store can make the request, by `make`,
-    /// `try_make` or `try_prepared`.
-    ///
-    /// `TooLong` if the blob needs more than 4,096 stripes, before anything is allocated; else
-    /// `NoMemory` if out of memory.
-    pub fn prepare_put(
-        &self,
-        alloc: Global,
-        name: Name,
-        bytes: Bytes,
-        code: Code,
-    ) -> Result<Request, Fault>
-        ensures put { IfOk result (λ r. operation_of r ≡ put_of name code bytes) }
-        ensures can { IfOk result (λ r. (v : Shows) → v.store ≡ self.now → CanAsk v r) }
-        ensures refusals { IfOk result (λ r. (e : Fault) → IsFaultOf r e ↔ IsCallFault e) }
-        ensures too_long { (result ≡ Err Fault.TooLong)
-            ↔ (4096 < stripe_count code self.now.width (length bytes)) }
-        ensures faults { IfErr result (λ e. (e ≡ Fault.NoMemory) ⊎ (e ≡ Fault.TooLong)) }
-    {
-        let sealed = self.seal(alloc, bytes, code)?;
-        Ok(Request::Put {
-            alloc,
-            name,
-            sealed,
-        })
-    }
-
-    /// As `prepare_put`, of a copy of the bytes, which is made as the blob is sealed.
-    pub fn prepare_copy(
-        &self,
-        alloc: Global,
-        name: Name,
-        bytes: &[u8],
-        code: Code,
-    ) -> Result<Request, Fault>
-        ensures put { IfOk result (λ r. operation_of r ≡ put_of name code bytes.now) }
-        ensures can { IfOk result (λ r. (v : Shows) → v.store ≡ self.now → CanAsk v r) }
-        ensures refusals { IfOk result (λ r. (e : Fault) → IsFaultOf r e ↔ IsCallFault e) }
-        ensures too_long { (result ≡ Err Fault.TooLong)
-            ↔ (4096 < stripe_count code self.now.width (length bytes.now)) }
-        ensures faults { IfErr result (λ e. (e ≡ Fault.NoMemory) ⊎ (e ≡ Fault.TooLong)) }
-    {
-        let sealed = self.seal_copy(alloc, bytes, code)?;
-        Ok(Request::Put {
-            alloc,
-            name,
-            sealed,
-        })
     }
 
     /// Puts a sealed blob under a name, if no other thread is in the critical section. The answer
@@ -167,11 +115,12 @@ impl Store {
         ensures busy { IfErr result (λ _. FindsBusy pass.old pass.new) }
         ensures lone { pass.old.room ≡ 64 → IsOk result }
     {
-        let Some(mut inside) = self.gate.try_enter(&mut pass.seat) else {
-            return Err(request);
+        let who = pass.who;
+        let visit = RequestVisit { who, request };
+        let visit = match self.gate.try_visit(&mut pass.seat, visit) {
+            Ok(reply) => return Ok(reply),
+            Err(visit) => visit,
         };
-        let reply = request.make_on(&mut inside.value, pass.who);
-        self.gate.leave(&mut pass.seat, inside);
-        Ok(reply)
+        Err(visit.request)
     }
 }

@@ -1,13 +1,19 @@
 //! Running jobs in order.
 ghost use Rattle.std.specs.Prelude.{◌≡◌, ◌⊎◌, ◌<◌, List, [], ◌∷◌, length, IfOk, IfErr, OnErr};
 ghost use mathlib.Core.List.{IsPrefix};
+ghost use Rattle.history.specs.Step.{put as put_of};
+ghost use Rattle.book.specs.Holds.{IsCallFault};
 ghost use Rattle.requests.specs.declared.jobs.Ask.{Ask};
+ghost use Rattle.shared.specs.Calls.{Called};
 ghost use Rattle.shared.specs.Paced.{AreLetThrough, AsksMemory, HasNotBegun, StoppedAt};
 ghost use Rattle.shared.specs.Runs.{call_reply};
 ghost use Rattle.shared.specs.Serving.{asks_of, replies_in, rows_asked, rows_replied, Serves};
 
 use crate::{Ask, Cause, Job, Pace, Pass, Reply, RowReply, Stopped, Store};
-use book::{Answer, Fault};
+use book::{Answer, Fault, Name};
+use bytes::Bytes;
+use lrc_code::Code;
+use requests::Request;
 use std::alloc::Global;
 use std::sync::Wait;
 
@@ -83,25 +89,62 @@ impl Store {
     {
         match ask {
             Ask::Put { name, code, bytes } => {
-                reply_to(self.put_as(rt, alloc, pass, name, bytes, code))
+                reply_to(self.serve_put(rt, alloc, pass, name, code, bytes))
             }
-            Ask::Read { name, start, len } => reply_to(self.read(rt, pass, name, start, len)),
+            Ask::Read { name, start, len } => {
+                reply_to(self.make(rt, pass, Request::Read { name, start, len }))
+            }
             Ask::Lose {
                 name,
                 stripe,
                 fragment,
-            } => reply_to(self.lose(rt, alloc, pass, name, stripe, fragment)),
+            } => {
+                let loss = Request::Lose {
+                    alloc,
+                    name,
+                    stripe,
+                    fragment,
+                };
+                reply_to(self.make(rt, pass, loss))
+            }
             Ask::Repair {
                 name,
                 stripe,
                 fragment,
             } => reply_to(self.repair(rt, alloc, pass, name, stripe, fragment)),
-            Ask::Delete { name } => reply_to(self.delete(rt, pass, name)),
-            Ask::Stat { name } => reply_to(self.stat(rt, pass, name)),
+            Ask::Delete { name } => reply_to(self.make(rt, pass, Request::Delete { name })),
+            Ask::Stat { name } => reply_to(self.make(rt, pass, Request::Stat { name })),
             Ask::Trim { keep } => match self.trim(rt, alloc, pass, keep) {
                 Ok(count) => Ok(Reply::Trimmed(count)),
                 Err(fault) => Err(fault),
             },
+        }
+    }
+
+    /// Serves a put. The blob is sealed before the critical section.
+    fn serve_put<R: Wait>(
+        &self,
+        rt: &R,
+        alloc: Global,
+        pass: &mut Pass,
+        name: Name,
+        code: Code,
+        bytes: Bytes,
+    ) -> Result<Answer, Fault>
+        requires { pass.old.store ≡ self.now }
+        ensures called { Called pass.old (put_of name code bytes) result pass.new }
+        ensures faults { IfErr result (λ e. IsCallFault e ⊎ (e ≡ Fault.TooLong)) }
+    {
+        match self.seal(alloc, bytes, code) {
+            Ok(sealed) => {
+                let put = Request::Put {
+                    alloc,
+                    name,
+                    sealed,
+                };
+                self.make(rt, pass, put)
+            }
+            Err(fault) => pass.refuse(fault),
         }
     }
 }

@@ -1,35 +1,19 @@
-use Rattle.std.proofs.Common.{[], None, refl, subst, take}
 use Rattle.std.specs.Option.{option_map}
-use Rattle.history.specs.History.{state_of}
-use Rattle.book.specs.Plan.{plan_of, items_after}
-use Rattle.shared.specs.Passes.{shows}
-use Rattle.shared.specs.Deeds.{Takes}
-use Rattle.shared.proofs.Steps.{Stepped, stepped, same_goes_on, takes, unchanged}
-use Rattle.shared.proofs.Looks.{planned}
-use Rattle.shared.proofs.store.Store.plan_part.Given as given
+use Rattle.shared.proofs.Visits.{same_follows, looked, took_nothing, is_planned}
 use Rattle.shared.proofs.store.Store.plan_part.Goals as goal
 
-steps : (g : given.Over) (c : goal.After-map_err g) → Stepped c.pass.inside.seat c.leave.new.seat c.enter-inside.result.value [] 0
-steps g c =
-    let e = c.enter-inside.ensures in
-    let l = c.leave.ensures in
-    stepped c.pass.inside.seat c.enter-inside.new.seat c.leave.new.seat c.enter-inside.result.value c.enter-inside.result.value [] 0 c.pass.invariant
-    (record { same = (e.unchanged.0, e.unchanged.1, e.unchanged.2); seen = e.seen; found = e.found; lone = e.lone })
-    (record { same = (l.unchanged.0, l.unchanged.1, l.unchanged.2); list = l.list; own = l.own })
-    (same_goes_on c.enter-inside.result.value.0.value c.enter-inside.result.value.0.value refl)
-
-pub leave-requires-clause-follows : goal.leave-requires-clause-follows
-leave-requires-clause-follows g c =
-    unchanged _ c.enter-inside.result.value c.enter-inside.ensures.found
+pub make_visit-requires-clause-follows : goal.make_visit-requires-clause-follows
+make_visit-requires-clause-follows g c = λ x y reply can did. same_follows x.0.value y.0.value did.unchanged
 
 pub invariant_of-pass : goal.invariant_of-pass
-invariant_of-pass g c = (steps g c).pass
+invariant_of-pass g c =
+    let v = c.make_visit.ensures.visited in
+    (looked c.pass.inside.seat c.make_visit.new.seat c.make_visit.result c.pass.invariant v v.did.unchanged).pass
 
 pub returns-clause-ok : goal.returns-clause-ok
-returns-clause-ok g c =
-    planned (λ h. take c.args.most (items_after (option_map (λ i. i.now) c.args.after) (plan_of (state_of h)))) c.plan_part-part.result c.map_err.result c.pass.inside.seat c.leave.new.seat c.enter-inside.result.value _ (steps g c) c.map_err.ensures.variant c.map_err.ensures.cases c.plan_part-part.ensures
+returns-clause-ok g c = is_planned c.pass.inside.seat c.make_visit.new.seat (option_map (λ i. i.now) c.args.after) c.args.most c.make_visit.result c.pass.invariant c.make_visit.ensures.visited
 
 pub returns-clause-takes : goal.returns-clause-takes
 returns-clause-takes g c =
-    subst (λ v. Takes v None (shows c.leave.new.seat c.pass.inside.who)) c.pass.view_is
-    (takes c.pass.inside.seat c.leave.new.seat c.enter-inside.result.value [] 0 c.pass.inside.who None (steps g c) refl tt)
+    let v = c.make_visit.ensures.visited in
+    took_nothing c.pass.inside.seat c.make_visit.new.seat c.make_visit.result c.pass.invariant v c.pass.inside.who c.args.pass.now c.pass.view_is v.did.unchanged

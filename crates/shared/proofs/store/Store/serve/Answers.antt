@@ -11,12 +11,12 @@ use Rattle.shared.proofs.store.Store.serve.Goals as goal
 
 pub returns-in-Put-clause-ok : goal.returns-in-Put-clause-ok
 returns-in-Put-clause-ok g c =
-    serves_made c.args.pass.now c.put_as.new.pass c.args.ask (put c.in-Put.name c.in-Put.code c.in-Put.bytes) c.put_as.result c.reply_to.result (ap operation_asked c.in-Put.is) c.reply_to.ensures c.put_as.ensures.called
+    serves_made c.args.pass.now c.serve_put.new.pass c.args.ask (put c.in-Put.name c.in-Put.code c.in-Put.bytes) c.serve_put.result c.reply_to.result (ap operation_asked c.in-Put.is) c.reply_to.ensures c.serve_put.ensures.called
     (λ n start len e. cc e)
 
 pub returns-in-Lose-clause-ok : goal.returns-in-Lose-clause-ok
 returns-in-Lose-clause-ok g c =
-    serves_made c.args.pass.now c.lose.new.pass c.args.ask (lose c.in-Lose.name c.in-Lose.stripe c.in-Lose.fragment) c.lose.result c.reply_to-in-Lose.result (ap operation_asked c.in-Lose.is) c.reply_to-in-Lose.ensures c.lose.ensures.called
+    serves_made c.args.pass.now c.make-in-Lose.new.pass c.args.ask (lose c.in-Lose.name c.in-Lose.stripe c.in-Lose.fragment) c.make-in-Lose.result c.reply_to-in-Lose.result (ap operation_asked c.in-Lose.is) c.reply_to-in-Lose.ensures c.make-in-Lose.ensures.called
     (λ n start len e. cc e)
 
 pub returns-in-Repair-clause-ok : goal.returns-in-Repair-clause-ok
@@ -26,20 +26,20 @@ returns-in-Repair-clause-ok g c =
 
 pub returns-in-Delete-clause-ok : goal.returns-in-Delete-clause-ok
 returns-in-Delete-clause-ok g c =
-    serves_made c.args.pass.now c.delete.new.pass c.args.ask (delete c.in-Delete.name) c.delete.result c.reply_to-in-Delete.result (ap operation_asked c.in-Delete.is) c.reply_to-in-Delete.ensures c.delete.ensures.called
+    serves_made c.args.pass.now c.make-in-Delete.new.pass c.args.ask (delete c.in-Delete.name) c.make-in-Delete.result c.reply_to-in-Delete.result (ap operation_asked c.in-Delete.is) c.reply_to-in-Delete.ensures c.make-in-Delete.ensures.called
     (λ n start len e. cc e)
 
 pub returns-in-Stat-clause-ok : goal.returns-in-Stat-clause-ok
 returns-in-Stat-clause-ok g c =
-    serves_made c.args.pass.now c.stat.new.pass c.args.ask (stat c.in-Stat.name) c.stat.result c.reply_to-in-Stat.result (ap operation_asked c.in-Stat.is) c.reply_to-in-Stat.ensures c.stat.ensures.called
+    serves_made c.args.pass.now c.make-in-Stat.new.pass c.args.ask (stat c.in-Stat.name) c.make-in-Stat.result c.reply_to-in-Stat.result (ap operation_asked c.in-Stat.is) c.reply_to-in-Stat.ensures c.make-in-Stat.ensures.called
     (λ n start len e. cc e)
 
 pub returns-in-Read-clause-ok : goal.returns-in-Read-clause-ok
 returns-in-Read-clause-ok g c =
-    let width : c.read.new.pass.store.width ≡ c.args.self.now.width = ap (λ (s : Which). s.width) (c.read.ensures.called.takes.stays.0 ∙ c.requires) in
-    serves_read c.args.pass.now c.read.new.pass c.args.ask c.in-Read.name c.in-Read.start c.in-Read.len c.read.result c.reply_to-in-Read.result (ap operation_asked c.in-Read.is)
-    c.reply_to-in-Read.ensures c.read.ensures.called
-    (subst (λ w. IfOk c.read.result (λ answer. IfGranted answer (GrantedIn c.read.new.pass.seen w c.in-Read.name c.in-Read.start c.in-Read.len))) (sym width) c.read.ensures.grant)
+    let width : c.make.new.pass.store.width ≡ c.args.self.now.width = ap (λ (s : Which). s.width) (c.make.ensures.called.takes.stays.0 ∙ c.requires) in
+    serves_read c.args.pass.now c.make.new.pass c.args.ask c.in-Read.name c.in-Read.start c.in-Read.len c.make.result c.reply_to-in-Read.result (ap operation_asked c.in-Read.is)
+    c.reply_to-in-Read.ensures c.make.ensures.called
+    (subst (λ w. IfOk c.make.result (λ answer. IfGranted answer (GrantedIn c.make.new.pass.seen w c.in-Read.name c.in-Read.start c.in-Read.len))) (sym width) c.make.ensures.granted)
 
 pub returns-in-Ok-clause-ok : goal.returns-in-Ok-clause-ok
 returns-in-Ok-clause-ok g c =
