@@ -19,11 +19,9 @@ pub record IsShard (setup : Setup) (h : Held ShardBook Act) : Type 0 where
   pub width : (book_of h.value).width ≡ setup.about
   pub holds : RecordsActs (book_of h.value) h.keeper.acts
 
--- a book may follow the one that was found, beside the keeper that was found. The calls between
--- them are of the keeper's shard
-abbrev pub MayLeave : Setup → Held ShardBook Act → Held ShardBook Act → Type 0
+-- a book may follow the one that was found. The calls between them are of the keeper's shard
+abbrev pub MayLeave : Setup → Held ShardBook Act → ShardBook → Type 0
 MayLeave setup found left =
-    IsShard setup found × MayFollow (book_of found.value) (book_of left.value)
-    × (left.keeper ≡ found.keeper)
+    IsShard setup found × MayFollow (book_of found.value) (book_of left)
     × AreCallsAt (event_shard setup.count) found.keeper.shard
-    (events_in (between_books found.value left.value))
+    (events_in (between_books found.value left))

@@ -2,7 +2,5 @@
 #![tactic(auto)]
 
 mod acts;
-mod leave;
 
-pub use acts::{ShardBook, StoreAct};
-pub use leave::leave_book;
+pub use acts::{OnShard, ShardBook, StoreAct};

@@ -1,8 +1,9 @@
 -- What a visit of a shard leaves of a seat and of a follower.
-use Rattle.std.proofs.Common.{◌≡◌, ◌⊎◌, inl, inr, ℕ, ◌+◌, ◌<◌, ◌≤◌, false, List, [], ◌∷◌, ◌++◌, length, Some, Result, Ok, Err, refl, ap, sym, subst, ◌∙◌, arith}
+use Rattle.std.proofs.Common.{◌≡◌, ◌⊎◌, inl, inr, ℕ, ◌+◌, ◌<◌, List, [], ◌∷◌, ◌++◌, length, Some, true, Result, Ok, Err, refl, ap, sym, subst, ◌∙◌, arith}
 use Rattle.std.proofs.lemmas.List.{map-append, length-map, append-nil}
 use mathlib.Core.List.{IsPrefix}
 use Rattle.gate.specs.Places.{SeatState, last_of, IsChain, HasAll, times, once_later}
+use Rattle.gate.specs.Visits.{IsVisit}
 use Rattle.gate.proofs.Lists.{prefix_self, prefix_trans, chain-snoc, last_of-snoc}
 use Rattle.sealed.specs.declared.fault.Fault.{Fault}
 use Rattle.sealed.specs.declared.fault.Fault.TheVariants.{NoMemory, TooLong}
@@ -17,23 +18,25 @@ use Rattle.book.specs.Serial.{Act, events_in}
 use Rattle.requests.specs.declared.boxed_book.BoxedBook.{BoxedBook}
 use Rattle.requests.specs.Between.{RecordsActs, acts_for}
 use Rattle.requests.proofs.Between.{GoesOn, acts_are, events_for, goes_follows}
-use Rattle.one_map.specs.OneMap.{IsLegalOneMap}
 use Rattle.shared.specs.Passes.{acts_of}
 use Rattle.shared.specs.Deeds.{deed_of, trim_deed, act_if}
 use Rattle.shared.proofs.Mends.{events_at_inspection}
 use Rattle.shared.proofs.Looks.{given_by}
-use Rattle.shared.proofs.Steps.{kept_follows, Enters, Leaves, Found, found, Stepped, stepped, made_by, act_called}
+use Rattle.shared.proofs.Steps.{kept_follows, Enters, Found, found, Stepped, made_by, act_called}
+use Rattle.shared.proofs.Visits.{visited as store_visited}
 use Rattle.shared.proofs.Requests.{FoundInside, busy_pass}
 use Rattle.ledger.specs.declared.view.Setup.{Setup}
 use Rattle.ledger.specs.declared.held.Held.{Held}
-use Rattle.ledger.specs.Acts.{LedgerState, KeeperState, FollowerState, IsRecorded, acts_at, indices}
+use Rattle.ledger.specs.Acts.{TableId, LedgerState, KeeperState, FollowerState, AreLegal, acts_at, indices}
 use Rattle.ledger.specs.Acts.{as_shard_acts as at_shard}
-use Rattle.ledger.specs.Values.{MayFollowHeld, KeepsAll, grown, acts_left, acts_to, left_beside}
+use Rattle.ledger.specs.Values.{MayFollowHeld, KeepsAll, acts_left, left_beside}
+use Rattle.ledger.specs.Visits.{beside, IsListedVisit}
 use Rattle.ledger.proofs.Lists.{acts_at-more}
-use Rattle.ledger.proofs.Values.{keeps_longer, acts_to-last}
+use Rattle.ledger.proofs.Values.{keeps_longer}
 use Rattle.ledger_map.specs.declared.acts.ShardBook.{ShardBook}
-use Rattle.ledger_map.specs.Legal.{AreCallsAt, event_shard, calls_of}
+use Rattle.ledger_map.specs.Legal.{AreCallsAt, AreActsOfShard, event_shard}
 use Rattle.ledger_map.specs.Books.{book_of, between_books, IsShard, MayLeave}
+use Rattle.ledger_map.proofs.Leaving.{left_legal, one_map}
 use Rattle.shard.specs.Seats.{SeatShows, books_in, plain, book_follows, ledger_beside, shard_beside, seat_shows, IsKeptChain, IsSeat, IsSeatOf}
 use Rattle.shard.specs.Looked.{inspected}
 use Rattle.shard.specs.Listed.{Listing, listing_of, IsListed, IsUpToDate}
@@ -93,22 +96,12 @@ enters p m x e = record {
   lone = λ all. plain_all m.list m.own (e.lone all);
 }
 
--- and left y, with these acts more
-pub record LeavesHeld (m q : SeatState (Held ShardBook Act)) (y : Held ShardBook Act) (acts : List Act) : Type 0 where
-  pub same : (q.gate ≡ m.gate) × (q.room ≡ m.room) × (q.inside ≡ false)
-  pub list : q.list ≡ m.list ++ left_beside y acts ∷ []
-  pub own : q.own ≡ m.own ++ length m.list ∷ []
+-- the seat inside, which has seen this list
+abbrev entered : SeatState (Held ShardBook Act) → Books → SeatState (Held ShardBook Act)
+entered p list = record { gate = p.gate; list = list; own = p.own; room = p.room; inside = true; expected_length = 0 }
 
-pub leaves : (m q : SeatState (Held ShardBook Act)) (y : Held ShardBook Act) (acts : List Act) → LeavesHeld m q y acts → Leaves (plain m) (plain q) y.value.0
-leaves m q y acts l = record {
-  same = (l.same.0, l.same.1, l.same.2);
-  list = ap books_in l.list ∙ map-append (λ (h : Held ShardBook Act). h.value.0) m.list (left_beside y acts ∷ []);
-  own = l.own ∙ ap (λ (n : ℕ). m.own ++ n ∷ []) (sym (plain_length m.list));
-}
-
--- a book, beside the keeper that was found
-abbrev pub beside : Held ShardBook Act → BoxedBook → Held ShardBook Act
-beside x y = record { value = record { 0 = y }; keeper = x.keeper }
+enters_to : (p : SeatState (Held ShardBook Act)) (list : Books) (x : Held ShardBook Act) → IsPrefix p.list list → IsChain (MayFollowHeld between_books book_follows) list → last_of list ≡ Some x → (p.room ≡ 64 → HasAll list p.own) → EntersHeld p (entered p list) x
+enters_to p list x seen chain last lone = record { same = (refl, refl, refl); seen = (seen, chain); found = last; lone = lone }
 
 -- what is known once a seat has entered
 module _ (ledger : LedgerState) (p m : SeatState (Held ShardBook Act)) (x : Held ShardBook Act) (who : ℕ) (s : SeatShows) (is : seat_shows p who ≡ s) (at : IsSeatOf ledger s) (seat : IsSeat p) (enter : EntersHeld p m x) where
@@ -121,14 +114,8 @@ module _ (ledger : LedgerState) (p m : SeatState (Held ShardBook Act)) (x : Held
   keeper_is : x.keeper ≡ record { ledger = seat.kept.ledger; shard = seat.kept.shard; acts = acts_left between_books m.list }
   keeper_is = ap (λ (h : Held ShardBook Act). h.keeper) (sym found_last) ∙ keeps.2
 
-  ledger_at : seat.kept.ledger ≡ ledger.table
-  ledger_at = let both : Some seat.kept.ledger ≡ Some ledger.table = sym (kept_at p.list seat.kept).0 ∙ ap (λ (t : SeatShows). t.ledger) is ∙ at.ledger_is in cc
-
   shard_at : seat.kept.shard ≡ s.shard
   shard_at = sym (kept_at p.list seat.kept).1 ∙ ap (λ (t : SeatShows). t.shard) is
-
-  pub keeper_ledger : x.keeper.ledger ≡ ledger.table
-  keeper_ledger = ap (λ (q : KeeperState Act). q.ledger) keeper_is ∙ ledger_at
 
   keeper_shard : x.keeper.shard ≡ s.shard
   keeper_shard = ap (λ (q : KeeperState Act). q.shard) keeper_is ∙ shard_at
@@ -146,25 +133,32 @@ module _ (ledger : LedgerState) (p m : SeatState (Held ShardBook Act)) (x : Held
   }
 
   -- and what may be left
-  module _ (y : BoxedBook) (g : History) (n : ℕ) (on : GoesOn (book_of x.value) y.0.value g n) where
-    lies : between_books x.value (record { 0 = y }) ≡ acts_for g n
-    lies = acts_are (book_of x.value) y.0.value g (events_in (acts_of (books_in m.list))) n on plain_found.holds.holds.holds
+  module _ (y : ShardBook) (g : History) (n : ℕ) (on : GoesOn (book_of x.value) (book_of y) g n) where
+    lies : between_books x.value y ≡ acts_for g n
+    lies = acts_are (book_of x.value) (book_of y) g (events_in (acts_of (books_in m.list))) n on plain_found.holds.holds.holds
 
-    pub may_leave : AreCallsAt (event_shard ledger.setup.count) s.shard g → (h : Held ShardBook Act) × (last_of m.list ≡ Some h) × MayLeave ledger.setup h (beside x y)
+    may_leave : AreCallsAt (event_shard ledger.setup.count) s.shard g → MayLeave ledger.setup x y
     may_leave calls = (
-      x,
-      enter.found,
-      (
-        is_shard,
-        goes_follows (book_of x.value) y.0.value g n on,
-        refl,
-        subst (AreCallsAt (event_shard ledger.setup.count) x.keeper.shard) (sym (ap events_in lies ∙ events_for g n on.few))
-            (subst (λ (k : ℕ). AreCallsAt (event_shard ledger.setup.count) k g) (sym keeper_shard) calls),
-      ),
+      is_shard,
+      goes_follows (book_of x.value) (book_of y) g n on,
+      subst (AreCallsAt (event_shard ledger.setup.count) x.keeper.shard) (sym (ap events_in lies ∙ events_for g n on.few))
+          (subst (λ (k : ℕ). AreCallsAt (event_shard ledger.setup.count) k g) (sym keeper_shard) calls),
     )
 
-    recorded_acts : acts_to between_books m.list (record { 0 = y }) ≡ acts_for g n
-    recorded_acts = acts_to-last between_books m.list x (record { 0 = y }) enter.found ∙ lies
+-- ---- what a visit asks for
+module _ (ledger : LedgerState) (p : SeatState (Held ShardBook Act)) (who : ℕ) (s : SeatShows) (is : seat_shows p who ≡ s) (at : IsSeatOf ledger s) (seat : IsSeat p) where
+  pub keeps_at : (k : ℕ) × KeepsAll between_books ledger.table k p.list
+  keeps_at =
+      let both : Some seat.kept.ledger ≡ Some ledger.table = sym (kept_at p.list seat.kept).0 ∙ ap (λ (t : SeatShows). t.ledger) is ∙ at.ledger_is in
+      let same : seat.kept.ledger ≡ ledger.table = cc in
+      (seat.kept.shard, subst (λ (t : TableId). KeepsAll between_books t seat.kept.shard p.list) same seat.kept.keeps)
+
+  -- the shard's acts stay legal
+  pub legal_visit : (list : Books) (x : Held ShardBook Act) (y : ShardBook) (g : History) (n : ℕ) → IsPrefix p.list list → IsChain (MayFollowHeld between_books book_follows) list → last_of list ≡ Some x → (p.room ≡ 64 → HasAll list p.own)
+      → GoesOn (book_of x.value) (book_of y) g n → AreCallsAt (event_shard ledger.setup.count) s.shard g → AreActsOfShard ledger.setup x.keeper.shard x.keeper.acts
+      → AreActsOfShard ledger.setup x.keeper.shard (x.keeper.acts ++ between_books x.value y)
+  legal_visit list x y g n seen chain last lone on calls before =
+      left_legal ledger.setup x y (may_leave ledger p (entered p list) x who s is at seat (enters_to p list x seen chain last lone) y g n on calls) before
 
 -- What a visit leaves of a seat and of a follower
 pub record Visited (setup : Setup) (p q : SeatState (Held ShardBook Act)) (who : ℕ) (s : SeatShows) (x : BoxedBook) (g : History) (n : ℕ) (v w : FollowerState Act) : Type 0 where
@@ -174,55 +168,72 @@ pub record Visited (setup : Setup) (p q : SeatState (Held ShardBook Act)) (who :
   pub listed : IsListed s.shard (acts_for g n) s.shows.acts (acts_of (books_in q.list)) (listing_of v) (listing_of w)
   pub follower : IsUpToDate setup s.shard s.shows.acts (acts_of (books_in q.list)) v w
 
-pub visited : (ledger : LedgerState) (p m q : SeatState (Held ShardBook Act)) (x : Held ShardBook Act) (y : BoxedBook) (who : ℕ) (s : SeatShows) (g : History) (n : ℕ) (v w : FollowerState Act)
-    → seat_shows p who ≡ s → IsSeatOf ledger s → IsSeat p → EntersHeld p m x → GoesOn (book_of x.value) y.0.value g n
-    → LeavesHeld m q (beside x y) (acts_to between_books m.list (record { 0 = y })) → IsRecorded v x.keeper (acts_to between_books m.list (record { 0 = y })) w → (w.ledger ≡ v.ledger) × (w.room ≡ v.room)
-    → IsLegalOneMap ledger.setup.count ledger.setup.about (calls_of w.list) → Visited ledger.setup p q who s x.value.0 g n v w
-visited ledger p m q x y who s g n v w is at seat enter on left recorded follows legal =
-    let book : ShardBook = record { 0 = y } in
-    let acts : acts_to between_books m.list book ≡ acts_for g n = recorded_acts ledger p m x who s is at seat enter y g n on in
-    let step : Stepped (plain p) (plain q) x.value.0 g n =
-    stepped (plain p) (plain m) (plain q) x.value.0 y g n seat.pass (enters p m x enter) (leaves m q (beside x y) (acts_to between_books m.list book) left) on in
-    let last : Held ShardBook Act = left_beside (beside x y) (acts_to between_books m.list book) in
-    let here : last_of q.list ≡ Some last = ap last_of left.list ∙ last_of-snoc m.list last in
-    let more : acts_to between_books m.list book ≡ between_books x.value book = acts_to-last between_books m.list x book enter.found in
-    let follow : MayFollowHeld between_books book_follows x last = (goes_follows (book_of x.value) y.0.value g n on, ap (λ (l : List Act). grown x.keeper l) more) in
-    let chain : IsChain (MayFollowHeld between_books book_follows) q.list =
-    subst (IsChain (MayFollowHeld between_books book_follows)) (sym left.list)
-    (chain-snoc (MayFollowHeld between_books book_follows) m.list last enter.seen.1 (λ h e. subst (λ (z : Held ShardBook Act). MayFollowHeld between_books book_follows z last) (by_some (sym enter.found ∙ e)) follow)) in
-    let whole : IsPrefix p.list q.list = prefix_trans p.list m.list q.list enter.seen.0 (last ∷ [], sym left.list) in
-    let all : KeepsAll between_books seat.kept.ledger seat.kept.shard q.list = kept_longer p.list q.list seat.kept last whole chain here in
-    let now : IsKeptChain q.list = record { chain = chain; ledger = seat.kept.ledger; shard = seat.kept.shard; keeps = all } in
-    let k : x.keeper.shard ≡ s.shard = keeper_shard ledger p m x who s is at seat enter in
-    let list : w.list ≡ recorded.before ++ at_shard s.shard (acts_for g n) = recorded.list ∙ (λ i. recorded.before ++ at_shard (k i) (acts i)) in
-    let had : last.keeper ≡ record { ledger = seat.kept.ledger; shard = seat.kept.shard; acts = acts_left between_books q.list } =
-    ap (λ (h : Held ShardBook Act). h.keeper) (by_some (sym here ∙ all.1)) ∙ all.2 in
-    let shown : acts_at s.shard w.list ≡ acts_of (books_in q.list) =
-    (λ i. acts_at (sym k i) w.list) ∙ ap (acts_at x.keeper.shard) recorded.list ∙ acts_at-more x.keeper.shard recorded.before (acts_to between_books m.list book)
-    ∙ ap (λ (l : List Act). l ++ acts_to between_books m.list book) recorded.whole ∙ ap (λ (z : KeeperState Act). z.acts) had ∙ plain_acts q.list in
-    let places = kept_at q.list now in
-    let before = kept_at p.list seat.kept in
-    record {
-      step = step;
-      seat = record { pass = step.pass; kept = now };
-      same = (places.0 ∙ sym before.0 ∙ ap (λ (t : SeatShows). t.ledger) is, places.1 ∙ sym before.1 ∙ ap (λ (t : SeatShows). t.shard) is);
-      listed = record {
-        before = recorded.before;
-        seen = recorded.seen;
-        list = list;
-        own = recorded.own ∙ ap (λ (l : List Act). v.own ++ indices (length recorded.before) (length l)) acts;
-        entered = inr shown;
-      };
-      follower = record {
-        ledger = follows.0;
-        room = follows.1;
-        begins = λ _. subst (λ (l : List Act). IsPrefix (acts_of (books_in q.list)) l) (sym shown) (prefix_self (acts_of (books_in q.list)));
-        one_map = λ _. legal;
-      };
-    }
-  where
-    by_some : {a b : Held ShardBook Act} → Some a ≡ Some b → a ≡ b
-    by_some f = cc (f)
+module _ {O : Type 0} (does : BoxedBook → BoxedBook → O → Type 0) (ledger : LedgerState) (p q : SeatState (Held ShardBook Act)) (f h : FollowerState Act) (r : O) (v : IsListedVisit between_books book_follows (λ x y reply. does x.0 y.0 reply) ledger.table p q f h r) where
+  abbrev last_left : Held ShardBook Act
+  last_left = left_beside (beside v.found v.left) (between_books v.found.value v.left)
+
+  -- as a visit of a store
+  abbrev pub plain_visit : IsVisit kept_follows does (plain p) (plain q) r
+  plain_visit = record {
+    before = books_in v.before;
+    found = v.found.value.0;
+    left = v.left.0;
+    seen = plain_prefix p.list v.before v.seen;
+    chain = plain_chain v.before v.chain;
+    last = plain_last v.before v.found v.last;
+    did = v.did;
+    list = ap books_in v.list ∙ map-append (λ (x : Held ShardBook Act). x.value.0) v.before (last_left ∷ []);
+    own = v.own ∙ ap (λ (n : ℕ). p.own ++ n ∷ []) (sym (plain_length v.before));
+    same = v.same;
+    lone = λ all. plain_all v.before p.own (v.lone all);
+  }
+
+  pub visited : (who : ℕ) (s : SeatShows) (g : History) (n : ℕ) → seat_shows p who ≡ s → IsSeatOf ledger s → IsSeat p → GoesOn (book_of v.found.value) (book_of v.left) g n → AreLegal (AreActsOfShard ledger.setup) h.list
+      → Visited ledger.setup p q who s v.found.value.0 g n f h
+  visited who s g n is at seat on legal =
+      let x : Held ShardBook Act = v.found in
+      let m : SeatState (Held ShardBook Act) = entered p v.before in
+      let enter : EntersHeld p (entered p v.before) v.found = enters_to p v.before v.found v.seen v.chain v.last v.lone in
+      let acts : between_books v.found.value v.left ≡ acts_for g n = lies ledger p (entered p v.before) v.found who s is at seat enter v.left g n on in
+      let step : Stepped (plain p) (plain q) v.found.value.0 g n = store_visited (plain p) (plain q) r seat.pass plain_visit g n on in
+      let here : last_of q.list ≡ Some last_left = ap last_of v.list ∙ last_of-snoc v.before last_left in
+      let follow : MayFollowHeld between_books book_follows v.found last_left = (goes_follows (book_of v.found.value) (book_of v.left) g n on, refl) in
+      let chain : IsChain (MayFollowHeld between_books book_follows) q.list =
+      subst (IsChain (MayFollowHeld between_books book_follows)) (sym v.list)
+      (chain-snoc (MayFollowHeld between_books book_follows) v.before last_left v.chain (λ z e. subst (λ (y : Held ShardBook Act). MayFollowHeld between_books book_follows y last_left) (by_some (sym v.last ∙ e)) follow)) in
+      let whole : IsPrefix p.list q.list = prefix_trans p.list v.before q.list v.seen (last_left ∷ [], sym v.list) in
+      let all : KeepsAll between_books seat.kept.ledger seat.kept.shard q.list = kept_longer p.list q.list seat.kept last_left whole chain here in
+      let now : IsKeptChain q.list = record { chain = chain; ledger = seat.kept.ledger; shard = seat.kept.shard; keeps = all } in
+      let k : v.found.keeper.shard ≡ s.shard = keeper_shard ledger p (entered p v.before) v.found who s is at seat enter in
+      let list : h.list ≡ v.recorded.before ++ at_shard s.shard (acts_for g n) = v.recorded.list ∙ (λ i. v.recorded.before ++ at_shard (k i) (acts i)) in
+      let had : last_left.keeper ≡ record { ledger = seat.kept.ledger; shard = seat.kept.shard; acts = acts_left between_books q.list } =
+      ap (λ (y : Held ShardBook Act). y.keeper) (by_some (sym here ∙ all.1)) ∙ all.2 in
+      let shown : acts_at s.shard h.list ≡ acts_of (books_in q.list) =
+      (λ i. acts_at (sym k i) h.list) ∙ ap (acts_at v.found.keeper.shard) v.recorded.list ∙ acts_at-more v.found.keeper.shard v.recorded.before (between_books v.found.value v.left)
+      ∙ ap (λ (l : List Act). l ++ between_books v.found.value v.left) v.recorded.whole ∙ ap (λ (z : KeeperState Act). z.acts) had ∙ plain_acts q.list in
+      let places = kept_at q.list now in
+      let before = kept_at p.list seat.kept in
+      record {
+        step = step;
+        seat = record { pass = step.pass; kept = now };
+        same = (places.0 ∙ sym before.0 ∙ ap (λ (t : SeatShows). t.ledger) is, places.1 ∙ sym before.1 ∙ ap (λ (t : SeatShows). t.shard) is);
+        listed = record {
+          before = v.recorded.before;
+          seen = v.recorded.seen;
+          list = list;
+          own = v.recorded.own ∙ ap (λ (l : List Act). f.own ++ indices (length v.recorded.before) (length l)) acts;
+          entered = inr shown;
+        };
+        follower = record {
+          ledger = v.follower.0;
+          room = v.follower.1;
+          begins = λ _. subst (λ (l : List Act). IsPrefix (acts_of (books_in q.list)) l) (sym shown) (prefix_self (acts_of (books_in q.list)));
+          one_map = λ _. one_map ledger.setup h.list at.some legal;
+        };
+      }
+    where
+      by_some : {a b : Held ShardBook Act} → Some a ≡ Some b → a ≡ b
+      by_some e = cc (e)
 
 -- ---- a caller that did not enter
 pub nothing_listed : (k : ℕ) (acts had shown : List Act) (v : Listing) → acts ≡ [] → shown ≡ had → IsListed k acts had shown v v
@@ -258,16 +269,27 @@ busy_place p q who s is found =
     let list : q.list ≡ p.list = ap (λ (u : SeatState (Held ShardBook Act)). u.list) found.1 in
     (ap (λ (l : Books). ledger_beside (last_of l)) list ∙ ap (λ (t : SeatShows). t.ledger) is, ap (λ (l : Books). shard_beside (last_of l)) list ∙ ap (λ (t : SeatShows). t.shard) is)
 
-pub busy_acts : (p q : SeatState (Held ShardBook Act)) (who : ℕ) (s : SeatShows) → seat_shows p who ≡ s → (length p.list < q.expected_length) × (q ≡ record p { expected_length = q.expected_length }) → acts_of (books_in q.list) ≡ s.shows.acts
+busy_acts : (p q : SeatState (Held ShardBook Act)) (who : ℕ) (s : SeatShows) → seat_shows p who ≡ s → (length p.list < q.expected_length) × (q ≡ record p { expected_length = q.expected_length }) → acts_of (books_in q.list) ≡ s.shows.acts
 busy_acts p q who s is found = ap (λ (u : SeatState (Held ShardBook Act)). acts_of (books_in u.list)) found.1 ∙ ap (λ (t : SeatShows). t.shows.acts) is
 
--- ---- as the code knows it
-pub expected_now : (p m : SeatState (Held ShardBook Act)) → (m.expected_length ≡ p.expected_length) × (p.expected_length ≤ length m.list) → (m.expected_length ≡ p.expected_length) × (p.expected_length ≤ length (books_in m.list))
-expected_now p m e = (e.0, (let long = plain_length m.list in let le = e.1 in omega arith))
+-- nothing is listed then
+pub busy_listed : (p q : SeatState (Held ShardBook Act)) (who : ℕ) (s : SeatShows) (k : ℕ) (f h : FollowerState Act) → seat_shows p who ≡ s → (length p.list < q.expected_length) × (q ≡ record p { expected_length = q.expected_length }) → h ≡ f
+    → IsListed k [] s.shows.acts (acts_of (books_in q.list)) (listing_of f) (listing_of h)
+busy_listed p q who s k f h is found same =
+    subst (λ (u : FollowerState Act). IsListed k [] s.shows.acts (acts_of (books_in q.list)) (listing_of f) (listing_of u)) (sym same)
+    (nothing_listed k [] s.shows.acts (acts_of (books_in q.list)) (listing_of f) refl (busy_acts p q who s is found))
 
-pub left_books : (m q : SeatState (Held ShardBook Act)) (x : Held ShardBook Act) (y : BoxedBook) → q.list ≡ m.list ++ left_beside (beside x y) (acts_to between_books m.list (record { 0 = y })) ∷ [] → books_in q.list ≡ books_in m.list ++ y ∷ []
-left_books m q x y list = ap books_in list ∙ map-append (λ (h : Held ShardBook Act). h.value.0) m.list (left_beside (beside x y) (acts_to between_books m.list (record { 0 = y })) ∷ [])
+pub busy_follower : (setup : Setup) (p q : SeatState (Held ShardBook Act)) (who : ℕ) (s : SeatShows) (k : ℕ) (f h : FollowerState Act) → seat_shows p who ≡ s → (length p.list < q.expected_length) × (q ≡ record p { expected_length = q.expected_length }) → h ≡ f
+    → IsUpToDate setup k s.shows.acts (acts_of (books_in q.list)) f h
+busy_follower setup p q who s k f h is found same =
+    subst (λ (u : FollowerState Act). IsUpToDate setup k s.shows.acts (acts_of (books_in q.list)) f u) (sym same)
+    (nothing_changed setup k s.shows.acts (acts_of (books_in q.list)) f (busy_acts p q who s is found))
 
+-- a seat that was let in has seen the end of all visits that it expected
+pub expected_plain : (p q : SeatState (Held ShardBook Act)) → p.expected_length < length q.list → p.expected_length < length (books_in q.list)
+expected_plain p q expected = let long = plain_length q.list in omega arith
+
+-- ---- what is listed
 -- what is listed is what the deed is
 listed_as : (k : ℕ) (acts done had shown : List Act) (v w : Listing) → done ≡ acts → IsListed k acts had shown v w → IsListed k done had shown v w
 listed_as k acts done had shown v w same listed = subst (λ (l : List Act). IsListed k l had shown v w) (sym same) listed

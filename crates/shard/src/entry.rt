@@ -12,8 +12,8 @@ ghost use Rattle.shard.specs.Listed.{IsListed, IsUpToDate, listing_of};
 use crate::{Shard, ShardSeat};
 use book::{Answer, Fault};
 use ledger::{Follower, Ledger};
-use ledger_map::{StoreAct, leave_book};
-use requests::Request;
+use ledger_map::{OnShard, StoreAct};
+use requests::{Request, RequestVisit};
 use std::sync::Wait;
 
 impl Shard {
@@ -46,11 +46,9 @@ impl Shard {
         ensures follower { IsUpToDate ledger.now.setup seat.old.shard seat.old.shows.acts
             seat.new.shows.acts follower.old follower.new }
     {
-        let mut inside = ledger.enter(rt, &self.gate, &mut seat.seat);
-        let result = request.make_on(&mut inside.value.value.0, seat.who);
-        leave_book(ledger, &self.gate, &mut seat.seat, follower, inside);
-        self.gate.wake();
-        result
+        let who = seat.who;
+        let visit = OnShard(RequestVisit { who, request });
+        ledger.make_visit(rt, &self.gate, &mut seat.seat, follower, visit)
     }
 
     /// As `make`, if no other thread is in the critical section. Else `Busy`, and the request is
@@ -129,11 +127,12 @@ impl Shard {
         ensures follower { IsUpToDate ledger.now.setup seat.old.shard seat.old.shows.acts
             seat.new.shows.acts follower.old follower.new }
     {
-        let Some(mut inside) = self.gate.try_enter(&mut seat.seat) else {
-            return Err(request);
+        let who = seat.who;
+        let visit = OnShard(RequestVisit { who, request });
+        let visit = match ledger.try_visit(&self.gate, &mut seat.seat, follower, visit) {
+            Ok(reply) => return Ok(reply),
+            Err(visit) => visit,
         };
-        let reply = request.make_on(&mut inside.value.value.0, seat.who);
-        leave_book(ledger, &self.gate, &mut seat.seat, follower, inside);
-        Ok(reply)
+        Err(visit.0.request)
     }
 }

@@ -15,8 +15,8 @@ ghost use Rattle.shard.specs.Looked.{inspected};
 use crate::{Shard, ShardSeat};
 use book::{Answer, Fault, Name};
 use ledger::{Follower, Ledger};
-use ledger_map::{StoreAct, leave_book};
-use requests::{Inspection, inspect};
+use ledger_map::{OnShard, StoreAct};
+use requests::{Inspection, InspectionVisit};
 use shared::prepare_install;
 use std::alloc::Global;
 use std::sync::Wait;
@@ -107,7 +107,7 @@ impl Shard {
         self.try_make(ledger, seat, follower, install)
     }
 
-    /// Enters the critical section, inspects and leaves.
+    /// Inspects a blob before a repair, in the critical section.
     fn inspect<R: Wait>(
         &self,
         rt: &R,
@@ -135,12 +135,14 @@ impl Shard {
         ensures follower { IsUpToDate ledger.now.setup seat.old.shard seat.old.shows.acts
             seat.new.shows.acts follower.old follower.new }
     {
-        let mut inside = ledger.enter(rt, &self.gate, &mut seat.seat);
-        let kept = &mut inside.value.value.0;
-        let inspection = inspect(kept, alloc, seat.who, name, stripe, fragment);
-        leave_book(ledger, &self.gate, &mut seat.seat, follower, inside);
-        self.gate.wake();
-        inspection
+        let visit = OnShard(InspectionVisit {
+            alloc,
+            who: seat.who,
+            name,
+            stripe,
+            fragment,
+        });
+        ledger.make_visit(rt, &self.gate, &mut seat.seat, follower, visit)
     }
 
     /// As `inspect`, if no other thread is in the critical section. Else `Busy`.
@@ -175,12 +177,16 @@ impl Shard {
         ensures follower { IsUpToDate ledger.now.setup seat.old.shard seat.old.shows.acts
             seat.new.shows.acts follower.old follower.new }
     {
-        let Some(mut inside) = self.gate.try_enter(&mut seat.seat) else {
+        let visit = OnShard(InspectionVisit {
+            alloc,
+            who: seat.who,
+            name,
+            stripe,
+            fragment,
+        });
+        let Ok(inspection) = ledger.try_visit(&self.gate, &mut seat.seat, follower, visit) else {
             return Inspection::Refused(Fault::Busy);
         };
-        let kept = &mut inside.value.value.0;
-        let inspection = inspect(kept, alloc, seat.who, name, stripe, fragment);
-        leave_book(ledger, &self.gate, &mut seat.seat, follower, inside);
         inspection
     }
 }

@@ -10,7 +10,8 @@ ghost use Rattle.shard.specs.Listed.{IsListed, IsUpToDate, listing_of};
 use crate::{Shard, ShardSeat};
 use book::{Fault, Numbers};
 use ledger::{Follower, Ledger};
-use ledger_map::{StoreAct, leave_book};
+use ledger_map::{OnShard, StoreAct};
+use requests::NumbersVisit;
 use std::sync::Wait;
 
 impl Shard {
@@ -36,11 +37,8 @@ impl Shard {
         ensures follower { IsUpToDate ledger.now.setup seat.old.shard seat.old.shows.acts
             seat.new.shows.acts follower.old follower.new }
     {
-        let inside = ledger.enter(rt, &self.gate, &mut seat.seat);
-        let numbers = inside.value.value.0.numbers();
-        leave_book(ledger, &self.gate, &mut seat.seat, follower, inside);
-        self.gate.wake();
-        numbers
+        let visit = OnShard(NumbersVisit);
+        ledger.make_visit(rt, &self.gate, &mut seat.seat, follower, visit)
     }
 
     /// As `numbers`, if no other thread is in the critical section. Else `Busy`.
@@ -67,11 +65,10 @@ impl Shard {
         ensures follower { IsUpToDate ledger.now.setup seat.old.shard seat.old.shows.acts
             seat.new.shows.acts follower.old follower.new }
     {
-        let Some(inside) = self.gate.try_enter(&mut seat.seat) else {
+        let visit = OnShard(NumbersVisit);
+        let Ok(numbers) = ledger.try_visit(&self.gate, &mut seat.seat, follower, visit) else {
             return Err(Fault::Busy);
         };
-        let numbers = inside.value.value.0.numbers();
-        leave_book(ledger, &self.gate, &mut seat.seat, follower, inside);
         Ok(numbers)
     }
 }

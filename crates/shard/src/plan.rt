@@ -10,7 +10,7 @@ ghost use Rattle.shard.specs.Listed.{IsListed, IsUpToDate, listing_of};
 use crate::{Shard, ShardSeat};
 use book::{Fault, Plan};
 use ledger::{Follower, Ledger};
-use ledger_map::{StoreAct, leave_book};
+use ledger_map::StoreAct;
 use std::alloc::Global;
 use std::sync::Wait;
 
@@ -36,11 +36,7 @@ impl Shard {
         ensures follower { IsUpToDate ledger.now.setup seat.old.shard seat.old.shows.acts
             seat.new.shows.acts follower.old follower.new }
     {
-        let inside = ledger.enter(rt, &self.gate, &mut seat.seat);
-        let plan = inside.value.value.0.plan(alloc);
-        leave_book(ledger, &self.gate, &mut seat.seat, follower, inside);
-        self.gate.wake();
-        plan.map_err(|_| Fault::NoMemory)
+        self.plan_part(rt, alloc, ledger, seat, follower, None, usize::MAX)
     }
 
     /// As `plan`, if no other thread is in the critical section. Else `Busy`.
@@ -66,11 +62,6 @@ impl Shard {
         ensures follower { IsUpToDate ledger.now.setup seat.old.shard seat.old.shows.acts
             seat.new.shows.acts follower.old follower.new }
     {
-        let Some(inside) = self.gate.try_enter(&mut seat.seat) else {
-            return Err(Fault::Busy);
-        };
-        let plan = inside.value.value.0.plan(alloc);
-        leave_book(ledger, &self.gate, &mut seat.seat, follower, inside);
-        plan.map_err(|_| Fault::NoMemory)
+        self.try_plan_part(alloc, ledger, seat, follower, None, usize::MAX)
     }
 }

@@ -11,7 +11,8 @@ ghost use Rattle.shard.specs.Listed.{IsListed, IsUpToDate, listing_of};
 use crate::{Shard, ShardSeat};
 use book::{Fault, Item, Plan};
 use ledger::{Follower, Ledger};
-use ledger_map::{StoreAct, leave_book};
+use ledger_map::{OnShard, StoreAct};
+use requests::PlanPartVisit;
 use std::alloc::Global;
 use std::sync::Wait;
 
@@ -42,11 +43,8 @@ impl Shard {
         ensures follower { IsUpToDate ledger.now.setup seat.old.shard seat.old.shows.acts
             seat.new.shows.acts follower.old follower.new }
     {
-        let inside = ledger.enter(rt, &self.gate, &mut seat.seat);
-        let part = inside.value.value.0.plan_part(alloc, after, most);
-        leave_book(ledger, &self.gate, &mut seat.seat, follower, inside);
-        self.gate.wake();
-        part.map_err(|_| Fault::NoMemory)
+        let visit = OnShard(PlanPartVisit { alloc, after, most });
+        ledger.make_visit(rt, &self.gate, &mut seat.seat, follower, visit)
     }
 
     /// As `plan_part`, if no other thread is in the critical section. Else `Busy`.
@@ -76,11 +74,10 @@ impl Shard {
         ensures follower { IsUpToDate ledger.now.setup seat.old.shard seat.old.shows.acts
             seat.new.shows.acts follower.old follower.new }
     {
-        let Some(inside) = self.gate.try_enter(&mut seat.seat) else {
+        let visit = OnShard(PlanPartVisit { alloc, after, most });
+        let Ok(reply) = ledger.try_visit(&self.gate, &mut seat.seat, follower, visit) else {
             return Err(Fault::Busy);
         };
-        let part = inside.value.value.0.plan_part(alloc, after, most);
-        leave_book(ledger, &self.gate, &mut seat.seat, follower, inside);
-        part.map_err(|_| Fault::NoMemory)
+        reply
     }
 }

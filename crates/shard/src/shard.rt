@@ -69,16 +69,17 @@ impl Shard {
         Ok((shard, ShardSeat { seat, who: 0 }))
     }
 
-    /// Gives the book, once all seats are joined, as `Store::close` does. The follower sees the
-    /// list of all shards whole, if it has a room of 64: it then had seen it whole, and recorded
-    /// each act of it. The acts of this shard in it are those that the seat shows.
-    pub fn close(
-        self,
+    /// Gives the book of a shard that may be shared, once all seats are joined, as
+    /// `Store::take_book` does. Nobody calls the shard again. The follower sees the list of all
+    /// shards whole, if it has a room of 64: it then had seen it whole, and recorded each act of
+    /// it. The acts of this shard in it are those that the seat shows.
+    pub fn take_book(
+        &self,
         ledger: &Ledger<StoreAct>,
         seat: ShardSeat,
         follower: &mut Follower<StoreAct>,
     ) -> Book
-        requires shard { seat.shows.store ≡ self }
+        requires shard { seat.shows.store ≡ self.now }
         requires lone { seat.shows.room ≡ 64 }
         requires at { IsSeatOf ledger.now seat }
         requires ledger { (follower.old.ledger ≡ ledger.now) × (follower.old.room ≡ 64) }
@@ -90,14 +91,13 @@ impl Shard {
         ensures did { (k : ℕ) → k < length seat.shows.acts → times k seat.shows.did ≡ 1 }
         ensures did_count { length seat.shows.did ≡ length seat.shows.acts }
         ensures entries { result.base.trimmed + length result.entries ≡ length seat.shows.made }
-        ensures unchanged { (result.width ≡ self.width) × (result.limit ≡ self.limit) }
+        ensures unchanged { (result.width ≡ self.now.width) × (result.limit ≡ self.now.limit) }
         ensures follower { follower.new ≡ follower.old }
         ensures all { HasAll follower.old.list follower.old.own }
         ensures acts { acts_at seat.shard follower.old.list ≡ seat.shows.acts }
     {
         let ShardSeat { seat, who: _ } = seat;
-        let Shard { gate, .. } = self;
-        let ShardBook(BoxedBook(book)) = ledger.close_gate(gate, seat, follower);
+        let ShardBook(BoxedBook(book)) = ledger.take_value(&self.gate, seat, follower);
         Box::into_inner(book)
     }
 }

@@ -8,7 +8,7 @@ ghost use Rattle.shard.specs.Listed.{IsListed, IsUpToDate, listing_of};
 use crate::{Shard, ShardSeat};
 use book::Fault;
 use ledger::{Follower, Ledger};
-use ledger_map::{StoreAct, leave_book};
+use ledger_map::StoreAct;
 use std::alloc::Global;
 use std::sync::Wait;
 
@@ -36,11 +36,7 @@ impl Shard {
         ensures follower { IsUpToDate ledger.now.setup seat.old.shard seat.old.shows.acts
             seat.new.shows.acts follower.old follower.new }
     {
-        let mut inside = ledger.enter(rt, &self.gate, &mut seat.seat);
-        let result = inside.value.value.0.trim(alloc, keep);
-        leave_book(ledger, &self.gate, &mut seat.seat, follower, inside);
-        self.gate.wake();
-        result
+        self.trim_part(rt, alloc, ledger, seat, follower, keep, u64::MAX)
     }
 
     /// As `trim`, if no other thread is in the critical section. Else `Busy`.
@@ -68,11 +64,6 @@ impl Shard {
         ensures follower { IsUpToDate ledger.now.setup seat.old.shard seat.old.shows.acts
             seat.new.shows.acts follower.old follower.new }
     {
-        let Some(mut inside) = self.gate.try_enter(&mut seat.seat) else {
-            return Err(Fault::Busy);
-        };
-        let result = inside.value.value.0.trim(alloc, keep);
-        leave_book(ledger, &self.gate, &mut seat.seat, follower, inside);
-        result
+        self.try_trim_part(alloc, ledger, seat, follower, keep, u64::MAX)
     }
 }

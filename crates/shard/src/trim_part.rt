@@ -8,7 +8,8 @@ ghost use Rattle.shard.specs.Listed.{IsListed, IsUpToDate, listing_of};
 use crate::{Shard, ShardSeat};
 use book::Fault;
 use ledger::{Follower, Ledger};
-use ledger_map::{StoreAct, leave_book};
+use ledger_map::{OnShard, StoreAct};
+use requests::TrimPartVisit;
 use std::alloc::Global;
 use std::sync::Wait;
 
@@ -42,11 +43,8 @@ impl Shard {
         ensures follower { IsUpToDate ledger.now.setup seat.old.shard seat.old.shows.acts
             seat.new.shows.acts follower.old follower.new }
     {
-        let mut inside = ledger.enter(rt, &self.gate, &mut seat.seat);
-        let result = inside.value.value.0.trim_part(alloc, keep, most);
-        leave_book(ledger, &self.gate, &mut seat.seat, follower, inside);
-        self.gate.wake();
-        result
+        let visit = OnShard(TrimPartVisit { alloc, keep, most });
+        ledger.make_visit(rt, &self.gate, &mut seat.seat, follower, visit)
     }
 
     /// As `trim_part`, if no other thread is in the critical section. Else `Busy`.
@@ -79,11 +77,10 @@ impl Shard {
         ensures follower { IsUpToDate ledger.now.setup seat.old.shard seat.old.shows.acts
             seat.new.shows.acts follower.old follower.new }
     {
-        let Some(mut inside) = self.gate.try_enter(&mut seat.seat) else {
+        let visit = OnShard(TrimPartVisit { alloc, keep, most });
+        let Ok(reply) = ledger.try_visit(&self.gate, &mut seat.seat, follower, visit) else {
             return Err(Fault::Busy);
         };
-        let result = inside.value.value.0.trim_part(alloc, keep, most);
-        leave_book(ledger, &self.gate, &mut seat.seat, follower, inside);
-        result
+        reply
     }
 }

@@ -1,60 +1,47 @@
-use Rattle.std.proofs.Common.{◌≡◌, ℕ, ◌-◌, [], length, max, IfOk, ap, subst}
-use Rattle.book.specs.Contents.{journal_of}
-use Rattle.book.specs.Trimming.{given_up}
-use Rattle.shared.specs.Passes.{shows}
-use Rattle.shared.specs.Deeds.{trim_deed, Takes}
-use Rattle.shared.proofs.Looks.{given_by, trim_goes_on, takes_trim, keeps_more, few_given, whole_given}
-use Rattle.shard.specs.Seats.{plain}
-use Rattle.shard.proofs.Visits.{keeper_ledger, may_leave, Visited, visited, listed_trim}
-use Rattle.shard.proofs.shard.Shard.trim_part.Given as given
+use Rattle.std.proofs.Common.{[]}
+use Rattle.shared.proofs.Looks.{given_by, few_given, whole_given}
+use Rattle.shared.proofs.Visits.{trimmed_goes_on, trimmed_follows}
+use Rattle.shard.proofs.Visits.{keeps_at, legal_visit}
+use Rattle.shard.proofs.Entering.{trimmed_visited, trim_listed, trim_takes_part, trim_takes_as}
 use Rattle.shard.proofs.shard.Shard.trim_part.Goals as goal
 
-pub leave_book-requires-clause-ledger : goal.leave_book-requires-clause-ledger
-leave_book-requires-clause-ledger g c =
-    let e = c.enter-inside.ensures in
-    (c.requires.ledger, keeper_ledger c.args.ledger.now c.seat.inside.seat c.enter-inside.new.seat c.enter-inside.result.value c.seat.inside.who c.args.seat.now c.seat.view_is c.requires.at c.seat.invariant (record { same = (e.unchanged.0, e.unchanged.1, e.unchanged.2); seen = e.seen; found = e.found; lone = e.lone }))
+pub make_visit-requires-clause-keeps : goal.make_visit-requires-clause-keeps
+make_visit-requires-clause-keeps g c = keeps_at c.args.ledger.now c.seat.inside.seat c.seat.inside.who c.args.seat.now c.seat.view_is c.requires.at c.seat.invariant
 
-pub leave_book-requires-clause-found : goal.leave_book-requires-clause-found
-leave_book-requires-clause-found g c =
-    let e = c.enter-inside.ensures in
-    let m = c.trim_part-result.ensures in
-    may_leave c.args.ledger.now c.seat.inside.seat c.enter-inside.new.seat c.enter-inside.result.value c.seat.inside.who c.args.seat.now c.seat.view_is c.requires.at c.seat.invariant (record { same = (e.unchanged.0, e.unchanged.1, e.unchanged.2); seen = e.seen; found = e.found; lone = e.lone })
-    c.trim_part-result.new.self [] (given_by c.trim_part-result.result) (trim_goes_on c.trim_part-result.result c.enter-inside.result.value.value.0.0.value c.trim_part-result.new.self.0.value m.unchanged.0 m.unchanged.1 m.holds m.trimmed m.err) (tt)
+pub make_visit-requires-clause-follows : goal.make_visit-requires-clause-follows
+make_visit-requires-clause-follows g c = λ x y reply can did. trimmed_follows c.args.keep c.args.most x.0.0.value y.0.0.value reply did
 
-visit : (g : given.Over) (c : goal.After-wake g) → Visited c.args.ledger.now.setup c.seat.inside.seat c.leave_book.new.seat c.seat.inside.who c.args.seat.now c.enter-inside.result.value.value.0 [] (given_by c.trim_part-result.result) c.args.follower.now c.leave_book.new.follower
-visit g c =
-    let e = c.enter-inside.ensures in
-    let m = c.trim_part-result.ensures in
-    let l = c.leave_book.ensures in
-    visited c.args.ledger.now c.seat.inside.seat c.enter-inside.new.seat c.leave_book.new.seat c.enter-inside.result.value c.trim_part-result.new.self c.seat.inside.who c.args.seat.now [] (given_by c.trim_part-result.result) c.args.follower.now c.leave_book.new.follower
-    c.seat.view_is c.requires.at c.seat.invariant (record { same = (e.unchanged.0, e.unchanged.1, e.unchanged.2); seen = e.seen; found = e.found; lone = e.lone }) (trim_goes_on c.trim_part-result.result c.enter-inside.result.value.value.0.0.value c.trim_part-result.new.self.0.value m.unchanged.0 m.unchanged.1 m.holds m.trimmed m.err)
-    (record { same = (l.unchanged.0, l.unchanged.1, l.unchanged.2); list = l.list; own = l.own }) l.recorded l.follower l.one_map
+pub make_visit-requires-clause-legal : goal.make_visit-requires-clause-legal
+make_visit-requires-clause-legal g c =
+    λ list x y reply seen chain last lone did before.
+    legal_visit c.args.ledger.now c.seat.inside.seat c.seat.inside.who c.args.seat.now c.seat.view_is c.requires.at c.seat.invariant list x y [] (given_by reply) seen chain last lone
+    (trimmed_goes_on c.args.keep c.args.most x.value.0.0.value y.0.0.value reply did)
+    tt before
 
 pub invariant_of-seat : goal.invariant_of-seat
-invariant_of-seat g c = (visit g c).seat
+invariant_of-seat g c =
+    (trimmed_visited c.args.ledger.now c.seat.inside.seat c.make_visit.new.seat c.args.follower.now c.make_visit.new.follower c.seat.inside.who c.args.seat.now c.seat.view_is c.requires.at c.seat.invariant c.args.keep c.args.most c.make_visit.result c.make_visit.ensures.visited c.make_visit.ensures.legal).seat
 
 pub returns-clause-same : goal.returns-clause-same
-returns-clause-same g c = (visit g c).same
+returns-clause-same g c =
+    (trimmed_visited c.args.ledger.now c.seat.inside.seat c.make_visit.new.seat c.args.follower.now c.make_visit.new.follower c.seat.inside.who c.args.seat.now c.seat.view_is c.requires.at c.seat.invariant c.args.keep c.args.most c.make_visit.result c.make_visit.ensures.visited c.make_visit.ensures.legal).same
 
 pub returns-clause-follower : goal.returns-clause-follower
-returns-clause-follower g c = (visit g c).follower
+returns-clause-follower g c =
+    (trimmed_visited c.args.ledger.now c.seat.inside.seat c.make_visit.new.seat c.args.follower.now c.make_visit.new.follower c.seat.inside.who c.args.seat.now c.seat.view_is c.requires.at c.seat.invariant c.args.keep c.args.most c.make_visit.result c.make_visit.ensures.visited c.make_visit.ensures.legal).follower
 
-takes_part : (g : given.Over) (c : goal.After-wake g) (keep : ℕ) → IfOk c.trim_part-result.result (λ n. n ≡ given_up c.enter-inside.result.value.value.0.0.value.base.trimmed (length (journal_of c.enter-inside.result.value.value.0.0.value)) keep)
-    → Takes c.args.seat.now.shows (trim_deed keep c.trim_part-result.result) (shows (plain c.leave_book.new.seat) c.seat.inside.who)
-takes_part g c keep answer =
-    subst (λ v. Takes v (trim_deed keep c.trim_part-result.result) (shows (plain c.leave_book.new.seat) c.seat.inside.who)) (ap (λ t. t.shows) c.seat.view_is)
-    (takes_trim c.trim_part-result.result (plain c.seat.inside.seat) (plain c.leave_book.new.seat) c.enter-inside.result.value.value.0 c.seat.inside.who keep (visit g c).step answer)
+pub returns-clause-listed : goal.returns-clause-listed
+returns-clause-listed g c =
+    trim_listed c.args.ledger.now c.seat.inside.seat c.make_visit.new.seat c.args.follower.now c.make_visit.new.follower c.seat.inside.who c.args.seat.now c.seat.view_is c.requires.at c.seat.invariant c.args.keep c.args.most c.make_visit.result c.make_visit.ensures.visited c.make_visit.ensures.legal
 
 pub returns-clause-part : goal.returns-clause-part
 returns-clause-part g c =
-    let kept = length (journal_of c.enter-inside.result.value.value.0.0.value) - c.args.most in
-    (max c.args.keep kept, keeps_more c.args.keep kept, takes_part g c (max c.args.keep kept) c.trim_part-result.ensures.answer)
+    trim_takes_part c.args.ledger.now c.seat.inside.seat c.make_visit.new.seat c.args.follower.now c.make_visit.new.follower c.seat.inside.who c.args.seat.now c.seat.view_is c.requires.at c.seat.invariant c.args.keep c.args.most c.make_visit.result c.make_visit.ensures.visited c.make_visit.ensures.legal
 
 pub returns-clause-few : goal.returns-clause-few
-returns-clause-few g c = few_given c.trim_part-result.result _ _ c.args.keep c.args.most c.trim_part-result.ensures.answer c.trim_part-result.ensures.few
+returns-clause-few g c = few_given c.make_visit.result _ _ c.args.keep c.args.most c.make_visit.ensures.visited.did.answer c.make_visit.ensures.visited.did.few
 
 pub returns-clause-whole : goal.returns-clause-whole
-returns-clause-whole g c = whole_given c.trim_part-result.result _ _ c.args.keep c.args.most c.trim_part-result.ensures.answer (takes_part g c c.args.keep)
-
-pub returns-clause-listed : goal.returns-clause-listed
-returns-clause-listed g c = listed_trim _ _ c.args.keep c.trim_part-result.result _ _ _ _ (visit g c).listed
+returns-clause-whole g c =
+    whole_given c.make_visit.result _ _ c.args.keep c.args.most c.make_visit.ensures.visited.did.answer
+    (trim_takes_as c.args.ledger.now c.seat.inside.seat c.make_visit.new.seat c.args.follower.now c.make_visit.new.follower c.seat.inside.who c.args.seat.now c.seat.view_is c.requires.at c.seat.invariant c.args.keep c.args.most c.make_visit.result c.make_visit.ensures.visited c.make_visit.ensures.legal c.args.keep)

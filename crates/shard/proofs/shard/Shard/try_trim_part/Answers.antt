@@ -1,90 +1,78 @@
-use Rattle.std.proofs.Common.{◌≡◌, ℕ, ◌-◌, [], length, max, IfOk, refl, ap, subst, arith}
-use Rattle.book.specs.Contents.{journal_of}
-use Rattle.book.specs.Trimming.{given_up}
-use Rattle.shared.specs.Passes.{shows}
-use Rattle.shared.specs.Deeds.{trim_deed, Takes}
-use Rattle.shared.proofs.Looks.{given_by, trim_goes_on, takes_trim, keeps_more, few_given, whole_given}
+use Rattle.std.proofs.Common.{[], ap, arith}
+use Rattle.shared.proofs.Looks.{given_by, few_given, whole_given}
+use Rattle.shared.proofs.Visits.{trimmed_goes_on, trimmed_follows}
+use Rattle.shard.proofs.Visits.{keeps_at, legal_visit, busy_seat, busy_place, busy_listed, busy_follower, found_inside, expected_plain}
+use Rattle.shard.proofs.Entering.{trimmed_visited, trim_listed, trim_takes_part, trim_takes_as}
 use Rattle.shared.proofs.Requests.{did_nothing, finds_busy, visits_once}
 use Rattle.shard.specs.Seats.{plain}
-use Rattle.shard.proofs.Visits.{keeper_ledger, may_leave, Visited, visited, busy_seat, busy_place, busy_acts, found_inside, nothing_listed, nothing_changed, expected_now, left_books, listed_trim}
 use Rattle.shard.proofs.shard.Shard.try_trim_part.Goals as goal
 
-pub leave_book-requires-clause-ledger : goal.leave_book-requires-clause-ledger
-leave_book-requires-clause-ledger c =
-    let e = c.try_enter.ensures in
-    (c.requires.ledger, keeper_ledger c.args.ledger.now c.seat.inside.seat c.try_enter.new.seat c.in-Some.inside.value c.seat.inside.who c.args.seat.now c.seat.view_is c.requires.at c.seat.invariant (record { same = (e.unchanged.0, e.unchanged.1, e.unchanged.2); seen = e.seen; found = c.in-Some.ensures.found.1; lone = λ all. (e.lone all).1 }))
+pub try_visit-requires-clause-keeps : goal.try_visit-requires-clause-keeps
+try_visit-requires-clause-keeps c = keeps_at c.args.ledger.now c.seat.inside.seat c.seat.inside.who c.args.seat.now c.seat.view_is c.requires.at c.seat.invariant
 
-pub leave_book-requires-clause-found : goal.leave_book-requires-clause-found
-leave_book-requires-clause-found c =
-    let e = c.try_enter.ensures in
-    let m = c.trim_part-result.ensures in
-    may_leave c.args.ledger.now c.seat.inside.seat c.try_enter.new.seat c.in-Some.inside.value c.seat.inside.who c.args.seat.now c.seat.view_is c.requires.at c.seat.invariant (record { same = (e.unchanged.0, e.unchanged.1, e.unchanged.2); seen = e.seen; found = c.in-Some.ensures.found.1; lone = λ all. (e.lone all).1 })
-    c.trim_part-result.new.self [] (given_by c.trim_part-result.result) (trim_goes_on c.trim_part-result.result c.in-Some.inside.value.value.0.0.value c.trim_part-result.new.self.0.value m.unchanged.0 m.unchanged.1 m.holds m.trimmed m.err) (tt)
+pub try_visit-requires-clause-follows : goal.try_visit-requires-clause-follows
+try_visit-requires-clause-follows c = λ x y reply can did. trimmed_follows c.args.keep c.args.most x.0.0.value y.0.0.value reply did
 
-visit : (c : goal.After-leave_book) → Visited c.args.ledger.now.setup c.seat.inside.seat c.leave_book.new.seat c.seat.inside.who c.args.seat.now c.in-Some.inside.value.value.0 [] (given_by c.trim_part-result.result) c.args.follower.now c.leave_book.new.follower
-visit c =
-    let e = c.try_enter.ensures in
-    let m = c.trim_part-result.ensures in
-    let l = c.leave_book.ensures in
-    visited c.args.ledger.now c.seat.inside.seat c.try_enter.new.seat c.leave_book.new.seat c.in-Some.inside.value c.trim_part-result.new.self c.seat.inside.who c.args.seat.now [] (given_by c.trim_part-result.result) c.args.follower.now c.leave_book.new.follower
-    c.seat.view_is c.requires.at c.seat.invariant (record { same = (e.unchanged.0, e.unchanged.1, e.unchanged.2); seen = e.seen; found = c.in-Some.ensures.found.1; lone = λ all. (e.lone all).1 }) (trim_goes_on c.trim_part-result.result c.in-Some.inside.value.value.0.0.value c.trim_part-result.new.self.0.value m.unchanged.0 m.unchanged.1 m.holds m.trimmed m.err)
-    (record { same = (l.unchanged.0, l.unchanged.1, l.unchanged.2); list = l.list; own = l.own }) l.recorded l.follower l.one_map
+pub try_visit-requires-clause-legal : goal.try_visit-requires-clause-legal
+try_visit-requires-clause-legal c =
+    λ list x y reply seen chain last lone did before.
+    legal_visit c.args.ledger.now c.seat.inside.seat c.seat.inside.who c.args.seat.now c.seat.view_is c.requires.at c.seat.invariant list x y [] (given_by reply) seen chain last lone
+    (trimmed_goes_on c.args.keep c.args.most x.value.0.0.value y.0.0.value reply did)
+    tt before
 
 pub invariant_of-seat-2 : goal.invariant_of-seat-2
-invariant_of-seat-2 c = (visit c).seat
+invariant_of-seat-2 c =
+    (trimmed_visited c.args.ledger.now c.seat.inside.seat c.try_visit.new.seat c.args.follower.now c.try_visit.new.follower c.seat.inside.who c.args.seat.now c.seat.view_is c.requires.at c.seat.invariant c.args.keep c.args.most c.in-Ok.reply c.in-Ok.ensures.visited c.in-Ok.ensures.legal).seat
 
 pub returns-clause-same : goal.returns-clause-same
-returns-clause-same c = (visit c).same
+returns-clause-same c =
+    (trimmed_visited c.args.ledger.now c.seat.inside.seat c.try_visit.new.seat c.args.follower.now c.try_visit.new.follower c.seat.inside.who c.args.seat.now c.seat.view_is c.requires.at c.seat.invariant c.args.keep c.args.most c.in-Ok.reply c.in-Ok.ensures.visited c.in-Ok.ensures.legal).same
 
 pub returns-clause-follower : goal.returns-clause-follower
-returns-clause-follower c = (visit c).follower
+returns-clause-follower c =
+    (trimmed_visited c.args.ledger.now c.seat.inside.seat c.try_visit.new.seat c.args.follower.now c.try_visit.new.follower c.seat.inside.who c.args.seat.now c.seat.view_is c.requires.at c.seat.invariant c.args.keep c.args.most c.in-Ok.reply c.in-Ok.ensures.visited c.in-Ok.ensures.legal).follower
 
-takes_part : (c : goal.After-leave_book) (keep : ℕ) → IfOk c.trim_part-result.result (λ n. n ≡ given_up c.in-Some.inside.value.value.0.0.value.base.trimmed (length (journal_of c.in-Some.inside.value.value.0.0.value)) keep)
-    → Takes c.args.seat.now.shows (trim_deed keep c.trim_part-result.result) (shows (plain c.leave_book.new.seat) c.seat.inside.who)
-takes_part c keep answer =
-    subst (λ v. Takes v (trim_deed keep c.trim_part-result.result) (shows (plain c.leave_book.new.seat) c.seat.inside.who)) (ap (λ t. t.shows) c.seat.view_is)
-    (takes_trim c.trim_part-result.result (plain c.seat.inside.seat) (plain c.leave_book.new.seat) c.in-Some.inside.value.value.0 c.seat.inside.who keep (visit c).step answer)
+pub returns-clause-listed : goal.returns-clause-listed
+returns-clause-listed c =
+    trim_listed c.args.ledger.now c.seat.inside.seat c.try_visit.new.seat c.args.follower.now c.try_visit.new.follower c.seat.inside.who c.args.seat.now c.seat.view_is c.requires.at c.seat.invariant c.args.keep c.args.most c.in-Ok.reply c.in-Ok.ensures.visited c.in-Ok.ensures.legal
 
 pub returns-clause-part : goal.returns-clause-part
 returns-clause-part c =
-    let kept = length (journal_of c.in-Some.inside.value.value.0.0.value) - c.args.most in
-    (max c.args.keep kept, keeps_more c.args.keep kept, takes_part c (max c.args.keep kept) c.trim_part-result.ensures.answer)
+    trim_takes_part c.args.ledger.now c.seat.inside.seat c.try_visit.new.seat c.args.follower.now c.try_visit.new.follower c.seat.inside.who c.args.seat.now c.seat.view_is c.requires.at c.seat.invariant c.args.keep c.args.most c.in-Ok.reply c.in-Ok.ensures.visited c.in-Ok.ensures.legal
 
 pub returns-clause-few : goal.returns-clause-few
-returns-clause-few c = few_given c.trim_part-result.result _ _ c.args.keep c.args.most c.trim_part-result.ensures.answer c.trim_part-result.ensures.few
+returns-clause-few c = few_given c.in-Ok.reply _ _ c.args.keep c.args.most c.in-Ok.ensures.visited.did.answer c.in-Ok.ensures.visited.did.few
 
 pub returns-clause-whole : goal.returns-clause-whole
-returns-clause-whole c = whole_given c.trim_part-result.result _ _ c.args.keep c.args.most c.trim_part-result.ensures.answer (takes_part c c.args.keep)
+returns-clause-whole c =
+    whole_given c.in-Ok.reply _ _ c.args.keep c.args.most c.in-Ok.ensures.visited.did.answer
+    (trim_takes_as c.args.ledger.now c.seat.inside.seat c.try_visit.new.seat c.args.follower.now c.try_visit.new.follower c.seat.inside.who c.args.seat.now c.seat.view_is c.requires.at c.seat.invariant c.args.keep c.args.most c.in-Ok.reply c.in-Ok.ensures.visited c.in-Ok.ensures.legal c.args.keep)
 
-pub returns-clause-listed : goal.returns-clause-listed
-returns-clause-listed c = listed_trim _ _ c.args.keep c.trim_part-result.result _ _ _ _ (visit c).listed
+pub returns-clause-entered : goal.returns-clause-entered
+returns-clause-entered c =
+    λ _.
+    visits_once (plain c.seat.inside.seat) (plain c.try_visit.new.seat) c.seat.inside.who c.args.seat.now.shows (expected_plain c.seat.inside.seat c.try_visit.new.seat c.in-Ok.ensures.expected)
+    (trimmed_visited c.args.ledger.now c.seat.inside.seat c.try_visit.new.seat c.args.follower.now c.try_visit.new.follower c.seat.inside.who c.args.seat.now c.seat.view_is c.requires.at c.seat.invariant c.args.keep c.args.most c.in-Ok.reply c.in-Ok.ensures.visited c.in-Ok.ensures.legal).step.visits (ap (λ t. t.shows) c.seat.view_is)
 
 -- ---- another thread was inside
 pub invariant_of-seat : goal.invariant_of-seat
-invariant_of-seat c = busy_seat c.seat.inside.seat c.try_enter.new.seat c.seat.invariant c.in_default.ensures.none
+invariant_of-seat c = busy_seat c.seat.inside.seat c.try_visit.new.seat c.seat.invariant c.in_default.ensures.busy
 
 pub returns-in_default-clause-same : goal.returns-in_default-clause-same
-returns-in_default-clause-same c = busy_place c.seat.inside.seat c.try_enter.new.seat c.seat.inside.who c.args.seat.now c.seat.view_is c.in_default.ensures.none
+returns-in_default-clause-same c = busy_place c.seat.inside.seat c.try_visit.new.seat c.seat.inside.who c.args.seat.now c.seat.view_is c.in_default.ensures.busy
 
 pub returns-in_default-clause-listed : goal.returns-in_default-clause-listed
-returns-in_default-clause-listed c = nothing_listed _ _ _ _ _ refl (busy_acts c.seat.inside.seat c.try_enter.new.seat c.seat.inside.who c.args.seat.now c.seat.view_is c.in_default.ensures.none)
+returns-in_default-clause-listed c =
+    busy_listed c.seat.inside.seat c.try_visit.new.seat c.seat.inside.who c.args.seat.now c.args.seat.now.shard c.args.follower.now c.try_visit.new.follower c.seat.view_is c.in_default.ensures.busy c.in_default.ensures.unchanged.1
 
 pub returns-in_default-clause-follower : goal.returns-in_default-clause-follower
 returns-in_default-clause-follower c =
-    nothing_changed _ _ _ _ c.args.follower.now (busy_acts c.seat.inside.seat c.try_enter.new.seat c.seat.inside.who c.args.seat.now c.seat.view_is c.in_default.ensures.none)
-
-pub returns-clause-entered : goal.returns-clause-entered
-returns-clause-entered c = λ _.
-    visits_once (plain c.seat.inside.seat) (plain c.try_enter.new.seat) (plain c.leave_book.new.seat) c.seat.inside.who c.args.seat.now.shows c.trim_part-result.new.self
-    (expected_now c.seat.inside.seat c.try_enter.new.seat c.in-Some.ensures.expected) (left_books c.try_enter.new.seat c.leave_book.new.seat c.in-Some.inside.value c.trim_part-result.new.self c.leave_book.ensures.list) (visit c).step.visits (ap (λ t. t.shows) c.seat.view_is)
+    busy_follower c.args.ledger.now.setup c.seat.inside.seat c.try_visit.new.seat c.seat.inside.who c.args.seat.now c.args.seat.now.shard c.args.follower.now c.try_visit.new.follower c.seat.view_is c.in_default.ensures.busy c.in_default.ensures.unchanged.1
 
 pub returns-in_default-clause-busy : goal.returns-in_default-clause-busy
-returns-in_default-clause-busy c = λ _.
-    finds_busy (plain c.seat.inside.seat) (plain c.try_enter.new.seat) c.seat.inside.who c.args.seat.now.shows (found_inside c.seat.inside.seat c.try_enter.new.seat c.in_default.ensures.none) (ap (λ t. t.shows) c.seat.view_is)
+returns-in_default-clause-busy c =
+    λ _. finds_busy (plain c.seat.inside.seat) (plain c.try_visit.new.seat) c.seat.inside.who c.args.seat.now.shows (found_inside c.seat.inside.seat c.try_visit.new.seat c.in_default.ensures.busy) (ap (λ t. t.shows) c.seat.view_is)
 
 pub returns-in_default-clause-part : goal.returns-in_default-clause-part
-returns-in_default-clause-part c = (
-  c.args.keep,
-  omega arith,
-  did_nothing (plain c.seat.inside.seat) (plain c.try_enter.new.seat) c.seat.inside.who c.args.seat.now.shows c.seat.invariant.pass (found_inside c.seat.inside.seat c.try_enter.new.seat c.in_default.ensures.none) (ap (λ t. t.shows) c.seat.view_is),
-)
+returns-in_default-clause-part c =
+    (c.args.keep, omega arith, did_nothing (plain c.seat.inside.seat) (plain c.try_visit.new.seat) c.seat.inside.who c.args.seat.now.shows c.seat.invariant.pass (found_inside c.seat.inside.seat c.try_visit.new.seat c.in_default.ensures.busy) (ap (λ t. t.shows) c.seat.view_is))
