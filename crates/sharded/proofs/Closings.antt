@@ -11,8 +11,8 @@ use Rattle.sharded.specs.Seats.{shows_of, pass_shows, IsPassOf}
 use Rattle.sharded.proofs.Joins.{map_there}
 use Rattle.history.specs.History.{IsLegal}
 use Rattle.book.specs.Contents.{Contents}
-use Rattle.shared.specs.Passes.{Which, Shows}
-use Rattle.sharded.specs.Passes.{stores_of, HaveActsOfShards, AreLone, HaveWidth}
+use Rattle.shared.specs.Passes.{Shows}
+use Rattle.sharded.specs.Passes.{HaveActsOfShards, AreLone, HaveWidth}
 use Rattle.sharded.specs.Interleavings.{HasOneMap, AreCallsOfShard, HasInterleaving}
 use Rattle.sharded.specs.Closings.{IsClosed, AreClosed}
 use Rattle.sharded.proofs.Steps.{get_longer, get_end, same_some}
@@ -35,64 +35,25 @@ pub closed_one_map : (w : ℕ) (vs : List Shows) (books : List Contents) → 0 <
 closed_one_map w vs books some are wide = has_one_map w vs some wide (λ k v e. let c = closed_at vs books are k v e in subst (λ x. IsLegal x v.seen) c.1.width c.1.holds.legal)
 
 -- ---- closed from the last on
-pub record ClosedFrom (vs left : List Shows) (stores : List Which) (books : List Contents) : Type 0 where
+pub record ClosedFrom (vs left : List Shows) (books : List Contents) : Type 0 where
   pub more : List Shows
   pub whole : left ++ more ≡ vs
   pub closed : AreClosed more (reverse books)
-  pub same : stores_of left ≡ stores
-  pub lone : AreLone left
 
-pub closed_none : (vs : List Shows) (stores : List Which) (books : List Contents) → books ≡ [] → stores_of vs ≡ stores → AreLone vs → ClosedFrom vs vs stores books
-closed_none vs stores books none e lone = record { more = []; whole = append-nil vs; closed = subst (λ b. AreClosed [] (reverse b)) (sym none) tt; same = e; lone = lone }
+pub closed_none : (vs : List Shows) (books : List Contents) → books ≡ [] → ClosedFrom vs vs books
+closed_none vs books none = record { more = []; whole = append-nil vs; closed = subst (λ b. AreClosed [] (reverse b)) (sym none) tt }
 
-pub snoc_same : {X : Type 0} (xs ys : List X) (x y : X) → xs ++ x ∷ [] ≡ ys ++ y ∷ [] → (xs ≡ ys) × (x ≡ y)
-snoc_same [] [] x y e = (refl, cc)
-snoc_same [] (b ∷ ys) x y e = let tail : [] ≡ ys ++ y ∷ [] = cc in absurd (no_snoc ys y tail)
-  where
-    no_snoc : {X : Type 0} (ys : List X) (y : X) → [] ≡ ys ++ y ∷ [] → ⊥
-    no_snoc [] y e = cc
-    no_snoc (b ∷ ys) y e = cc
-snoc_same (a ∷ xs) [] x y e = let tail : xs ++ x ∷ [] ≡ [] = cc in absurd (no_snoc xs x tail)
-  where
-    no_snoc : {X : Type 0} (ys : List X) (y : X) → ys ++ y ∷ [] ≡ [] → ⊥
-    no_snoc [] y e = cc
-    no_snoc (b ∷ ys) y e = cc
-snoc_same (a ∷ xs) (b ∷ ys) x y e =
-    let head : a ≡ b = cc in let tail : xs ++ x ∷ [] ≡ ys ++ y ∷ [] = cc in
-    let more = snoc_same xs ys x y tail in
-    ((λ i. head i ∷ more.0 i), more.1)
-
-map_snoc : (vs : List Shows) (v : Shows) → stores_of (vs ++ v ∷ []) ≡ stores_of vs ++ v.store ∷ []
-map_snoc [] v = refl
-map_snoc (x ∷ vs) v = ap (λ l. x.store ∷ l) (map_snoc vs v)
-
-pub closed_last : (vs before left : List Shows) (stores_before stores : List Which) (books : List Contents) (v : Shows) (s : Which) → before ≡ left ++ v ∷ [] → stores_before ≡ stores ++ s ∷ []
-    → ClosedFrom vs before stores_before books → (v.store ≡ s) × (v.room ≡ 64)
-closed_last vs before left stores_before stores books v s is stores_is from = (
-  (snoc_same (stores_of left) stores v.store s (sym (map_snoc left v) ∙ ap stores_of (sym is) ∙ from.same ∙ stores_is)).1,
-  from.lone (length left) v (ap (λ l. slice_get l (length left)) is ∙ get_end left v),
-)
-
-pub closed_more : (vs before left : List Shows) (stores_before stores : List Which) (books later : List Contents) (v : Shows) (s : Which) (book : Contents) → before ≡ left ++ v ∷ [] → stores_before ≡ stores ++ s ∷ []
-    → later ≡ books ++ book ∷ [] → IsClosed v book → ClosedFrom vs before stores_before books → ClosedFrom vs left stores later
-closed_more vs before left stores_before stores books later v s book is stores_is later_is closed from = record {
+pub closed_more : (vs before left : List Shows) (books later : List Contents) (v : Shows) (book : Contents) → before ≡ left ++ v ∷ [] → later ≡ books ++ book ∷ [] → IsClosed v book → ClosedFrom vs before books → ClosedFrom vs left later
+closed_more vs before left books later v book is later_is closed from = record {
   more = v ∷ from.more;
   whole = sym (append_assoc left (v ∷ []) from.more) ∙ ap (λ l. l ++ from.more) (sym is) ∙ from.whole;
   closed = subst (AreClosed (v ∷ from.more)) (sym (reverse-append books (book ∷ [])) ∙ ap reverse (sym later_is)) (closed, from.closed);
-  same = (snoc_same (stores_of left) stores v.store s (sym (map_snoc left v) ∙ ap stores_of (sym is) ∙ from.same ∙ stores_is)).0;
-  lone = λ k x there. from.lone k x (ap (λ l. slice_get l k) is ∙ get_longer left (v ∷ []) k x there);
 }
 
--- no pass is left where no store is
-pub closed_all : (vs left : List Shows) (stores : List Which) (books : List Contents) → length stores ≡ 0 → ClosedFrom vs left stores books → AreClosed vs (reverse books)
-closed_all vs [] stores books none from = subst (λ l. AreClosed l (reverse books)) from.whole from.closed
-closed_all vs (x ∷ left) stores books none from = let long = ap length from.same in absurd (omega arith)
-
--- and one is where a store is
-pub closed_some : (vs left : List Shows) (stores_before stores : List Which) (books : List Contents) (s : Which) → length left ≡ 0 → stores_before ≡ stores ++ s ∷ [] → ClosedFrom vs left stores_before books → ⊥
-closed_some vs (x ∷ left) stores_before stores books s none is from = absurd (omega arith)
-closed_some vs [] stores_before [] books s none is from = let e : [] ≡ s ∷ [] = from.same ∙ is in cc
-closed_some vs [] stores_before (y ∷ stores) books s none is from = let e : [] ≡ y ∷ (stores ++ s ∷ []) = from.same ∙ is in cc
+-- all are closed once no seat is left
+pub closed_all : (vs : List Shows) (left : List SeatShows) (books : List Contents) → length left ≡ 0 → ClosedFrom vs (shows_of left) books → AreClosed vs (reverse books)
+closed_all vs [] books none from = subst (λ l. AreClosed l (reverse books)) from.whole from.closed
+closed_all vs (x ∷ left) books none from = absurd (omega (arith, none))
 
 -- ---- the seats that are left, and the follower that every one of them showed the whole list
 pub record SeatsLeft (vs left : List SeatShows) (f g : FollowerState Act) : Type 0 where
@@ -143,7 +104,3 @@ shows_last before left v is = ap shows_of is ∙ map-append (λ (s : SeatShows).
 pub all_rooms : (vs : List SeatShows) (f : FollowerState Act) → IsPassOf vs f → AreLone (shows_of vs) → f.room ≡ 64
 all_rooms [] f pass lone = let none = pass.count in let some = pass.some in absurd (omega arith)
 all_rooms (v ∷ vs) f pass lone = sym (pass.each 0 v refl).room ∙ lone 0 v.shows refl
-
-pub none_left : (left : List SeatShows) (stores : List Which) → stores_of (shows_of left) ≡ stores → length stores ≡ 0 → length left ≡ 0
-none_left [] stores e none = refl
-none_left (v ∷ left) stores e none = let long = ap length e in absurd (omega arith)

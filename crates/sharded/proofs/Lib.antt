@@ -1,5 +1,6 @@
 pub mod Taken
 pub mod Passes
+pub mod PlanParts
 pub mod Steps
 pub mod StepsTo
 pub mod Interleavings
@@ -8,7 +9,7 @@ pub mod Rooms
 pub mod Seats
 pub mod Requests
 pub mod Replies
-pub mod Snapshots
+pub mod Versions
 pub mod Totals
 pub mod TrimParts
 pub mod Listings

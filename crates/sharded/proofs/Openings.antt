@@ -10,7 +10,23 @@ use Rattle.shard.specs.Seats.{SeatShows}
 use Rattle.sharded.specs.Passes.{fresh_pass, HaveActsOfShards}
 use Rattle.sharded.specs.Seats.{shows_of, IsPassOf, AreOpened}
 use Rattle.sharded.proofs.Passes.{fresh_of_shards}
-use Rattle.sharded.proofs.Closings.{snoc_same}
+
+snoc_same : {X : Type 0} (xs ys : List X) (x y : X) → xs ++ x ∷ [] ≡ ys ++ y ∷ [] → (xs ≡ ys) × (x ≡ y)
+snoc_same [] [] x y e = (refl, cc)
+snoc_same [] (b ∷ ys) x y e = let tail : [] ≡ ys ++ y ∷ [] = cc in absurd (no_snoc ys y tail)
+  where
+    no_snoc : {X : Type 0} (ys : List X) (y : X) → [] ≡ ys ++ y ∷ [] → ⊥
+    no_snoc [] y e = cc
+    no_snoc (b ∷ ys) y e = cc
+snoc_same (a ∷ xs) [] x y e = let tail : xs ++ x ∷ [] ≡ [] = cc in absurd (no_snoc xs x tail)
+  where
+    no_snoc : {X : Type 0} (ys : List X) (y : X) → ys ++ y ∷ [] ≡ [] → ⊥
+    no_snoc [] y e = cc
+    no_snoc (b ∷ ys) y e = cc
+snoc_same (a ∷ xs) (b ∷ ys) x y e =
+    let head : a ≡ b = cc in let tail : xs ++ x ∷ [] ≡ ys ++ y ∷ [] = cc in
+    let more = snoc_same xs ys x y tail in
+    ((λ i. head i ∷ more.0 i), more.1)
 
 -- the keeper that is taken from the end is that of the shard before those that are open
 pub keepers_last : (id : TableId) (before left : List (KeeperState Act)) (k : KeeperState Act) → before ≡ new_keepers id (length before) → before ≡ left ++ k ∷ []

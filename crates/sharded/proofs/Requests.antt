@@ -11,16 +11,24 @@ use Rattle.history.specs.History.{History}
 use Rattle.book.specs.Known.{IsFragmentIn}
 use Rattle.one_map.specs.Hash.{shard_of}
 use Rattle.one_map.proofs.Hash.{shard_below_count}
-use Rattle.requests.specs.declared.request.Request.TheVariants.{Install}
+use Rattle.requests.specs.declared.request.Request.{Request}
+use Rattle.requests.specs.declared.request.Request.TheVariants.{Put, Install}
 use Rattle.shared.specs.Passes.{Which, Shows}
+use Rattle.requests.specs.Requests.{operation_of}
+use Rattle.shared.specs.Requests.{CanAsk}
 use Rattle.shared.proofs.Requests.{refused_put}
+use Rattle.named_calls.specs.Asked.{CanAskIn, request_name}
+use Rattle.one_map.specs.OneMap.{operation_shard}
 use Rattle.shard.proofs.Visits.{nothing_listed, refused_acts}
 use Rattle.sharded.specs.Passes.{StoreShows, PassShows, stores_of, store_of, AreConsistent}
-use Rattle.sharded.specs.Requests.{CanAskAt}
 use Rattle.sharded.specs.Steps.{IsCallAt, width_at, width_for, seen_at, seen_for}
 use Rattle.sharded.specs.Listings.{who_at, shown_at, listing, IsListedCall}
 use Rattle.sharded.proofs.Steps.{width_there}
 use Rattle.sharded.proofs.Openings.{all_at}
+
+-- a caller with these passes can ask it of the shard of its name
+abbrev CanAskAt : List Shows → Request → Type 0
+CanAskAt vs request = (v : Shows) → slice_get vs (operation_shard (length vs) (operation_of request)) ≡ Some v → CanAsk v request
 
 there_is : {X : Type 0} (xs : List X) (k : ℕ) → k < length xs → (x : X) × (slice_get xs k ≡ Some x)
 there_is [] k l = absurd (omega arith)
@@ -44,10 +52,6 @@ wide_for w ss n all some =
     let k = shard_of (length ss) n in
     let found = there_is ss k (shard_below_count (length ss) n some) in
     sym (width_there ss k found.0 found.1) ∙ all_at (λ (s : Which). s.width ≡ w) ss k found.0 all found.1
-
--- and so has what a pass to the store shows of it
-pub wide_at : (w : ℕ) (vs : List Shows) (ss : List Which) (k : ℕ) (v : Shows) → All (λ (s : Which). s.width ≡ w) ss → stores_of vs ≡ ss → slice_get vs k ≡ Some v → v.store.width ≡ w
-wide_at w vs ss k v all same there = all_at (λ (s : Which). s.width ≡ w) ss k v.store all (ap (λ l. slice_get l k) (sym same) ∙ stores_there vs k v there)
 
 -- ---- a put that was refused before it entered
 named_width : (vs : List Shows) (ss : List Which) (n : List ℕ) (v : Shows) → stores_of vs ≡ ss → slice_get vs (shard_of (length vs) n) ≡ Some v → width_for ss n ≡ v.store.width
@@ -83,8 +87,14 @@ seen_named (x ∷ vs) zero v e = let same : x ≡ v = cc in ap (λ (y : Shows). 
 seen_named (x ∷ vs) (suc k) v e = seen_named vs k v e
 
 -- who knows the fragment can install it at the shard of the name
-pub can_install : (v : PassShows) (store : StoreShows) (alloc : Global) (n : List ℕ) (version j f : ℕ) (bytes : List ℕ) → store_of v ≡ store → IsFragmentIn (seen_for v.shards n) (width_for store.shards n) n version j f bytes
+can_install : (v : PassShows) (store : StoreShows) (alloc : Global) (n : List ℕ) (version j f : ℕ) (bytes : List ℕ) → store_of v ≡ store → IsFragmentIn (seen_for v.shards n) (width_for store.shards n) n version j f bytes
     → CanAskAt v.shards (Install alloc n version j f bytes)
 can_install v store alloc n version j f bytes same known shown there =
     let width = named_width v.shards store.shards n shown (ap (λ (s : StoreShows). s.shards) same) there in
     subst (λ (u : History × ℕ). IsFragmentIn u.0 u.1 n version j f bytes) (λ i. (seen_named v.shards (shard_of (length v.shards) n) shown there i, width i)) known
+
+-- what can be asked of the store, by what was seen for the name, can be asked at the shard of the name
+pub can_at : (v : PassShows) (store : StoreShows) (request : Request) → store_of v ≡ store → CanAskIn (seen_for v.shards (request_name request)) (width_for store.shards (request_name request)) request → CanAskAt v.shards request
+can_at v store (Put alloc n s) same can shown there = (can.0 ∙ named_width v.shards store.shards n shown (ap (λ (s : StoreShows). s.shards) same) there, can.1)
+can_at v store (Install alloc n version j f bytes) same can shown there = can_install v store alloc n version j f bytes same can shown there
+can_at v store request same can shown there = tt

@@ -45,7 +45,7 @@ module _ {V O : Type 0} (store : V → Which) (R : V → O → V → Type 0) whe
     pub taken : AreTaken R (drop (length left) vs) (drop (length left) os) (drop (length left) ps)
     pub stores : map store ps ≡ map store vs
 
-  taken_none : (vs : List V) → AreTaken R vs [] vs
+  pub taken_none : (vs : List V) → AreTaken R vs [] vs
   taken_none [] = refl
   taken_none (v ∷ vs) = (refl, taken_none vs)
 
@@ -85,6 +85,16 @@ module _ {V O : Type 0} (store : V → Which) (R : V → O → V → Type 0) whe
         taken = next.1;
         stores = stores_put ps (length left) v w e store ∙ from.stores;
       }
+
+  -- ---- from the first on
+  pub taken_next : (vs : List V) (os : List O) (ps : List V) (n : ℕ) (o : O) (v w : V) → n < length ps → slice_get os n ≡ Some o → v ≡ get_or ps n v → R v o w → AreTaken R vs (take n os) ps → AreTaken R vs (take (suc n) os) (set ps n w)
+  taken_next [] os ps n o v w l e f one are = let none = ap length are in absurd (omega (arith, l, none))
+  taken_next (x ∷ vs) os [] n o v w l e f one are = absurd (omega (arith, l))
+  taken_next (x ∷ vs) [] (p ∷ ps) n o v w l e f one are = absurd (cc)
+  taken_next (x ∷ vs) (y ∷ os) (p ∷ ps) zero o v w l e f one are =
+      let old : v ≡ x = f ∙ are.0 in let other : y ≡ o = cc in
+      (subst (λ a. R a y w) old (subst (λ a. R v a w) (sym other) one), are.1)
+  taken_next (x ∷ vs) (y ∷ os) (p ∷ ps) (suc n) o v w l e f one are = (are.0, taken_next vs os ps n o v w (omega (arith, l)) e f one are.1)
 
   -- ---- each of the passes
   pub taken_at : (vs : List V) (os : List O) (ws : List V) → AreTaken R vs os ws → (k : ℕ) (w : V) → slice_get ws k ≡ Some w
@@ -151,3 +161,10 @@ module _ {V O : Type 0} (store : V → Which) (R : V → O → V → Type 0) whe
       popped_taken w one kept =
           subst (λ k. TakenFrom vs os (set ps k w) left) (sym p.count)
           (taken_more vs os ps left whole o v w p.is (subst (λ k. k < length ps) p.count popped_below) (same_length store store ps vs p.from.stores) (subst (λ k. v ≡ get_or ps k v) p.count p.own_is) one kept p.from)
+
+-- ---- as the code knows it: what is read at an index
+pub read_store : {V : Type 0} (store : V → Which) (ps : List V) (ss : List Which) (n : ℕ) (v : V) (here : Which) → map store ps ≡ ss → n < length ps → v ≡ get_or ps n v → here ≡ get_or ss n here → store v ≡ here
+read_store store ps ss n v here e below is at =
+    let long : length ps ≡ length ss = sym (length_map store ps) ∙ ap length e in
+    let own : slice_get ss n ≡ Some (store v) = ap (λ l. slice_get l n) (sym e) ∙ slice_get-map store ps n ∙ ap (option_map store) (slice_get_read ps (length ps) n v refl below is) in
+    same_some (store v) here (slice_get ss n) own (slice_get_read ss (length ss) n here refl (omega (arith, below, long)) at)

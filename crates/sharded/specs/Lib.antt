@@ -1,11 +1,10 @@
 pub mod Passes
+pub mod PlanParts
 pub mod Steps
-pub mod Requests
 pub mod StepsTo
 pub mod Totals
 pub mod Interleavings
 pub mod Closings
 pub mod Listings
-pub mod Snapshots
 pub mod Seats
 pub mod Repairs

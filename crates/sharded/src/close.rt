@@ -1,6 +1,6 @@
 //! All seats together: how many more passes can be made, and the books once all are joined.
 ghost use Rattle.std.specs.Prelude.{◌≡◌, ◌⊎◌, ℕ, ◌≤◌, ◌<◌, [], length, reverse, slice_get};
-ghost use Rattle.std.specs.Prelude.{Some, IfOk, IfErr, vec_len, vec_capacity};
+ghost use Rattle.std.specs.Prelude.{Some, IfOk, IfErr, vec_capacity};
 ghost use Rattle.one_map.specs.OneMap.{IsLegalOneMap};
 ghost use Rattle.ledger.specs.Acts.{HasAll};
 ghost use Rattle.ledger_map.specs.Legal.{calls_of};
@@ -70,15 +70,32 @@ impl ShardedStore {
             (λ _. (w : ℕ) → HaveWidth w pass.shards → HasOneMap w pass.shards) }
         ensures err { IfErr result (λ n. (n.store ≡ self) × (n.pass ≡ pass)) }
     {
+        match self.take_books(alloc, pass) {
+            Ok(books) => Ok(books),
+            Err(pass) => Err(CloseFault { store: self, pass }),
+        }
+    }
+
+    /// As `close`, for a store that is shared. No other pass is left, so nobody calls it again. The
+    /// pass comes back if the list of the books is refused memory, and the store is then as it was.
+    pub fn take_books(&self, alloc: Global, pass: ShardedPass) -> Result<Vec<Book>, ShardedPass>
+        requires store { store_of pass ≡ self.now }
+        requires lone { AreLone pass.shards }
+        ensures closed { IfOk result (λ books. AreClosed pass.shards books.items) }
+        ensures list { IfOk result (λ _. HasAll pass.list pass.own × AreAllListed pass) }
+        ensures interleaving { IfOk result (λ _. HasInterleaving pass.shards) }
+        ensures one_map { IfOk result
+            (λ _. (w : ℕ) → HaveWidth w pass.shards → HasOneMap w pass.shards) }
+        ensures err { IfErr result (λ p. p ≡ pass) }
+    {
         let Ok(mut books) = Vec::with_capacity(alloc, self.shards.len()) else {
-            return Err(CloseFault { store: self, pass });
+            return Err(pass);
         };
-        let ShardedStore { ledger, shards, .. } = self;
         let ShardedPass {
             seats,
             mut follower,
         } = pass;
-        close_all(&ledger, shards, seats, &mut follower, &mut books);
+        take_all(&self.ledger, &self.shards, seats, &mut follower, &mut books);
         books.reverse();
         Ok(books)
     }
@@ -103,29 +120,27 @@ fn find_least_room(seats: &[ShardSeat]) -> u64
     least
 }
 
-/// Closes these shards, the last first.
-fn close_all(
+/// Takes the books of these shards, the last first.
+fn take_all(
     ledger: &Ledger<StoreAct>,
-    mut shards: Vec<Shard>,
+    shards: &[Shard],
     mut seats: Vec<ShardSeat>,
     follower: &mut Follower<StoreAct>,
     books: &mut Vec<Book>,
 )
-    requires stores { seat_stores seats.items ≡ shards.items }
+    requires stores { seat_stores seats.items ≡ shards.now }
     requires some { 0 < length seats.items }
     requires lone { AreLone (shows_of seats.items) }
     requires seats { IsPassOf seats.items follower.old }
     requires ledger { follower.old.ledger ≡ ledger.now }
     requires none { books.old.items ≡ [] }
-    requires room { vec_len shards ≤ vec_capacity books.old }
+    requires room { length shards.now ≤ vec_capacity books.old }
     ensures closed { AreClosed (shows_of seats.items) (reverse books.new.items) }
     ensures all { HasAll follower.old.list follower.old.own }
     ensures listed { AreAllListed (pass_shows seats.items follower.old) }
 {
-    while let Some(shard) = shards.pop() {
-        let Some(seat) = seats.pop() else {
-            unreachable!()
-        };
-        books.push_reserved(shard.close(ledger, seat, follower));
+    while let Some(seat) = seats.pop() {
+        let shard = &shards[seats.len()];
+        books.push_reserved(shard.take_book(ledger, seat, follower));
     }
 }

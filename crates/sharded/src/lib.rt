@@ -4,23 +4,20 @@
 //! them.
 #![tactic(auto)]
 
-mod calls;
 mod close;
-mod entry;
-mod install;
 mod journals;
+mod makes;
 mod numbers;
 mod parts;
 mod pass;
-mod prepared;
+mod plan_part;
 mod receipts;
-mod snapshot;
 mod store;
-mod try_calls;
 mod workers;
 
 pub use close::CloseFault;
 pub use mender::{Done, Drawer, Gather, Report, Tickets, WorkFault, gather};
+pub use named_calls::{Makes, TryCalls, TrySnapshots, WaitingCalls, WaitingSnapshots, Waits};
 pub use one_map::{find_shard, prove_one_map};
 pub use receipts::ShardedReceipt;
 pub use requests::Request;

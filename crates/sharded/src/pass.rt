@@ -1,16 +1,16 @@
 //! Passes to all shards, split and joined shard by shard.
-ghost use Rattle.std.specs.Prelude.{◌≡◌, ◌⊎◌, ◌↔◌, ◌+◌, ◌-◌, ◌++◌, ◌<◌, [], length, map};
+ghost use Rattle.std.specs.Prelude.{◌≡◌, ◌⊎◌, ◌↔◌, ◌+◌, ◌-◌, ◌++◌, [], map};
 ghost use Rattle.std.specs.Prelude.{IfOk, IfErr, OnOk, OnErr};
 ghost use mathlib.Core.List.{IsPrefix};
 ghost use Rattle.sharded.specs.Listings.{listing};
 ghost use Rattle.sharded.specs.Passes.{store_of, kept_in_split, given_in_split};
-ghost use Rattle.sharded.specs.Passes.{AreRestored, AreJoined, AreTaken, AreConsistent};
+ghost use Rattle.sharded.specs.Passes.{AreRestored, AreJoined, AreTaken};
 ghost use Rattle.sharded.specs.Passes.{HasRoomOfOne};
 ghost use Rattle.sharded.specs.Seats.{shows_of, seat_stores, kept_seat, given_seat, AreSeatsInPart};
 ghost use Rattle.sharded.specs.Seats.{IsSeatJoined};
 
 use crate::{ShardedPass, ShardedStore};
-use book::{Answer, Fault};
+use book::Fault;
 use shard::{Shard, ShardSeat};
 use std::alloc::Global;
 
@@ -75,17 +75,6 @@ impl ShardedPass {
         let ShardedPass { seats, follower } = other;
         join_all(&mut self.seats, &store.shards, seats);
         self.follower.join(&store.ledger, follower);
-    }
-
-    /// The answer to a call that was refused before it entered a critical section.
-    pub(crate) fn refuse(&self, fault: Fault) -> Result<Answer, Fault>
-        ensures refused { result ≡ Err fault }
-        ensures some { 0 < length self.now.shards }
-        ensures agrees { AreConsistent self.now.shards }
-    {
-        // Once a field is read, it is known what every pass keeps.
-        let _seats = &self.seats;
-        Err(fault)
     }
 }
 

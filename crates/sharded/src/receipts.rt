@@ -81,6 +81,29 @@ impl ShardedPass {
         accept_all(&mut self.seats, &store.shards, receipts);
         self.follower.accept(&store.ledger, receipt);
     }
+
+    /// Learns all that another pass has seen, at each shard and of the list of all shards, as
+    /// `accept` does with its receipt. Whatever it does next at any shard stands after all that the
+    /// other pass shows, at any shard. The other pass shows what it showed. It does not allocate,
+    /// and does not wait.
+    pub fn learn(&mut self, store: &ShardedStore, other: &mut ShardedPass)
+        requires store { store_of self.old ≡ store.now }
+        requires other { store_of other.old ≡ store.now }
+        ensures accepted { AreAccepted self.old.shards (map seen_by other.old.shards)
+            self.new.shards }
+        ensures list { IsPrefix self.old.list self.new.list
+            × IsPrefix other.old.list self.new.list }
+        ensures one { (self.new.list ≡ self.old.list) ⊎ (self.new.list ≡ other.old.list) }
+        ensures own { self.new.own ≡ self.old.own }
+        ensures later { (k : ℕ) (deed : Option Deed) (w : PassShows) → IsListedAt k deed self.new w
+            → IsDoneAfter other.old.list self.new w }
+        ensures same { store_of self.new ≡ store.now }
+        ensures unchanged { other.new ≡ other.old }
+    {
+        learn_all(&mut self.seats, &store.shards, &mut other.seats);
+        let receipt = other.follower.receipt(&store.ledger);
+        self.follower.accept(&store.ledger, receipt);
+    }
 }
 
 /// The receipts of these seats, one after the other.
@@ -113,6 +136,20 @@ fn accept_all(seats: &mut Vec<ShardSeat>, shards: &[Shard], mut receipts: Vec<Se
 {
     while let Some(receipt) = receipts.pop() {
         let shard = receipts.len();
+        seats[shard].accept(&shards[shard], receipt);
+    }
+}
+
+/// Takes in a receipt of each of the other seats, by the seat at its shard, the last first.
+fn learn_all(seats: &mut Vec<ShardSeat>, shards: &[Shard], others: &mut Vec<ShardSeat>)
+    requires stores { seat_stores seats.old.items ≡ shards.now }
+    requires others { seat_stores others.old.items ≡ shards.now }
+    ensures taken { AreTaken IsSeatAccepted seats.old.items (map seen_seat others.old.items)
+        seats.new.items }
+    ensures same { others.new.items ≡ others.old.items }
+{
+    for shard in 0..seats.len() {
+        let receipt = others[shard].receipt(&shards[shard]);
         seats[shard].accept(&shards[shard], receipt);
     }
 }

@@ -14,6 +14,7 @@ ghost use Rattle.sharded.specs.Repairs.{IsStopped, HasRoomInHand};
 use crate::{ShardedPass, ShardedStore};
 use book::{Answer, Fault, Item, Plan};
 use mender::{Done, Drawer, Mends, Tickets, WorkFault, repair_drawn};
+use named_calls::Waits;
 use std::alloc::Global;
 use std::sync::Wait;
 

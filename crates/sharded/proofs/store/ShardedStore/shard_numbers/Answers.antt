@@ -1,5 +1,4 @@
-use Rattle.std.proofs.Common.{◌≡◌, ap, subst, ◌∙◌, None}
-use Rattle.shared.specs.Passes.{Which, Shows}
+use Rattle.std.proofs.Common.{◌≡◌, ◌∙◌, None}
 use Rattle.shared.specs.Deeds.{Takes}
 use Rattle.sharded.specs.Totals.{AreNumbersAt}
 use Rattle.sharded.proofs.Seats.{held_seat, stepped_seat, held_of, held_store, held_ledger, step_kept, step_listed, step_same, step_at}

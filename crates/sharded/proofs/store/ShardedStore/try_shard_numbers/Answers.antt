@@ -1,5 +1,5 @@
-use Rattle.std.proofs.Common.{◌≡◌, ap, subst, ◌∙◌, None, IfOk}
-use Rattle.shared.specs.Passes.{Which, Shows, FindsBusy}
+use Rattle.std.proofs.Common.{◌≡◌, ◌∙◌, None, IfOk}
+use Rattle.shared.specs.Passes.{FindsBusy}
 use Rattle.shared.specs.Deeds.{Takes}
 use Rattle.sharded.specs.Totals.{AreNumbersAt}
 use Rattle.sharded.proofs.Seats.{held_seat, stepped_seat, held_of, held_store, held_ledger, step_kept, step_listed, step_same, step_at, seat_lone}
