@@ -164,9 +164,9 @@ enum {
                                   * stores; bytes that are not as many as a fragment has; or, in C++
                                   * and Rust, a name of another shard than a lease */
     LRC_STORE_NOT_ALONE = 17,    /* the store has other sessions */
-    LRC_STORE_NOT_REBUILT = 18,  /* out of memory for rebuilding lost fragments, or for the list of
-                                  * pieces of lrc_store_lend; the history has the call, `version` is
-                                  * written, and any byte of `target` may be */
+    LRC_STORE_NOT_REBUILT = 18,  /* out of memory for rebuilding lost fragments, or for what
+                                  * lrc_store_lend or lrc_store_get lends; the history has the call,
+                                  * `version` is written, and any byte of `target` may be */
     LRC_STORE_NOTHING_LEFT = 19  /* the plan has no further item, the journal no such entry, or
                                   * the store no such shard */
 };
@@ -336,6 +336,16 @@ uint32_t lrc_store_numbers(lrc_slot *slot, lrc_numbers *numbers) LRC_STATUS;
 uint32_t lrc_store_hold(lrc_slot *slot, const uint8_t *name, size_t name_len, lrc_slot *other,
                         uint64_t *version, uint64_t *len) LRC_STATUS LRC_READS(2, 3) LRC_FILLS(4);
 
+/* Lends all bytes of the version that the name's blob has now, and puts the range into the empty
+ * `other`, as lrc_store_hold and lrc_slot_lend do one after the other. `version` gets the version's
+ * number, `len` its bytes, and `pieces` the number of pieces. The journal entry is that of a read
+ * of no byte. `version` and `len` are written, and the call is in the journal, on
+ * LRC_STORE_UNRECOVERABLE, if a byte is in an unrecoverable fragment, and on LRC_STORE_NOT_REBUILT,
+ * if the version was held but memory for the range ran out. */
+uint32_t lrc_store_get(lrc_slot *slot, const uint8_t *name, size_t name_len, lrc_slot *other,
+                       uint64_t *version, uint64_t *len, uint64_t *pieces) LRC_STATUS
+    LRC_READS(2, 3) LRC_FILLS(4);
+
 /* The functions from here to lrc_slot_fragment read the version in `slot`. They are no calls of the
  * store: they take no lock, and make no journal entry.
  *
@@ -447,10 +457,6 @@ uint32_t lrc_store_numbers_wait(lrc_slot *slot, lrc_numbers *numbers,
 uint32_t lrc_store_hold_wait(lrc_slot *slot, const uint8_t *name, size_t name_len, lrc_slot *other,
                              uint64_t *version, uint64_t *len, int64_t timeout_ms) LRC_STATUS
     LRC_READS(2, 3) LRC_FILLS(4);
-/* Lends all bytes of the version that the name's blob has now, and puts them into the empty
- * `other`, as lrc_store_hold and lrc_slot_lend do. `version` and `len` are written if a version was
- * held, also on LRC_STORE_UNRECOVERABLE, LRC_STORE_OCCUPIED and, if lost fragments are to be
- * rebuilt, LRC_STORE_NO_MEMORY. */
 uint32_t lrc_store_get_wait(lrc_slot *slot, const uint8_t *name, size_t name_len, lrc_slot *other,
                             uint64_t *version, uint64_t *len, uint64_t *pieces,
                             int64_t timeout_ms) LRC_STATUS LRC_READS(2, 3) LRC_FILLS(4);

@@ -295,6 +295,12 @@ uint32_t lrc_store_hold_wait(lrc_slot *slot, const uint8_t *name, size_t name_le
     REPEAT(0, lrc_store_hold(slot, name, name_len, other, version, len));
 }
 
+uint32_t lrc_store_get_wait(lrc_slot *slot, const uint8_t *name, size_t name_len, lrc_slot *other,
+                            uint64_t *version, uint64_t *len, uint64_t *pieces,
+                            int64_t timeout_ms) {
+    REPEAT(TRIES, lrc_store_get(slot, name, name_len, other, version, len, pieces));
+}
+
 uint32_t lrc_store_install_wait(lrc_slot *slot, lrc_slot *other, uint64_t stripe, uint64_t fragment,
                                 const uint8_t *bytes, size_t len, uint64_t *version,
                                 int64_t timeout_ms) {

@@ -85,15 +85,15 @@ report(const char *function, const char *argument, const char *rule, const char 
     if (!goes_on) _exit(ENDED);
 }
 
-void *lrc_checked_real(void **kept, const char *function) {
-    void *real = __atomic_load_n(kept, __ATOMIC_RELAXED);
+void *lrc_checked_real(void **cache, const char *function) {
+    void *real = __atomic_load_n(cache, __ATOMIC_RELAXED);
     if (real) return real;
     real = dlsym(RTLD_NEXT, function);
     if (!real) {
         dprintf(STDERR_FILENO, "lrc_store_checked: no liblrc_store has %s\n", function);
         _exit(ENDED);
     }
-    __atomic_store_n(kept, real, __ATOMIC_RELAXED);
+    __atomic_store_n(cache, real, __ATOMIC_RELAXED);
     return real;
 }
 
@@ -130,10 +130,10 @@ static const struct address *unreadable(const struct call *call) {
             of[count] = it;
         }
     }
-    const int kept = errno;
+    const int saved_errno = errno;
     ssize_t got = process_vm_readv(getpid(), &here, 1, there, count, 0);
     if (got < 0) got = errno == EFAULT ? 0 : (ssize_t)count;
-    errno = kept;
+    errno = saved_errno;
     return got < (ssize_t)count ? of[got] : NULL;
 }
 

@@ -33,7 +33,7 @@ struct call {
 };
 
 /* The store's function of this name, which is looked for once and then kept. */
-void *lrc_checked_real(void **kept, const char *function);
+void *lrc_checked_real(void **cache, const char *function);
 
 void lrc_checked_enter(struct call *call);
 void lrc_checked_address(struct call *call, const void *at, size_t len, int is_output,
@@ -49,9 +49,9 @@ void lrc_checked_given(struct call *call, const lrc_pool *pool, lrc_slot *sessio
 void lrc_checked_forget(struct call *call, const lrc_pool *pool);
 
 #define CALL(of)                                                                                   \
-    static void *kept;                                                                             \
+    static void *cache;                                                                            \
     struct call call __attribute__((cleanup(lrc_checked_end))) = {.function = #of};                \
-    __typeof__(&of) real = (__typeof__(&of))(uintptr_t)lrc_checked_real(&kept, #of);               \
+    __typeof__(&of) real = (__typeof__(&of))(uintptr_t)lrc_checked_real(&cache, #of);              \
     lrc_checked_enter(&call)
 
 #endif

@@ -20,6 +20,7 @@ ghost use Rattle.shared.specs.Passes.{FindsBusy};
 ghost use Rattle.session.specs.KnownFault.{IsBusyOrCallFault, IsBusyOrFull};
 
 use crate::{Refused, Session};
+use named_calls::TryCalls;
 use shared::{Answer, Bytes, Code, Fault, Item, Name, Numbers, Plan};
 use std::alloc::Global;
 

@@ -9,7 +9,8 @@ ghost use Rattle.history.specs.Step.{repair as repair_of};
 ghost use Rattle.book.specs.Known.{IsFragmentIn};
 ghost use Rattle.shared.specs.Calls.{CanGrant};
 ghost use Rattle.shared.specs.Passes.{FindsBusy};
-ghost use Rattle.shared.specs.Snapshots.{HasNoBlob, TakesSnapshot};
+ghost use Rattle.shared.specs.Snapshots.{HasNoBlob};
+ghost use Rattle.named_calls.specs.Taken.{TakesSnapshot};
 ghost use Rattle.session.specs.KnownFault.{IsBusyOrCallFault};
 ghost use Rattle.session.specs.Learns.{HasInstalled};
 ghost use Rattle.session.specs.LostBits.{AreLostBits, lost_count};
@@ -17,6 +18,7 @@ ghost use Rattle.session.specs.VersionShows.{IsHeldFrom, IsKnownVersion, sealed_
 
 use crate::Session;
 use lrc_code::LostSet;
+use named_calls::{TryCalls, TrySnapshots};
 use sealed::has_fragment;
 use shared::{Answer, Bytes, Fault, Name, Receipt, Snapshot};
 use std::alloc::Global;

@@ -14,7 +14,8 @@ use Rattle.lent.specs.Granted.{range_of}
 use Rattle.history.specs.Names.{IsName}
 use Rattle.shared.specs.Passes.{Shows, FindsBusy}
 use Rattle.shared.specs.Calls.{CanGrant}
-use Rattle.shared.specs.Snapshots.{TakesSnapshot, HasNoBlob}
+use Rattle.shared.specs.Snapshots.{HasNoBlob}
+use Rattle.named_calls.specs.Taken.{TakesSnapshot}
 use Rattle.session.specs.declared.held.Held.{Held}
 use Rattle.session.specs.declared.held.Held.TheVariants.{Session, Version}
 use Rattle.session.specs.KnownFault.{IsBusyOrCallFault}

@@ -7,3 +7,4 @@ mod Closings
 mod Plans
 mod LentItems
 mod Holds
+mod Gets

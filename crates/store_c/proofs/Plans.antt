@@ -1,5 +1,5 @@
 -- The parts of a plan, and what remains of one.
-use Rattle.std.proofs.Common.{◌≡◌, ℕ, List, [], ◌∷◌, length, Option, Some, ap₂, ap, arith}
+use Rattle.std.proofs.Common.{◌≡◌, ℕ, List, [], ◌∷◌, length, Option, Some, ap₂, arith}
 use Rattle.book.specs.declared.plan.Item.{Item}
 use Rattle.shared.specs.Passes.{Shows}
 use Rattle.session.specs.Rest.{Rest}

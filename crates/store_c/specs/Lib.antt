@@ -7,6 +7,7 @@ pub mod Buffers
 pub mod Journal
 pub mod Numbers
 pub mod Hold
+pub mod Get
 pub mod Versions
 pub mod Install
 pub mod Items

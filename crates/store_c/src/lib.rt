@@ -18,12 +18,14 @@ mod sessions;
 mod shards;
 mod status;
 mod versions;
+mod whole;
 
 ghost use Rattle.std.specs.Prelude.{◌≡◌, None};
 ghost use Rattle.history.specs.Step.{lose as lose_of, repair as repair_of, delete as delete_of};
 ghost use Rattle.store_c.specs.OnSession.{IsOnSession, IsNamedCall, IsPutCall, IsReadCall};
 ghost use Rattle.store_c.specs.OnSession.{IsStatCall, IsTrimCall, IsTrimPartCall};
 ghost use Rattle.store_c.specs.Buffers.{IsReserveCall, IsBufferCall, IsPutFrom};
+ghost use Rattle.store_c.specs.Get.{IsGetTo};
 ghost use Rattle.store_c.specs.Hold.{IsHoldCall};
 ghost use Rattle.store_c.specs.Install.{MayInstall, IsInstallCall};
 ghost use Rattle.store_c.specs.Items.{IsItemsCall};
@@ -713,6 +715,28 @@ pub extern "C" fn lrc_slot_lend(
     };
     slot.put(held);
     status
+}
+
+/// Lends all bytes of the version that a name's blob has now, and puts them into an empty slot. It
+/// writes the number of the version and its length, and how many pieces the bytes are in.
+#[unsafe(no_mangle)]
+pub extern "C" fn lrc_store_get(
+    alloc: Global,
+    slot: &mut Slot,
+    name: &[u8],
+    other: &mut Slot,
+    version: &mut u64,
+    len: &mut u64,
+    pieces: &mut u64,
+) -> u32
+    ensures { IsOnSession slot.old.held result slot.new.held
+        ((version.new ≡ version.old) × (len.new ≡ len.old) × (pieces.new ≡ pieces.old)
+        × (other.new.held ≡ other.old.held))
+        (λ v w. IsGetTo v other.old.held name.now result (version.old, len.old, pieces.old)
+        (version.new, len.new, pieces.new) w other.new.held) }
+{
+    with_session!(alloc, slot, session =>
+        whole::get_to(alloc, session, name, other, version, len, pieces))
 }
 
 /// Repairs a lost fragment of the name of a held version with the given bytes: those that the

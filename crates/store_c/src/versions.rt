@@ -167,7 +167,7 @@ pub(crate) fn fragment_to<'a>(
     }
 }
 
-fn lend(
+pub(crate) fn lend(
     alloc: Global,
     version: &Version,
     start: u64,
