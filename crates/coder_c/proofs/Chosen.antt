@@ -18,7 +18,7 @@ pub and_some : (found : Option Code) (code : Code) (P : Code → Type 0) → fou
 and_some found code P is h = subst (λ o. IsSomeAnd o P) is h
 
 -- the same set, by other bits
-decodes_same : (code : Code) (fragments : List (List ℕ)) (t u : ℕ) (chosen : Option ℕ) (from to end : ℕ) (old new : List ℕ) → ((i : ℕ) → is_lost t i ≡ is_lost u i) → to ≡ end
+pub decodes_same : (code : Code) (fragments : List (List ℕ)) (t u : ℕ) (chosen : Option ℕ) (from to end : ℕ) (old new : List ℕ) → ((i : ℕ) → is_lost t i ≡ is_lost u i) → to ≡ end
     → DecodesLost code fragments t chosen from to old new → DecodesLost code fragments u chosen from end old new
 decodes_same code fragments t u None from to end old new same e decodes = decodes
 decodes_same code fragments t u (Some f) from to end old new same e decodes =

@@ -1,19 +1,16 @@
 -- What is decoded straight from the lists that are passed, without slots.
-use Rattle.std.proofs.Common.{◌≡◌, ℕ, ◌+◌, ◌-◌, ◌<◌, ◌≤◌, Bool, true, false, List, Option, Some, None, Bor, IfSome, MatchOption, length, map, refl, sym, ap, ◌∙◌, subst, arith, inl, inr}
-use Rattle.std.specs.Prelude.{slice_index}
+use Rattle.std.proofs.Common.{◌≡◌, ℕ, ◌+◌, ◌-◌, ◌<◌, ◌≤◌, Bool, true, false, List, Option, Some, None, Bor, IfSome, length, map, refl, sym, ap, ◌∙◌, subst, arith, inl, inr}
+use Rattle.std.specs.Prelude.{slice_index, slice_range}
 use Rattle.std.specs.List.{range_with_len}
 use Rattle.std.specs.Option.{is_none}
 use Rattle.std.proofs.lemmas.Bool.{cases_Bool, true≢false}
 use Rattle.std.proofs.lemmas.List.FromFn.{get_or-map-range_with_len}
-use Rattle.lrc_code.specs.declared.Code.{Code}
 use Rattle.lrc_code.specs.declared.Code.TheVariants.{Wide}
-use Rattle.lrc_code.specs.Code.{is_lost}
-use Rattle.lrc_code.specs.Stripe.{slot, bytes_of, is_absent, list_at}
+use Rattle.lrc_code.specs.Stripe.{slot, bytes_of, is_absent, RebuildsFrom}
 use Rattle.syndromes.specs.Syndromes.{column_at, HasSums}
-use Rattle.decode.specs.DecodePlan.{IsPlanned}
-use Rattle.decode.proofs.Planned.{decoded_by}
-use Rattle.coder_c.specs.Call.{DecodesLost}
-use Rattle.coder_c.proofs.Chosen.{decodes_by_slots}
+use Rattle.decode.specs.Syndrome.{AreShares}
+use Rattle.decode.proofs.Planned.{shares_same}
+use Rattle.decode.proofs.Places.{rebuilt_by}
 
 -- the slot of a fragment
 abbrev slot_of : Bool → List ℕ → Option (Bor (List ℕ))
@@ -24,17 +21,21 @@ none_of : (lost : Bool) (xs : List ℕ) → is_none (slot_of lost xs) ≡ lost
 none_of true xs = refl
 none_of false xs = refl
 
-bytes_left : (lost : Bool) (xs : List ℕ) → lost ≡ false → bytes_of (slot_of lost xs) ≡ xs
-bytes_left true xs left = absurd (true≢false left)
-bytes_left false xs left = refl
-
 byte_gone : (lost : Bool) (xs : List ℕ) (k : ℕ) → lost ≡ true → slice_index (bytes_of (slot_of lost xs)) k ≡ 0
 byte_gone true xs k gone = refl
 byte_gone false xs k gone = absurd (true≢false (sym gone))
 
-module _ (fragments : List (List ℕ)) (missing : ℕ) where
+byte_left : (lost : Bool) (xs : List ℕ) (k : ℕ) → lost ≡ false → slice_index (bytes_of (slot_of lost xs)) k ≡ slice_index xs k
+byte_left true xs k left = absurd (true≢false left)
+byte_left false xs k left = refl
+
+agrees_of : (lost : Bool) (xs ys : List ℕ) (from to : ℕ) → (lost ≡ false → slice_range xs from to ≡ slice_range ys from to) → IfSome (slot_of lost ys) (λ x. slice_range xs from to ≡ slice_range x.now from to)
+agrees_of true xs ys from to agrees = tt
+agrees_of false xs ys from to agrees = agrees refl
+
+module _ (lost : ℕ → Bool) (made : ℕ → List ℕ) where
   abbrev slot_at : ℕ → Option (Bor (List ℕ))
-  slot_at i = slot_of (is_lost missing i) (list_at fragments i)
+  slot_at i = slot_of (lost i) (made i)
 
   abbrev slots : List (Option (Bor (List ℕ)))
   slots = map slot_at (range_with_len 0 16)
@@ -42,35 +43,20 @@ module _ (fragments : List (List ℕ)) (missing : ℕ) where
   slot_is : (i : ℕ) → i < 16 → slot slots i ≡ slot_at i
   slot_is i l = get_or-map-range_with_len slot_at 0 16 i i None l (omega arith)
 
-  absent : (i : ℕ) → i < 16 → is_absent slots i ≡ is_lost missing i
-  absent i l = ap is_none (slot_is i l) ∙ none_of (is_lost missing i) (list_at fragments i)
+  absent : (i : ℕ) → i < 16 → lost i ≡ is_absent slots i
+  absent i l = sym (ap is_none (slot_is i l) ∙ none_of (lost i) (made i))
 
-  bytes : (i : ℕ) → i < 16 → is_lost missing i ≡ false → bytes_of (slot slots i) ≡ list_at fragments i
-  bytes i l left = ap bytes_of (slot_is i l) ∙ bytes_left (is_lost missing i) (list_at fragments i) left
-
-  direct : (lists : List (Option (Bor (List ℕ)))) (chosen : Option ℕ) (shares : List ℕ) (used : Option (List ℕ)) (from to : ℕ) (old new : List ℕ) → from ≤ to
-      → IfSome chosen (λ f. IsPlanned Wide missing f shares) → MatchOption chosen (used ≡ None) (λ f. used ≡ Some shares)
-      → IfSome chosen (λ _. length old ≡ to - from) → length new ≡ length old → HasSums lists used (to - from) new → (used ≡ None → new ≡ old)
-      → ((p k : ℕ) → p < 16 → is_lost missing p ≡ true → column_at lists k p ≡ 0)
-      → ((p k : ℕ) → p < 16 → k < to - from → is_lost missing p ≡ false → column_at lists k p ≡ slice_index (list_at fragments p) (from + k))
-      → DecodesLost Wide fragments missing chosen from to old new
-  direct lists chosen shares used from to old new order known given room long sums kept gone left =
-      decodes_by_slots Wide fragments missing slots absent bytes Wide chosen from to old new refl
-      (decoded_by Wide slots lists missing chosen shares used from to old new order (λ i l. sym (absent i l)) known given room long sums kept
-      (λ p k pl kl. elim (cases_Bool (is_lost missing p)) [
-        | inl on ↦ gone p k pl on ∙ sym (ap (λ o. slice_index (bytes_of o) (from + k)) (slot_is p pl) ∙ byte_gone (is_lost missing p) (list_at fragments p) (from + k) on)
-        | inr off ↦ left p k pl kl off ∙ sym (ap (λ xs. slice_index xs (from + k)) (bytes p pl off))
-      ]))
-
-  -- by a plan for the wide code, and a set `t` that is the same as the missing
-  pub decodes_direct : (code : Code) (t : ℕ) (lists : List (Option (Bor (List ℕ)))) (chosen : Option ℕ) (shares : List ℕ) (used : Option (List ℕ)) (from to : ℕ) (old new : List ℕ) → code ≡ Wide → from ≤ to
-      → IfSome chosen (λ f. IsPlanned code missing f shares) → MatchOption chosen (used ≡ None) (λ f. used ≡ Some shares)
-      → IfSome chosen (λ _. length old ≡ to - from) → length new ≡ length old → HasSums lists used (to - from) new → (used ≡ None → new ≡ old)
-      → ((i : ℕ) → is_lost t i ≡ is_lost missing i)
-      → ((p k : ℕ) → p < 16 → is_lost t p ≡ true → column_at lists k p ≡ 0)
-      → ((p k : ℕ) → p < 16 → k < to - from → is_lost t p ≡ false → column_at lists k p ≡ slice_index (list_at fragments p) (from + k))
-      → DecodesLost code fragments missing chosen from to old new
-  decodes_direct code t lists chosen shares used from to old new is order known given room long sums kept same gone left =
-      subst (λ c. DecodesLost c fragments missing chosen from to old new) (sym is)
-      (direct lists chosen shares used from to old new order (subst (λ c. IfSome chosen (λ f. IsPlanned c missing f shares)) is known) given room long sums kept
-      (λ p k l on. gone p k l (same p ∙ on)) (λ p k l m off. left p k l m (same p ∙ off)))
+  -- the sums by a fragment's shares are its bytes
+  pub rebuilds_direct : (lists : List (Option (Bor (List ℕ)))) (g : ℕ) (shares : List ℕ) (from to : ℕ) (new : List ℕ) → g < 16 → from ≤ to → AreShares Wide lost g shares
+      → length new ≡ to - from → HasSums lists (Some shares) (to - from) new
+      → ((p k : ℕ) → p < 16 → lost p ≡ true → column_at lists k p ≡ 0)
+      → ((p k : ℕ) → p < 16 → k < to - from → lost p ≡ false → column_at lists k p ≡ slice_index (made p) (from + k))
+      → RebuildsFrom Wide lost made g from to new
+  rebuilds_direct lists g shares from to new gl order are long sums gone left w s wide stripe agrees =
+      rebuilt_by Wide slots lists g from to shares new gl order (shares_same Wide lost (is_absent slots) g shares (λ i l. absent i l) are) long sums
+      (λ p k pl kl. elim (cases_Bool (lost p)) [
+        | inl on ↦ gone p k pl on ∙ sym (ap (λ o. slice_index (bytes_of o) (from + k)) (slot_is p pl) ∙ byte_gone (lost p) (made p) (from + k) on)
+        | inr off ↦ left p k pl kl off ∙ sym (ap (λ o. slice_index (bytes_of o) (from + k)) (slot_is p pl) ∙ byte_left (lost p) (made p) (from + k) off)
+      ])
+      w s wide stripe
+      (λ i l. subst (λ o. IfSome o (λ x. slice_range (s i) from to ≡ slice_range x.now from to)) (sym (slot_is i l)) (agrees_of (lost i) (s i) (made i) from to (agrees i l)))

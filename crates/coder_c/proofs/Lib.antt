@@ -4,3 +4,4 @@ mod Asked
 mod Chosen
 mod Planned
 mod Direct
+mod PutBack

@@ -8,6 +8,8 @@
 
 mod plans;
 mod remaining;
+mod wanted;
+mod wide;
 
 ghost use Rattle.std.specs.Prelude.{◌≡◌, ◌≢◌, ℕ, ◌+◌, ◌-◌, ◌<◌, ◌≤◌, ◌^◌, ◌↔◌, ◌⊎◌, IsTrue, All};
 ghost use Rattle.std.specs.Prelude.{IfSome, IsSomeAnd, MatchOption, EachIndex, length, map};

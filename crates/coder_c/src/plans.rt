@@ -13,10 +13,10 @@ ghost use Rattle.coder_c.specs.PlanBytes.{format_in, code_in, missing_in, chosen
 ghost use Rattle.coder_c.specs.PlanBytes.{plan_in, AreSameShares};
 
 use crate::remaining::{are_alone, left_of, left_reach, rebuild_alone};
+use crate::wide::decode_wide;
 use crate::{PLAN_FORMAT, chosen_of, code_of};
 use decode::{DecodePlan, decode_by_plan};
 use lrc_code::{Code, LostSet};
-use syndromes::combine_syndromes;
 
 /// The bytes of a plan with these numbers.
 pub(crate) fn plan_bytes(plan: &DecodePlan, numbers: &[u8; 4]) -> [u8; 24]
@@ -112,88 +112,6 @@ fn decode_from_slots(
 {
     let left = left_of(plan.code, fragments, LostSet::of_bits(plan.missing));
     decode_by_plan(plan, &left, from, to, first, second, third, fourth);
-}
-
-/// The bytes `from..to` of a fragment of LRC(12,2,2), or None if it is missing.
-#[inline(always)]
-fn wide_part<'a>(
-    fragments: &[&'a [u8]; 16],
-    missing: LostSet,
-    i: usize,
-    from: usize,
-    to: usize,
-) -> Option<&'a [u8]>
-    requires inside { i < 16 }
-    requires reach { LeftReach Wide (map (λ f. f.now) fragments.now) missing to }
-    requires range { from ≤ to }
-    ensures long { IfSome result (λ part. length part.now ≡ to - from) }
-    ensures lost { is_lost missing i ≡ true → result ≡ None }
-    ensures bytes { is_lost missing i ≡ false → (k : ℕ) → k < to - from → list_byte result k
-        ≡ slice_index (list_at (map (λ f. f.now) fragments.now) i) (from + k) }
-{
-    if missing.left(i as u8) {
-        Some(&fragments[i][from..to])
-    } else {
-        None
-    }
-}
-
-/// The shares where a fragment is chosen.
-#[inline(always)]
-fn given(chosen: Option<u8>, shares: [u8; 4]) -> Option<[u8; 4]>
-    ensures { MatchOption chosen (result ≡ None) (λ f. result ≡ Some shares) }
-{
-    match chosen {
-        None => None,
-        Some(_) => Some(shares),
-    }
-}
-
-/// `decode_from_slots` for LRC(12,2,2), straight from what is passed, by the shares of the plan.
-#[inline(never)]
-fn decode_wide(
-    plan: &DecodePlan,
-    fragments: &[&[u8]; 16],
-    from: usize,
-    to: usize,
-    first: &mut [u8],
-    second: &mut [u8],
-    third: &mut [u8],
-    fourth: &mut [u8],
-)
-    requires code { plan.now.code ≡ Wide }
-    requires reach { LeftReach Wide (map (λ f. f.now) fragments.now) plan.now.missing to }
-    requires range { from ≤ to }
-    requires room { HasRoomFor (slice_index_or plan.now.chosen 0 None) (to - from) first.old }
-    requires room_second { HasRoomFor (slice_index_or plan.now.chosen 1 None) (to - from)
-        second.old }
-    requires room_third { HasRoomFor (slice_index_or plan.now.chosen 2 None) (to - from)
-        third.old }
-    requires room_fourth { HasRoomFor (slice_index_or plan.now.chosen 3 None) (to - from)
-        fourth.old }
-    ensures first { IsDecodePlan plan.now → DecodesLost plan.now.code
-        (map (λ f. f.now) fragments.now) plan.now.missing (slice_index_or plan.now.chosen 0 None)
-        from to first.old first.new }
-    ensures second { IsDecodePlan plan.now → DecodesLost plan.now.code
-        (map (λ f. f.now) fragments.now) plan.now.missing (slice_index_or plan.now.chosen 1 None)
-        from to second.old second.new }
-    ensures third { IsDecodePlan plan.now → DecodesLost plan.now.code
-        (map (λ f. f.now) fragments.now) plan.now.missing (slice_index_or plan.now.chosen 2 None)
-        from to third.old third.new }
-    ensures fourth { IsDecodePlan plan.now → DecodesLost plan.now.code
-        (map (λ f. f.now) fragments.now) plan.now.missing (slice_index_or plan.now.chosen 3 None)
-        from to fourth.old fourth.new }
-{
-    let missing = LostSet::of_bits(plan.missing);
-    let mut parts: [Option<&[u8]>; 16] = [None; 16];
-    for i in 0..16 {
-        parts[i] = wide_part(fragments, missing, i, from, to);
-    }
-    let a = given(plan.chosen[0], plan.shares[0]);
-    let b = given(plan.chosen[1], plan.shares[1]);
-    let c = given(plan.chosen[2], plan.shares[2]);
-    let d = given(plan.chosen[3], plan.shares[3]);
-    combine_syndromes(&parts, to - from, a, b, c, d, first, second, third, fourth);
 }
 
 /// `decode_by_plan` of the fragments that a plan reads, if they are long enough. Returns whether

@@ -9,6 +9,7 @@ ghost use Rattle.decode.specs.Decoding.{HasOpen};
 ghost use Rattle.coder_c.specs.Call.{IsLostIn, LeftReach, RebuildsLost, AreLostIn, HasRoomFor};
 ghost use Rattle.coder_c.specs.Call.{HaveRoomFor, DecodesLost};
 
+use crate::wide::{are_shares_faster, decode_by_shares};
 use decode::{decode_to, rebuild_to};
 use lrc_code::{Code, Left, LostSet, is_alone_in, rebuild_local_in};
 
@@ -218,7 +219,12 @@ pub(crate) fn decode_lost(
         rebuild_alone(code, fragments, lost, chosen[3], from, to, fourth);
         return true;
     }
-    decode_from_slots(
-        code, fragments, lost, chosen, from, to, first, second, third, fourth,
-    )
+    match code {
+        Code::Wide if are_shares_faster(&chosen, to - from) => decode_by_shares(
+            fragments, lost, &chosen, from, to, first, second, third, fourth,
+        ),
+        _ => decode_from_slots(
+            code, fragments, lost, chosen, from, to, first, second, third, fourth,
+        ),
+    }
 }

@@ -3,7 +3,7 @@ use Rattle.std.specs.Prelude.{slice_index_or}
 use Rattle.lrc_code.specs.Code.{is_lost}
 use Rattle.lrc_code.specs.Stripe.{list_at}
 use Rattle.syndromes.specs.Syndromes.{column_at}
-use Rattle.coder_c.proofs.plans.decode_wide.Given as goal
+use Rattle.coder_c.proofs.wide.fill_parts.Given as goal
 
 abbrev pub invariant-loop-i : goal.invariant-loop-i
 invariant-loop-i l = record {
