@@ -9,6 +9,7 @@ mod refused;
 
 use book::{Answer, Book, Fault, Limit, Name, Note};
 use bytes::Bytes;
+use named_calls::WaitingCalls;
 use sealed::{Sealed, count_stripes};
 use shared::{Pass, Store};
 use std::alloc::Global;

@@ -4,7 +4,10 @@ ghost use Rattle.sharded.specs.Passes.{store_of};
 
 use anyhow::{Result, bail, ensure};
 use book::Note;
-use sharded::{Answer, Bytes, Code, Fault, Grant, Name, ShardedPass, ShardedStore};
+use sharded::{
+    Answer, Bytes, Code, Fault, Grant, Makes, Name, ShardedPass, ShardedStore, TryCalls,
+    WaitingCalls, Waits,
+};
 use std::alloc::Global;
 use std::sync::Wait;
 

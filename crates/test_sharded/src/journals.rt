@@ -146,7 +146,7 @@ fn check_rooms(pass: &ShardedPass, other: &ShardedPass) -> Result<()> {
     Ok(())
 }
 
-/// A call by a second pass, which hands on a receipt and is then joined.
+/// A call by a second pass, which hands on a receipt, shows all that it has seen, and is joined.
 fn use_second_pass<R: Wait>(
     rt: &R,
     alloc: Global,
@@ -160,6 +160,7 @@ fn use_second_pass<R: Wait>(
     check_rooms(pass, &other)?;
     let receipt = call_and_hand_on(rt, alloc, store, &mut other)?;
     pass.accept(store, receipt);
+    pass.learn(store, &mut other);
     check_rooms(pass, &other)?;
     pass.join(store, other);
     Ok(())

@@ -7,7 +7,7 @@ ghost use Rattle.test_sharded.specs.Standing.{StandsBefore};
 use crate::names::NAMES;
 use anyhow::ensure;
 use book::Note;
-use sharded::{Answer, Fault, Name, ShardedPass, ShardedStore};
+use sharded::{Answer, Fault, Name, ShardedPass, ShardedStore, WaitingCalls};
 use std::sync::Wait;
 
 /// Deletes a name, and then asks for the shape of another, at whichever shards they are. In the

@@ -6,7 +6,10 @@ use crate::calls::{BLOB, FRAGMENT};
 use crate::names::NAMES;
 use anyhow::{Result, bail, ensure};
 use book::Note;
-use sharded::{Answer, Code, Name, Numbers, ShardedPass, ShardedStore};
+use sharded::{
+    Answer, Code, Makes, Name, Numbers, ShardedPass, ShardedStore, TryCalls, TrySnapshots,
+    WaitingCalls, WaitingSnapshots, Waits,
+};
 use std::alloc::Global;
 use std::sync::Wait;
 
@@ -206,6 +209,30 @@ fn count_lost<R: Wait>(
     Ok(count as u64)
 }
 
+/// The number of lost fragments of all shards, of which there are more than three. The part behind
+/// the first is asked for three.
+fn count_all_lost<R: Wait>(
+    rt: &R,
+    alloc: Global,
+    store: &ShardedStore,
+    pass: &mut ShardedPass,
+) -> Result<u64>
+    requires { store_of pass.old ≡ store.now }
+    ensures { store_of pass.new ≡ store.now }
+{
+    let all = match store.plan_part(rt, alloc, pass, None, usize::MAX) {
+        Ok(part) => part,
+        Err(_) => store.plan_part(rt, alloc, pass, None, usize::MAX)?,
+    };
+    let first = all.items.first();
+    let rest = match store.try_plan_part(alloc, pass, first, 3) {
+        Ok(part) => part,
+        Err(_) => store.try_plan_part(alloc, pass, first, 3)?,
+    };
+    ensure!(rest.items.len() == 3, "another number of items");
+    Ok(all.items.len() as u64)
+}
+
 /// Discards all entries of a shard's journal in two parts. Returns how many these were.
 fn discard<R: Wait>(
     rt: &R,
@@ -240,11 +267,13 @@ fn count_parts<R: Wait>(
     requires { store_of pass.old ≡ store.now }
     ensures { store_of pass.new ≡ store.now }
 {
+    let all = count_all_lost(rt, alloc, store, pass)?;
     let (mut lost, mut entries) = (0u64, 0u64);
     for shard in 0..store.count_shards() {
         lost = lost.saturating_add(count_lost(rt, alloc, store, pass, shard)?);
         entries = entries.saturating_add(discard(rt, alloc, store, pass, shard)?);
     }
+    ensure!(lost == all, "the shards have other items");
     Ok((lost, entries))
 }
 

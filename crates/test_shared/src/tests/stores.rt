@@ -13,6 +13,7 @@ use crate::tests::compare;
 use book::{Answer, Book, Fault, Limit, Name, Note, is_lawful_from};
 use bytes::Bytes;
 use lent::{Grant, Piece};
+use named_calls::WaitingCalls;
 use shared::{Pass, Store};
 use std::alloc::Global;
 use std::process::Abort;

@@ -9,6 +9,7 @@ use crate::tests::compare;
 use book::{Answer, Fault, Name, Note};
 use lent::Grant;
 use lrc_code::Code;
+use named_calls::WaitingCalls;
 use shared::{Pass, Store};
 use std::alloc::Global;
 use std::process::Abort;

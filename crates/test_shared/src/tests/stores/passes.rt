@@ -5,6 +5,7 @@ use super::{answers, beginning, gives, granted, letters, shape};
 use crate::tests::compare;
 use book::{Fault, Limit, Name, Note};
 use lrc_code::Code;
+use named_calls::TryCalls;
 use shared::{Pass, Store};
 use std::alloc::Global;
 use std::process::Abort;

@@ -6,6 +6,7 @@ use crate::tests::compare;
 use book::{Book, Fault, Name, Note};
 use bytes::Bytes;
 use lrc_code::Code;
+use named_calls::WaitingCalls;
 use shared::{Ask, Cause, Job, Pace, Pass, Reply, RowReply, Store};
 use std::alloc::Global;
 use std::process::Abort;

@@ -11,6 +11,7 @@ use book::{Name, Note};
 use bytes::Bytes;
 use lent::{Asked, Grant, Snapshot};
 use lrc_code::{Code, LostSet};
+use named_calls::{TryCalls, TrySnapshots, WaitingCalls, WaitingSnapshots};
 use shared::{Pass, Store};
 use std::alloc::Global;
 use std::process::Abort;

@@ -4,6 +4,7 @@ ghost use Rattle.std.specs.Prelude.{◌≡◌};
 use super::{beginning, is_lawful_book, letters, trim};
 use crate::tests::compare;
 use book::{Answer, Book, Name};
+use named_calls::WaitingCalls;
 use shared::{Pass, Store};
 use std::alloc::Global;
 use std::process::Abort;
