@@ -3,6 +3,7 @@ ghost use Rattle.std.specs.Prelude.{◌≡◌};
 ghost use Rattle.shared.specs.Passes.{Stays};
 
 use anyhow::{Context, Result, ensure};
+use named_calls::WaitingCalls;
 use shared::{Bytes, Fault, Limit, Name, Pass, Store, is_lawful_from};
 use std::alloc::Global;
 use std::sync::Wait;

@@ -7,6 +7,7 @@ ghost use Rattle.shared.specs.Passes.{Stays};
 
 use anyhow::{Context, Result, bail};
 use mender::{Gather, Report, gather, scrub, work};
+use named_calls::WaitingCalls;
 use shared::{Answer, Bytes, Limit, Name, Pass, Store};
 use std::alloc::Global;
 use std::sync::Wait;

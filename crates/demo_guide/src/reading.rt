@@ -6,6 +6,7 @@ ghost use Rattle.std.specs.Prelude.{◌≡◌};
 ghost use Rattle.shared.specs.Passes.{Stays};
 
 use anyhow::{Context, Result, bail};
+use named_calls::WaitingCalls;
 use shared::{Answer, Asked, Bytes, Grant, Limit, Name, Pass, Piece, Plans, Snapshot, Store};
 use std::alloc::Global;
 use std::sync::Wait;

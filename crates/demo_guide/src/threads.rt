@@ -2,6 +2,7 @@
 ghost use Rattle.std.specs.Prelude.{◌≡◌};
 
 use anyhow::{Context, Result, ensure};
+use named_calls::WaitingCalls;
 use shared::{Answer, Bytes, Fault, Limit, Name, Pass, Store};
 use std::alloc::Global;
 use std::sync::Wait;

@@ -2,6 +2,7 @@
 #![tactic(auto)]
 
 use anyhow::{Context, Result, bail};
+use named_calls::WaitingCalls;
 use shared::{Answer, Bytes, Limit, Name, Piece, Store};
 
 /// Prints each piece on a line of its own.

@@ -6,6 +6,7 @@ use anyhow::{Result, ensure};
 use book::{Answer, Fault, Limit, Name};
 use bytes::Bytes;
 use lrc_code::Code;
+use named_calls::WaitingCalls;
 use shared::{Pass, Store};
 use std::alloc::Global;
 use std::sync::Wait;

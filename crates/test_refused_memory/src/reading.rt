@@ -6,6 +6,7 @@ use crate::calls::Case;
 use anyhow::{Result, bail, ensure};
 use book::{Answer, Fault, Name};
 use lent::{Grant, Piece};
+use named_calls::WaitingCalls;
 use shared::{Pass, Store};
 use std::alloc::Global;
 use std::sync::Wait;
