@@ -1,0 +1,6 @@
+//go:build !nopkgconfig
+
+package coder
+
+// #cgo pkg-config: lrc_coder
+import "C"
