@@ -1,11 +1,16 @@
-"""What the cluster tests share: packages, the coder, a report, and a temporary folder."""
+"""What the cluster tests share: packages, ports, storms, the coder, a report and a folder."""
 
+import argparse
+import collections
+import contextlib
 import os
 import shutil
 import signal
+import socket
 import subprocess
 import sys
 import tempfile
+import threading
 import time
 import traceback
 
@@ -31,15 +36,15 @@ class Report:
         print(f"[{time.monotonic() - self.started:3.0f} s] {text}", flush=True)
 
 
+def outcome_of(*words, **options):
+    """The status of a command, and what it printed, also as errors."""
+    options |= {"stdin": subprocess.DEVNULL, "stdout": subprocess.PIPE, "stderr": subprocess.STDOUT}
+    done = subprocess.run(words, text=True, errors="replace", check=False, **options)
+    return done.returncode, done.stdout
+
+
 def is_installed(package):
-    done = subprocess.run(
-        ["dpkg-query", "-W", "-f", "${Status}", package],
-        stdout=subprocess.PIPE,
-        stderr=subprocess.DEVNULL,
-        text=True,
-        check=False,
-    )
-    return "ok installed" in done.stdout
+    return "ok installed" in outcome_of("dpkg-query", "-W", "-f", "${Status}", package)[1]
 
 
 def install(packages):
@@ -54,6 +59,57 @@ def install(packages):
     if subprocess.run([*words, *missing], check=False, **quiet).returncode:
         subprocess.run(["apt-get", "update"], check=True, **quiet)
         subprocess.run([*words, *missing], check=True, **quiet)
+
+
+def has_program(program, package, note):
+    """Whether there is a program, after its package was installed. Notes it if there is none."""
+    install([package])
+    found = shutil.which(program)
+    if not found:
+        note(f"skipped: there is no {program}")
+    return bool(found)
+
+
+def free_ports(count):
+    """Ports of 127.0.0.1 that nothing listens on, all of them different."""
+    with contextlib.ExitStack() as stack:
+        sockets = [stack.enter_context(socket.socket()) for _ in range(count)]
+        for each in sockets:
+            each.bind(("127.0.0.1", 0))
+        return [each.getsockname()[1] for each in sockets]
+
+
+class Caller(threading.Thread):
+    """Calls `step` again and again until it is stopped, and keeps what was wrong."""
+
+    def __init__(self):
+        super().__init__()
+        self.stopped = threading.Event()
+        self.calls, self.wrong = 0, []
+
+    def run(self):
+        while not self.stopped.is_set():
+            try:
+                self.step()
+            except Exception:
+                self.wrong.append(traceback.format_exc(limit=-2))
+            self.calls += 1
+
+
+def storm(callers, seconds, disturb):
+    """Calls `disturb` for so many seconds while the callers call. How often it returned what."""
+    events, end = collections.Counter(), time.monotonic() + seconds
+    for caller in callers:
+        caller.start()
+    try:
+        while time.monotonic() < end:
+            events[disturb()] += 1
+    finally:
+        for caller in callers:
+            caller.stopped.set()
+        for caller in callers:
+            caller.join()
+    return events
 
 
 def coder_folder():
@@ -80,9 +136,19 @@ def remove(folder):
     print("not removed:", folder)
 
 
-def run(options, packages, work):
+def parser_of(description):
+    """A parser of a program's arguments. All programs can keep the temporary folder."""
+    parser = argparse.ArgumentParser(
+        description=description, formatter_class=argparse.RawDescriptionHelpFormatter
+    )
+    parser.add_argument("--keep", action="store_true", help="keep the folder, with the logs")
+    return parser
+
+
+def run(parser, packages, work):
     """Calls work(report, folder, options) with a temporary folder, and prints the count of checks.
     Returns the status of the program."""
+    options = parser.parse_args()
     signal.signal(signal.SIGTERM, lambda *_: sys.exit(1))  # so that all processes are ended
     install(packages)
     report, folder = Report(), tempfile.mkdtemp(prefix="lrc_cluster_")

@@ -1,6 +1,5 @@
 """Another root beside this system, for tests of two releases at once."""
 
-import argparse
 import contextlib
 import os
 import subprocess
@@ -16,23 +15,35 @@ def run(description, packages, work, integration, needed):
     it has the file `needed`. What is mounted ends with the program."""
     if "LRC_MOUNTS" not in os.environ:
         os.environ["LRC_MOUNTS"] = "own"
-        os.execvp("unshare", ["unshare", "--mount", "--propagation", "private", *sys.argv])
-    parser = argparse.ArgumentParser(
-        description=description, formatter_class=argparse.RawDescriptionHelpFormatter
-    )
-    parser.add_argument("root", help="a root that integrations/roots.sh has left")
-    parser.add_argument("--keep", action="store_true", help="keep the folder, with the logs")
-    options = parser.parse_args()
-    options.root = os.path.realpath(options.root)
-    for each in needed, "src/integrations", "libraries":
-        if not os.path.exists(f"{options.root}/{each}"):
-            parser.error(
-                f"{options.root} has no {each}; name a root that "
-                f"`LRC_ROOTS=FOLDER integrations/roots.sh {integration} SUITE` has left in FOLDER"
-            )
-    for kind, at in (["-t", "proc", "proc"], "proc"), (["--bind", "/dev"], "dev"):
-        subprocess.run(["mount", *kind, f"{options.root}/{at}"], check=True)
-    return harness.run(options, packages, work)
+        os.execvp("unshare", ["unshare", "--mount", "--propagation", propagation(), *sys.argv])
+
+    def root_at(path):
+        root = os.path.realpath(path)
+        for each in needed, "src/integrations", "libraries":
+            if not os.path.exists(f"{root}/{each}"):
+                parser.error(
+                    f"{root} has no {each}; name a root that "
+                    f"`LRC_ROOTS=FOLDER integrations/roots.sh {integration} SUITE` leaves in FOLDER"
+                )
+        return root
+
+    def work_with_mounts(report, folder, options):
+        with contextlib.ExitStack() as mounts:
+            for kind, at in (["-t", "proc", "proc"], "proc"), (["--bind", "/dev"], "dev"):
+                subprocess.run(["mount", *kind, f"{options.root}/{at}"], check=True)
+                mounts.callback(subprocess.run, ["umount", f"{options.root}/{at}"], check=False)
+            work(report, folder, options)
+
+    parser = harness.parser_of(description)
+    parser.add_argument("root", type=root_at, help="a root that integrations/roots.sh has left")
+    return harness.run(parser, packages, work_with_mounts)
+
+
+def propagation():
+    """In a chroot whose root is no mount point, mounts may be seen outside until they end."""
+    words = ["unshare", "--mount", "--propagation", "private", "true"]
+    done = subprocess.run(words, stderr=subprocess.DEVNULL, check=False)
+    return "unchanged" if done.returncode else "private"
 
 
 @contextlib.contextmanager

@@ -5,6 +5,7 @@
     tools/package.py pack --from BUILT --to DIST [--no-plugins] [--unlicensed]
                           [deb] [wheel] [crate] [tar] [assembly]
     tools/package.py all --to DIST [--built BUILT] ..    both, with the words of both
+    tools/package.py plugins --from FOLDER --to DIST [--unlicensed]
 
 `build` needs the Rattle kit. It leaves both programs, the archives of both libraries for each
 processor, and what they come from in BUILT. With --reuse it takes from FOLDER what is built there,
@@ -15,11 +16,15 @@ is named, with their provenance, a bill of materials and checksums. The bytes of
 BUILT, the commit, the compiler, and Python's headers alone. It needs gcc and binutils; for `wheel`
 python3-dev; for `deb` also debhelper, dh-python, and the headers of liberasurecode and Ceph, unless
 --no-plugins leaves these plugins out. Without a file LICENSE it ends, unless --unlicensed is given.
+
+`plugins` needs no kit either. It writes the Debian packages of the plugins for Ceph, liberasurecode
+and Swift alone, for the Debian and the Ceph that are installed. FOLDER has liblrc_coder.a, as the
+package liblrc-dev. It takes the time of all files from SOURCE_DATE_EPOCH, or from the commit.
 """
 
 import argparse
 
-from packages import building, packing
+from packages import building, packing, plugins
 
 
 def add_building(verb):
@@ -50,6 +55,10 @@ def arguments(words=None):
     both.add_argument("--built", default="built", metavar="BUILT", help="built if left out")
     add_building(both)
     add_packing(both)
+    alone = verbs.add_parser("plugins", help="without the kit: packages of the plugins alone")
+    alone.add_argument("--from", dest="source", required=True, metavar="FOLDER")
+    alone.add_argument("--to", required=True, metavar="DIST")
+    alone.add_argument("--unlicensed", action="store_true", help="also without a file LICENSE")
     given = parser.parse_args(words)
     unknown = sorted(set(getattr(given, "kinds", [])) - set(packing.KINDS))
     if unknown:
@@ -67,6 +76,8 @@ def main(words=None):
     if given.verb == "all":
         building.build_to(given.built, given.reuse, given.verdicts)
         pack(given, given.built)
+    elif given.verb == "plugins":
+        plugins.pack(given.source, given.to, given.unlicensed)
     elif given.verb == "build":
         building.build_to(given.to, given.reuse, given.verdicts)
     else:

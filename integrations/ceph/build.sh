@@ -1,24 +1,24 @@
 #!/usr/bin/env bash
-# Builds libec_azure_lrc.so for the installed Ceph: build.sh FOLDER [FLAG..], with flags for g++.
-# It needs g++, libradospp-dev, ceph-osd, and the coder for C (tools/libraries.py lrc_coder).
-# CEPH_VERSION names another version than the installed one. Only series with a release that the
-# plugin was tested with are built for: another one may call its functions by other places of their
-# table.
+# Builds libec_azure_lrc.so for the installed Ceph, and tests it: build.sh FOLDER [FLAG..], with
+# flags for g++. If a test fails, the folder gets no file. It needs g++, libradospp-dev, ceph-osd,
+# and the coder for C (tools/libraries.py lrc_coder). CEPH_VERSION names another version than the
+# installed one: then Ceph's own plugins are not there to compare types and tables with.
 set -eu
-here=$(dirname "$0")
-# shellcheck source=integrations/coder.sh
-. "$here/../coder.sh"
-# Ceph loads a plugin if and only if the plugin names Ceph's own version, as 16.2.15.
-version=${CEPH_VERSION:-$(ceph-osd --version | awk '{ print $3 }')}
-case $version in
-16.2.* | 18.2.* | 20.2.*) ;;
-*)
-    echo "azure_lrc was tested with Ceph 16.2, 18.2 and 20.2, and this is $version:" \
-        "install one of these, or a version of lrcstore for $version" >&2
+work=$(mktemp -d)
+trap 'rm -rf "$work"' EXIT
+# shellcheck source=integrations/ceph/programs.sh
+. "$(dirname "$0")/programs.sh"
+mkdir "$work/plugins"
+if [ "$(version_of_ceph)" = "$(installed_version)" ]; then
+    link_plugins "$work/plugins"
+fi
+compile_plugin "$work/plugins" "${@:2}"
+program plugin_test -O1 "${@:2}"
+"$work/plugin_test" "$work/plugins" "$top/tests/corpus" built > "$work/printed" || {
+    echo "the plugin fails these tests, and is not left in $1:" >&2
+    cat "$work/printed" >&2
     exit 1
-    ;;
-esac
-g++ -std=c++17 -O2 -fPIC -shared -fvisibility=hidden -fvisibility-inlines-hidden -Wall -Wextra \
-    -Wshadow -Werror -DCEPH_VERSION="\"$version\"" -DCEPH_RELEASE="${version%%.*}" \
-    -I "$top/include" -I "$here/.." "${@:2}" "$here/azure_lrc.cc" "$archive" \
-    -Wl,--exclude-libs,ALL -o "$1/libec_azure_lrc.so"
+}
+cat "$work/printed"
+cp "$work/plugins/libec_azure_lrc.so" "$work/libec_azure_lrc.so"
+mv "$work/libec_azure_lrc.so" "$1/"

@@ -11,8 +11,7 @@ import random
 
 import harness
 import rbd
-from cluster import free_port
-from codes import OSD_EACH, WIDE
+from codes import WIDE
 
 IMAGE_BYTES = 16 << 20
 LOST = (2, 4, 3, 13)  # places: two data chunks of one group, one of the other, its local parity
@@ -21,32 +20,22 @@ LOST = (2, 4, 3, 13)  # places: two data chunks of one group, one of the other, 
 def make_pools(cluster, data, app, *others):
     """A pool of the code for data, and replicated ones that stay while four OSDs are away."""
     settings = {"allow_ec_overwrites": "true", "min_size": 12, "app": app}
-    cluster.make_pool(data, [*WIDE.profile, OSD_EACH], 1, **settings)
+    cluster.make_pool(data, WIDE.profile, 1, **settings)
     for pool in others:
-        words = {"pool": pool, "pg_num": 8, "pgp_num": 8, "pool_type": "replicated"}
-        cluster.command("osd pool create", **words)
-        cluster.command("osd pool set", pool=pool, var="size", val="6")
-        cluster.command("osd pool set", pool=pool, var="min_size", val="1")
+        cluster.create_pool(pool, 8, "replicated")
+        cluster.set_pool(pool, size=6, min_size=1)
         cluster.command("osd pool application enable", pool=pool, app=app)
     cluster.wait_clean()
 
 
-def lose(cluster, pool):
-    osds = [cluster.places(pool)[0][place] for place in LOST]
-    cluster.kill(osds)
-    return osds
-
-
-def recover(cluster, osds):
-    cluster.wait_loss()
-    cluster.revive(osds)
-    cluster.wait_clean()
+def without_four(cluster, pool):
+    return cluster.without(cluster.osds_at(pool, LOST))
 
 
 # ---- RBD
 
 
-def check_images(cluster, report):
+def check_images(cluster):
     """Images by the commands of operate.md: one that is made in the pool, and one that moves there
     from a replicated pool."""
     make_pools(cluster, "data", "rbd", "headers")
@@ -54,7 +43,7 @@ def check_images(cluster, report):
     cluster.run(*tool, "create", "--size", "16M", "headers/old")
     cluster.run(*tool, "create", "--size", "16M", "--data-pool", "data", "headers/new")
     with cluster.rados.open_ioctx("headers") as io:
-        write_image(cluster, report, io)
+        write_image(cluster, io)
         with rbd.Image(io, "old") as image:
             image.write(b"moved" * 1000, 12345)
         for words in (
@@ -65,37 +54,39 @@ def check_images(cluster, report):
             cluster.run(*tool, "migration", *words)
         with rbd.Image(io, "moved") as image:
             same = image.read(12345, 5000) == b"moved" * 1000
-            report.check("rbd migration moves an image into the pool", same)
-    cluster.scrub(report, "data")
-    for pool in "data", "headers":
-        cluster.remove_pool(pool)
+            cluster.check("rbd migration moves an image into the pool", same)
+    cluster.scrub("data")
+    cluster.remove_pools("data", "headers")
 
 
-def write_image(cluster, report, io):
+def write_image(cluster, io):
     """Random writes, half of them without four OSDs, and a snapshot."""
-    dice, wanted, kept = random.Random(2), bytearray(IMAGE_BYTES), b""
-    with rbd.Image(io, "new") as image:
-        for number in range(200):
-            if number == 100:
-                image.create_snap("kept")
-                kept = bytes(wanted)
-                lost = lose(cluster, "data")
+    dice, wanted = random.Random(2), bytearray(IMAGE_BYTES)
+
+    def write_at_random(image):
+        for _ in range(100):
             piece = dice.randbytes(dice.choice([1, 512, 4096, 100_000]))
             at = dice.randrange(IMAGE_BYTES - len(piece))
             image.write(piece, at)
             wanted[at : at + len(piece)] = piece
-        same = image.read(0, IMAGE_BYTES) == wanted
-        report.check("an image written to at random, half of the time without four OSDs", same)
-        recover(cluster, lost)
-        report.check("it reads back once all are there", image.read(0, IMAGE_BYTES) == wanted)
+
+    with rbd.Image(io, "new") as image:
+        write_at_random(image)
+        image.create_snap("kept")
+        kept = bytes(wanted)
+        with without_four(cluster, "data"):
+            write_at_random(image)
+            same = image.read(0, IMAGE_BYTES) == wanted
+            cluster.check("an image written to at random, half of the time without four OSDs", same)
+        cluster.check("it reads back once all are there", image.read(0, IMAGE_BYTES) == wanted)
     with rbd.Image(io, "new", snapshot="kept", read_only=True) as image:
-        report.check("its snapshot is as it was before", image.read(0, IMAGE_BYTES) == kept)
+        cluster.check("its snapshot is as it was before", image.read(0, IMAGE_BYTES) == kept)
 
 
 # ---- CephFS
 
 
-def check_files(cluster, report):
+def check_files(cluster):
     """A folder of CephFS whose files are in the pool."""
     harness.install(["ceph-mds", "python3-cephfs"])
     import cephfs
@@ -112,15 +103,14 @@ def check_files(cluster, report):
     try:
         mounted.mkdir("/lrc", 0o755)
         mounted.setxattr("/lrc", "ceph.dir.layout.pool", b"files", 0)
-        check_file(cluster, report, mounted)
+        check_file(cluster, mounted)
     finally:
         mounted.unmount()
         mounted.shutdown()
     cluster.end("mds.a")
     cluster.command("fs fail", fs_name="cephfs")
     cluster.command("fs rm", fs_name="cephfs", yes_i_really_mean_it=True)
-    for pool in "files", "metadata", "root":
-        cluster.remove_pool(pool)
+    cluster.remove_pools("files", "metadata", "root")
 
 
 def is_active(cluster):
@@ -130,26 +120,23 @@ def is_active(cluster):
     )
 
 
-def check_file(cluster, report, mounted):
+def check_file(cluster, mounted):
     wanted = bytearray(random.Random(3).randbytes(9_000_000))
     file = mounted.open("/lrc/file", "w+", 0o644)
     mounted.write(file, bytes(wanted), 0)
     mounted.fsync(file, 0)
-    osds = lose(cluster, "files")
-    wanted[70_000:70_005] = b"later"
-    mounted.write(file, b"later", 70_000)
-    mounted.fsync(file, 0)
-    mounted.close(file)
-    file = mounted.open("/lrc/file", "r", 0)
-    same = mounted.read(file, 0, len(wanted) + 1) == wanted
-    mounted.close(file)
-    with cluster.rados.open_ioctx("files") as io:
-        count = sum(1 for _ in io.list_objects())
-    report.check(
-        f"a file of CephFS, in {count} objects of the pool, is read without four OSDs",
-        same and count == 3,
-    )
-    recover(cluster, osds)
+    with without_four(cluster, "files"):
+        wanted[70_000:70_005] = b"later"
+        mounted.write(file, b"later", 70_000)
+        mounted.fsync(file, 0)
+        mounted.close(file)
+        file = mounted.open("/lrc/file", "r", 0)
+        same = mounted.read(file, 0, len(wanted) + 1) == wanted
+        mounted.close(file)
+        with cluster.rados.open_ioctx("files") as io:
+            count = sum(1 for _ in io.list_objects())
+        name = f"a file of CephFS, in {count} objects of the pool, is read without four OSDs"
+        cluster.check(name, same and count == 3)
 
 
 # ---- the object gateway
@@ -178,13 +165,13 @@ class Bucket:
         return answer.status, answer.read()
 
 
-def check_buckets(cluster, report):
+def check_buckets(cluster):
     """The gateway's data pool is made in the code before the gateway makes it."""
     harness.install(["radosgw"])
     pool = "default.rgw.buckets.data"
     make_pools(cluster, pool, "rgw")
     cluster.command("config set", who="global", name="osd_pool_default_size", value="6", force=True)
-    port, folder = free_port(), f"{cluster.folder}/rgw"
+    (port,), folder = harness.free_ports(1), f"{cluster.folder}/rgw"
     os.makedirs(folder)
     words = "-n", "client.rgw.a", f"--rgw_data={folder}", f"--rgw_frontends=beast port={port}"
     # There are no keys here, by which the gateway would have its link to the monitor encrypted.
@@ -197,11 +184,10 @@ def check_buckets(cluster, report):
     up = cluster.until("the gateway answers", lambda: is_made(bucket))
     data = random.Random(4).randbytes(9_000_000)
     put = bucket.ask("PUT", "object", data)[0]
-    osds = lose(cluster, pool)
-    status, read = bucket.ask("GET", "object")
+    with without_four(cluster, pool):
+        status, read = bucket.ask("GET", "object")
     right = up and put == status == 200 and read == data
-    report.check("an object of the gateway is read without four OSDs", right, f"{put}, {status}")
-    recover(cluster, osds)
+    cluster.check("an object of the gateway is read without four OSDs", right, f"{put}, {status}")
     cluster.end("rgw")
 
 
@@ -212,8 +198,4 @@ def is_made(bucket):
         return False
 
 
-PARTS = {
-    "images": (check_images,),
-    "files": (check_files,),
-    "buckets": (check_buckets,),
-}
+PARTS = {"images": (check_images,), "files": (check_files,), "buckets": (check_buckets,)}

@@ -2,22 +2,23 @@
 and OSDs, and what the tests ask of them. It wants Debian's interpreter, as python3-rados does."""
 
 import collections
+import contextlib
 import glob
 import json
 import os
 import random
 import re
 import shutil
-import socket
 import subprocess
 import time
 import uuid
 from dataclasses import dataclass, field
+from pathlib import Path
 
+import harness
 import rados
+from codes import OSD_EACH, STRIPE_UNIT, WIDE
 
-OSDS = 18
-STRIPE_UNIT = 4096
 SECONDS = 900  # of patience on a loaded machine
 NONE = 0x7FFFFFFF  # in a set of OSDs: no OSD is at this place
 
@@ -76,6 +77,20 @@ rados osd op timeout = {seconds}
 rados mon op timeout = {seconds}
 """
 
+RULE = """rule {name} {{
+    id {number}
+    type erasure
+    min_size 3
+    max_size 16
+    step set_chooseleaf_tries 5
+    step set_choose_tries 100
+    step take {root}
+    step {first}
+    step {second}
+    step emit
+}}
+"""
+
 # In an OSD's log: a read of the shard of a placement group, with its number and what is read.
 READ = re.compile(
     r"-- \S+ --> .*MOSDECSubOpRead\((\d+)\.([0-9a-f]+)s(\d+) \S+ "
@@ -84,15 +99,9 @@ READ = re.compile(
 EXTENT = re.compile(r"::(o\d+):head=\d+,(\d+),\d+")
 
 
-def free_port():
-    with socket.socket() as each:
-        each.bind(("127.0.0.1", 0))
-        return each.getsockname()[1]
-
-
-def chunk_bytes(length):
-    """The bytes of each chunk of an object in twelve data chunks: a stripe unit for each stripe."""
-    return -(-length // (12 * STRIPE_UNIT)) * STRIPE_UNIT
+def text_of(prefix, words):
+    """A command of Ceph, as it is sent."""
+    return json.dumps({"prefix": prefix, "format": "json", **words})
 
 
 def length_of(number):
@@ -107,31 +116,9 @@ def content(pool, number, length=None):
 def stored_bytes(extents):
     """The bytes that are read of a chunk. What is asked for reaches past the end of a small one."""
     return sum(
-        min(int(asked), chunk_bytes(length_of(int(name[1:]))))
+        min(int(asked), WIDE.chunk_bytes(length_of(int(name[1:]))))
         for name, asked in EXTENT.findall(extents)
     )
-
-
-class BegunWrite:
-    """A write that was begun."""
-
-    def __init__(self, io, name, body):
-        self.statuses = []
-        io.aio_write_full(name, body, lambda done: self.statuses.append(done.get_return_value()))
-
-    def is_right(self):
-        return self.statuses == [0]
-
-
-class BegunRead:
-    """A read that was begun, and what it has to give."""
-
-    def __init__(self, io, name, wanted):
-        self.wanted, self.answers = wanted, []
-        io.aio_read(name, len(wanted) + 1, 0, lambda _, data: self.answers.append(data))
-
-    def is_right(self):
-        return self.answers == [self.wanted]
 
 
 @dataclass
@@ -144,31 +131,49 @@ class Read:
 
 
 class Cluster:
+    """It runs inside a `with` block, in a folder that it makes. Each OSD is a host, in one of two
+    racks."""
+
+    osds = 18
+
     def __init__(self, folder, plugins, report):
-        self.folder, self.plugins, self.report = folder, plugins, report
+        self.folder, self.plugins = folder, plugins
+        self.check, self.note = report.check, report.note
         self.daemons, self.uuids, self.rados = {}, [], None
-        self.settings = f"{folder}/ceph.conf"
+        self.settings, self.fsid = f"{folder}/ceph.conf", uuid.uuid4()
+        (self.port,) = harness.free_ports(1)
+
+    def __enter__(self):
+        os.mkdir(self.folder)
+        try:
+            self.start()
+        except BaseException:
+            self.stop()
+            raise
+        return self
+
+    def __exit__(self, *_):
+        self.stop()
 
     # ---- daemons
 
+    @staticmethod
+    def location(osd):
+        return f"rack=rack{osd % 2} host=host{osd}"
+
     def configure(self):
-        port = free_port()
         text = SETTINGS.format(
-            fsid=uuid.uuid4(),
+            fsid=self.fsid,
             folder=self.folder,
             plugins=self.plugins,
-            port=port,
+            port=self.port,
             first_port=26800,
-            last_port=27300,
+            last_port=32700,
             seconds=SECONDS,
         )
-        for osd in range(OSDS):
-            text += (
-                f"[osd.{osd}]\ncrush location = root=default rack=rack{osd % 2} host=host{osd}\n"
-            )
-        with open(self.settings, "w", encoding="utf-8") as file:
-            file.write(text)
-        return port
+        for osd in range(self.osds):
+            text += f"[osd.{osd}]\ncrush location = root=default {self.location(osd)}\n"
+        Path(self.settings).write_text(text, "utf-8")
 
     def run(self, *words):
         done = subprocess.run(words, capture_output=True, text=True, check=False)
@@ -176,6 +181,13 @@ class Cluster:
             printed = (done.stdout + done.stderr)[-2000:]
             raise RuntimeError(f"{' '.join(words)}: status {done.returncode}\n{printed}")
         return done.stdout
+
+    def version(self):
+        """The version of the installed Ceph, as 20.2.4."""
+        return self.run("ceph-osd", "--version").split()[2]
+
+    def series(self):
+        return int(self.version().split(".", maxsplit=1)[0])
 
     def spawn(self, name, *words):
         with open(f"{self.folder}/{name}.out", "a", encoding="utf-8") as out:
@@ -187,31 +199,14 @@ class Cluster:
             )
 
     def start(self):
-        port = self.configure()
         for name in ("mon.a", "mgr.x"):
             os.makedirs(f"{self.folder}/{name}")
-        with open(self.settings, encoding="utf-8") as file:
-            fsid = re.search(r"fsid = (\S+)", file.read())[1]
-        self.run(
-            "monmaptool",
-            "--create",
-            "--fsid",
-            fsid,
-            "--addv",
-            "a",
-            f"[v2:127.0.0.1:{port}]",
-            f"{self.folder}/monmap",
-        )
-        self.run(
-            "ceph-mon",
-            "-c",
-            self.settings,
-            "--mkfs",
-            "-i",
-            "a",
-            "--monmap",
-            f"{self.folder}/monmap",
-        )
+        self.configure()
+        monmap, address = f"{self.folder}/monmap", f"[v2:127.0.0.1:{self.port}]"
+        words = "--create", "--fsid", str(self.fsid), "--addv", "a", address
+        self.run("monmaptool", *words, monmap)
+        words = "-c", self.settings, "--mkfs", "-i", "a", "--monmap", monmap
+        self.run("ceph-mon", *words)
         self.spawn("mon.a", "ceph-mon", "-i", "a")
         self.rados = rados.Rados(conffile=self.settings)
         self.rados.connect(timeout=SECONDS)
@@ -219,12 +214,12 @@ class Cluster:
         active = {"who": "mgr", "name": "mgr/balancer/active", "value": "false"}
         self.command("config set", **active, force=True)
         self.spawn("mgr.x", "ceph-mgr", "-i", "x")
-        for osd in range(OSDS):
+        for osd in range(self.osds):
             self.uuids.append(str(uuid.uuid4()))
             assert self.command("osd new", uuid=self.uuids[osd])["osdid"] == osd
             self.make_store(osd)
             self.start_osd(osd)
-        self.until("all OSDs are up", lambda: len(self.up()) == OSDS)
+        self.until("all OSDs are up", lambda: len(self.up()) == self.osds)
 
     def start_osd(self, osd):
         self.spawn(f"osd.{osd}", "ceph-osd", "-i", str(osd))
@@ -233,9 +228,8 @@ class Cluster:
         """Gives an OSD that is down an empty store, as when its disk is replaced."""
         shutil.rmtree(f"{self.folder}/osd.{osd}", ignore_errors=True)
         os.makedirs(f"{self.folder}/osd.{osd}")
-        self.run(
-            "ceph-osd", "-c", self.settings, "-i", str(osd), "--mkfs", "--osd-uuid", self.uuids[osd]
-        )
+        words = "-c", self.settings, "-i", str(osd), "--mkfs", "--osd-uuid", self.uuids[osd]
+        self.run("ceph-osd", *words)
 
     def end(self, name):
         daemon = self.daemons.pop(name)
@@ -257,6 +251,22 @@ class Cluster:
             self.start_osd(osd)
         self.until("all OSDs are up", lambda: set(osds) <= self.up())
 
+    def restart(self, osds):
+        """Ends OSDs, and starts them again some seconds later."""
+        self.kill(osds)
+        time.sleep(3)
+        self.revive(osds)
+
+    @contextlib.contextmanager
+    def without(self, osds):
+        """These OSDs are away inside the block. Afterwards all placement groups are clean again, if
+        they come to be so."""
+        self.kill(osds)
+        yield
+        self.wait_loss()
+        self.revive(osds)
+        self.wait_clean()
+
     def stop(self):
         if self.rados:
             self.rados.shutdown()
@@ -269,19 +279,23 @@ class Cluster:
     # ---- commands
 
     def command(self, prefix, data=b"", binary=False, **words):
-        text = json.dumps({"prefix": prefix, "format": "json", **words})
-        return self.answer(prefix, self.rados.mon_command(text, data, timeout=SECONDS), binary)
+        answer = self.rados.mon_command(text_of(prefix, words), data, timeout=SECONDS)
+        return self.answer(prefix, answer, binary)
 
     def osd_command(self, osd, prefix, binary=False, **words):
-        text = json.dumps({"prefix": prefix, "format": "json", **words})
-        answer = self.rados.osd_command(osd, text, b"", timeout=SECONDS)
+        answer = self.rados.osd_command(osd, text_of(prefix, words), b"", timeout=SECONDS)
         return self.answer(f"osd.{osd} {prefix}", answer, binary)
 
     def manager_command(self, prefix, **words):
-        return self.answer(
-            prefix,
-            self.rados.mgr_command(json.dumps({"prefix": prefix, "format": "json", **words}), b""),
-        )
+        return self.answer(prefix, self.rados.mgr_command(text_of(prefix, words), b""))
+
+    def refusal(self, prefix, **words):
+        """What the monitor says of a command that it refuses, or nothing."""
+        try:
+            self.command(prefix, **words)
+        except RuntimeError as error:
+            return str(error)
+        return ""
 
     @staticmethod
     def answer(prefix, answer, binary=False):
@@ -300,7 +314,7 @@ class Cluster:
             except (RuntimeError, rados.Error):
                 pass
             time.sleep(0.25)
-        self.report.note(f"not within {seconds} s: {what}")
+        self.note(f"not within {seconds} s: {what}")
         return False
 
     def up(self):
@@ -324,6 +338,11 @@ class Cluster:
     def is_inactive(self, pool):
         """Whether the pool's placement group has come to rest, and serves nothing."""
         return bool({"down", "incomplete", "peered"} & set(self.state(pool).split("+")))
+
+    def check_inactive(self, pool, when):
+        """Checks that the pool's placement group comes to rest, and serves nothing."""
+        inactive = self.until("inactive", lambda: self.is_inactive(pool))
+        self.check(f"{when} it is inactive", inactive, self.state(pool))
 
     def warns(self, *checks):
         """Whether Ceph's health comes to have these checks."""
@@ -354,21 +373,32 @@ class Cluster:
     # ---- pools and objects
 
     def make_pool(self, name, profile, groups, rule=None, app="rados", **settings):
+        """A pool of its own profile. Its failure domain is an OSD, unless one is named."""
+        if not any("failure-domain" in word for word in profile):
+            profile = [*profile, OSD_EACH]
         self.command("osd erasure-code-profile set", name=name, profile=profile, force=True)
-        words = {
-            "pool": name,
-            "pg_num": groups,
-            "pgp_num": groups,
-            "pool_type": "erasure",
-            "erasure_code_profile": name,
-        }
-        self.command("osd pool create", **words, **({"rule": rule} if rule else {}))
+        words = {"rule": rule} if rule else {}
+        self.create_pool(name, groups, erasure_code_profile=name, **words)
         self.command("osd pool application enable", pool=name, app=app)
+        self.set_pool(name, **settings)
+
+    def create_pool(self, name, groups, kind="erasure", **words):
+        numbers = {"pool": name, "pg_num": groups, "pgp_num": groups, "pool_type": kind}
+        self.command("osd pool create", **numbers, **words)
+
+    def set_pool(self, name, **settings):
         for variable, value in settings.items():
             self.command("osd pool set", pool=name, var=variable, val=str(value))
 
-    def remove_pool(self, name):
-        self.command("osd pool rm", pool=name, pool2=name, yes_i_really_really_mean_it=True)
+    def make_filled_pool(self, name, profile, groups, count, length=None, **settings):
+        """A pool with so many objects."""
+        self.make_pool(name, profile, groups, **settings)
+        self.wait_clean()
+        self.fill(name, count, length)
+
+    def remove_pools(self, *names):
+        for name in names:
+            self.command("osd pool rm", pool=name, pool2=name, yes_i_really_really_mean_it=True)
 
     def places(self, pool):
         """The OSD at each place of the pool's placement groups."""
@@ -379,6 +409,11 @@ class Cluster:
         return [
             self.command("pg map", pgid=f"{number}.{group:x}")["acting"] for group in range(count)
         ]
+
+    def osds_at(self, pool, places, group=0):
+        """The OSDs at these places of a placement group."""
+        there = self.places(pool)[group]
+        return [there[place] for place in places]
 
     def group_of(self, pool, name):
         return int(self.command("osd map", pool=pool, object=name)["pgid"].split(".")[1], 16)
@@ -393,13 +428,26 @@ class Cluster:
         with self.rados.open_ioctx(pool) as io:
             return self.equal_in(io, pool, count, length)
 
-    @staticmethod
-    def begin_read(io, pool, number):
-        return BegunRead(io, f"o{number}", content(pool, number))
+    def check_objects(self, when, pool, count, length=None, is_clean=True):
+        """Checks that so many objects are read back as they were written, and `is_clean`."""
+        began = time.monotonic()
+        equal = self.equal_objects(pool, count, length)
+        good, took = is_clean and equal == count, f"{time.monotonic() - began:.1f} s"
+        self.check(f"{when} {equal} of {count} objects read back", good, took)
 
     @staticmethod
     def begin_write(io, pool, number):
-        return BegunWrite(io, f"o{number}", content(pool, number))
+        """Begins to write an object. The result says whether it is written."""
+        statuses, body = [], content(pool, number)
+        io.aio_write_full(f"o{number}", body, lambda it: statuses.append(it.get_return_value()))
+        return lambda: statuses == [0]
+
+    @staticmethod
+    def begin_read(io, pool, number):
+        """Begins to read an object. The result says whether it was read as it was written."""
+        answers, wanted = [], content(pool, number)
+        io.aio_read(f"o{number}", len(wanted) + 1, 0, lambda _, data: answers.append(data))
+        return lambda: answers == [wanted]
 
     def equal_in(self, io, pool, count, length=None):
         """The same by a pool that is open, for objects that were written to this one."""
@@ -409,21 +457,19 @@ class Cluster:
             try:
                 equal += io.read(f"o{number}", len(wanted) + 1) == wanted
             except rados.Error as error:
-                self.report.note(f"o{number}: {error}")
+                self.note(f"o{number}: {error}")
                 return equal
         return equal
 
-    def add_rule(self, name, text):
-        """Adds a rule to the CRUSH map, as an administrator does by crushtool."""
+    def add_rule(self, name, number, root, first, second):
+        """Adds a rule of two steps to the CRUSH map, as an administrator does by crushtool."""
         path = f"{self.folder}/crush"
-        with open(path, "wb") as file:
-            file.write(self.command("osd getcrushmap", binary=True))
+        Path(path).write_bytes(self.command("osd getcrushmap", binary=True))
         self.run("crushtool", "-d", path, "-o", f"{path}.txt")
         with open(f"{path}.txt", "a", encoding="utf-8") as file:
-            file.write(f"rule {name} {{\n{text}}}\n")
+            file.write(RULE.format(name=name, number=number, root=root, first=first, second=second))
         self.run("crushtool", "-c", f"{path}.txt", "-o", f"{path}.new")
-        with open(f"{path}.new", "rb") as file:
-            self.command("osd setcrushmap", file.read())
+        self.command("osd setcrushmap", Path(f"{path}.new").read_bytes())
 
     # ---- scrubs
 
@@ -445,10 +491,10 @@ class Cluster:
             "a deep scrub", lambda: all(before[name] != now for name, now in stamps().items())
         )
 
-    def scrub(self, report, pool):
+    def scrub(self, pool):
         done = self.deep_scrub(pool)
         states = [group["state"] for group in self.groups().values()]
-        report.check(
+        self.check(
             f"{pool}: a deep scrub finds nothing",
             done and not any("inconsistent" in state for state in states),
         )

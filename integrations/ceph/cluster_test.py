@@ -11,7 +11,6 @@ a temporary folder, ends every process that it started, and prints `N passed, M 
 the coder for C, in the folder that LRC_LIBRARIES names, or the Rattle kit's `rt`, which builds
 it."""
 
-import argparse
 import collections
 import glob
 import os
@@ -25,22 +24,14 @@ sys.dont_write_bytecode = True
 HERE = os.path.dirname(os.path.abspath(__file__))
 sys.path[:0] = [HERE, os.path.dirname(HERE)]
 import harness  # noqa: E402
-from codes import OSD_EACH, SMALL, WIDE  # noqa: E402
+from codes import SMALL, WIDE  # noqa: E402
 
-PACKAGES = (
-    "g++",
-    "libradospp-dev",
-    "ceph-base",
-    "ceph-osd",
-    "ceph-mon",
-    "ceph-mgr",
-    "python3-rados",
-    "python3-rbd",
-)
+PACKAGES = "g++ libradospp-dev ceph-base ceph-osd ceph-mon ceph-mgr".split()
+PACKAGES += ["python3-rados", "python3-rbd"]
 CEPH_PLUGINS = "/usr/lib/x86_64-linux-gnu/ceph/erasure-code"
 LAYERS = '[["DDDDDDDDDDDD__cc",""],["DDDDDD______c___",""],["______DDDDDD_c__",""]]'
 POOLS = {
-    "azure_lrc": ["plugin=azure_lrc", "k=12", "m=4"],
+    "azure_lrc": WIDE.profile,
     "isa": ["plugin=isa", "k=12", "m=4"],
     "lrc_kml": ["plugin=lrc", "k=12", "m=2", "l=7"],
     "lrc_layers": ["plugin=lrc", "mapping=DDDDDDDDDDDD____", f"layers={LAYERS}"],
@@ -50,17 +41,6 @@ HEAD = (1 << 64) - 2  # the number of the snapshot that is none
 GLOBAL_PARITIES = (14, 15)  # their places
 LOST_OSD = 5
 WAITING = 2  # seconds for which a call that has to wait is watched
-RACKS = """    id 99
-    type erasure
-    min_size 3
-    max_size 16
-    step set_chooseleaf_tries 5
-    step set_choose_tries 100
-    step take default
-    step choose indep 2 type rack
-    step chooseleaf indep 8 type host
-    step emit
-"""
 
 
 def build(folder):
@@ -79,7 +59,7 @@ def build(folder):
 # ---- profiles
 
 
-def check_profiles(cluster, report):
+def check_profiles(cluster):
     """What the monitor refuses, with words that say why."""
     shapes = "k=10", "k=0", "k=16", "k=-6", "k=12.0", "k=012", "k=twelve", "m=3", "m=04"
     unknown = "l=6", "kk=12", "K=6", "w=8"
@@ -94,7 +74,7 @@ def check_profiles(cluster, report):
     ):
         profile = [words] if words.startswith("plugin") else ["plugin=azure_lrc", words]
         printed = refusal_of(cluster, profile)
-        report.check(f"the monitor refuses {words}", printed and refusal in printed, printed)
+        cluster.check(f"the monitor refuses {words}", printed and refusal in printed, printed)
 
 
 def shape_of(word):
@@ -106,30 +86,25 @@ def refusal_of(cluster, profile):
     """What the monitor says of a profile, or of a pool of it, or nothing if it takes both."""
     try:
         cluster.command("osd erasure-code-profile set", name="bad", profile=profile)
-        words = {"pg_num": 1, "pgp_num": 1, "pool_type": "erasure", "erasure_code_profile": "bad"}
-        cluster.command("osd pool create", pool="bad", **words)
+        cluster.create_pool("bad", 1, erasure_code_profile="bad")
     except RuntimeError as error:
         return str(error)
     return ""
 
 
-def check_profile_in_use(cluster, report):
+def check_profile_in_use(cluster):
     """A profile that a pool has can be neither changed nor removed."""
-    cluster.make_pool("of_a_pool", [*WIDE.profile, OSD_EACH], 1)
+    cluster.make_pool("of_a_pool", WIDE.profile, 1)
     for prefix, words in (
-        ("osd erasure-code-profile set", {"profile": [*SMALL.profile, OSD_EACH]}),
+        ("osd erasure-code-profile set", {"profile": SMALL.profile}),
         ("osd erasure-code-profile rm", {}),
     ):
-        try:
-            cluster.command(prefix, name="of_a_pool", **words)
-            printed = ""
-        except RuntimeError as error:
-            printed = str(error)
-        report.check(f"{prefix} is refused for a profile in use", "of_a_pool" in printed, printed)
-    cluster.remove_pool("of_a_pool")
+        printed = cluster.refusal(prefix, name="of_a_pool", **words)
+        cluster.check(f"{prefix} is refused for a profile in use", "of_a_pool" in printed, printed)
+    cluster.remove_pools("of_a_pool")
 
 
-def check_orders(cluster, report, objects=8):
+def check_orders(cluster, objects=8):
     """A new profile has the default order. The cluster was made with a default profile of the
     plugin, which the monitor stores as it is: it names no order, as profiles of earlier versions,
     and its pools are in groups."""
@@ -138,210 +113,172 @@ def check_orders(cluster, report, objects=8):
         cluster.command("osd erasure-code-profile get", name=name).get("order")
         for name in ("of_now", "default")
     ]
-    report.check("a new profile is stored with order=interleaved", orders[0] == "interleaved")
-    report.check("the cluster's own profile names no order", orders[1] is None, str(orders[1]))
-    words = {"pg_num": 1, "pgp_num": 1, "pool_type": "erasure", "erasure_code_profile": "default"}
-    cluster.command("osd pool create", pool="early", **words)
+    cluster.check("a new profile is stored with order=interleaved", orders[0] == "interleaved")
+    cluster.check("the cluster's own profile names no order", orders[1] is None, str(orders[1]))
+    cluster.create_pool("early", 1, erasure_code_profile="default")
     cluster.command("osd pool application enable", pool="early", app="rados")
-    cluster.command("osd pool set", pool="early", var="min_size", val="12")
+    cluster.set_pool("early", min_size=12)
     cluster.wait_clean()
     cluster.fill("early", objects)
-    osds = cluster.places("early")[0][:4]
+    osds = cluster.osds_at("early", range(4))
     cluster.kill(osds)
-    inactive = cluster.until("inactive", lambda: cluster.is_inactive("early"))
-    report.check("a pool of it is in groups: without places 0 to 3 it is inactive", inactive)
+    cluster.check_inactive("early", "a pool of it is in groups: without places 0 to 3")
     cluster.revive(osds)
-    equal = cluster.wait_clean() and cluster.equal_objects("early", objects)
-    report.check(f"its objects read back: {equal} of {objects}", equal == objects)
-    cluster.remove_pool("early")
+    cluster.check_objects("with them,", "early", objects, is_clean=cluster.wait_clean())
+    cluster.remove_pools("early")
 
 
 # ---- lost sets, in a pool of one placement group
 
 
-def check_lost_sets(cluster, report, objects=24):
-    cluster.make_pool("one", POOLS["azure_lrc"] + [OSD_EACH], 1)
+def check_lost_sets(cluster, objects=24):
+    cluster.make_pool("one", WIDE.profile, 1)
     least = cluster.command("osd pool get", pool="one", var="min_size")["min_size"]
-    report.check("a pool begins with min_size 13", least == 13, str(least))
-    cluster.command("osd pool set", pool="one", var="min_size", val="12")
-    report.check("a pool of azure_lrc is active and clean", cluster.wait_clean())
+    cluster.check("a pool begins with min_size 13", least == 13, str(least))
+    cluster.set_pool("one", min_size=12)
+    cluster.check("a pool of azure_lrc is active and clean", cluster.wait_clean())
     cluster.fill("one", objects)
-    report.check(f"{objects} objects read back", cluster.equal_objects("one", objects) == objects)
-    check_sets(cluster, report, "one", WIDE, objects)
+    cluster.check_objects("with all OSDs,", "one", objects)
+    check_sets(cluster, "one", WIDE, objects)
 
 
-def check_small_sets(cluster, report, objects=12):
+def check_small_sets(cluster, objects=12):
     """The same with k=6."""
-    cluster.make_pool("one_small", [*SMALL.profile, OSD_EACH], 1, min_size=6)
-    cluster.wait_clean()
-    cluster.fill("one_small", objects)
-    check_sets(cluster, report, "one_small", SMALL, objects)
-    cluster.remove_pool("one_small")
+    cluster.make_filled_pool("one_small", SMALL.profile, 1, objects, min_size=6)
+    check_sets(cluster, "one_small", SMALL, objects)
+    cluster.remove_pools("one_small")
 
 
-def check_sets(cluster, report, pool, code, objects):
+def check_sets(cluster, pool, code, objects):
     """Recoverable sets of places and others: those of the code, and some that are drawn."""
-    places = cluster.places(pool)[0]
     for lost in [*code.recoverable, *code.drawn_sets(3)]:
-        osds = [places[place] for place in lost]
-        cluster.kill(osds)
-        began = time.monotonic()
-        equal = cluster.equal_objects(pool, objects)
-        report.check(
-            f"k={code.k} without places {lost}: {equal} of {objects} objects read back",
-            equal == objects,
-            f"{time.monotonic() - began:.1f} s",
-        )
-        cluster.wait_loss()
-        cluster.revive(osds)
-        if not report.check("clean again", cluster.wait_clean()):
+        with cluster.without(cluster.osds_at(pool, lost)):
+            cluster.check_objects(f"k={code.k} without places {lost}:", pool, objects)
+        if not cluster.check("clean again", cluster.wait_clean()):
             return
     for lost in [*code.unrecoverable, *code.drawn_sets(1, False)]:
-        check_unrecoverable(cluster, report, pool, code, lost, objects)
+        check_unrecoverable(cluster, pool, code, lost, objects)
 
 
-def check_unrecoverable(cluster, report, pool, code, lost, objects):
+def check_unrecoverable(cluster, pool, code, lost, objects):
     """Chunks that no code of this shape can restore, such as four of a group's data. A read and a
     write that are begun meanwhile end once enough of the OSDs are back."""
-    places = cluster.places(pool)[0]
-    osds = [places[place] for place in lost]
+    osds = cluster.osds_at(pool, lost)
     cluster.kill(osds)
-    inactive = cluster.until("inactive", lambda: cluster.is_inactive(pool))
-    report.check(
-        f"without places {lost}, which are unrecoverable, the placement group is inactive",
-        inactive,
-        cluster.state(pool),
-    )
-    report.check("health has PG_AVAILABILITY", cluster.warns("PG_AVAILABILITY"))
+    cluster.check_inactive(pool, f"without places {lost}, which are unrecoverable,")
+    cluster.check("health has PG_AVAILABILITY", cluster.warns("PG_AVAILABILITY"))
     enough = next(n for n in range(len(lost)) if code.is_recoverable(lost[n:]))
     with cluster.rados.open_ioctx(pool) as io:
         calls = cluster.begin_read(io, pool, 0), cluster.begin_write(io, pool, objects)
         time.sleep(WAITING)
-        early = [call.is_right() for call in calls]
+        early = [is_right() for is_right in calls]
         cluster.revive(osds[:enough])
-        late = [cluster.until("a call", call.is_right) for call in calls]
-    report.check(
+        late = [cluster.until("a call", is_right) for is_right in calls]
+    cluster.check(
         f"a read and a write wait until {enough} of the OSDs are back",
         not any(early) and all(late),
         f"{early}, then {late}",
     )
     cluster.revive(osds[enough:])
-    objects += 1  # with the one that was written
-    report.check(
-        "the objects are back with the OSDs, and the one that was written",
-        cluster.wait_clean() and cluster.equal_objects(pool, objects) == objects,
-    )
+    what = "with all OSDs and the object that was written,"
+    cluster.check_objects(what, pool, objects + 1, is_clean=cluster.wait_clean())
 
 
-def check_min_size(cluster, report, objects=24):
+def check_min_size(cluster, objects=24):
     """With Ceph's own min_size three lost chunks are served, with 12 four as well."""
-    places = cluster.places("one")[0]
-    osds = [places[place] for place in (2, 4, 3, 5)]
-    cluster.command("osd pool set", pool="one", var="min_size", val="13")
+    osds = cluster.osds_at("one", (2, 4, 3, 5, 6))
+    cluster.set_pool("one", min_size=13)
     cluster.kill(osds[:3])
-    equal = cluster.equal_objects("one", objects)
-    report.check("with min_size 13 and three chunks lost, the objects read back", equal == objects)
-    cluster.kill(osds[3:])
-    inactive = cluster.until("inactive", lambda: cluster.is_inactive("one"))
-    report.check("with a fourth lost it is inactive", inactive, cluster.state("one"))
-    cluster.command("osd pool set", pool="one", var="min_size", val="12")
-    equal = cluster.equal_objects("one", objects)
-    report.check("with min_size 12 the objects read back", equal == objects)
-    osds.append(places[6])
+    cluster.check_objects("with min_size 13 and three chunks lost,", "one", objects)
+    cluster.kill(osds[3:4])
+    cluster.check_inactive("one", "with a fourth lost")
+    cluster.set_pool("one", min_size=12)
+    cluster.check_objects("with min_size 12,", "one", objects)
     cluster.kill(osds[4:])
-    inactive = cluster.until("inactive", lambda: cluster.is_inactive("one"))
-    report.check("with a fifth lost it is inactive", inactive, cluster.state("one"))
+    cluster.check_inactive("one", "with a fifth lost")
     cluster.revive(osds)
-    report.check(
-        "the objects are back with the five OSDs",
-        cluster.wait_clean() and cluster.equal_objects("one", objects) == objects,
-    )
+    cluster.check_objects("with the five OSDs,", "one", objects, is_clean=cluster.wait_clean())
 
 
-def check_min_sizes(cluster, report):
+def check_min_sizes(cluster):
     """The values that the monitor accepts for a pool of sixteen chunks, twelve of them data."""
-    accepted = []
-    for value in (0, 1, 11, *range(12, 18), 100):
-        try:
-            cluster.command("osd pool set", pool="one", var="min_size", val=str(value))
-            accepted.append(value)
-        except RuntimeError:
-            pass
-    report.check("min_size can be 12 to 16", accepted == [12, 13, 14, 15, 16], str(accepted))
-    cluster.command("osd pool set", pool="one", var="min_size", val="12")
+    words = {"pool": "one", "var": "min_size"}
+    accepted = [
+        value
+        for value in (0, 1, 11, *range(12, 18), 100)
+        if not cluster.refusal("osd pool set", val=str(value), **words)
+    ]
+    cluster.check("min_size can be 12 to 16", accepted == [12, 13, 14, 15, 16], str(accepted))
+    cluster.set_pool("one", min_size=12)
 
 
-def check_beside_lrc(cluster, report):
+def check_beside_lrc(cluster):
     """Sets that LRC(12,2,2) recovers and Ceph's lrc in layers of the same shape does not."""
-    cluster.make_pool("layers", POOLS["lrc_layers"] + [OSD_EACH], 1, min_size=12)
+    cluster.make_pool("layers", POOLS["lrc_layers"], 1, min_size=12)
     cluster.wait_clean()
     for name, ours, theirs in (
         ("a data chunk and the local parity of its group", [0, 12], [0, 12]),
         ("three data chunks of a group", [0, 2, 4], [0, 1, 2]),
     ):
         for pool, lost in (("one", ours), ("layers", theirs)):
-            osds = [cluster.places(pool)[0][place] for place in lost]
+            osds = cluster.osds_at(pool, lost)
             cluster.kill(osds)
             wanted = cluster.is_serving if pool == "one" else cluster.is_inactive
             seen = cluster.until(f"the state of {pool}", lambda: wanted(pool))
             what = "azure_lrc serves" if pool == "one" else "Ceph's lrc of the same shape is down"
-            report.check(f"without {name}, {what}", seen, cluster.state(pool))
+            cluster.check(f"without {name}, {what}", seen, cluster.state(pool))
             cluster.revive(osds)
             cluster.wait_clean()
-    for pool in ("one", "layers"):
-        cluster.remove_pool(pool)
+    cluster.remove_pools("one", "layers")
 
 
 # ---- what recovery reads
 
 
-def check_recovery(cluster, report, count=96):
+def check_recovery(cluster, count=96):
     """Replaces an OSD's disk by an empty one, and counts each pool's reads by the OSDs' logs."""
     for name, profile in POOLS.items():
-        cluster.make_pool(name, profile + [OSD_EACH], 64)
-    report.check("pools of " + ", ".join(POOLS), cluster.wait_clean())
+        cluster.make_pool(name, profile, 64)
+    cluster.check("pools of " + ", ".join(POOLS), cluster.wait_clean())
     for name in POOLS:
         cluster.fill(name, count)
     before = {name: cluster.places(name) for name in POOLS}
     cluster.log_reads(cluster.up(), True)
     sizes = cluster.log_sizes()
-    replace_store(cluster, report)
+    replace_store(cluster)
     cluster.log_reads(cluster.up(), False)
-    report.check("no place moved", {name: cluster.places(name) for name in POOLS} == before)
+    cluster.check("no place moved", {name: cluster.places(name) for name in POOLS} == before)
     reads = {name: cluster.reads_since(sizes)[cluster.rados.pool_lookup(name)] for name in POOLS}
-    ratios = {name: ratio_of(cluster, report, name, reads[name], before[name]) for name in POOLS}
-    check_places(report, reads, before["azure_lrc"])
-    report.check(
+    ratios = {name: ratio_of(cluster, name, reads[name], before[name]) for name in POOLS}
+    check_places(cluster, reads, before["azure_lrc"])
+    cluster.check(
         "azure_lrc reads at most 0.6 of what isa reads for each byte rebuilt",
         ratios["azure_lrc"] <= 0.6 * ratios["isa"],
         f"{ratios['azure_lrc'] / ratios['isa']:.3f}",
     )
     for name in POOLS:
-        report.check(
-            f"{name}: {count} objects read back after recovery",
-            cluster.equal_objects(name, count) == count,
-        )
+        cluster.check_objects(f"{name}, after recovery:", name, count)
 
 
-def replace_store(cluster, report):
+def replace_store(cluster):
     began = time.monotonic()
     cluster.kill([LOST_OSD])
     cluster.wait_loss()
     cluster.make_store(LOST_OSD)
     cluster.revive([LOST_OSD])
-    report.check(
+    cluster.check(
         f"osd.{LOST_OSD} is filled again", cluster.wait_clean(), f"{time.monotonic() - began:.0f} s"
     )
 
 
-def ratio_of(cluster, report, name, reads, places):
+def ratio_of(cluster, name, reads, places):
     """Bytes read for each byte rebuilt. No place has moved, so each read rebuilds one chunk."""
     sizes = collections.Counter(len(read.places) for read in reads)
     ratio = sum(read.length for read in reads) / sum(
         read.length // len(read.places) for read in reads
     )
     lost = sum(group.count(LOST_OSD) for group in places)
-    report.note(
+    cluster.note(
         f"{name}: {lost} placement groups had the OSD; {len(reads)} reads, by number of chunks "
         f"{dict(sorted(sizes.items()))}; {ratio:.2f} bytes read for each byte rebuilt"
     )
@@ -356,67 +293,66 @@ def is_exact(read, places):
     return any(set(read.places) == group - {lost} for group in WIDE.groups)
 
 
-def check_places(report, reads, places):
+def check_places(cluster, reads, places):
     ours, isa = reads["azure_lrc"], reads["isa"]
-    report.check(
+    cluster.check(
         f"{len(ours)} reads of azure_lrc: six chunks of a group, or twelve for a global parity",
         ours and all(is_exact(read, places) for read in ours),
     )
-    report.check(
+    cluster.check(
         f"{len(isa)} reads of isa: twelve chunks", {len(read.places) for read in isa} == {12}
     )
 
 
-def check_out(cluster, report, count=96):
+def check_out(cluster, count=96):
     """The OSD is lost for good and marked out: its chunks are rebuilt on others."""
     cluster.kill([LOST_OSD])
     cluster.wait_loss()
     cluster.command("osd unset", key="noout")
     cluster.command("osd out", ids=[str(LOST_OSD)])
-    report.check(f"recovered from the loss of osd.{LOST_OSD}", cluster.wait_clean())
+    cluster.check(f"recovered from the loss of osd.{LOST_OSD}", cluster.wait_clean())
     for name in POOLS:
-        report.check(
-            f"{name}: {count} objects read back", cluster.equal_objects(name, count) == count
-        )
-        cluster.remove_pool(name)
+        cluster.check_objects(f"{name}:", name, count)
+        cluster.remove_pools(name)
     cluster.revive([LOST_OSD])
     cluster.command("osd in", ids=[str(LOST_OSD)])
     cluster.command("osd set", key="noout")
 
 
-def counted_ratio(cluster, report, name, profile, count=48, length=4 << 20):
+def counted_ratio(cluster, name, profile, count=48, length=4 << 20, is_checked=True):
     """Bytes read for each byte rebuilt, by the counters of the OSDs' stores, and the share of
     chunks at the places of global parities. There is no pool beside this one."""
     pool = f"large_{name}"
-    cluster.make_pool(pool, [*profile, OSD_EACH], 32)
-    cluster.wait_clean()
-    cluster.fill(pool, count, length)
+    cluster.make_filled_pool(pool, profile, 32, count, length)
     places = cluster.places(pool)
     groups = [places[cluster.group_of(pool, f"o{number}")] for number in range(count)]
     rebuilt = [group.index(LOST_OSD) for group in groups if LOST_OSD in group]
     others = cluster.up() - {LOST_OSD}
     before = cluster.bytes_moved(others)
-    replace_store(cluster, report)
-    whole = len(rebuilt) * -(-length // (12 * 4096)) * 4096
+    replace_store(cluster)
+    whole = len(rebuilt) * WIDE.chunk_bytes(length)
     read, sent = ((now - then) / whole for now, then in zip(cluster.bytes_moved(others), before))
     wide = sum(place in GLOBAL_PARITIES for place in rebuilt)
-    report.note(
+    cluster.note(
         f"{name}: {len(rebuilt)} chunks rebuilt, {wide} of them at places 14 and 15; for each byte "
         f"rebuilt, the stores read {read:.2f} bytes, and the OSDs sent {sent:.2f}"
     )
     equal = cluster.equal_objects(pool, count, length)
-    report.check(f"{name}: {count} objects of 4 MiB read back", equal == count)
-    cluster.remove_pool(pool)
+    text = f"{name}: {equal} of {count} objects of 4 MiB read back"
+    cluster.check(text, equal == count) if is_checked else cluster.note(text)
+    cluster.remove_pools(pool)
     return read, wide / len(rebuilt)
 
 
-def check_counters(cluster, report):
-    """A global parity is rebuilt from twelve chunks, and how many there are is chance."""
-    ours, wide = counted_ratio(cluster, report, "azure_lrc", POOLS["azure_lrc"])
-    counted_ratio(cluster, report, "lrc_kml", POOLS["lrc_kml"])
-    counted_ratio(cluster, report, "clay", CLAY)
-    ratio = ours / counted_ratio(cluster, report, "isa", POOLS["isa"])[0]
-    report.check(
+def check_counters(cluster):
+    """A global parity is rebuilt from twelve chunks, and how many there are is chance. What Ceph
+    20.2.4 does to objects in its own clay is not for this test to judge."""
+    is_sound = cluster.series() != 20
+    ours, wide = counted_ratio(cluster, "azure_lrc", POOLS["azure_lrc"])
+    counted_ratio(cluster, "lrc_kml", POOLS["lrc_kml"])
+    counted_ratio(cluster, "clay", CLAY, is_checked=is_sound)
+    ratio = ours / counted_ratio(cluster, "isa", POOLS["isa"])[0]
+    cluster.check(
         "by the counters, half of what isa reads, and all of it for global parities",
         ratio <= 0.55 + 0.5 * wide,
         f"{ratio:.3f}",
@@ -426,21 +362,15 @@ def check_counters(cluster, report):
 # ---- what operators do to a pool
 
 
-def check_snapshots(cluster, report, objects=8):
+def check_snapshots(cluster, objects=8):
     """Snapshots of a pool whose objects are written over while four places are lost."""
-    cluster.make_pool("kept", POOLS["azure_lrc"] + [OSD_EACH], 1, min_size=12)
-    cluster.wait_clean()
-    cluster.fill("kept", objects)
-    lost = [cluster.places("kept")[0][place] for place in (0, 2, 1, 3)]
+    cluster.make_filled_pool("kept", WIDE.profile, 1, objects, min_size=12)
     with cluster.rados.open_ioctx("kept") as io:
         io.create_snap("first")
         number = io.lookup_snap("first").snap_id
-        cluster.kill(lost)
-        for at in range(objects):
-            io.write_full(f"o{at}", b"later" * (at + 1))
-        cluster.wait_loss()
-        cluster.revive(lost)
-        cluster.wait_clean()
+        with cluster.without(cluster.osds_at("kept", (0, 2, 1, 3))):
+            for at in range(objects):
+                io.write_full(f"o{at}", b"later" * (at + 1))
         now = all(io.read(f"o{at}") == b"later" * (at + 1) for at in range(objects))
         io.set_read(number)
         then = cluster.equal_in(io, "kept", objects) == objects
@@ -448,65 +378,51 @@ def check_snapshots(cluster, report, objects=8):
         io.snap_rollback("o3", "first")
         back = cluster.equal_in(io, "kept", objects)
         io.remove_snap("first")
-    report.check("written over without four OSDs, objects are as they were written", now)
-    report.check("a snapshot has them as they were before", then)
-    report.check("one is rolled back to it", back == 1, f"{back} are as before")
-    cluster.remove_pool("kept")
+    cluster.check("written over without four OSDs, objects are as they were written", now)
+    cluster.check("a snapshot has them as they were before", then)
+    cluster.check("one is rolled back to it", back == 1, f"{back} are as before")
+    cluster.remove_pools("kept")
 
 
-def check_stopped(cluster, report, objects=24):
+def check_stopped(cluster, objects=24):
     """Two OSDs that do not answer, and are not yet known to be down, in a pool with fast_read. It
     is a new pool: in one that still trims snapshots, a read waits for the end of that."""
-    cluster.make_pool("fast", POOLS["azure_lrc"] + [OSD_EACH], 1, fast_read="1")
-    cluster.wait_clean()
-    cluster.fill("fast", objects)
-    stopped = [cluster.daemons[f"osd.{cluster.places('fast')[0][place]}"] for place in (9, 13)]
+    cluster.make_filled_pool("fast", WIDE.profile, 1, objects, fast_read=1)
+    stopped = [cluster.daemons[f"osd.{osd}"] for osd in cluster.osds_at("fast", (9, 13))]
     for daemon in stopped:
         daemon.send_signal(signal.SIGSTOP)
-    began = time.monotonic()
     try:
-        equal = cluster.equal_objects("fast", objects)
+        cluster.check_objects("with fast_read while two OSDs are stopped,", "fast", objects)
     finally:
         for daemon in stopped:
             daemon.send_signal(signal.SIGCONT)
-    report.check(
-        f"while two OSDs are stopped, {equal} of {objects} objects read back with fast_read",
-        equal == objects,
-        f"{time.monotonic() - began:.1f} s",
-    )
-    cluster.remove_pool("fast")
+    cluster.remove_pools("fast")
 
 
-def check_migration(cluster, report, objects=24):
+def check_migration(cluster, objects=24):
     """A pool in isa is copied to one in azure_lrc by Ceph's own tool."""
-    cluster.make_pool("old", POOLS["isa"] + [OSD_EACH], 8)
-    cluster.make_pool("new", POOLS["azure_lrc"] + [OSD_EACH], 8)
-    cluster.wait_clean()
-    cluster.fill("old", objects)
+    cluster.make_pool("new", WIDE.profile, 8)
+    cluster.make_filled_pool("old", POOLS["isa"], 8, objects)
     cluster.run("rados", "-c", cluster.settings, "cppool", "old", "new")
     with cluster.rados.open_ioctx("new") as io:
         equal = cluster.equal_in(io, "old", objects)
-    report.check(f"rados cppool copies {equal} of {objects} objects from isa", equal == objects)
-    for pool in ("old", "new"):
-        cluster.remove_pool(pool)
+    cluster.check(f"rados cppool copies {equal} of {objects} objects from isa", equal == objects)
+    cluster.remove_pools("old", "new")
 
 
 # ---- other pools
 
 
-def is_20(version):
-    return version.startswith("ceph version 20")
-
-
-def check_racks(cluster, report):
-    cluster.add_rule("racks", RACKS)
-    cluster.make_pool("in_racks", [*POOLS["azure_lrc"], "order=groups"], 16, "racks")
+def check_racks(cluster):
+    steps = "choose indep 2 type rack", "chooseleaf indep 8 type host"
+    cluster.add_rule("racks", 99, "default", *steps)
+    cluster.make_pool("in_racks", [*WIDE.profile, "order=groups"], 16, "racks")
     clean = cluster.wait_clean()
     halves = [
         ({osd % 2 for osd in group[:8]}, {osd % 2 for osd in group[8:]})
         for group in cluster.places("in_racks")
     ]
-    report.check(
+    cluster.check(
         "by a rule of two racks and order=groups, each group is in a rack of its own",
         clean
         and all(
@@ -514,28 +430,23 @@ def check_racks(cluster, report):
         ),
     )
     cluster.fill("in_racks", 16)
-    report.check("its objects read back", cluster.equal_objects("in_racks", 16) == 16)
+    cluster.check_objects("in it,", "in_racks", 16)
 
 
-def check_small(cluster, report):
-    cluster.make_pool("small", [*SMALL.profile, OSD_EACH], 8)
-    clean = cluster.wait_clean()
-    cluster.fill("small", 16)
-    report.check(
-        "a pool of k=6 m=4: its objects read back",
-        clean and cluster.equal_objects("small", 16) == 16,
-    )
+def check_small(cluster):
+    cluster.make_filled_pool("small", SMALL.profile, 8, 16)
+    what = "in a pool of k=6 m=4,"
+    cluster.check_objects(what, "small", 16, is_clean=cluster.wait_clean())
 
 
-def check_overwrites(cluster, report, pool, profile, lost, **settings):
+def check_overwrites(cluster, pool, profile, lost, **settings):
     """An object is written over at random, half of the time without two places. A deep scrub
     follows."""
-    cluster.make_pool(pool, [*profile, OSD_EACH], 8, allow_ec_overwrites="true", **settings)
+    cluster.make_pool(pool, profile, 8, allow_ec_overwrites="true", **settings)
     cluster.wait_clean()
     dice = random.Random(1)
     image = bytearray(dice.randbytes(1 << 20))
-    places = cluster.places(pool)[cluster.group_of(pool, "o")]
-    lost = [places[place] for place in lost]
+    lost = cluster.osds_at(pool, lost, cluster.group_of(pool, "o"))
     with cluster.rados.open_ioctx(pool) as io:
         io.write_full("o", bytes(image))
         for number in range(40):
@@ -545,31 +456,28 @@ def check_overwrites(cluster, report, pool, profile, lost, **settings):
             piece = piece[: len(image) - at]
             image[at : at + len(piece)] = piece
             io.write("o", piece, at)
-        report.check(
+        cluster.check(
             f"{pool}: written over forty times, twenty of them without two OSDs",
             io.read("o", 1 << 21) == bytes(image),
         )
         cluster.wait_loss()
         cluster.revive(lost)
-        report.check(
+        cluster.check(
             f"{pool}: read back once all are there",
             cluster.wait_clean() and io.read("o", 1 << 21) == bytes(image),
         )
-    cluster.scrub(report, pool)
+    cluster.scrub(pool)
 
 
-def check_optimized(cluster, report):
+def check_optimized(cluster):
     """A pool of Ceph 20 whose small writes change the parities by deltas. Without the places of a
     data chunk and of its local parity, and then without a global parity and the first place."""
-    refused = ""
-    cluster.make_pool("in_groups", [*SMALL.profile, "order=groups", OSD_EACH], 1)
-    try:
-        cluster.command("osd pool set", pool="in_groups", var="allow_ec_optimizations", val="true")
-    except RuntimeError as error:
-        refused = str(error)
-    cluster.remove_pool("in_groups")
-    words = "not currently supported"
-    report.check("allow_ec_optimizations is refused with order=groups", words in refused, refused)
+    cluster.make_pool("in_groups", [*SMALL.profile, "order=groups"], 1)
+    words = {"pool": "in_groups", "var": "allow_ec_optimizations", "val": "true"}
+    refused = cluster.refusal("osd pool set", **words)
+    cluster.remove_pools("in_groups")
+    good = "not currently supported" in refused
+    cluster.check("allow_ec_optimizations is refused with order=groups", good, refused)
     for pool, code, lost, order in (
         ("deltas", WIDE, (2, 12), "interleaved"),
         ("small_deltas", SMALL, (0, 8), "interleaved"),
@@ -577,35 +485,25 @@ def check_optimized(cluster, report):
     ):
         optimized = {"allow_ec_optimizations": "true", "min_size": code.k}
         profile = [*code.profile, f"order={order}"]
-        check_overwrites(cluster, report, pool, profile, lost, **optimized)
+        check_overwrites(cluster, pool, profile, lost, **optimized)
 
 
-def check_missing_plugin(cluster, report, folder):
+def check_missing_plugin(cluster, folder):
     """An OSD that has no file of the plugin ends. At the start it may end before it has written to
     its log which file is missing."""
-    check_tool(report, folder)
+    check_tool(cluster, folder)
     for named, words, is_sure in (
         ("isa lrc azure_lrc", "libec_azure_lrc.so: cannot open shared object file", False),
         ("isa lrc", "FAILED ceph_assert(ec_impl)", True),
     ):
         osd = min(cluster.up())
         cluster.kill([osd])
-        size = os.path.getsize(f"{cluster.folder}/osd.{osd}.log")
-        cluster.spawn(
-            f"osd.{osd}",
-            "ceph-osd",
-            "-i",
-            str(osd),
-            f"--erasure_code_dir={folder}/without",
-            f"--osd_erasure_code_plugins={named}",
-        )
-        ended = cluster.until(
-            "the OSD ends", lambda: cluster.daemons[f"osd.{osd}"].poll() is not None
-        )
-        with open(f"{cluster.folder}/osd.{osd}.log", errors="replace", encoding="utf-8") as file:
-            file.seek(size)
-            printed = words in file.read()
-        report.check(
+        sizes, name = cluster.log_sizes(), f"osd.{osd}"
+        without = f"--erasure_code_dir={folder}/without", f"--osd_erasure_code_plugins={named}"
+        cluster.spawn(name, "ceph-osd", "-i", str(osd), *without)
+        ended = cluster.until("the OSD ends", lambda: cluster.daemons[name].poll() is not None)
+        printed = any(words in line for _, line in cluster.lines_since(sizes))
+        cluster.check(
             f"an OSD without the plugin ends, with osd_erasure_code_plugins = {named}",
             ended and (printed or not is_sure),
             words if printed else "no word of it",
@@ -613,7 +511,7 @@ def check_missing_plugin(cluster, report, folder):
         cluster.revive([osd])
 
 
-def check_tool(report, folder):
+def check_tool(cluster, folder):
     """Ceph's tool says whether a daemon would find the file, before one is started."""
     statuses = []
     for name in "plugins", "without":
@@ -622,19 +520,19 @@ def check_tool(report, folder):
         done = subprocess.run(words, env=options, capture_output=True, check=False)
         statuses.append(done.returncode)
     there, missing = statuses
-    report.check("ceph-erasure-code-tool finds the plugin, or not", missing > there == 0)
+    cluster.check("ceph-erasure-code-tool finds the plugin, or not", missing > there == 0)
 
 
 # ---- the parts
 
 
-def overwritten(cluster, report):
-    check_overwrites(cluster, report, "over", POOLS["azure_lrc"], (2, 4), min_size=12, fast_read=1)
+def overwritten(cluster):
+    check_overwrites(cluster, "over", WIDE.profile, (2, 4), min_size=12, fast_read=1)
 
 
 NAMES = (
     *("profiles", "lost", "recovery", "counters", "operators"),
-    *("damage", "units", "storm", "benchmark", "images", "files", "buckets"),
+    *("damage", "units", "storm", "model", "benchmark", "images", "files", "buckets"),
     "domains",
     *("racks", "small", "overwrites"),  # these leave pools there, which `damage` would reach
     "missing",
@@ -657,37 +555,26 @@ def work(report, folder, options):
     import damage
     import domains
     import loads
-    from cluster import OSDS, Cluster
+    import model
+    from cluster import Cluster
 
-    os.mkdir(f"{folder}/cluster")
-    cluster = Cluster(f"{folder}/cluster", build(folder), report)
-    try:
-        cluster.start()
+    only = options.only or NAMES
+    with Cluster(f"{folder}/cluster", build(folder), report) as cluster:
         cluster.command("osd set", key="noout")
-        version = cluster.run("ceph-osd", "--version").split(" (")[0]
-        report.check(f"{OSDS} OSDs are up", len(cluster.up()) == OSDS, version)
+        count = len(cluster.up())
+        cluster.check(f"{count} OSDs are up", count == cluster.osds, f"Ceph {cluster.version()}")
         parts = {**PARTS, **damage.PARTS, **domains.PARTS, **loads.PARTS, **clients.PARTS}
-        later = (check_optimized, domains.check_own_rule) if not is_20(version) else ()
+        parts |= model.PARTS
+        later = (check_optimized, domains.check_own_rule) if cluster.series() != 20 else ()
         for name in NAMES:
-            for check in parts.get(name, ()) if name in options.only else ():
+            for check in parts.get(name, ()) if name in only else ():
                 if check not in later:
-                    check(cluster, report)
-        if "missing" in options.only:
-            check_missing_plugin(cluster, report, folder)
-    finally:
-        cluster.stop()
-
-
-def main():
-    parser = argparse.ArgumentParser(
-        description=__doc__, formatter_class=argparse.RawDescriptionHelpFormatter
-    )
-    parser.add_argument("--keep", action="store_true", help="keep the folder, with the logs")
-    parser.add_argument("--only", choices=NAMES, action="append", help="run this part")
-    options = parser.parse_args()
-    options.only = options.only or NAMES
-    return harness.run(options, PACKAGES, work)
+                    check(cluster)
+        if "missing" in only:
+            check_missing_plugin(cluster, folder)
 
 
 if __name__ == "__main__":
-    sys.exit(main())
+    arguments = harness.parser_of(__doc__)
+    arguments.add_argument("--only", choices=NAMES, action="append", help="run this part")
+    sys.exit(harness.run(arguments, PACKAGES, work))

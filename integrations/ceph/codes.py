@@ -5,6 +5,7 @@ import random
 from dataclasses import dataclass
 
 OSD_EACH = "crush-failure-domain=osd"
+STRIPE_UNIT = 4096
 
 
 @dataclass(frozen=True)
@@ -23,6 +24,10 @@ class Code:
     @property
     def profile(self):
         return ["plugin=azure_lrc", f"k={self.k}", "m=4"]
+
+    def chunk_bytes(self, length):
+        """The bytes of each chunk of an object: a stripe unit for each stripe."""
+        return -(-length // (self.k * STRIPE_UNIT)) * STRIPE_UNIT
 
     def is_recoverable(self, lost):
         """Whether at most two losses remain after each group has made good one of its own."""

@@ -6,12 +6,12 @@ and is never wrong."""
 import concurrent.futures
 import errno
 import json
-import os
 import threading
+from pathlib import Path
 
 import rados
 from cluster import content
-from codes import OSD_EACH, WIDE
+from codes import WIDE
 
 # Of each object, the places whose shards are changed. All of these sets are recoverable.
 CHANGED = ([0], [0, 2], [12], [14], [4, 5, 6], [0, 1, 2, 3])
@@ -36,23 +36,21 @@ def read_within(io, name, length):
 
 def change_shard(cluster, osd, shard, name):
     """Changes a byte in the middle of an object's shard, by Ceph's own tool for stores of OSDs."""
-    path = f"{cluster.folder}/{shard}_{name}"
+    path = Path(cluster.folder, f"{shard}_{name}")
     tool = ["ceph-objectstore-tool", "--no-mon-config", "--pgid", shard]
     tool += ["--data-path", f"{cluster.folder}/osd.{osd}", name]
-    cluster.run(*tool, "get-bytes", path)
-    with open(path, "r+b") as file:
-        data = bytearray(file.read())
-        data[len(data) // 2] ^= 0x20
-        file.seek(0)
-        file.write(data)
-    cluster.run(*tool, "set-bytes", path)
-    os.remove(path)
+    cluster.run(*tool, "get-bytes", str(path))
+    data = bytearray(path.read_bytes())
+    data[len(data) // 2] ^= 0x20
+    path.write_bytes(data)
+    cluster.run(*tool, "set-bytes", str(path))
+    path.unlink()
 
 
 def change_shards(cluster, pool, sets):
     """Changes shards of the objects o0, o1, .. at these places, while their OSDs are down."""
     changed = sorted({place for places in sets for place in places})
-    osds = {place: cluster.places(pool)[0][place] for place in changed}
+    osds = dict(zip(changed, cluster.osds_at(pool, changed)))
     number = cluster.rados.pool_lookup(pool)
 
     def change_at(place):
@@ -60,11 +58,10 @@ def change_shards(cluster, pool, sets):
             if place in places:
                 change_shard(cluster, osds[place], f"{number}.0s{place}", f"o{each}")
 
-    cluster.kill(list(osds.values()))
-    cluster.wait_loss()
-    with concurrent.futures.ThreadPoolExecutor(4) as threads:
-        list(threads.map(change_at, changed))
-    cluster.revive(list(osds.values()))
+    with cluster.without(list(osds.values())):
+        cluster.wait_loss()
+        with concurrent.futures.ThreadPoolExecutor(4) as threads:
+            list(threads.map(change_at, changed))
     return cluster.wait_clean()
 
 
@@ -78,31 +75,27 @@ def inconsistent_shards(cluster, pool):
     }
 
 
-def check_changed(cluster, report, objects=len(CHANGED) + 2):
+def check_changed(cluster, objects=len(CHANGED) + 2):
     """Changed shards are found by reads and by a deep scrub, and mended by a repair."""
-    cluster.make_pool("changed", [*WIDE.profile, OSD_EACH], 1, min_size=12)
-    cluster.wait_clean()
-    cluster.fill("changed", objects, 1 << 20)
-    report.check("shards of six objects are changed", change_shards(cluster, "changed", CHANGED))
-    equal = cluster.equal_objects("changed", objects, 1 << 20)
-    report.check(f"{equal} of {objects} objects read back", equal == objects)
+    cluster.make_filled_pool("changed", WIDE.profile, 1, objects, 1 << 20, min_size=12)
+    cluster.check("shards of six objects are changed", change_shards(cluster, "changed", CHANGED))
+    cluster.check_objects("with them,", "changed", objects, 1 << 20)
     cluster.deep_scrub("changed")
     found = inconsistent_shards(cluster, "changed")
     wanted = {f"o{number}": places for number, places in enumerate(CHANGED)}
-    report.check("a deep scrub names these shards", found == wanted, str(found))
+    cluster.check("a deep scrub names these shards", found == wanted, str(found))
     checks = "OSD_SCRUB_ERRORS", "PG_DAMAGED"
-    report.check(f"health has {' and '.join(checks)}", cluster.warns(*checks))
+    cluster.check(f"health has {' and '.join(checks)}", cluster.warns(*checks))
     cluster.manager_command("pg repair", pgid=f"{cluster.rados.pool_lookup('changed')}.0")
     cluster.until("a repair", lambda: "inconsistent" not in cluster.state("changed"))
     cluster.wait_clean()
     cluster.deep_scrub("changed")
     found = inconsistent_shards(cluster, "changed")
-    equal = cluster.equal_objects("changed", objects, 1 << 20)
-    report.check("after pg repair a deep scrub names none", not found, str(found))
-    report.check(f"after it {equal} of {objects} objects read back", equal == objects)
+    cluster.check("after pg repair a deep scrub names none", not found, str(found))
+    cluster.check_objects("after it", "changed", objects, 1 << 20)
 
 
-def check_changed_group(cluster, report):
+def check_changed_group(cluster):
     """Four changed data shards of a group cannot be made good: an error, and no wrong byte."""
     change_shards(cluster, "changed", [GROUP])
     with cluster.rados.open_ioctx("changed") as io:
@@ -111,21 +104,18 @@ def check_changed_group(cluster, report):
             seen = "bytes"
         except rados.Error as error:
             seen = errno.errorcode.get(error.errno, str(error))
-    report.check("with four shards of a group changed, a read is refused", seen == "EIO", seen)
-    cluster.remove_pool("changed")
+    cluster.check("with four shards of a group changed, a read is refused", seen == "EIO", seen)
+    cluster.remove_pools("changed")
 
 
 # ---- disks
 
 
-def check_replaced(cluster, report, objects=16):
+def check_replaced(cluster, objects=16):
     """Four disks of a group are replaced by empty ones, and `mark_unfound_lost` abandons what was
     there."""
-    cluster.make_pool("replaced", [*WIDE.profile, OSD_EACH], 2, min_size=12)
-    cluster.wait_clean()
-    cluster.fill("replaced", objects)
-    places = cluster.places("replaced")
-    osds = [places[0][place] for place in GROUP]
+    cluster.make_filled_pool("replaced", WIDE.profile, 2, objects, min_size=12)
+    places, osds = cluster.places("replaced"), cluster.osds_at("replaced", GROUP)
     cluster.kill(osds)
     cluster.wait_loss()
     for osd in osds:
@@ -134,37 +124,39 @@ def check_replaced(cluster, report, objects=16):
     lost = [group for group, at in enumerate(places) if not is_left(at, osds)]
     for group in lost:
         seen = cluster.until("unfound", lambda at=group: "unfound" in cluster.state("replaced", at))
-        report.check(
+        cluster.check(
             f"without the disks of a group, placement group {group} is recovery_unfound", seen
         )
-    check_unfound(cluster, report, lost, objects)
-    cluster.remove_pool("replaced")
+    check_unfound(cluster, lost, objects)
+    cluster.remove_pools("replaced")
 
 
 def is_left(places, osds):
     return WIDE.is_recoverable([place for place, osd in enumerate(places) if osd in osds])
 
 
-def check_unfound(cluster, report, lost, objects):
+def check_unfound(cluster, lost, objects):
     """Objects of these placement groups are held back until they are abandoned, and others read."""
     names = {f"o{number}": content("replaced", number) for number in range(objects)}
     gone = {name for name in names if cluster.group_of("replaced", name) in lost}
     with cluster.rados.open_ioctx("replaced") as io:
-        report.check("health has OBJECT_UNFOUND", cluster.warns("OBJECT_UNFOUND"))
+        cluster.check("health has OBJECT_UNFOUND", cluster.warns("OBJECT_UNFOUND"))
         right = sum(io.read(name, 1 << 21) == names[name] for name in names.keys() - gone)
-        report.check("objects of the others read back", right == len(names) - len(gone), str(right))
+        cluster.check(
+            "objects of the others read back", right == len(names) - len(gone), str(right)
+        )
         seen = read_within(io, min(gone), 1 << 21)
-        report.check("a read of what is lost does not end", seen == "nothing", str(seen)[:80])
+        cluster.check("a read of what is lost does not end", seen == "nothing", str(seen)[:80])
         unfound = 0
         for group in lost:
             pgid = f"{cluster.rados.pool_lookup('replaced')}.{group:x}"
             tool = "ceph", "-c", cluster.settings, "pg", pgid
             unfound += json.loads(cluster.run(*tool, "list_unfound"))["num_unfound"]
             cluster.run(*tool, "mark_unfound_lost", "delete")
-        report.check("list_unfound names what is lost", unfound == len(gone), str(unfound))
+        cluster.check("list_unfound names what is lost", unfound == len(gone), str(unfound))
         clean = cluster.wait_clean()
         left = sum(is_there(io, name) for name in gone)
-        report.check("mark_unfound_lost abandons them", clean and left == 0, f"{left} are there")
+        cluster.check("mark_unfound_lost abandons them", clean and left == 0, f"{left} are there")
 
 
 def is_there(io, name):
@@ -183,11 +175,9 @@ def inject(cluster, osd, value):
     cluster.osd_command(osd, "config set", var="bluestore_debug_inject_read_err", val=[value])
 
 
-def check_errors(cluster, report, objects=8):
+def check_errors(cluster, objects=8):
     """Stores that answer reads of up to four shards with errors, with and without fast_read."""
-    cluster.make_pool("errors", [*WIDE.profile, OSD_EACH], 1, min_size=12)
-    cluster.wait_clean()
-    cluster.fill("errors", objects)
+    cluster.make_filled_pool("errors", WIDE.profile, 1, objects, min_size=12)
     places = cluster.places("errors")[0]
     for osd in places:
         inject(cluster, osd, "true")
@@ -196,19 +186,15 @@ def check_errors(cluster, report, objects=8):
             words = {"pool": "errors", "objname": f"o{number}", "shardid": place}
             cluster.osd_command(places[place], "injectdataerr", binary=True, **words)
     sizes = cluster.log_sizes()
-    for fast in "0", "1":
-        cluster.command("osd pool set", pool="errors", var="fast_read", val=fast)
-        equal = cluster.equal_objects("errors", objects)
-        report.check(
-            f"with read errors of up to four stores and fast_read {fast}, {equal} of {objects} "
-            "objects read back",
-            equal == objects,
-        )
+    for fast in 0, 1:
+        cluster.set_pool("errors", fast_read=fast)
+        when = f"with read errors of up to four stores and fast_read {fast},"
+        cluster.check_objects(when, "errors", objects)
     count = sum("INJECT EIO" in line for _, line in cluster.lines_since(sizes))
-    report.check("the stores have answered with errors", count >= 10, str(count))
+    cluster.check("the stores have answered with errors", count >= 10, str(count))
     for osd in places:
         inject(cluster, osd, "false")
-    cluster.remove_pool("errors")
+    cluster.remove_pools("errors")
 
 
 PARTS = {"damage": (check_changed, check_changed_group, check_errors, check_replaced)}

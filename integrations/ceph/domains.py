@@ -6,20 +6,9 @@ has two hosts."""
 import itertools
 import random
 
-from codes import OSD_EACH, WIDE
+from codes import WIDE
 
 OBJECTS = 16
-RULE = """    id {number}
-    type erasure
-    min_size 3
-    max_size 16
-    step set_chooseleaf_tries 5
-    step set_choose_tries 100
-    step take paired
-    step choose indep {count} type {domain}
-    step choose indep {each} type osd
-    step emit
-"""
 PAIRS = list(itertools.combinations(range(8), 2))
 RACKS = [(host, host + 1) for host in range(0, 8, 2)]
 
@@ -30,41 +19,36 @@ def place_twice(cluster):
         cluster.command("osd crush add", id=osd, weight=1.0, args=at)
 
 
-def check_losses(cluster, report, pool, sets):
+def check_losses(cluster, pool, sets):
     """Loses sets of hosts. The objects are read, and written again meanwhile. A deep scrub follows,
     and the pool is removed."""
     cluster.wait_clean()
     cluster.fill(pool, OBJECTS)
     for hosts in sets:
-        osds = [osd for host in hosts for osd in (2 * host, 2 * host + 1)]
-        cluster.kill(osds)
-        equal = cluster.equal_objects(pool, OBJECTS)
-        cluster.fill(pool, OBJECTS)
-        cluster.wait_loss()
-        cluster.revive(osds)
-        clean = cluster.wait_clean()
+        with cluster.without([osd for host in hosts for osd in (2 * host, 2 * host + 1)]):
+            equal = cluster.equal_objects(pool, OBJECTS)
+            cluster.fill(pool, OBJECTS)
         name = f"{pool}: without hosts {hosts}, {equal} of {OBJECTS} objects read back"
-        report.check(name, clean and equal == OBJECTS)
-    equal = cluster.equal_objects(pool, OBJECTS)
-    report.check(f"{pool}: with all hosts, {equal} of {OBJECTS}", equal == OBJECTS)
-    cluster.scrub(report, pool)
-    cluster.remove_pool(pool)
+        cluster.check(name, cluster.wait_clean() and equal == OBJECTS)
+    cluster.check_objects(f"{pool}: with all hosts,", pool, OBJECTS)
+    cluster.scrub(pool)
+    cluster.remove_pools(pool)
 
 
-def check_domains(cluster, report):
+def check_domains(cluster):
     """Six pairs of hosts that are drawn, and each rack of four OSDs."""
     place_twice(cluster)
     for pool, domain, number, count, sets in (
         ("in_hosts", "host", 97, 8, random.sample(PAIRS, 6)),
         ("in_quads", "rack", 98, 4, RACKS),
     ):
-        rule = RULE.format(number=number, count=count, domain=domain, each=16 // count)
-        cluster.add_rule(pool, rule)
-        cluster.make_pool(pool, [*WIDE.profile, OSD_EACH], 4, pool, min_size=12)
-        check_losses(cluster, report, pool, sets)
+        steps = f"choose indep {count} type {domain}", f"choose indep {16 // count} type osd"
+        cluster.add_rule(pool, number, "paired", *steps)
+        cluster.make_pool(pool, WIDE.profile, 4, pool, min_size=12)
+        check_losses(cluster, pool, sets)
 
 
-def check_own_rule(cluster, report):
+def check_own_rule(cluster):
     """The rule for two OSDs in each of eight hosts that Ceph 19 and later make by a profile."""
     words = {"version": "squid", "yes_i_really_mean_it": True}
     cluster.command("osd set-require-min-compat-client", **words)
@@ -76,8 +60,8 @@ def check_own_rule(cluster, report):
     paired = all(
         group[::2] == group[1::2] and sorted(group[::2]) == list(range(8)) for group in hosts
     )
-    report.check("by its profile alone, a pool has two chunks in each host", paired, str(hosts))
-    check_losses(cluster, report, "by_profile", random.sample(PAIRS, 3))
+    cluster.check("by its profile alone, a pool has two chunks in each host", paired, str(hosts))
+    check_losses(cluster, "by_profile", random.sample(PAIRS, 3))
 
 
 PARTS = {"domains": (check_domains, check_own_rule)}

@@ -4,13 +4,10 @@ Ceph's own benchmark."""
 import itertools
 import random
 import re
-import shutil
-import threading
 import time
 
 import harness
-import rados
-from codes import OSD_EACH, WIDE
+from codes import WIDE
 
 UNITS = (4096, 65536, 64, 192, 12288, 1 << 20)
 STORM_SECONDS = 60
@@ -81,59 +78,45 @@ def find_losses(cluster, pools):
     return list(max(itertools.combinations(sorted(cluster.up()), 4), key=worth))
 
 
-def check_units(cluster, report):
+def check_units(cluster):
     """Objects in pools of other stripe units, with all OSDs, without four, and afterwards."""
     pools = {f"unit_{unit}": unit for unit in UNITS}
     for pool, unit in pools.items():
-        profile = [*WIDE.profile, OSD_EACH, f"stripe_unit={unit}"]
+        profile = [*WIDE.profile, f"stripe_unit={unit}"]
         cluster.make_pool(pool, profile, 1, allow_ec_overwrites="true", min_size=12)
     cluster.wait_clean()
     dice = random.Random(1)
     opened = {pool: cluster.rados.open_ioctx(pool) for pool in pools}
     objects = {pool: make_objects(io, pools[pool], dice) for pool, io in opened.items()}
-    lost = find_losses(cluster, pools)
-    cluster.kill(lost)
-    for pool, unit in pools.items():
-        report.check(
-            f"stripe_unit {unit}: objects read back without four OSDs, by ranges too",
-            all(each.is_equal() for each in objects[pool]),
-        )
-        objects[pool][5].append(dice.randbytes(12 * unit))
-        objects[pool][10].write(unit + 3, dice.randbytes(unit))
-    cluster.wait_loss()
-    cluster.revive(lost)
-    cluster.wait_clean()
-    for pool, unit in pools.items():
-        report.check(
-            f"stripe_unit {unit}: what was written meanwhile, too",
-            all(each.is_equal() for each in objects[pool]),
-        )
+
+    def check(pool, what):
+        equal = all(each.is_equal() for each in objects[pool])
+        cluster.check(f"stripe_unit {pools[pool]}: {what}", equal)
+
+    with cluster.without(find_losses(cluster, pools)):
+        for pool, unit in pools.items():
+            check(pool, "objects read back without four OSDs, by ranges too")
+            objects[pool][5].append(dice.randbytes(12 * unit))
+            objects[pool][10].write(unit + 3, dice.randbytes(unit))
+    for pool in pools:
+        check(pool, "what was written meanwhile, too")
         opened[pool].close()
-        cluster.remove_pool(pool)
+        cluster.remove_pools(pool)
 
 
 # ---- a storm
 
 
-class Writer(threading.Thread):
-    """Writes, appends, removes and reads objects of its own until it is told to stop."""
+class Writer(harness.Caller):
+    """Writes, removes and reads objects of its own."""
 
     def __init__(self, cluster, pool, number):
         super().__init__()
         self.io = cluster.rados.open_ioctx(pool)
-        self.number, self.dice = number, random.Random(number)
-        self.objects, self.wrong, self.calls = {}, [], 0
-        self.stopped = threading.Event()
+        self.number, self.dice, self.objects = number, random.Random(number), {}
 
-    def run(self):
-        while not self.stopped.is_set():
-            try:
-                self.step(f"w{self.number}_{self.dice.randrange(30)}")
-            except rados.Error as error:
-                self.wrong.append(str(error))
-            self.calls += 1
-
-    def step(self, name):
+    def step(self):
+        name = f"w{self.number}_{self.dice.randrange(30)}"
         there, what = self.objects.get(name), self.dice.randrange(8)
         if there is None or what < 3:
             data = self.dice.randbytes(self.dice.choice([0, 1, 5000, 49152, 300_000]))
@@ -159,9 +142,7 @@ def disturb(cluster, dice):
     osds = dice.sample(sorted(cluster.up()), 2)
     what = dice.randrange(4)
     if what < 2:
-        cluster.kill(osds[what:])
-        time.sleep(3)
-        cluster.revive(osds[what:])
+        cluster.restart(osds[what:])
     elif what == 2:
         cluster.command("osd out", ids=[str(osds[0])])
         time.sleep(3)
@@ -172,29 +153,22 @@ def disturb(cluster, dice):
         cluster.command("osd reweight", id=osds[0], weight=1.0)
 
 
-def check_storm(cluster, report):
+def check_storm(cluster):
     """Three writers while OSDs are killed, one or two at a time, taken out and weighed less."""
-    cluster.make_pool("storm", [*WIDE.profile, OSD_EACH], 8)
+    cluster.make_pool("storm", WIDE.profile, 8)
     cluster.wait_clean()
     writers = [Writer(cluster, "storm", number) for number in range(3)]
-    for writer in writers:
-        writer.start()
-    dice, began, count = random.Random(), time.monotonic(), 0
-    while time.monotonic() - began < STORM_SECONDS:
-        disturb(cluster, dice)
-        count += 1
-    for writer in writers:
-        writer.stopped.set()
-        writer.join()
+    dice = random.Random()
+    events = harness.storm(writers, STORM_SECONDS, lambda: disturb(cluster, dice))
     calls = sum(writer.calls for writer in writers)
     clean = cluster.wait_clean()
     for writer in writers:
         writer.compare_all()
     wrong = [text for writer in writers for text in writer.wrong]
-    what = f"{calls} calls of three writers while OSDs came and went {count} times"
-    report.check(f"{what}: no error, no wrong byte", clean and not wrong, "; ".join(wrong[:3]))
-    cluster.scrub(report, "storm")
-    cluster.remove_pool("storm")
+    what = f"{calls} calls of three writers while OSDs came and went {events.total()} times"
+    cluster.check(f"{what}: no error, no wrong byte", clean and not wrong, "; ".join(wrong[:3]))
+    cluster.scrub("storm")
+    cluster.remove_pools("storm")
 
 
 # ---- the benchmark
@@ -202,16 +176,13 @@ def check_storm(cluster, report):
 BENCHMARK = "ceph_erasure_code_benchmark"
 
 
-def check_benchmark(cluster, report):
+def check_benchmark(cluster):
     """Ceph's own benchmark of codes, which Debian 12 does not have."""
-    if "version 16" not in cluster.run("ceph-osd", "--version"):
-        harness.install(["ceph-test"])
-    if not shutil.which(BENCHMARK):
-        report.note(f"skipped: there is no {BENCHMARK}")
+    if not harness.has_program(BENCHMARK, "ceph-test", cluster.note):
         return
     for work in ["-w", "encode"], ["-w", "decode", "-e", "1"], ["-w", "decode", "-e", "2"]:
         ours, isa = (benchmark_seconds(cluster, plugin, work) for plugin in ("azure_lrc", "isa"))
-        report.check(
+        cluster.check(
             f"{BENCHMARK} {' '.join(work)} at 1 MiB", ours > 0, f"{isa / ours:.2f} times isa"
         )
 
@@ -223,8 +194,4 @@ def benchmark_seconds(cluster, plugin, work):
     return float(found[1]) if found else 0.0
 
 
-PARTS = {
-    "units": (check_units,),
-    "storm": (check_storm,),
-    "benchmark": (check_benchmark,),
-}
+PARTS = {"units": (check_units,), "storm": (check_storm,), "benchmark": (check_benchmark,)}

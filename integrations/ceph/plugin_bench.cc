@@ -161,12 +161,20 @@ static std::vector<double> best_of(const std::vector<Contestant> &contestants, u
     return best;
 }
 
+/* A peer's code, or null once it was said why there is none. */
+static ErasureCodeInterfaceRef code_of(const Peer &peer) {
+    std::string error;
+    const auto code = make_code(peer.plugin, peer.profile, &error);
+    if (!code) fprintf(stderr, "%s: %s\n", peer.name, error.c_str());
+    return code;
+}
+
 /* GB of object bytes in a second of the processor, and in brackets how many times as fast as isa.
- */
-static void time_stripe(unsigned unit, const std::vector<ErasureCodeInterfaceRef> &codes) {
+ * The codes are made anew: clay keeps buffers of the length that it has encoded first. */
+static void time_stripe(unsigned unit) {
     const buffer::list in = random_bytes(12 * unit, 5);
     std::vector<Contestant> contestants;
-    for (const auto &code : codes) contestants.emplace_back(code, in);
+    for (const Peer &peer : peers) contestants.emplace_back(code_of(peer), in);
     const unsigned times = std::max(16u, (8u << 20) / (12 * unit));
     for (unsigned lost = 0; lost <= 4; lost++) {
         printf("| 12 x %u KiB | %s%s |", unit >> 10, lost ? std::to_string(lost).c_str() : "encode",
@@ -186,15 +194,10 @@ int main(int argc, char **argv) {
         fprintf(stderr, "usage: plugin_bench FOLDER\n");
         return 2;
     }
-    std::vector<ErasureCodeInterfaceRef> codes;
     for (const Peer &peer : peers) {
-        std::string error;
-        codes.push_back(make_code(peer.plugin, peer.profile, &error));
-        if (!codes.back()) {
-            fprintf(stderr, "%s: %s\n", peer.name, error.c_str());
-            return 1;
-        }
-        count_sets(peer, *codes.back());
+        const auto code = code_of(peer);
+        if (!code) return 1;
+        count_sets(peer, *code);
     }
     printf(
         "\nGB of object bytes in a second of the processor, one thread; in brackets how many times "
@@ -202,7 +205,7 @@ int main(int argc, char **argv) {
         "Stripe | Work |");
     for (const Peer &peer : peers) printf(" %s |", peer.name);
     printf("\n|---|---|---|---|---|---|---|---|\n");
-    for (unsigned unit : {4096u, 65536u, 1048576u}) time_stripe(unit, codes);
+    for (unsigned unit : {4096u, 65536u, 1048576u}) time_stripe(unit);
     fflush(stdout);
     _exit(0); /* a plugin is never unloaded */
 }

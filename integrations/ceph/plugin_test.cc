@@ -1,8 +1,9 @@
-/* Tests libec_azure_lrc.so without a cluster: plugin_test FOLDER CORPUS PAGE|shards
+/* Tests libec_azure_lrc.so without a cluster: plugin_test FOLDER CORPUS PAGE|built
  *
  * FOLDER has the plugin and Ceph's own, CORPUS is tests/corpus, and PAGE is README.md of this
- * folder, whose table of failure domains is compared. By the word shards, only what Ceph 20.2 adds
- * is tested, and FOLDER needs no plugin of Ceph. */
+ * folder, whose table of failure domains is compared. By the word built, only what the release of
+ * Ceph changes is tested: types and tables, for which FOLDER may have Ceph's own plugins, and what
+ * Ceph 20.2 adds. */
 #include "plugin_loader.h"
 #if CEPH_RELEASE >= 20
 #include "shards_test.h"
@@ -728,6 +729,19 @@ static void test_default_order(unsigned k) {
           name + "the order that was asked for");
 }
 
+/* What a build has to pass before it is used. */
+static void test_built() {
+    if (!access((plugins + "/libec_isa.so").c_str(), R_OK)) {
+        test_tables();
+        test_shards("isa", {{"k", "12"}, {"m", "4"}});
+    }
+    test_rule();
+    test_domains();
+    for (unsigned k : {12u, 6u})
+        for (const char *order : {"interleaved", "groups", "parities-last"})
+            test_shards("azure_lrc", profile_of(k, order));
+}
+
 static void test_code(const ErasureCodeProfile &profile, const std::string &corpus) {
     auto code = code_of("azure_lrc", profile);
     if (!code) return;
@@ -806,14 +820,12 @@ static void test_page(const std::string &path) {
 
 int main(int argc, char **argv) {
     if (argc != 4 || !begin(argv[1])) {
-        fprintf(stderr, "usage: plugin_test FOLDER CORPUS PAGE|shards\n");
+        fprintf(stderr, "usage: plugin_test FOLDER CORPUS PAGE|built\n");
         return 2;
     }
-    const bool whole = std::string(argv[3]) != "shards";
-    if (whole) {
-        test_tables();
+    test_built();
+    if (std::string(argv[3]) != "built") {
         test_profiles();
-        test_shards("isa", {{"k", "12"}, {"m", "4"}});
         for (unsigned k : {12u, 6u}) {
             test_default_order(k);
             for (const char *order : {"interleaved", "groups"})
@@ -824,11 +836,6 @@ int main(int argc, char **argv) {
         }
         test_page(argv[3]);
     }
-    test_rule();
-    test_domains();
-    for (unsigned k : {12u, 6u})
-        for (const char *order : {"interleaved", "groups", "parities-last"})
-            test_shards("azure_lrc", profile_of(k, order));
     printf("Ceph: %d checks of the plugin passed, %d failed\n", passed, failed);
     fflush(stdout);
     _exit(failed ? 1 : 0); /* a plugin is never unloaded */

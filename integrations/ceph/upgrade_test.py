@@ -16,8 +16,8 @@ HERE = os.path.dirname(os.path.abspath(__file__))
 sys.path[:0] = [HERE, os.path.dirname(HERE)]
 import cluster_test  # noqa: E402
 import other_root  # noqa: E402
-from cluster import OSDS, Cluster  # noqa: E402
-from codes import OSD_EACH, WIDE  # noqa: E402
+from cluster import Cluster  # noqa: E402
+from codes import WIDE  # noqa: E402
 
 OBJECTS = 24
 
@@ -60,52 +60,44 @@ def build_later(folder, root):
     return plugins
 
 
-def check_serving(cluster, report, when):
+def check_serving(cluster, when):
     """All objects, with all OSDs and without three places; one more object is written."""
     cluster.wait_clean()
-    equal = cluster.equal_objects("kept", OBJECTS)
-    report.check(f"{when}: {equal} of {OBJECTS} objects read back", equal == OBJECTS)
-    osds = [cluster.places("kept")[0][place] for place in (0, 1, 8)]
-    cluster.kill(osds)
-    equal = cluster.equal_objects("kept", OBJECTS)
-    cluster.fill("kept", OBJECTS)
-    again = cluster.equal_objects("kept", OBJECTS)
-    report.check(f"{when}: also without three OSDs, and written again", equal == again == OBJECTS)
-    cluster.wait_loss()
-    cluster.revive(osds)
+    cluster.check_objects(f"{when}:", "kept", OBJECTS)
+    with cluster.without(cluster.osds_at("kept", (0, 1, 8))):
+        equal = cluster.equal_objects("kept", OBJECTS)
+        cluster.fill("kept", OBJECTS)
+        again = cluster.equal_objects("kept", OBJECTS)
+    cluster.check(f"{when}: also without three OSDs, and written again", equal == again == OBJECTS)
 
 
 def work(report, folder, options):
-    os.mkdir(f"{folder}/cluster")
     plugins = cluster_test.build(folder)
     with other_root.seen_from(options.root, folder):
         later = build_later(folder, options.root)
-        cluster = Upgraded(f"{folder}/cluster", plugins, report, options.root, later)
-        try:
-            cluster.start()
+        words = f"{folder}/cluster", plugins, report, options.root, later
+        with Upgraded(*words) as cluster:
             cluster.command("osd set", key="noout")
-            cluster.make_pool("kept", [*WIDE.profile, OSD_EACH], 1)
-            cluster.wait_clean()
-            cluster.fill("kept", OBJECTS)
-            upgrade(cluster, report)
-        finally:
-            cluster.stop()
+            cluster.make_filled_pool("kept", WIDE.profile, 1, OBJECTS)
+            upgrade(cluster)
 
 
-def upgrade(cluster, report):
-    names = ["mon.a", "mgr.x", *(f"osd.{osd}" for osd in range(OSDS))]
+def upgrade(cluster):
+    names = ["mon.a", "mgr.x", *(f"osd.{osd}" for osd in range(cluster.osds))]
     earlier = set(cluster.command("versions")["overall"])
-    check_serving(cluster, report, "before")
+    check_serving(cluster, "before")
     for number, name in enumerate(names):
         cluster.upgrade(name)
         if number == len(names) // 2:
-            check_serving(cluster, report, f"with {number + 1} of {len(names)} daemons upgraded")
+            check_serving(cluster, f"with {number + 1} of {len(names)} daemons upgraded")
     versions = cluster.command("versions")["overall"]
     is_later = len(versions) == 1 and not earlier & set(versions)
-    report.check("all daemons have one version, and not that before", is_later, ", ".join(versions))
-    check_serving(cluster, report, "after")
+    cluster.check(
+        "all daemons have one version, and not that before", is_later, ", ".join(versions)
+    )
+    check_serving(cluster, "after")
     cluster.wait_clean()
-    cluster.scrub(report, "kept")
+    cluster.scrub("kept")
 
 
 if __name__ == "__main__":

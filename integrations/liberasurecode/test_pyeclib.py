@@ -1,41 +1,29 @@
-"""PyECLib over libphazr.so.1, whose folder LD_LIBRARY_PATH names: every set of at most four lost
-fragments, and other codes' fragments."""
+"""PyECLib over libphazr.so.1: every set of at most four lost fragments, and other codes' fragments.
+
+    LD_LIBRARY_PATH=FOLDER pytest integrations/liberasurecode/test_pyeclib.py
+
+FOLDER has what build.sh has left there."""
 
 import itertools
 import os
 import struct
 import subprocess
 import sys
-import tempfile
 import zlib
+from pathlib import Path
 
-from pyeclib.ec_iface import (
-    ECDriver,
-    ECDriverError,
-    ECInsufficientFragments,
-    ECInvalidFragmentMetadata,
-)
+import pytest
+from pyeclib.ec_iface import ECDriver, ECDriverError
+from pyeclib.ec_iface import ECInsufficientFragments, ECInvalidFragmentMetadata
 
-VERSION_AT, VERSION, VERSION_OF_SIX = (
-    55,
-    0x4C520C01,
-    0x4C520601,
-)  # of the backend, in a fragment's header
-LIBRARY_AT, CHECKSUM_AT, METADATA_LEN = 63, 67, 59
-CORPUS = os.path.join(os.path.dirname(__file__), "../../tests/corpus")
+# The places and values of what a fragment's header has.
+VERSION_AT, LIBRARY_AT, CHECKSUM_AT, METADATA_LEN = 55, 63, 67, 59
+VERSION, VERSION_OF_SIX = 0x4C520C01, 0x4C520601  # of the backend
+CORPUS = Path(__file__).parents[2] / "tests/corpus"
 
 driver = ECDriver(k=12, m=4, ec_type="libphazr", chksum_type="inline_crc32")
 data = bytes(i * 31 >> 2 & 255 for i in range(120000))
 fragments = driver.encode(data)
-
-
-def refusal(call, *words):
-    """The type of the error that a call ends with; None if it returns."""
-    try:
-        call(*words)
-    except ECDriverError as error:
-        return type(error)
-    return None
 
 
 def others(fragments, *lost):
@@ -65,11 +53,9 @@ def test_sets():
             except ECInsufficientFragments:
                 assert count == 4, lost
                 refused += 1
-    assert (decoded, refused) == (2265, 252), (decoded, refused)
-    assert (
-        driver.min_parity_fragments_needed() == 1
-    )  # by which Swift takes 13 stored fragments to be enough
-    print(f"PyECLib: {decoded} sets of at most four lost decoded, {refused} refused, all of four")
+    assert (decoded, refused) == (2265, 252)
+    # Swift takes 13 stored fragments to be enough by this number.
+    assert driver.min_parity_fragments_needed() == 1
 
 
 def test_reads():
@@ -79,58 +65,53 @@ def test_reads():
         assert driver.reconstruct(others(fragments, lost), [lost]) == [fragments[lost]], lost
         # liberasurecode's own rule: no more may be missing than there are parities
         if lost < 14:
-            assert (
-                refusal(driver.reconstruct, [fragments[i] for i in needed], [lost])
-                is ECInsufficientFragments
-            )
+            with pytest.raises(ECInsufficientFragments):
+                driver.reconstruct([fragments[i] for i in needed], [lost])
     assert driver.fragments_needed([3], []) == [0, 1, 2, 4, 5, 12]
     without_four = driver.fragments_needed([3], [4])
     assert len(without_four) == 12 and 4 not in without_four
-    assert refusal(driver.fragments_needed, [3], [4, 5, 14, 15]) is ECInsufficientFragments
+    with pytest.raises(ECInsufficientFragments):
+        driver.fragments_needed([3], [4, 5, 14, 15])
     assert driver.reconstruct(others(fragments, 3, 9), [3, 9]) == [fragments[3], fragments[9]]
-    print(
-        "PyECLib: each fragment rebuilt; six are named as needed for 14 of the 16, twelve for two"
-    )
 
 
 def test_other_codes():
     reed_solomon = ECDriver(k=12, m=4, ec_type="liberasurecode_rs_vand")
-    assert (
-        reed_solomon.decode(others(fragments, 3)) != data
-    )  # README.md: the reverse is not guarded
+    # README.md: the reverse is not guarded.
+    assert reed_solomon.decode(others(fragments, 3)) != data
     other = reed_solomon.encode(data)
     newer = [with_version(fragment, VERSION + 1) for fragment in fragments]
     same = [with_version(fragment, VERSION) for fragment in fragments]
     assert driver.decode(others(same, 3)) == data
     assert struct.unpack_from("<I", fragments[15], VERSION_AT) == (VERSION,)
     for foreign in (other, newer, fragments[:15] + other[15:], fragments[:15] + newer[15:]):
-        assert refusal(driver.decode, others(foreign, 3)) is ECInvalidFragmentMetadata
-        assert refusal(driver.reconstruct, others(foreign, 3), [3]) is ECInvalidFragmentMetadata
+        with pytest.raises(ECInvalidFragmentMetadata):
+            driver.decode(others(foreign, 3))
+        with pytest.raises(ECInvalidFragmentMetadata):
+            driver.reconstruct(others(foreign, 3), [3])
     six = ECDriver(k=6, m=4, ec_type="libphazr")
     assert struct.unpack_from("<I", six.encode(data)[9], VERSION_AT) == (VERSION_OF_SIX,)
-    assert refusal(six.decode, fragments[:10]) is ECInvalidFragmentMetadata
-    print("PyECLib: fragments of another code or version are refused, one among fifteen too")
+    with pytest.raises(ECInvalidFragmentMetadata):
+        six.decode(fragments[:10])
 
 
-def test_parameters():
-    for k, m in ((12, 4), (6, 4)):
-        assert (
-            ECDriver(k=k, m=m, ec_type="libphazr").decode(
-                ECDriver(k=k, m=m, ec_type="libphazr").encode(b"x")
-            )
-            == b"x"
-        )
-    for k, m in ((12, 3), (10, 4), (12, 5), (4, 4)):
-        assert refusal(lambda: ECDriver(k=k, m=m, ec_type="libphazr")) is not None, (k, m)
-    print("PyECLib: no other numbers of fragments than 12+4 and 6+4")
+@pytest.mark.parametrize("k", (12, 6))
+def test_numbers_of_fragments(k):
+    one, other = (ECDriver(k=k, m=4, ec_type="libphazr") for _ in range(2))
+    assert one.decode(other.encode(b"x")) == b"x"
 
 
+@pytest.mark.parametrize("k, m", ((12, 3), (10, 4), (12, 5), (4, 4)))
+def test_other_numbers_of_fragments(k, m):
+    with pytest.raises(ECDriverError):
+        ECDriver(k=k, m=m, ec_type="libphazr")
+
+
+@pytest.mark.parametrize("k", (12, 6))
 def test_corpus(k):
     """Fragments that an earlier version stored: they are written and read alike."""
-    with open(f"{CORPUS}/object", "rb") as file:
-        stored_object = file.read()
-    with open(f"{CORPUS}/liberasurecode_{k}_4", "rb") as file:
-        stored = file.read()
+    stored_object = (CORPUS / "object").read_bytes()
+    stored = (CORPUS / f"liberasurecode_{k}_4").read_bytes()
     size = len(stored) // (k + 4)
     stored = [stored[i * size : (i + 1) * size] for i in range(k + 4)]
     mine = ECDriver(k=k, m=4, ec_type="libphazr")
@@ -140,30 +121,18 @@ def test_corpus(k):
         assert mine.decode(others(stored, *lost)) == stored_object, lost
         (new,) = mine.reconstruct(others(stored, *lost), [lost[0]])
         assert without_library(new) == without_library(stored[lost[0]]), lost
-    print(f"PyECLib: stored fragments of {k}+4 are written alike, and read")
 
 
 OTHER_RELEASE = "unsigned liberasurecode_get_version(void) { return 0x010700; }"
 NEW_DRIVER = "from pyeclib.ec_iface import *; ECDriver(k=12, m=4, ec_type='libphazr')"
 
 
-def test_other_release():
+def test_other_release(tmp_path):
     """The library refuses another release of liberasurecode than it was tested with."""
-    with tempfile.TemporaryDirectory() as folder:
-        words = ["gcc", "-shared", "-fPIC", "-x", "c", "-", "-o", f"{folder}/other.so"]
-        subprocess.run(words, input=OTHER_RELEASE, text=True, check=True)
-        environment = dict(os.environ, LD_PRELOAD=f"{folder}/other.so")
-        words = [sys.executable, "-c", NEW_DRIVER]
-        done = subprocess.run(words, env=environment, stderr=subprocess.PIPE, text=True)
+    words = ["gcc", "-shared", "-fPIC", "-x", "c", "-", "-o", f"{tmp_path}/other.so"]
+    subprocess.run(words, input=OTHER_RELEASE, text=True, check=True)
+    environment = dict(os.environ, LD_PRELOAD=f"{tmp_path}/other.so")
+    words = [sys.executable, "-c", NEW_DRIVER]
+    done = subprocess.run(words, env=environment, stderr=subprocess.PIPE, text=True)
     assert done.returncode != 0, done.stderr
-    assert "tested with liberasurecode 1.6, and this is 1.7" in done.stderr, done.stderr
-    print("PyECLib: another release of liberasurecode is refused")
-
-
-test_sets()
-test_reads()
-test_other_codes()
-test_parameters()
-test_corpus(12)
-test_corpus(6)
-test_other_release()
+    assert "tested with liberasurecode 1.6, and this is 1.7" in done.stderr

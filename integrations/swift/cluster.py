@@ -14,6 +14,9 @@ import socket
 import subprocess
 import threading
 import time
+from pathlib import Path
+
+import harness
 
 PYTHON = "/usr/bin/python3"  # Debian's, for which Debian's Swift is installed
 DATA, PARITIES = 12, 4
@@ -83,22 +86,17 @@ memcache_servers = 127.0.0.1:{memcached}
 connect_timeout = {seconds}
 pool_timeout = {seconds}
 io_timeout = {seconds}
-[filter:catch_errors]
-use = egg:swift#catch_errors
 [filter:gatekeeper]
 use = egg:swift#gatekeeper
 shunt_inbound_x_timestamp = false
-[filter:proxy-logging]
-use = egg:swift#proxy_logging
-[filter:copy]
-use = egg:swift#copy
-[filter:slo]
-use = egg:swift#slo
-[filter:dlo]
-use = egg:swift#dlo
-[filter:lrcstore]
+{plain_filters}[filter:lrcstore]
 use = egg:lrcstore_swift
-"""
+{of_filter}"""
+
+PLAIN_FILTERS = "".join(
+    f"[filter:{name}]\nuse = egg:swift#{name.replace('-', '_')}\n"
+    for name in ("catch_errors", "proxy-logging", "copy", "slo", "dlo")
+)
 
 LISTING = """[DEFAULT]
 {common}bind_port = {port}
@@ -135,17 +133,6 @@ files_per_second = 0
 bytes_per_second = 0
 zero_byte_files_per_second = 0
 """
-
-
-def free_ports(count):
-    """Ports of 127.0.0.1 that nothing listens on, all of them different."""
-    sockets = [socket.socket() for _ in range(count)]
-    for each in sockets:
-        each.bind(("127.0.0.1", 0))
-    ports = [each.getsockname()[1] for each in sockets]
-    for each in sockets:
-        each.close()
-    return ports
 
 
 class Logs:
@@ -222,8 +209,10 @@ class Policy:
 
 
 class Cluster:
-    """`environment` is added to that of every process. `filters` stand in the proxy's pipeline, and
-    `settings` in the section of the proxy server."""
+    """`environment` is added to that of every process. `filters` stand in the proxy's pipeline,
+    `settings` in the section of the proxy server, and `of_filter` in that of the filter."""
+
+    of_filter = ""
 
     def __init__(self, folder, policies, environment, filters=(), **settings):
         self.folder, self.policies, self.filters = folder, policies, filters
@@ -237,13 +226,18 @@ class Cluster:
             self.container_port,
             self.memcached_port,
             *self.object_ports,
-        ) = free_ports(4 + SERVERS)
+        ) = harness.free_ports(4 + SERVERS)
 
     # ---- settings and rings
 
     def write(self, name, text):
-        with open(os.path.join(self.folder, name), "w", encoding="utf-8") as file:
-            file.write(text)
+        Path(self.folder, name).write_text(text, "utf-8")
+
+    def prepare(self):
+        """Makes the folder, with the settings and the rings."""
+        os.mkdir(self.folder)
+        self.configure()
+        self.make_rings()
 
     def configure(self):
         for name in ("accounts/a0", "cache", "logs", *(f"devices/d{i}" for i in range(DEVICES))):
@@ -257,6 +251,8 @@ class Cluster:
         words = {
             "folder": self.folder,
             "filters": " ".join(self.filters),
+            "plain_filters": PLAIN_FILTERS,
+            "of_filter": self.of_filter,
             "memcached": self.memcached_port,
             "seconds": SECONDS,
             "patience": f"node_timeout = {SECONDS}\nconn_timeout = {SECONDS}\n",
@@ -264,11 +260,13 @@ class Cluster:
         }
         common = f"bind_ip = 127.0.0.1\nuser = {user}\nswift_dir = {self.folder}\n"
         common += f"log_address = {self.folder}/{{}}.log\n"
-        ports = {"proxy": self.proxy_port, "account": self.account_port}
-        ports["container"] = self.container_port
-        for kind, port in ports.items():
+        for kind, port, text in (
+            ("proxy", self.proxy_port, PROXY),
+            ("account", self.account_port, LISTING),
+            ("container", self.container_port, LISTING),
+        ):
             words.update(kind=kind, port=port, common=common.format(kind))
-            self.write(f"{kind}.conf", (PROXY if kind == "proxy" else LISTING).format(**words))
+            self.write(f"{kind}.conf", text.format(**words))
         words["common"] = common.format("object")
         self.write("object.conf", OBJECT.format(server="servers_per_port = 1", **words))
         for i, port in enumerate(self.object_ports):
@@ -301,19 +299,9 @@ class Cluster:
         """What the program prints and logs, whatever its status."""
         name = program.rsplit("-", 1)[-1]
         before = len(self.log(name)) if name in LOGS else 0
-        done = subprocess.run(
-            self.command(program, *words),
-            env=self.environment,
-            cwd=self.folder,
-            stdin=subprocess.DEVNULL,
-            stdout=subprocess.PIPE,
-            stderr=subprocess.STDOUT,
-            text=True,
-            errors="replace",
-            timeout=SECONDS,
-            check=False,
-        )
-        return done.stdout + (self.log(name)[before:] if name in LOGS else "")
+        settings = {"env": self.environment, "cwd": self.folder, "timeout": SECONDS}
+        _, printed = harness.outcome_of(*self.command(program, *words), **settings)
+        return printed + (self.log(name)[before:] if name in LOGS else "")
 
     def spawn(self, name, command, log=None):
         with open(f"{self.folder}/logs/{log or name}", "ab") as file:
@@ -327,16 +315,25 @@ class Cluster:
                 start_new_session=True,
             )
 
+    def count_logged(self, name, *words, start=0):
+        """How many lines have all these words, of those that begin at `start` in the log."""
+        lines = self.log(name)[start:].splitlines()
+        return sum(all(word in line for word in words) for line in lines)
+
     def log(self, name):
         """What the program has printed and logged until now."""
         if self.logs and name in LOGS:
             self.logs.settle(name)
-        with open(f"{self.folder}/logs/{name}", errors="replace", encoding="utf-8") as file:
-            return file.read()
+        return Path(self.folder, "logs", name).read_text("utf-8", "replace")
 
     def spawn_object_server(self, number):
         conf = f"{self.folder}/object{number}.conf"
         self.spawn(f"object{number}", self.command("swift-object-server", conf), "object")
+
+    def restart_object_server(self, number):
+        """Starts one that was killed, until it listens."""
+        self.spawn_object_server(number)
+        self.wait_for(self.object_ports[number])
 
     def spawn_reconstructor(self):
         """It runs again and again."""
@@ -429,8 +426,8 @@ class Cluster:
 
     def primaries(self, policy, path):
         """Where the ring says that an object's fragments have to be, as `places` does."""
-        with open(f"{self.folder}/{policy.ring}.json", encoding="utf-8") as file:
-            devices = json.load(file)[int(hash_of(path)[:8], 16) >> 32 - PART_POWER]
+        ring = json.loads(Path(self.folder, f"{policy.ring}.json").read_text("utf-8"))
+        devices = ring[int(hash_of(path)[:8], 16) >> 32 - PART_POWER]
         return {(i % policy.fragments, device) for i, device in enumerate(devices)}
 
 

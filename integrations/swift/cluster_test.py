@@ -8,74 +8,39 @@ every process that it started, and prints `N passed, M failed`. It needs the cod
 folder that LRC_LIBRARIES names, or the Rattle kit's `rt`, which builds it. What is installed of
 lrcstore is neither used nor changed."""
 
-import argparse
 import collections
 import concurrent.futures
 import ctypes
 import hashlib
 import itertools
 import os
-import re
 import shutil
 import struct
 import subprocess
 import sys
 import time
+from pathlib import Path
 
 sys.dont_write_bytecode = True
 HERE = os.path.dirname(os.path.abspath(__file__))
 TOP = os.path.dirname(os.path.dirname(HERE))
 sys.path[:0] = [HERE, os.path.dirname(HERE)]
 import harness  # noqa: E402
-from cluster import (  # noqa: E402
-    DATA,
-    FRAGMENTS,
-    PYTHON,
-    Client,
-    Cluster,
-    Policy,
-)
-from fragments import (  # noqa: E402
-    ISA,
-    LRC,
-    MIB,
-    REPLICATED,
-    SMALL,
-    Away,
-    contents,
-    count_gets,
-    get,
-    installed,
-    is_recoverable,
-    partition_of,
-    payload,
-    proxy_beside,
-    python,
-    rebuild,
-    reconstruct,
-    text_of,
-    with_cluster,
-    wrong_of,
-)
+from cluster import DATA, FRAGMENTS, PYTHON, Client, Policy  # noqa: E402
+from fragments import ISA, LRC, MIB, REFUSED, REPLICATED, RIGHT, SMALL, Outcomes  # noqa: E402
+from fragments import change_byte, contents, count_gets, device_of, get  # noqa: E402
+from fragments import outcome_without, partition_of, payload, proxy_beside, python  # noqa: E402
+from fragments import rebuild, reconstruct, running, without_fragments  # noqa: E402
 from crashes import crashes  # noqa: E402
 from damage import damage  # noqa: E402
+from etags import etags  # noqa: E402
 from handoffs import handoffs  # noqa: E402
 from installations import other_code, wrong_installations  # noqa: E402
 from storm import concurrent_storm, storm  # noqa: E402
 from suppression import suppression  # noqa: E402
 
-PACKAGES = (
-    "gcc",
-    "libisal2",
-    "liberasurecode-dev",
-    "memcached",
-    "python3-pyeclib",
-    "python3-swiftclient",
-    "swift-account",
-    "swift-container",
-    "swift-object",
-    "swift-proxy",
-)
+PACKAGES = "gcc libisal2 liberasurecode-dev memcached python3-pyeclib python3-pytest".split()
+PACKAGES += "python3-swiftclient swift-account swift-container swift-object swift-proxy".split()
 SIZES = (0, 1, 11, 12, MIB, 5 * MIB + 13)
 VERSION = 0x4C520C01  # of the backend, in each fragment's header
 LOST = ((), (3,), (3, 4), (3, 4, 14))
@@ -84,7 +49,7 @@ CLIENTS = 4
 
 # ---- installation
 
-REFUSED = """
+CHECK_RELEASE = """
 from lrcstore_swift import refuse_other_releases
 try:
     refuse_other_releases()
@@ -111,15 +76,13 @@ def check_versions(report, folder, is_untested):
     is added to those that they take, in the copy of the test."""
     words = ["dpkg-query", "-W", "-f", "${Package} ${Version}, "]
     names = ("python3-swift", "python3-pyeclib", "liberasurecode1", "python3")
-    done = subprocess.run([*words, *names], stdout=subprocess.PIPE, text=True, check=True)
-    report.note(done.stdout.strip(", "))
+    report.note(subprocess.check_output([*words, *names], text=True).strip(", "))
     if is_untested:
         release = python(folder, "import swift; print(*swift.__version__.split('.')[:2], sep='.')")
         path = f"{folder}/python/lrcstore_swift/__init__.py"
         text = contents(path).decode().replace("TESTED = (", f'TESTED = ("{release.strip()}", ')
-        with open(path, "w", encoding="utf-8") as file:
-            file.write(text)
-    refused = python(folder, REFUSED)
+        Path(path).write_text(text, "utf-8")
+    refused = python(folder, CHECK_RELEASE)
     if refused:
         raise RuntimeError(refused.strip())
 
@@ -196,44 +159,30 @@ def check_fragments(report, cluster, path, body):
 
 def swift_without_module(report, folder, options):
     """The code is in its place, and Swift takes any twelve fragments to be enough."""
-    lrc = Policy(1, "lrc", "libphazr")
-    cluster = Cluster(f"{folder}/without", [REPLICATED, lrc], installed(folder))
-
-    def work(client):
-        path, body = "lrc/object", payload(MIB)
+    path, body, lrc = "lrc/object", payload(MIB), Policy(1, "lrc", "libphazr")
+    with running(folder, "without", lrc, filters=()) as (cluster, client):
         client.put(path, body)
         for lost in LOST:
-            with Away(cluster, f"{client.account}/{path}", lost):
+            with without_fragments(cluster, f"{client.account}/{path}", lost):
                 outcomes = count_gets(client, path, body, options.times)
-            report.check(
-                f"without the module, lost {list(lost)}: right or refused",
-                not wrong_of(outcomes),
-                text_of(outcomes),
-            )
+            name = f"without the module, lost {list(lost)}: right or refused"
+            report.check(name, not outcomes.wrong(), outcomes)
         check_other_proxy(report, cluster, folder, path, body)
-
-    with_cluster(cluster, work)
 
 
 def check_other_proxy(report, cluster, folder, path, body):
     """A proxy with the module reads what one without it has put."""
     with proxy_beside(f"{folder}/other_proxy", cluster, [REPLICATED, LRC]) as (_, reader):
         outcomes = count_gets(reader, path, body, 20)
-    report.check(
-        "a proxy with the module reads what one without it has put",
-        set(outcomes) == {("right", 200)},
-        text_of(outcomes),
-    )
+    name = "a proxy with the module reads what one without it has put"
+    report.check(name, set(outcomes) == {RIGHT}, outcomes)
 
 
 # ---- Swift with the module: reads
 
 
 def swift_with_module(report, folder, options):
-    policies = [REPLICATED, LRC, ISA, SMALL]
-    cluster = Cluster(f"{folder}/with", policies, installed(folder), ("lrcstore",))
-
-    def work(client):
+    with running(folder, "with", LRC, ISA, SMALL) as (cluster, client):
         check_reads(report, cluster, client)
         gets = check_few_lost(report, cluster, client, options.times)
         gets += check_lost_sets(report, cluster, client)
@@ -245,8 +194,6 @@ def swift_with_module(report, folder, options):
         check_command_line(report, client, folder)
         check_migration(report, client, folder)
         check_large(report, client, options.large * MIB)
-
-    with_cluster(cluster, work)
 
 
 def check_reads(report, cluster, client):
@@ -268,21 +215,15 @@ def check_reads(report, cluster, client):
 
 
 def check_few_lost(report, cluster, client, times):
-    path, body, total = f"lrc/o{MIB}", payload(MIB), collections.Counter()
+    path, body, total = f"lrc/o{MIB}", payload(MIB), Outcomes()
     for lost in LOST:
-        before = len(cluster.log("object"))
-        with Away(cluster, f"{client.account}/{path}", lost):
+        start = len(cluster.log("object"))
+        with without_fragments(cluster, f"{client.account}/{path}", lost):
             outcomes = count_gets(client, path, body, times)
         total += outcomes
-        asked = sum(
-            '"GET ' in line and '"proxy-server' in line
-            for line in cluster.log("object")[before:].splitlines()
-        )
-        report.check(
-            f"lost {list(lost)}: always right",
-            set(outcomes) == {("right", 200)},
-            f"{text_of(outcomes)}; {asked / times:.1f} fragment GETs for each",
-        )
+        asked = cluster.count_logged("object", '"GET ', '"proxy-server', start=start)
+        shown = f"{outcomes}; {asked / times:.1f} fragment GETs for each"
+        report.check(f"lost {list(lost)}: always right", set(outcomes) == {RIGHT}, shown)
     return total
 
 
@@ -319,34 +260,31 @@ def check_lost_sets(report, cluster, client):
     def try_sets(path, some):
         mine, found = Client(cluster.proxy_port), []
         for lost in some:
-            with Away(cluster, f"{client.account}/{path}", lost, files[path]):
+            with without_fragments(cluster, f"{client.account}/{path}", lost, files[path]):
                 found.append((lost, get(mine, path, bodies[path])))
         return found
 
     with concurrent.futures.ThreadPoolExecutor(CLIENTS) as pool:
         tasks = [pool.submit(try_sets, path, sets[n::CLIENTS]) for n, path in enumerate(bodies)]
         found = [each for task in tasks for each in task.result()]
-    wanted = {True: ("right", 200), False: ("refused", 503)}
-    differ = [each for each in found if each[1] != wanted[is_recoverable(each[0])]]
-    outcomes = collections.Counter(outcome for _, outcome in found)
+    differ = [each for each in found if each[1] != outcome_without(each[0])]
+    outcomes = Outcomes(outcome for _, outcome in found)
     report.check(
         f"{len(found)} sets of at most four lost: right if and only if they are recoverable",
-        not differ and outcomes[wanted[True]] == 2265 and outcomes[wanted[False]] == 252,
-        f"{text_of(outcomes)}{f'; differ: {differ[:5]}' if differ else ''}",
+        not differ and outcomes[RIGHT] == 2265 and outcomes[REFUSED] == 252,
+        f"{outcomes}{f'; differ: {differ[:5]}' if differ else ''}",
     )
     return outcomes
 
 
 def check_devices(report, cluster, client):
-    path, body, total = f"lrc/o{MIB}", payload(MIB), collections.Counter()
+    path, body, total = f"lrc/o{MIB}", payload(MIB), Outcomes()
     for lost in ((3, 9, 14, 15), (0, 1, 2, 13), (0, 1, 2, 3)):
-        with Away(cluster, f"{client.account}/{path}", lost, whole_devices=True):
+        with without_fragments(cluster, f"{client.account}/{path}", lost, whole_devices=True):
             outcomes = count_gets(client, path, body, 3)
         total += outcomes
-        wanted = {("right", 200)} if is_recoverable(lost) else {("refused", 503)}
-        report.check(
-            f"the devices of {list(lost)} are missing", set(outcomes) == wanted, text_of(outcomes)
-        )
+        good = set(outcomes) == {outcome_without(lost)}
+        report.check(f"the devices of {list(lost)} are missing", good, outcomes)
     return total
 
 
@@ -354,7 +292,7 @@ def check_total(report, gets):
     statuses = collections.Counter()
     for (_, status), count in gets.items():
         statuses[status] += count
-    total, wrong = sum(statuses.values()), wrong_of(gets)
+    total, wrong = sum(statuses.values()), gets.wrong()
     report.check(
         "no wrong byte and no status 500 in at least 2,000 GETs",
         total >= 2000 and not wrong and not statuses[500],
@@ -404,11 +342,11 @@ def check_small(report, cluster, client):
     """LRC(6,2,2): groups 0 to 2 with 6, and 3 to 5 with 7; global parities 8 and 9."""
     path, body = "small/object", payload(SIZES[-1])
     client.put(path, body)
-    for lost, wanted in (((0, 1, 8), ("right", 200)), ((0, 1, 2, 6), ("refused", 503))):
-        with Away(cluster, f"{client.account}/{path}", lost, policy=SMALL):
+    for lost, wanted in (((0, 1, 8), RIGHT), ((0, 1, 2, 6), REFUSED)):
+        with without_fragments(cluster, f"{client.account}/{path}", lost, policy=SMALL):
             outcomes = count_gets(client, path, body, 10)
         name = f"LRC(6,2,2), lost {list(lost)}: {wanted[0]}"
-        report.check(name, set(outcomes) == {wanted}, text_of(outcomes))
+        report.check(name, set(outcomes) == {wanted}, outcomes)
     for lost, most in ((1, 3), (9, 6)):
         equal, gets = rebuild(cluster, SMALL, f"{client.account}/{path}", (lost,))
         report.check(
@@ -420,7 +358,8 @@ def check_small(report, cluster, client):
 
 def check_auditor(report, cluster, path):
     """Swift's auditor and swift-object-info, over the code's fragments and over a changed one."""
-    log = cluster.run("swift-object-auditor", f"{cluster.folder}/object.conf", "-o")
+    auditor = "swift-object-auditor", f"{cluster.folder}/object.conf", "-o"
+    log = cluster.run(*auditor)
     aside = [
         name
         for name in os.listdir(f"{cluster.folder}/devices")
@@ -436,16 +375,8 @@ def check_auditor(report, cluster, path):
         "(valid)" in text and "doesn't match" not in text,
     )
     before = contents(file)
-    with open(file, "r+b") as opened:
-        opened.seek(5000)
-        opened.write(bytes([before[5000] ^ 1]))
-    cluster.run(
-        "swift-object-auditor",
-        f"{cluster.folder}/object.conf",
-        "-o",
-        "-d",
-        re.search(r"/devices/(d\d+)/", file).group(1),
-    )
+    change_byte(file, 5000)
+    cluster.run(*auditor, "-d", device_of(file))
     gone = 7 not in cluster.fragments(LRC, path)
     reconstruct(cluster, "-p", partition_of(file))
     files = cluster.fragments(LRC, path)
@@ -461,22 +392,14 @@ def check_auditor(report, cluster, path):
 def swift_command(client, folder, *words):
     """Runs Swift's own client: its status, and what it prints."""
     command = [PYTHON, "/usr/bin/swift", "-A", f"http://127.0.0.1:{client.port}/auth/v1.0"]
-    done = subprocess.run(
-        [*command, "-U", "test:tester", "-K", "testing", *words],
-        stdout=subprocess.PIPE,
-        stderr=subprocess.STDOUT,
-        text=True,
-        cwd=folder,
-        check=False,
-    )
-    return done.returncode, done.stdout
+    command += ["-U", "test:tester", "-K", "testing"]
+    return harness.outcome_of(*command, *words, cwd=folder)
 
 
 def check_command_line(report, client, folder):
     """Swift's own client, with an object in segments."""
     body = payload(3 * MIB + 5, 9)
-    with open(f"{folder}/up", "wb") as file:
-        file.write(body)
+    Path(folder, "up").write_bytes(body)
     segmented = ("--object-name", "segmented", "-S", str(MIB), "--segment-container", "lrc")
     up, printed = swift_command(client, folder, "upload", "lrc", f"{folder}/up", *segmented)
     down, more = swift_command(
@@ -530,21 +453,9 @@ def check_large(report, client, size):
         )
 
 
-PARTS = {
-    part.__name__: part
-    for part in (
-        swift_without_module,
-        swift_with_module,
-        crashes,
-        other_code,
-        wrong_installations,
-        handoffs,
-        damage,
-        storm,
-        concurrent_storm,
-        suppression,
-    )
-}
+PARTS = (swift_without_module, swift_with_module, crashes, other_code, wrong_installations)
+PARTS += (handoffs, damage, etags, storm, concurrent_storm, suppression)
+PARTS = {part.__name__: part for part in PARTS}
 
 
 def work(report, folder, options):
@@ -556,18 +467,15 @@ def work(report, folder, options):
         PARTS[name](report, folder, options)
 
 
-def main():
-    parser = argparse.ArgumentParser(
-        description=__doc__, formatter_class=argparse.RawDescriptionHelpFormatter
-    )
-    parser.add_argument("--keep", action="store_true", help="keep the folder, with the logs")
+def arguments():
+    parser = harness.parser_of(__doc__)
     parser.add_argument("--only", choices=PARTS, action="append", help="run this part")
     parser.add_argument("--large", type=int, default=100, help="the largest object, in MiB")
     parser.add_argument("--times", type=int, default=30, help="GETs for each set of fragments")
     parser.add_argument("--crashes", type=int, default=10, help="GETs while a server is killed")
     parser.add_argument("--untested", action="store_true", help="take the release of Swift here")
-    return harness.run(parser.parse_args(), PACKAGES, work)
+    return parser
 
 
 if __name__ == "__main__":
-    sys.exit(main())
+    sys.exit(harness.run(arguments(), PACKAGES, work))

@@ -3,34 +3,19 @@
 import collections
 import itertools
 
-from cluster import SERVERS, Cluster
-from fragments import (
-    ISA,
-    LRC,
-    MIB,
-    REPLICATED,
-    fragments_of_server,
-    get,
-    installed,
-    is_recoverable,
-    payload,
-    with_cluster,
-)
+from cluster import SERVERS
+from fragments import ISA, LRC, MIB, fragments_of_server, get, is_recoverable, payload, running
 
 CRASH_SIZE = 240 * MIB  # more than the sockets hold
 
 
 def crashes(report, folder, options):
     """One object server after another is killed while a GET is answered."""
-    cluster = Cluster(f"{folder}/crashes", [REPLICATED, LRC, ISA], installed(folder), ("lrcstore",))
-
-    def work(client):
-        body = payload(CRASH_SIZE)
+    body = payload(CRASH_SIZE)
+    with running(folder, "crashes", LRC, ISA) as (cluster, client):
         for policy in (LRC, ISA):
             client.put(f"{policy.name}/large", body)
             check_crashes(report, cluster, client, policy, body, options.crashes)
-
-    with_cluster(cluster, work)
 
 
 def check_crashes(report, cluster, client, policy, body, times):
@@ -40,8 +25,7 @@ def check_crashes(report, cluster, client, policy, body, times):
         is_served = policy is ISA or is_recoverable(lost)
         outcome, _ = get(client, path, body, lambda: cluster.kill_object_server(number))
         found[lost, is_served, outcome] += 1
-        cluster.spawn_object_server(number)
-        cluster.wait_for(cluster.object_ports[number])
+        cluster.restart_object_server(number)
     served = {outcome for _, is_served, outcome in found if is_served}
     others = {outcome for _, is_served, outcome in found if not is_served}
     texts = [f"{count} {each[2]} without {list(each[0])}" for each, count in found.items()]

@@ -1,30 +1,13 @@
 """Fragments that were damaged on disk, and a reconstructor without the module."""
 
-import collections
 import glob
 import os
 import shutil
 import struct
 
-from cluster import Cluster, Policy
-from fragments import (
-    ISA,
-    LRC,
-    MIB,
-    REPLICATED,
-    contents,
-    device_of,
-    get,
-    installed,
-    partition_of,
-    payload,
-    reconstruct,
-    replace_devices,
-    settings_beside,
-    text_of,
-    with_cluster,
-    wrong_of,
-)
+from cluster import Policy
+from fragments import ISA, LRC, MIB, REPLICATED, Outcomes, contents, device_of, get, partition_of
+from fragments import payload, reconstruct, replace_devices, running, settings_beside
 
 DAMAGED = (2, 9)  # data fragments of both groups
 OTHERS = {2: 5, 9: 13}  # whose bytes these get
@@ -34,9 +17,7 @@ WITHOUT = ((3,), (13,), (15,), (2, 4), (6, 11), (0, 8, 14))  # lost sets
 
 
 def damage(report, folder, options):
-    cluster = Cluster(f"{folder}/damage", [REPLICATED, LRC, ISA], installed(folder), ("lrcstore",))
-
-    def work(client):
+    with running(folder, "damage", LRC, ISA) as (cluster, client):
         for kind in KINDS:
             for size in SIZES:
                 check_damaged(report, cluster, client, LRC, kind, size)
@@ -44,8 +25,6 @@ def damage(report, folder, options):
         for policy in (LRC, ISA):
             check_overwritten(report, cluster, client, policy)
         check_without_module(report, cluster, client, folder)
-
-    with_cluster(cluster, work)
 
 
 # ---- damaged files
@@ -100,7 +79,7 @@ class Damage:
             shutil.copy2(self.files[i], self.kept[i])
 
     def count_gets(self, client, path, body):
-        outcomes = collections.Counter()
+        outcomes = Outcomes()
         for _ in range(TIMES):
             self.put_back()
             outcomes[get(client, path, body)] += 1
@@ -114,6 +93,12 @@ class Damage:
                 shutil.copy2(self.kept[i], self.files[i])
 
 
+def check_gets(report, name, outcomes, good):
+    """Checks that no GET had another outcome than these."""
+    words = " or ".join(sorted(good, reverse=True))
+    report.check(f"{name}: GETs are {words}", good.issuperset(it for it, _ in outcomes), outcomes)
+
+
 def check_damaged(report, cluster, client, policy, kind, size):
     """An object server compares the header of a whole segment before it has sent the fragment. That
     of a shorter one it compares after that, so a GET may be refused."""
@@ -124,11 +109,7 @@ def check_damaged(report, cluster, client, policy, kind, size):
     may_refuse = kind == HEADER and size < MIB
     good = {"right", "refused"} if may_refuse else {"right"}
     name = f"{policy.ec_type}, two fragments of {size} bytes {kind}"
-    report.check(
-        f"{name}: GETs are {' or '.join(sorted(good, reverse=True))}",
-        good.issuperset(outcome for outcome, _ in outcomes),
-        text_of(outcomes),
-    )
+    check_gets(report, name, outcomes, good)
     check_quarantined(report, cluster, damaged, name)
 
 
@@ -140,11 +121,9 @@ def check_quarantined(report, cluster, damaged, name):
     reconstruct(cluster, "-p", partition_of(damaged.files[0]))
     files = cluster.fragments(damaged.policy, damaged.path)
     equal = [i for i in DAMAGED if i in files and contents(files[i]) == damaged.before[i]]
-    report.check(
-        f"{name}: both are quarantined, and rebuilt byte-equal",
-        aside == equal == list(DAMAGED),
-        "" if aside == equal == list(DAMAGED) else f"quarantined {aside}, rebuilt {equal}",
-    )
+    good = aside == equal == list(DAMAGED)
+    shown = "" if good else f"quarantined {aside}, rebuilt {equal}"
+    report.check(f"{name}: both are quarantined, and rebuilt byte-equal", good, shown)
 
 
 def is_quarantined(file):
@@ -159,7 +138,7 @@ def check_overwritten(report, cluster, client, policy):
     damaged = Damage(cluster, policy, f"{client.account}/{path}", overwrite)
     outcomes = damaged.count_gets(client, path, body)
     name = f"{policy.ec_type}, two fragments overwritten by two others"
-    report.check(f"{name}: right or refused", not wrong_of(outcomes), text_of(outcomes))
+    check_gets(report, name, outcomes, {"right", "refused"})
     check_quarantined(report, cluster, damaged, name)
 
 
@@ -176,7 +155,7 @@ def check_without_module(report, cluster, client, folder):
     whole, differ, rebuilt, healed = f"{client.account}/{path}", [], [], []
     for lost in WITHOUT:
         files = cluster.fragments(LRC, whole)
-        saved = replace_devices(cluster, files, lost)
+        saved = replace_devices(files, lost)
         for each, equal in ((other, rebuilt), (cluster, healed)):
             reconstruct(each, "-p", partition_of(files[lost[0]]))
             found = cluster.fragments(LRC, whole)

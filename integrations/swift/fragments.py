@@ -9,6 +9,7 @@ import random
 import re
 import shutil
 import subprocess
+from pathlib import Path
 
 from cluster import PYTHON, SERVERS, Client, Cluster, Policy
 
@@ -21,6 +22,8 @@ LRC = Policy(1, "lrc", "libphazr", diskfile_module="egg:lrcstore_swift#main")
 SMALL = Policy(3, "small", "libphazr", 6, diskfile_module="egg:lrcstore_swift#main")
 ISA = Policy(2, "isa", "isa_l_rs_vand")
 
+RIGHT, REFUSED = ("right", 200), ("refused", 503)  # outcomes of a GET
+
 
 def is_recoverable(lost):
     """Whether the remaining fragments determine all of them: each group makes good one loss, and
@@ -29,13 +32,26 @@ def is_recoverable(lost):
     return beyond + sum(i in GLOBALS for i in lost) <= 2
 
 
+def outcome_without(lost):
+    """The outcome of a GET of an object in LRC(12,2,2)."""
+    return RIGHT if is_recoverable(lost) else REFUSED
+
+
 def payload(size, seed=0):
     return random.Random(size * 31 + seed).randbytes(size)
 
 
 def contents(path):
-    with open(path, "rb") as file:
-        return file.read()
+    return Path(path).read_bytes()
+
+
+def change_byte(path, at):
+    """Changes a bit of the byte there."""
+    with open(path, "r+b") as file:
+        file.seek(at)
+        (byte,) = file.read(1)
+        file.seek(at)
+        file.write(bytes([byte ^ 1]))
 
 
 def installed(folder):
@@ -49,27 +65,24 @@ def installed(folder):
 
 def python(folder, program):
     """What a program in Python prints, with the modules as they are installed for the test."""
-    return subprocess.run(
-        [PYTHON, "-c", program],
-        env=dict(os.environ, **installed(folder)),
-        cwd=folder,
-        stdout=subprocess.PIPE,
-        text=True,
-        check=True,
-    ).stdout
+    settings = {"env": dict(os.environ, **installed(folder)), "cwd": folder, "text": True}
+    return subprocess.check_output([PYTHON, "-c", program], **settings)
 
 
-def with_cluster(cluster, work):
-    os.mkdir(cluster.folder)
-    cluster.configure()
-    cluster.make_rings()
+@contextlib.contextmanager
+def running(folder, name, *policies, filters=("lrcstore",), **settings):
+    """A cluster with these policies in a folder of its own, whose proxy has the module. Gives it
+    and a client."""
+    policies = [REPLICATED, *policies]
+    cluster = Cluster(f"{folder}/{name}", policies, installed(folder), filters, **settings)
+    cluster.prepare()
     try:
         cluster.start()
         client = Client(cluster.proxy_port)
-        for policy in cluster.policies[1:]:
+        for policy in policies[1:]:
             status = client.call("PUT", policy.name, {"X-Storage-Policy": policy.name})[0]
             assert status == 201, f"PUT of the container {policy.name}: status {status}"
-        work(client)
+        yield cluster, client
     finally:
         cluster.stop()
 
@@ -80,9 +93,7 @@ def settings_beside(folder, cluster, policies, kind=Cluster, **environment):
     other = kind(folder, policies, {**cluster.environment, **environment}, ("lrcstore",))
     other.account_port, other.container_port = cluster.account_port, cluster.container_port
     other.memcached_port, other.object_ports = cluster.memcached_port, cluster.object_ports
-    os.mkdir(folder)
-    other.configure()
-    other.make_rings()
+    other.prepare()
     shutil.rmtree(f"{folder}/devices")
     os.symlink(f"{cluster.folder}/devices", f"{folder}/devices")
     return other
@@ -100,26 +111,19 @@ def proxy_beside(folder, cluster, policies, kind=Cluster, **environment):
         other.stop()
 
 
-class Away:
-    """Some fragments of an object are away, or their whole devices, and back at the end."""
-
-    def __init__(self, cluster, path, numbers, files=None, whole_devices=False, policy=LRC):
-        files = files or cluster.fragments(policy, path)
-        places = [
-            re.match(r".*/devices/d\d+", files[i]).group(0)
-            if whole_devices
-            else os.path.dirname(files[i])
-            for i in numbers
-        ]
-        aside = hashlib.md5(path.encode()).hexdigest()
-        self.moves = [(place, f"{cluster.folder}/{aside}.{i}") for i, place in zip(numbers, places)]
-
-    def __enter__(self):
-        for place, aside in self.moves:
-            os.rename(place, aside)
-
-    def __exit__(self, *_):
-        for place, aside in self.moves:
+@contextlib.contextmanager
+def without_fragments(cluster, path, numbers, files=None, whole_devices=False, policy=LRC):
+    """Some fragments of an object are away inside the block, or their whole devices."""
+    files = files or cluster.fragments(policy, path)
+    place_of = device_folder if whole_devices else os.path.dirname
+    name = hashlib.md5(path.encode()).hexdigest()
+    moves = [(place_of(files[i]), f"{cluster.folder}/{name}.{i}") for i in numbers]
+    for place, aside in moves:
+        os.rename(place, aside)
+    try:
+        yield
+    finally:
+        for place, aside in moves:
             os.rename(aside, place)
 
 
@@ -131,28 +135,37 @@ def exchange(one, other):
         raise OSError(ctypes.get_errno(), f"{one} and {other} can't be exchanged")
 
 
-class DevicesAway:
-    """Devices are away, also while servers write to them, and back at the end."""
-
-    def __init__(self, cluster, names):
-        self.moves = [
-            (f"{cluster.folder}/devices/{name}", f"{cluster.folder}/away.{name}") for name in names
-        ]
-
-    def __enter__(self):
-        for place, aside in self.moves:
-            open(aside, "wb").close()
-            exchange(place, aside)
-
-    def __exit__(self, *_):
-        for place, aside in self.moves:
+@contextlib.contextmanager
+def without_devices(cluster, names):
+    """Devices are away inside the block, also while servers write to them."""
+    at = cluster.folder
+    moves = [(f"{at}/devices/{name}", f"{at}/away.{name}") for name in names]
+    for place, aside in moves:
+        open(aside, "wb").close()
+        exchange(place, aside)
+    try:
+        yield
+    finally:
+        for place, aside in moves:
             exchange(place, aside)
             os.unlink(aside)
 
 
+class Outcomes(collections.Counter):
+    """How many GETs had which outcome."""
+
+    def __str__(self):
+        return ", ".join(
+            f"{count} {what} ({status})" for (what, status), count in sorted(self.items())
+        )
+
+    def wrong(self):
+        return sum(count for (what, _), count in self.items() if what == "wrong")
+
+
 def get(client, path, body, midway=None):
-    """`right`, `refused` (a status from 500 on, or a body that ends early) or `wrong`, and the
-    status."""
+    """The outcome: `right`, `refused` (a status from 500 on, or a body that ends early) or `wrong`,
+    and the status."""
     status, _, answer = client.get(path, midway=midway)
     if status == 200 and answer == body:
         return "right", status
@@ -162,21 +175,25 @@ def get(client, path, body, midway=None):
 
 
 def count_gets(client, path, body, times):
-    return collections.Counter(get(client, path, body) for _ in range(times))
+    return Outcomes(get(client, path, body) for _ in range(times))
 
 
-def text_of(outcomes):
-    return ", ".join(
-        f"{count} {outcome} ({status})" for (outcome, status), count in sorted(outcomes.items())
-    )
-
-
-def wrong_of(outcomes):
-    return sum(count for (outcome, _), count in outcomes.items() if outcome == "wrong")
+def are_right(client, bodies):
+    """Whether GETs of these paths give these bodies."""
+    return {get(client, path, body) for path, body in bodies.items()} == {RIGHT}
 
 
 def reconstruct(cluster, *words):
     return cluster.run("swift-object-reconstructor", f"{cluster.folder}/object.conf", "-o", *words)
+
+
+def reconstruct_until(holds, cluster, *words, most=3):
+    """Runs the reconstructor again and again; how often."""
+    runs = 0
+    while runs < most and not holds():
+        runs += 1
+        reconstruct(cluster, *words)
+    return runs
 
 
 def is_on_primaries(cluster, policy, path):
@@ -184,13 +201,14 @@ def is_on_primaries(cluster, policy, path):
     return cluster.places(policy, path) == cluster.primaries(policy, path)
 
 
-def move_to_primaries(cluster, policy, paths, most=10):
+def move_to_primaries(cluster, policy, paths):
     """Runs the reconstructor until all fragments of the objects are on their primary devices and
     nowhere else. Returns how many are, and the number of runs."""
-    runs = 0
-    while runs < most and not all(is_on_primaries(cluster, policy, path) for path in paths):
-        runs += 1
-        reconstruct(cluster)
+
+    def are_moved():
+        return all(is_on_primaries(cluster, policy, path) for path in paths)
+
+    runs = reconstruct_until(are_moved, cluster, most=10)
     found = [cluster.places(policy, path) & cluster.primaries(policy, path) for path in paths]
     return sum(map(len, found)), runs
 
@@ -205,33 +223,35 @@ def fragments_of_server(cluster, policy, path, number):
     return tuple(sorted(i for i in files if int(device_of(files[i])[1:]) % SERVERS == number))
 
 
+def device_folder(file):
+    return re.match(r".*/devices/d\d+", file).group(0)
+
+
 def device_of(file):
     return re.search(r"/devices/(d\d+)/", file).group(1)
 
 
-def replace_devices(cluster, files, numbers):
+def replace_devices(files, numbers):
     """Replaces the devices of these fragments by empty ones; returns what the fragments were."""
     saved = {}
     for i in numbers:
         saved[i] = contents(files[i])
-        device = re.match(r".*/devices/d\d+", files[i]).group(0)
-        shutil.rmtree(device)
-        os.mkdir(device)
+        shutil.rmtree(device_folder(files[i]))
+        os.mkdir(device_folder(files[i]))
     return saved
 
 
-def rebuild(cluster, policy, path, numbers, runs=3):
+def rebuild(cluster, policy, path, numbers):
     """Which of these fragments were rebuilt, equal to what they were, after their devices were
     replaced, and by how many fragment GETs."""
     files = cluster.fragments(policy, path)
-    saved = replace_devices(cluster, files, numbers)
-    before, used = len(cluster.log("object")), 0
-    while used < runs and len(cluster.fragments(policy, path)) < policy.fragments:
-        used += 1
-        reconstruct(cluster, "-p", partition_of(files[numbers[0]]))
-    lines = cluster.log("object")[before:].splitlines()
-    gets = sum(
-        '"GET ' in line and "obj-reconstructor" in line and f'/{path}"' in line for line in lines
-    )
+    saved = replace_devices(files, numbers)
+    start, partition = len(cluster.log("object")), partition_of(files[numbers[0]])
+
+    def are_there():
+        return len(cluster.fragments(policy, path)) >= policy.fragments
+
+    reconstruct_until(are_there, cluster, "-p", partition)
+    gets = cluster.count_logged("object", '"GET ', "obj-reconstructor", f'/{path}"', start=start)
     files = cluster.fragments(policy, path)
     return [i for i in numbers if i in files and contents(files[i]) == saved[i]], gets

@@ -1,26 +1,11 @@
 """Wrong installations, and settings that exchange the codes of two policies."""
 
 import concurrent.futures
-import os
 import subprocess
 
 from cluster import SECONDS, Client, Cluster, Policy
-from fragments import (
-    ISA,
-    LRC,
-    MIB,
-    REPLICATED,
-    count_gets,
-    installed,
-    partition_of,
-    payload,
-    proxy_beside,
-    python,
-    reconstruct,
-    replace_devices,
-    text_of,
-    with_cluster,
-)
+from fragments import ISA, LRC, MIB, REFUSED, REPLICATED, count_gets, installed, partition_of
+from fragments import payload, proxy_beside, python, reconstruct, replace_devices, running
 
 CLIENTS = 4  # services that are started at once
 
@@ -34,10 +19,8 @@ def exchanged():
 
 def other_code(report, folder, options):
     """Another proxy and reconstructor have exchanged the codes of two policies."""
-    cluster = Cluster(f"{folder}/right", [REPLICATED, LRC, ISA], installed(folder), ("lrcstore",))
-
-    def work(client):
-        body = payload(5 * MIB + 13)
+    body = payload(5 * MIB + 13)
+    with running(folder, "right", LRC, ISA) as (cluster, client):
         for policy in (LRC, ISA):
             client.put(f"{policy.name}/object", body)
         with proxy_beside(f"{folder}/mistaken", cluster, exchanged()) as (other, reader):
@@ -45,19 +28,14 @@ def other_code(report, folder, options):
                 outcomes = count_gets(reader, f"{policy.name}/object", body, 20)
                 check_exchanged(report, cluster, other, policy, outcomes)
 
-    with_cluster(cluster, work)
-
 
 def check_exchanged(report, cluster, other, policy, outcomes):
-    report.check(
-        f"objects in {policy.ec_type} are refused by a policy of another code",
-        set(outcomes) == {("refused", 503)},
-        text_of(outcomes),
-    )
+    name = f"objects in {policy.ec_type} are refused by a policy of another code"
+    report.check(name, set(outcomes) == {REFUSED}, outcomes)
     path = f"{Client.account}/{policy.name}/object"
     files = cluster.fragments(policy, path)
     lost = min(files)  # the other policy's object has lost what was on the device, too
-    replace_devices(cluster, files, (lost,))
+    replace_devices(files, (lost,))
     log = reconstruct(other, "-p", partition_of(files[lost]))
     printed = f"the object is in {policy.ec_type} 12+4" in log
     report.check(
@@ -68,15 +46,9 @@ def check_exchanged(report, cluster, other, policy, outcomes):
 
 def start(folder, name, program, policy=LRC, **environment):
     """Starts a service that ought to end at once: its status, and what it printed."""
-    cluster = Cluster(
-        f"{folder}/{name} {program}".replace(" ", "_"),
-        [REPLICATED, policy],
-        dict(installed(folder), **environment),
-        ("lrcstore",),
-    )
-    os.mkdir(cluster.folder)
-    cluster.configure()
-    cluster.make_rings()
+    at, environment = f"{name} {program}".replace(" ", "_"), {**installed(folder), **environment}
+    cluster = Cluster(f"{folder}/{at}", [REPLICATED, policy], environment, ("lrcstore",))
+    cluster.prepare()
     kind = program.split("-")[1]
     try:
         cluster.spawn(kind, cluster.command(program, f"{cluster.folder}/{kind}.conf"))
@@ -119,11 +91,8 @@ def wrong_installations(report, folder, options):
     for (name, program, words, _, _), task in zip(mistakes, tasks):
         status, text = task.result()
         good = status != 0 and words in text
-        report.check(
-            f"{name}: {program} does not start",
-            good,
-            "" if good else f"status {status}: {text[-500:]}",
-        )
+        shown = "" if good else f"status {status}: {text[-500:]}"
+        report.check(f"{name}: {program} does not start", good, shown)
     check_other_release(report, folder)
 
 

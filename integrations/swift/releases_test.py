@@ -19,9 +19,9 @@ import cluster_test  # noqa: E402
 import other_root  # noqa: E402
 from cluster import SERVERS, Client, Cluster  # noqa: E402
 from cluster_test import segments  # noqa: E402
-from fragments import LRC, MIB, REPLICATED, SMALL, Away, contents, count_gets  # noqa: E402
-from fragments import installed, partition_of, payload, proxy_beside  # noqa: E402
-from fragments import reconstruct, replace_devices, text_of, with_cluster  # noqa: E402
+from fragments import LRC, MIB, RIGHT, SMALL, contents, count_gets, installed  # noqa: E402
+from fragments import partition_of, payload, proxy_beside, reconstruct_until  # noqa: E402
+from fragments import replace_devices, running, without_fragments  # noqa: E402
 
 SIZES = (1, 5 * MIB + 13)
 LOST = {LRC: ((), (3, 9, 14, 15)), SMALL: ((), (0, 1, 8))}
@@ -49,8 +49,7 @@ def build_other(folder, root):
 
 def versions(*prefix):
     words = "dpkg-query", "-W", "-f", "${Package} ${Version}\n", "python3-swift", "liberasurecode1"
-    done = subprocess.run([*prefix, *words], stdout=subprocess.PIPE, text=True, check=True)
-    return done.stdout.split("\n")[:2]
+    return subprocess.check_output([*prefix, *words], text=True).split("\n")[:2]
 
 
 def check_both(report, cluster, clients, when):
@@ -67,12 +66,12 @@ def check_read(report, cluster, clients, policy, path, body, when):
     whole = f"{Client.account}/{path}"
     files = cluster.fragments(policy, whole)
     for lost in LOST[policy]:
-        with Away(cluster, whole, lost, files):
+        with without_fragments(cluster, whole, lost, files):
             found = {each: count_gets(client, path, body, 5) for each, client in clients.items()}
         report.check(
             f"{when}: {path}, lost {list(lost)}: right by both proxies",
-            all(set(outcomes) == {("right", 200)} for outcomes in found.values()),
-            "; ".join(f"{each} {text_of(outcomes)}" for each, outcomes in found.items()),
+            all(set(outcomes) == {RIGHT} for outcomes in found.values()),
+            "; ".join(f"{each} {outcomes}" for each, outcomes in found.items()),
         )
 
 
@@ -97,10 +96,9 @@ def check_rebuilt(report, cluster, rebuilders, when):
     for putter, by in rebuilders.items():
         whole = f"{Client.account}/{LRC.name}/{putter}{SIZES[-1]}"
         files = cluster.fragments(LRC, whole)
-        saved, runs = replace_devices(cluster, files, (3,)), 0
-        while runs < 3 and not os.path.exists(files[3]):
-            runs += 1
-            reconstruct(by, "-p", partition_of(files[3]))
+        saved, partition = replace_devices(files, (3,)), partition_of(files[3])
+        is_there = functools.partial(os.path.exists, files[3])
+        runs = reconstruct_until(is_there, by, "-p", partition)
         report.check(
             f"{when}: a fragment put by the proxy {putter} is rebuilt by the other's reconstructor",
             os.path.exists(files[3]) and segments(contents(files[3])) == segments(saved[3]),
@@ -115,9 +113,8 @@ def work(report, folder, options):
         here, there = versions(), versions("chroot", options.root)
         different = all(one != other for one, other in zip(here, there))
         report.check("the releases differ", different, f"{', '.join(here)}; {', '.join(there)}")
-        policies = [REPLICATED, LRC, SMALL]
-        cluster = Cluster(f"{folder}/cluster", policies, installed(folder), ("lrcstore",))
-        with_cluster(cluster, lambda client: check(report, folder, options, cluster, client))
+        with running(folder, "cluster", LRC, SMALL) as (cluster, client):
+            check(report, folder, options, cluster, client)
 
 
 def check(report, folder, options, cluster, client):

@@ -9,28 +9,13 @@ import json
 import os
 import random
 import signal
-import threading
 import time
 
-from cluster import DEVICES, SERVERS, Client, Cluster, Policy
-from fragments import (
-    ISA,
-    LRC,
-    MIB,
-    REPLICATED,
-    SMALL,
-    Away,
-    DevicesAway,
-    contents,
-    count_gets,
-    installed,
-    partition_of,
-    payload,
-    reconstruct,
-    replace_devices,
-    text_of,
-    with_cluster,
-)
+import harness
+from cluster import DEVICES, SERVERS, Client, Policy
+from fragments import ISA, LRC, MIB, REFUSED, RIGHT, SMALL, contents, count_gets, partition_of
+from fragments import payload, reconstruct, reconstruct_until, replace_devices, running
+from fragments import without_devices, without_fragments
 
 STORM_SECONDS = 60
 CLIENTS = 3  # and one with objects in segments
@@ -44,30 +29,24 @@ DUPLICATED = Policy(
 )
 
 
-def make_cluster(folder, name, small, **settings):
-    """One whose proxy does without a server that does not answer soon."""
-    policies = [REPLICATED, LRC, ISA, small]
-    settings["node_timeout"] = NODE_TIMEOUT
-    return Cluster(f"{folder}/{name}", policies, installed(folder), ("lrcstore",), **settings)
+def impatient(folder, name, small, **settings):
+    """A cluster whose proxy does without a server that does not answer soon."""
+    return running(folder, name, LRC, ISA, small, node_timeout=NODE_TIMEOUT, **settings)
 
 
 def storm(report, folder, options):
-    cluster = make_cluster(folder, "storm", SMALL)
-    with_cluster(cluster, lambda client: check_storm(report, cluster, client, "a storm"))
+    with impatient(folder, "storm", SMALL) as (cluster, client):
+        check_storm(report, cluster, client, "a storm")
 
 
 def concurrent_storm(report, folder, options):
     """The proxy asks for two fragments more than needed at once, and a policy stores each twice."""
     settings = {"concurrent_gets": "yes", "concurrency_timeout": 0.5}
     settings["concurrent_ec_extra_requests"] = 2
-    cluster = make_cluster(folder, "concurrent", DUPLICATED, **settings)
-
-    def work(client):
+    with impatient(folder, "concurrent", DUPLICATED, **settings) as (cluster, client):
         check_duplicated(report, cluster, client)
         name = "a storm with concurrent GETs and a duplication factor"
         check_storm(report, cluster, client, name)
-
-    with_cluster(cluster, work)
 
 
 # ---- LRC(6,2,2) with a duplication factor of two
@@ -86,25 +65,24 @@ def check_duplicated(report, cluster, client, times=10):
     }
     name = "LRC(6,2,2) with duplication factor 2"
     report.check(f"{name}: 20 fragments are stored", len(files) == 20, str(len(files)))
-    for lost, wanted in (((0, 1, 8), ("right", 200)), ((0, 1, 2, 6), ("refused", 503))):
+    for lost, wanted in (((0, 1, 8), RIGHT), ((0, 1, 2, 6), REFUSED)):
         both = [each for each in files if each[0] in lost]
-        with Away(cluster, whole, both, files):
+        with without_fragments(cluster, whole, both, files):
             outcomes = count_gets(client, path, body, times)
-        report.check(
-            f"{name}, lost both of each of {list(lost)}: {wanted[0]}",
-            set(outcomes) == {wanted},
-            text_of(outcomes),
-        )
+        what = f"{name}, lost both of each of {list(lost)}: {wanted[0]}"
+        report.check(what, set(outcomes) == {wanted}, outcomes)
     for lost in ([(1, 0)], [(1, 0), (1, 1)], [(9, 0), (9, 1), (3, 0)]):
         check_rebuilt(report, cluster, files, lost, name)
 
 
 def check_rebuilt(report, cluster, files, lost, name):
     """Fragments, each as its number and which of both it is, are rebuilt on empty devices."""
-    saved, runs = replace_devices(cluster, files, lost), 0
-    while runs < 3 and not all(os.path.exists(files[each]) for each in lost):
-        runs += 1
-        reconstruct(cluster, "-p", partition_of(files[lost[0]]))
+    saved, partition = replace_devices(files, lost), partition_of(files[lost[0]])
+
+    def are_there():
+        return all(os.path.exists(files[each]) for each in lost)
+
+    runs = reconstruct_until(are_there, cluster, "-p", partition)
     there = [each for each in lost if os.path.exists(files[each])]
     report.check(
         f"{name}: lost {[i for i, _ in lost]} are rebuilt, byte-equal",
@@ -166,8 +144,8 @@ def parts_of(headers, answer):
 # ---- clients
 
 
-class Caller(threading.Thread):
-    """Calls the proxy for objects of its own until it is told to stop."""
+class Caller(harness.Caller):
+    """Calls the proxy for objects of its own."""
 
     REFUSALS = ()  # of a read, besides the statuses from 500 on
 
@@ -175,24 +153,16 @@ class Caller(threading.Thread):
         super().__init__()
         self.client, self.number = Client(cluster.proxy_port), number
         self.policies = cluster.policies[1:]
-        self.dice, self.stopped = random.Random(), threading.Event()
-        self.known = collections.defaultdict(Known)
-        self.found, self.calls, self.wrong = collections.Counter(), 0, []
+        self.dice, self.known = random.Random(), collections.defaultdict(Known)
+        self.found = collections.Counter()
 
     def kinds_of_calls(self):
         changes = [self.put, self.put, self.copy, self.delete, self.post]
         reads = [self.get, self.get, self.head, self.range, self.ranges, self.if_match]
         return changes, reads
 
-    def run(self):
-        kinds = self.kinds_of_calls()
-        while not self.stopped.is_set():
-            call = self.dice.choice(self.dice.choice(kinds))
-            try:
-                call(self.draw())
-            except Exception as error:
-                self.wrong.append(f"{call.__name__}: {type(error).__name__}: {error}")
-            self.calls += 1
+    def step(self):
+        self.dice.choice(self.dice.choice(self.kinds_of_calls()))(self.draw())
 
     def draw(self):
         policy = self.dice.choice(self.policies)
@@ -385,7 +355,7 @@ def disturb(cluster, dice):
     """One to three devices are away for some seconds, and an object server is killed or stopped."""
     number, what = dice.randrange(SERVERS), dice.choice(["kill", "stop", "leave"])
     devices = dice.sample(range(DEVICES), dice.randrange(1, 4))
-    with DevicesAway(cluster, [f"d{i}" for i in devices]):
+    with without_devices(cluster, [f"d{i}" for i in devices]):
         if what == "kill":
             cluster.kill_object_server(number)
         if what == "stop":
@@ -394,8 +364,7 @@ def disturb(cluster, dice):
         if what == "stop":
             cluster.signal_object_server(number, signal.SIGCONT)
         if what == "kill":
-            cluster.spawn_object_server(number)
-            cluster.wait_for(cluster.object_ports[number])
+            cluster.restart_object_server(number)
     time.sleep(dice.uniform(0, 2))
     return what
 
@@ -418,17 +387,10 @@ def check_storm(report, cluster, client, name):
     callers = [Caller(cluster, number) for number in range(CLIENTS)]
     callers.append(LargeCaller(cluster, CLIENTS))
     cluster.spawn_reconstructor()
-    for caller in callers:
-        caller.start()
-    dice, events, end = random.Random(), collections.Counter(), time.monotonic() + STORM_SECONDS
+    dice = random.Random()
     try:
-        while time.monotonic() < end:
-            events[disturb(cluster, dice)] += 1
+        events = harness.storm(callers, STORM_SECONDS, lambda: disturb(cluster, dice))
     finally:
-        for caller in callers:
-            caller.stopped.set()
-        for caller in callers:
-            caller.join()
         has_run = cluster.processes["reconstructor"].poll() is None
         cluster.kill("reconstructor")
     report_storm(report, callers, name, events, has_run)
@@ -451,20 +413,21 @@ def check_after_storm(report, cluster, client, callers, name, most=10):
     """Afterwards the reconstructor runs until all fragments are on their primary devices."""
     known = {path: each for caller in callers for path, each in caller.known.items()}
     policies = {policy.name: policy for policy in cluster.policies}
-    lacking, runs = known, 0
-    while runs < most and lacking:
-        runs += 1
-        reconstruct(cluster)
-        lacking = [path for path in known if lacks(cluster, policies, client, path)]
+
+    def lacking():
+        return [path for path in known if lacks(cluster, policies, client, path)]
+
+    reconstruct(cluster)
+    runs = 1 + reconstruct_until(lambda: not lacking(), cluster, most=most - 1)
     differ = [path for path in known if not is_as_known(client, path, known[path])]
     there = sum(each.now != [None] for each in known.values())
+    lack = lacking()
+    shown = f"; lack fragments: {lack}; differ: {differ}" if lack or differ else ""
     report.check(
         f"after {name}: {there} objects are equal, those deleted absent, and all fragments on "
         "their primary devices",
-        not lacking and not differ,
-        f"{runs} runs; lack fragments: {lacking}; differ: {differ}"
-        if lacking or differ
-        else f"{runs} runs",
+        not lack and not differ,
+        f"{runs} runs{shown}",
     )
 
 

@@ -2,36 +2,23 @@
 
 import time
 
-from cluster import DEVICES, SECONDS, SERVERS, Cluster
-from fragments import (
-    LRC,
-    MIB,
-    REPLICATED,
-    count_gets,
-    fragments_of_server,
-    installed,
-    is_recoverable,
-    payload,
-    text_of,
-    with_cluster,
-)
+from cluster import DEVICES, SECONDS, SERVERS
+from fragments import LRC, MIB, RIGHT, count_gets, fragments_of_server, is_recoverable, payload
+from fragments import running
 
 INTERVAL = 45  # seconds for which the proxy leaves out a device after one error
 
 
 def suppression(report, folder, options):
     settings = {"error_suppression_interval": INTERVAL, "error_suppression_limit": 0}
-    cluster = Cluster(
-        f"{folder}/suppression", [REPLICATED, LRC], installed(folder), ("lrcstore",), **settings
-    )
-    with_cluster(cluster, lambda client: check_left_out(report, cluster, client))
+    with running(folder, "suppression", LRC, **settings) as (cluster, client):
+        check_left_out(report, cluster, client)
 
 
 def count_asked(cluster, number):
     """How many GETs of the proxy an object server has answered."""
-    devices = [f'"GET /d{i}/' for i in range(number, DEVICES, SERVERS)]
-    lines = cluster.log("object").splitlines()
-    return sum('"proxy-server' in line and any(each in line for each in devices) for line in lines)
+    devices = range(number, DEVICES, SERVERS)
+    return sum(cluster.count_logged("object", '"proxy-server', f'"GET /d{i}/') for i in devices)
 
 
 def check_left_out(report, cluster, client):
@@ -46,8 +33,7 @@ def check_left_out(report, cluster, client):
     cluster.kill_object_server(number)
     started = time.monotonic()
     outcomes = count_gets(client, path, body, 30)
-    cluster.spawn_object_server(number)
-    cluster.wait_for(cluster.object_ports[number])
+    cluster.restart_object_server(number)
     before = count_asked(cluster, number)
     while count_asked(cluster, number) == before and time.monotonic() < started + SECONDS:
         outcomes += count_gets(client, path, body, 1)
@@ -55,6 +41,6 @@ def check_left_out(report, cluster, client):
     waited = time.monotonic() - started
     report.check(
         f"a server that failed is asked again after {INTERVAL} seconds, and all GETs are right",
-        set(outcomes) == {("right", 200)} and INTERVAL <= waited < SECONDS,
-        f"{text_of(outcomes)}; asked again after {waited:.0f} s",
+        set(outcomes) == {RIGHT} and INTERVAL <= waited < SECONDS,
+        f"{outcomes}; asked again after {waited:.0f} s",
     )

@@ -1,27 +1,31 @@
-#!/usr/bin/env python3
 """What the modules for Swift decide, shown without Swift: stand-ins have what the modules call.
 
-    integrations/swift/test_module.py
+    pytest integrations/swift/test_module.py
 
-That Swift calls the modules so is shown by cluster_test.py. Each tested release has a process."""
+That Swift calls the modules so is shown by cluster_test.py. The tests run for each release that
+the modules take."""
 
+import contextlib
+import hashlib
+import importlib
 import itertools
 import json
-import os
 import random
-import re
 import struct
-import subprocess
 import sys
 import types
+from pathlib import Path
+from unittest import mock
+
+import pytest
 
 sys.dont_write_bytecode = True
-HERE = os.path.dirname(os.path.abspath(__file__))
-TOP = os.path.dirname(os.path.dirname(HERE))
-sys.path.insert(0, HERE)
+HERE = Path(__file__).parent
+sys.path.insert(0, str(HERE))
 GROUPS = ((0, 1, 2, 3, 4, 5, 12), (6, 7, 8, 9, 10, 11, 13))
 INDEX = "X-Object-Sysmeta-Ec-Frag-Index"
 SCHEME = "X-Object-Sysmeta-Ec-Scheme"
+OTHERS = "eventlet", "lrcstore_swift", "pyeclib", "swift"  # packages that a release has or needs
 MOVED = "1700000000.00000_0000000000000001"  # the time of an object that Swift moved
 
 
@@ -164,9 +168,8 @@ class Answer:
 # ---- stand-ins for the reconstructor's
 
 
-class Timestamp:
-    def __init__(self, text):
-        self.internal, self.normal = text, text.split("_")[0]
+def timestamp(text):
+    return types.SimpleNamespace(internal=text, normal=text.split("_")[0])
 
 
 class Pile(list):
@@ -219,12 +222,9 @@ class Buckets(dict):
         return self.only
 
 
-def put_stand_ins(version):
-    """What the modules import of others. Before 2.35, the search had another name."""
-    if version.startswith("2.30."):
-        Getter._dig_for_source_and_node = Getter._find_source
-        del Getter._find_source
-    members = {
+def members_of(version):
+    """What the modules import of others."""
+    return {
         "swift": {"__version__": version},
         "pyeclib.ec_iface": {"ECDriverError": CodeError},
         "eventlet": {"sleep": lambda seconds: None},
@@ -236,14 +236,54 @@ def put_stand_ins(version):
             "ECGetResponseCollection": Answer,
         },
         "swift.common.exceptions": {"DiskFileError": FileError},
-        "swift.common.utils": {"GreenAsyncPile": Pile, "Timestamp": Timestamp},
+        "swift.common.utils": {
+            "GreenAsyncPile": Pile,
+            "Timestamp": timestamp,
+            "config_true_value": {"yes": True, "no": False}.__getitem__,
+            "get_logger": lambda settings, log_route: Log(settings),
+        },
         "swift.obj.diskfile": {"ECDiskFileManager": object},
         "swift.obj.reconstructor": {"ObjectReconstructor": Reconstructor},
     }
-    for name, its in members.items():
-        for end in itertools.accumulate(name.split("."), "{}.{}".format):
-            sys.modules.setdefault(end, types.ModuleType(end))
-        vars(sys.modules[name]).update(its)
+
+
+@contextlib.contextmanager
+def stand_ins(version, *names):
+    """What the modules import of others is there inside the block, or of it these modules alone.
+    Afterwards the stand-ins are as they were. Before 2.35, the search had another name."""
+    members = members_of(version)
+    before = {each: dict(vars(each)) for each in (Getter, Bucket, Answer, Reconstructor)}
+    with mock.patch.dict(sys.modules):
+        for name in [it for it in sys.modules if it.split(".")[0] in OTHERS]:
+            del sys.modules[name]
+        for name in names or members:
+            for end in itertools.accumulate(name.split("."), "{}.{}".format):
+                sys.modules.setdefault(end, types.ModuleType(end))
+            vars(sys.modules[name]).update(members[name])
+        if version.startswith("2.30."):
+            Getter._dig_for_source_and_node = Getter._find_source
+            del Getter._find_source
+        try:
+            yield
+        finally:
+            for each, its in before.items():
+                for name in set(vars(each)) - set(its):
+                    delattr(each, name)
+                for name in [it for it in its if vars(each).get(it) is not its[it]]:
+                    setattr(each, name, its[name])
+
+
+with stand_ins("0", "swift", "pyeclib.ec_iface"):
+    TESTED = importlib.import_module("lrcstore_swift").TESTED
+
+
+@pytest.fixture(scope="module", autouse=True, params=[f"{series}.1" for series in TESTED])
+def release(request):
+    with stand_ins(request.param):
+        importlib.import_module("lrcstore_swift.reconstructor")
+        proxy = importlib.import_module("lrcstore_swift.proxy")
+        assert proxy.filter_factory({})("the next one") == "the next one"
+        yield
 
 
 # ---- the proxy
@@ -441,12 +481,9 @@ def test_reads():
 def test_other_code_is_not_rebuilt():
     node, job = LRC.get_part_nodes(0)[3], {"policy": LRC, "partition": 0}
     it, file = Reconstructor({*range(16)}), File(ISA.ec_scheme_description)
-    try:
+    with pytest.raises(FileError):
         it._make_fragment_requests(job, node, file, Buckets(), {})
-    except FileError:
-        assert not it.asked
-    else:
-        raise AssertionError("it was rebuilt")
+    assert not it.asked
 
 
 def fragment(number):
@@ -460,36 +497,115 @@ def test_rebuilt():
     numbers = {struct.unpack_from("<I", each)[0]: each[80:] for each in given}
     assert len(numbers) == 12 and 3 not in numbers
     assert all(numbers[i] == (b"payload" if i in six else bytes(7)) for i in numbers)
-    try:
+    with pytest.raises(CodeError, match="ask for all of them"):
         it._reconstruct(LRC, [fragment(i) for i in six[1:]], 3)
-    except CodeError as error:
-        assert "ask for all of them" in str(error)
-    else:
-        raise AssertionError("a stand-in was read")
     assert it._reconstruct(ISA, [], 3) == "of all"
+
+
+# ---- bodies and their ETags
+
+
+class Log(list):
+    """What is logged, with the settings of the logger."""
+
+    def __init__(self, settings):
+        super().__init__()
+        self.settings = settings
+
+    def error(self, text, *words):
+        self.append(text % words)
+
+
+class Body(list):
+    """Pieces of a body, of which a server has to close each."""
+
+    is_open = True
+
+    def close(self):
+        self.is_open = False
+
+
+def compared(pieces, path="/v1/a/c/o", method="GET", status="200 OK", **headers):
+    """The pieces that a client gets by the filter with `compare_etag`; and what was logged."""
+    from lrcstore_swift import proxy
+    from lrcstore_swift.etag import WrongBody
+
+    body, seen, got = Body(pieces), [], []
+
+    def app(environ, start_response):
+        start_response(status, [(it.replace("_", "-"), value) for it, value in headers.items()])
+        return body
+
+    it = proxy.filter_factory({"log": "here"}, compare_etag="yes")(app)
+    assert it.logger.settings == {"log": "here", "compare_etag": "yes"}
+    environ = {"REQUEST_METHOD": method, "PATH_INFO": path}
+    answer = it(environ, lambda *words: seen.append(words))
+    assert seen[0][0] == status
+    try:
+        for piece in answer:
+            got.append(piece)
+    except WrongBody:
+        got.append(None)
+    answer.close()
+    assert not body.is_open
+    return got, it.logger
+
+
+def test_etags():
+    pieces = [b"one", b"two", b"three"]
+    etag = hashlib.md5(b"onetwothree").hexdigest()
+    for name, value in (("ETag", etag), ("Etag", f'"{etag}"')):
+        assert compared(pieces, **{name: value}) == (pieces, [])
+    assert compared([], ETag=hashlib.md5(b"").hexdigest()) == ([], [])
+    wrong = [b"one", b"two", b"thr?e"]
+    got, log = compared(wrong, ETag=etag)
+    assert got == [b"one", b"two", None], "the last piece of a wrong body is not sent"
+    assert log[0].startswith(f"/v1/a/c/o: the body has not the MD5 {etag}") and len(log) == 1
+    assert compared(wrong[2:], ETag=etag)[0] == [None]
+
+
+def test_etags_of_others():
+    """Where the ETag is not that of the body, or nothing of the kind, the body is as it is."""
+    etag = hashlib.md5(b"").hexdigest()
+    for words in (
+        {"method": "PUT"},
+        {"path": "/v1/a/c"},
+        {"path": "/v1/a/c/"},
+        {"path": "/info"},
+        {"status": "206 Partial Content"},
+        {"X_Static_Large_Object": "True"},
+        {"X_Object_Manifest": "c/o"},
+        {"ETag": f"{etag}-2"},
+    ):
+        assert compared([b"one"], **{"ETag": etag, **words}) == ([b"one"], []), words
+    assert compared([b"one"]) == ([b"one"], [])
+
+
+def test_closed():
+    """A client that goes away before the body came."""
+    from lrcstore_swift.etag import Compared
+
+    body = Body([b"one"])
+    Compared(body, None, None).close()
+    assert not body.is_open
+    plain = Compared(iter([b"one"]), lambda: None, None)
+    assert list(plain) == [b"one"] and plain.close() is None
 
 
 # ---- releases
 
 
-def refusals(version):
-    """What each module says in another release, before it imports anything of it."""
-    sys.modules["swift"] = types.ModuleType("swift")
-    sys.modules["swift"].__version__ = version
-    put = types.ModuleType("pyeclib.ec_iface")
-    put.ECDriverError = CodeError
-    sys.modules.update({"pyeclib": types.ModuleType("pyeclib"), "pyeclib.ec_iface": put})
-    for name in ("proxy", "reconstructor"):
-        try:
-            __import__(f"lrcstore_swift.{name}")
-        except RuntimeError as error:
-            print(error)
+LISTED = f"{', '.join(TESTED[:-1])} and {TESTED[-1]}"
 
 
-def of_process(*words):
-    return subprocess.run(
-        [sys.executable, __file__, *words], stdout=subprocess.PIPE, text=True, check=True
-    ).stdout
+@pytest.mark.parametrize("module", ["proxy", "reconstructor"])
+@pytest.mark.parametrize("version", ["2.31.0", "2.3.0", "2.300.1", "3.30.0"])
+def test_other_release(version, module):
+    """Each module refuses another release before it imports anything of it."""
+    with stand_ins(version, "swift", "pyeclib.ec_iface"):
+        with pytest.raises(RuntimeError) as error:
+            importlib.import_module(f"lrcstore_swift.{module}")
+    assert f"tested with Swift {LISTED}, and this is {version}: " in str(error.value)
 
 
 def series_in_control(tested):
@@ -504,41 +620,13 @@ def series_in_control(tested):
     return ", ".join([first, *gaps, last])
 
 
-def test_releases(tested):
-    listed = f"{', '.join(tested[:-1])} and {tested[-1]}"
-    for version in ("2.31.0", "2.3.0", "2.300.1", "3.30.0"):
-        wanted = f"tested with Swift {listed}, and this is {version}: "
-        assert of_process("refused", version).count(wanted) == 2, version
+def test_documents():
+    """They list the tested releases."""
     for name, words in {
-        "README.md": f"For operators of Swift {listed}:",
-        "lrcstore_swift-0.1.0.dist-info/METADATA": f"OpenStack Swift {listed} ",
-        "../../packaging/debian/control": f" {series_in_control(tested)}, ",
-        "../../docs/choose.md": f"OpenStack Swift {listed} |",
-        "../../packaging/README.md": f"(../integrations/swift/README.md) {listed} |",
+        "README.md": f"For operators of Swift {LISTED}:",
+        "lrcstore_swift-0.1.0.dist-info/METADATA": f"OpenStack Swift {LISTED} ",
+        "../../packaging/debian/control": f" {series_in_control(TESTED)}, ",
+        "../../docs/choose.md": f"OpenStack Swift {LISTED} |",
+        "../../packaging/README.md": f"(../integrations/swift/README.md) {LISTED} |",
     }.items():
-        with open(os.path.join(HERE, name), encoding="utf-8") as file:
-            assert words in file.read(), f"{name} does not say: {words}"
-
-
-def main(words):
-    if words[:1] == ["refused"]:
-        return refusals(words[1])
-    if words:
-        put_stand_ins(words[0])
-        from lrcstore_swift import proxy, reconstructor  # noqa: F401
-
-        assert proxy.filter_factory({})("the next one") == "the next one"
-        tests = [it for name, it in globals().items() if re.match("test_(?!releases)", name)]
-        for test in tests:
-            test()
-        return print(f"Swift {words[0]}: {len(tests)} tests of the module, by stand-ins")
-    put_stand_ins("0")
-    from lrcstore_swift import TESTED
-
-    for release in TESTED:
-        print(of_process(f"{release}.1"), end="")
-    return test_releases(TESTED)
-
-
-if __name__ == "__main__":
-    main(sys.argv[1:])
+        assert words in Path(HERE, name).read_text("utf-8"), name

@@ -19,8 +19,8 @@ HERE = os.path.join("packaging", "debian")
 LEFT_OUT = shutil.ignore_patterns("__pycache__", "target", "*.so", "*.pyc")
 PARTS = ("include", "integrations", "bindings", "docs", "scripts", "CHANGELOG.md", "SECURITY.md")
 # The plugin is loaded by the Ceph that it was built for and by no other: this one is tested.
-CEPH, AFTER_CEPH = "16.2.15", "16.2.16~"
-NO_PLUGINS = "pkg.lrcstore.noplugins"
+CEPH = "16.2.15"
+NO_PLUGINS, ONLY_PLUGINS = "pkg.lrcstore.noplugins", "pkg.lrcstore.onlyplugins"
 # What has to be here for the plugins: a file, and the package that has it.
 HEADERS_OF_CEPH = "libradospp-dev"
 HEADERS = {
@@ -58,6 +58,7 @@ def demand(has_plugins):
 
 def fill(work, source, linked):
     """Puts into a folder the files under /usr, and what the rules and lists of packages name."""
+    copy_sources(work)
     multiarch = libraries.run("dpkg-architecture", "-qDEB_HOST_MULTIARCH").strip()
     staged = Installation(
         os.path.join(work, "stage", "usr"),
@@ -75,14 +76,18 @@ def fill(work, source, linked):
     staged.checked(linked, has_path=False)
     staged.python_package(linked, has_path=False)
     staged.go()
-    for part in PARTS:
+    shutil.copytree(linked, os.path.join(work, "linked"))
+
+
+def copy_sources(work, parts=PARTS):
+    """What the packages have of the clone, or compile, and what says how."""
+    for part in parts:
         there, copied = os.path.join(libraries.TOP, part), os.path.join(work, part)
         if os.path.isdir(there):
             shutil.copytree(there, copied, ignore=LEFT_OUT)
         else:
             shutil.copyfile(there, copied)
     shutil.copytree(os.path.join(libraries.TOP, HERE), os.path.join(work, "debian"))
-    shutil.copytree(linked, os.path.join(work, "linked"))
 
 
 def symbols(name):
@@ -116,7 +121,13 @@ def replace(path, **words):
     libraries.write(text.rstrip("\n").split("\n"), path)
 
 
-def write_texts(debian, number, when):
+def after(ceph):
+    """What is below all later versions: apt takes a package for this one with no other."""
+    first, _, last = ceph.rpartition(".")
+    return f"{first}.{int(last) + 1}~"
+
+
+def write_texts(debian, number, when, ceph=CEPH, revision="1"):
     """What the version, the time and the licence determine."""
     abi = libraries.abi(number)
     with open(os.path.join(debian, "maintainer"), encoding="utf-8") as file:
@@ -126,14 +137,14 @@ def write_texts(debian, number, when):
         os.path.join(debian, "control"),
         ABI=abi,
         MAINTAINER=maintainer,
-        CEPH=CEPH,
-        AFTER_CEPH=AFTER_CEPH,
+        CEPH=ceph,
+        AFTER_CEPH=after(ceph),
     )
     year = time.gmtime(when).tm_year
     replace(os.path.join(debian, "copyright"), LICENCE=licence.in_debian(year).rstrip())
     stamp = libraries.run("date", "-u", "-R", "-d", f"@{when}").strip()
     entry = [
-        f"lrcstore ({number}-1) unstable; urgency=medium",
+        f"lrcstore ({number}-{revision}) unstable; urgency=medium",
         "",
         f"  * Version {number}: changelog.gz has its changes.",
         "",
@@ -150,13 +161,19 @@ def pack(source, linked, provenance, dist, number, when, has_plugins):
         shutil.copyfile(provenance, os.path.join(work, "provenance.json"))
         write_lists(os.path.join(work, "debian"))
         write_texts(os.path.join(work, "debian"), number, when)
-        normalise(work, when)
-        variables = {
-            **environment(when),
-            "CEPH_VERSION": CEPH,
-            "LRC_LIBRARIES": os.path.join(work, "linked"),
-            "DEB_BUILD_PROFILES": "" if has_plugins else NO_PLUGINS,
-        }
-        libraries.run("dpkg-buildpackage", "-b", "-us", "-uc", "-d", cwd=work, env=variables)
-        made = sorted(it for it in os.listdir(room) if it.endswith(".deb"))
-        return [shutil.copyfile(os.path.join(room, it), os.path.join(dist, it)) for it in made]
+        return build(work, dist, when, CEPH, "" if has_plugins else NO_PLUGINS)
+
+
+def build(work, dist, when, ceph, profile):
+    """Has debhelper make the packages, and copies them."""
+    normalise(work, when)
+    variables = {
+        **environment(when),
+        "CEPH_VERSION": ceph,
+        "LRC_LIBRARIES": os.path.join(work, "linked"),
+        "DEB_BUILD_PROFILES": profile,
+    }
+    libraries.run("dpkg-buildpackage", "-b", "-us", "-uc", "-d", cwd=work, env=variables)
+    room = os.path.dirname(work)
+    made = sorted(it for it in os.listdir(room) if it.endswith(".deb"))
+    return [shutil.copyfile(os.path.join(room, it), os.path.join(dist, it)) for it in made]

@@ -2,11 +2,13 @@
 servers fail while they send, it goes on with fragments that determine the rest."""
 
 from lrcstore_swift import determines, is_lrc, rank, refuse_other_releases, wrong_scheme
+from lrcstore_swift.etag import CompareEtag
 
 refuse_other_releases()  # before another release lacks what is imported here
 
 from eventlet import sleep  # noqa: E402
 from swift.common.swob import Range  # noqa: E402
+from swift.common.utils import config_true_value, get_logger  # noqa: E402
 from swift.proxy.controllers.base import close_swift_conn  # noqa: E402
 from swift.proxy.controllers.obj import (  # noqa: E402
     ECFragGetter,
@@ -172,11 +174,15 @@ def provide_alternate_node(collection):
 
 
 def filter_factory(global_conf, **local_conf):
-    """A filter that passes each request on. Loading it replaces how the proxy takes fragments."""
+    """A filter that passes each request on and, with `compare_etag`, compares whole bodies with
+    their ETags. Loading it replaces how the proxy takes fragments."""
     ECGetResponseBucket.shortfall = property(shortfall)
     ECGetResponseCollection.add_response = add_response
     ECGetResponseCollection.choose_best_bucket = choose_best_bucket
     ECGetResponseCollection.provide_alternate_node = provide_alternate_node
     ECFragGetter._make_node_request = make_node_request
     setattr(ECFragGetter, SEARCH, search)
-    return lambda app: app
+    if not config_true_value(local_conf.get("compare_etag", "no")):
+        return lambda app: app
+    logger = get_logger({**global_conf, **local_conf}, log_route="lrcstore")
+    return lambda app: CompareEtag(app, logger)

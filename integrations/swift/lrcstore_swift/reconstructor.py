@@ -7,13 +7,7 @@ import json
 import struct
 import zlib
 
-from lrcstore_swift import (
-    determines,
-    fragments_needed,
-    is_lrc,
-    refuse_other_releases,
-    wrong_scheme,
-)
+from lrcstore_swift import determines, fragments_needed, is_lrc, refuse_other_releases, wrong_scheme
 
 refuse_other_releases()  # before another release lacks what is imported here
 
