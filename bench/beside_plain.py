@@ -9,15 +9,15 @@ greatest are told beside it. First it compares what they print, of scripts whose
 makes. With no PROGRAM it is the one that tools/build.py makes.
 """
 
-import argparse
-import os
 import random
 import statistics
 import subprocess
 import sys
 import tempfile
+from pathlib import Path
 
-from program import BUILT, FULL, LONG, MIB_48, SMALL, TOP, run
+from program import BUILT, FULL, GONE, LONG, MIB_48, SMALL, run
+from turns import compiled, in_turn, parser_of
 
 WIDE = ["--width", "65536"]
 ROWS = 65535
@@ -25,14 +25,8 @@ ROWS = 65535
 
 def mix(count, rng):
     """Calls of all kinds over a thousand names."""
-    kinds = [
-        "read {},0,12",
-        "put {},text,ABCDEFGHIJKL",
-        "lose {},0,{}",
-        "repair {},0,{}",
-        "stat {},,",
-        "delete {},,",
-    ]
+    kinds = ["read {},0,12", "put {},text,ABCDEFGHIJKL", "lose {},0,{}", "repair {},0,{}"]
+    kinds += ["stat {},,", "delete {},,"]
     for _ in range(count):
         operation, name, rest = (
             rng.choices(kinds, [50, 20, 10, 10, 5, 5])[0].replace(" ", ",").partition("{}")
@@ -81,7 +75,7 @@ def by_workers(row, workers):
 def scripts(rng):
     """Each script with its name and its options."""
     blob = "1,1,put,a,hex," + rng.randbytes(MIB_48).hex()
-    gone = [f"1,1,lose,a,{stripe},{fragment}" for stripe in range(64) for fragment in (0, 1, 6, 7)]
+    gone = [f"1,1,lose,a,{stripe},{fragment}" for stripe in range(64) for fragment in GONE]
     pieces = [f"2,1,read,a,{rng.randrange(MIB_48 - 100)},100" for _ in range(20000)]
     whole = f"2,1,read,a,0,{MIB_48}"
     mixed = list(mix(ROWS, rng))
@@ -89,23 +83,18 @@ def scripts(rng):
     yield "65,535 reads of 12 bytes", [SMALL] + ["1,1,read,a,0,12"] * ROWS, FULL
     yield "the same, with the history", [SMALL] + ["1,1,read,a,0,12"] * ROWS, [*FULL, "--history"]
     yield "65,536 puts of one name", [SMALL] * (ROWS + 1), FULL
-    yield "65,536 puts of as many names", [
-        f"1,1,put,n{k},text,ABCDEFGHIJKL" for k in range(ROWS + 1)
-    ], FULL
+    names = [f"1,1,put,n{k},text,ABCDEFGHIJKL" for k in range(ROWS + 1)]
+    yield "65,536 puts of as many names", names, FULL
     yield "all calls, 1,000 names", mixed, FULL
     yield "the same, with the history", mixed, [*FULL, "--history"]
     yield "65,535 stats of 4,096 stripes", [LONG] + ["1,1,stat,a,,"] * ROWS, FULL
     for stripes in (1, 64, 512, 4096):
         yield f"losses and repairs, {stripes:,} stripes", turns(stripes), FULL
     for workers in (1, 4, 16):
-        yield f"reads by {workers}", by_workers(lambda k: "read,a,0,12", workers), [
-            *FULL,
-            "--workers",
-            str(workers),
-        ]
-        yield f"puts by {workers}", by_workers(
-            lambda k: f"put,n{k % 1000},text,{'x' * 768}", workers
-        ), [*FULL, "--workers", str(workers), "--width", "64"]
+        options = [*FULL, "--workers", str(workers)]
+        yield f"reads by {workers}", by_workers(lambda k: "read,a,0,12", workers), options
+        puts = by_workers(lambda k: f"put,n{k % 1000},text,{'x' * 768}", workers)
+        yield f"puts by {workers}", puts, [*options, "--width", "64"]
     yield "65,535 rounds", [SMALL] + [f"{k + 2},1,read,a,0,12" for k in range(ROWS)], FULL
     yield "48 MiB put", [blob], WIDE
     yield "48 MiB put and read", [blob, whole], WIDE
@@ -114,70 +103,38 @@ def scripts(rng):
     yield "20,000 reads of 100 bytes", [blob, *pieces], [*FULL, *WIDE]
     yield "the same, four of each stripe lost", [blob, *gone, *pieces], [*FULL, *WIDE]
     yield "256 fragments of 65,536 bytes mended", [blob, *gone, "2,0,mend,,,"], [*FULL, *WIDE]
-    lost = [
-        f"1,1,lose,a,{stripe},{fragment}" for fragment in (0, 1, 6, 7) for stripe in range(4096)
-    ]
+    lost = [f"1,1,lose,a,{stripe},{fragment}" for fragment in GONE for stripe in range(4096)]
     for workers in (1, 4):
-        yield f"16,384 fragments of one byte mended by {workers}", [LONG, *lost, "2,0,mend,,,"], [
-            *FULL,
-            "--workers",
-            str(workers),
-        ]
+        name = f"16,384 fragments of one byte mended by {workers}"
+        yield name, [LONG, *lost, "2,0,mend,,,"], [*FULL, "--workers", str(workers)]
 
 
 def compare(programs, folder, times):
     """Ends where two programs print different bytes for a script of random calls."""
     for seed in range(times):
         rng = random.Random(seed)
-        path = os.path.join(folder, "calls.csv")
-        with open(path, "w", encoding="ascii") as file:
-            file.write("\n".join(any_calls(rng.randrange(1, 300), rng)) + "\n")
-        options = [
-            "--history",
-            "--width",
-            str(rng.choice((1, 2, 3))),
-            "--limit",
-            str(rng.choice((40, 4096))),
-        ]
-        printed = {
-            subprocess.run([program, path, *options], stdout=subprocess.PIPE, check=True).stdout
-            for program in programs
-        }
+        path = Path(folder, "calls.csv")
+        path.write_text("\n".join(any_calls(rng.randrange(1, 300), rng)) + "\n", "ascii")
+        options = ["--history", "--width", str(rng.choice((1, 2, 3)))]
+        options += ["--limit", str(rng.choice((40, 4096)))]
+        printed = {subprocess.check_output([it, path, *options]) for it in programs}
         if len(printed) != 1:
             sys.exit(f"the scripts of seed {seed} are printed differently")
     print(f"{times} scripts of random calls: the same bytes")
 
 
 def main():
-    parser = argparse.ArgumentParser(description=__doc__.splitlines()[0])
-    parser.add_argument("--times", type=int, default=5)
-    parser.add_argument("--only", default="")
+    parser = parser_of(__doc__, times=5, only="")
     parser.add_argument("programs", nargs="*", default=[BUILT])
     given = parser.parse_args()
     with tempfile.TemporaryDirectory() as folder:
-        plain = os.path.join(folder, "plain")
-        subprocess.run(
-            [
-                "rustc",
-                "-O",
-                "--edition",
-                "2021",
-                "-o",
-                plain,
-                os.path.join(TOP, "bench", "plain.rs"),
-            ],
-            check=True,
-        )
-        programs = [*given.programs, plain]
+        programs = [*given.programs, compiled("plain.rs", folder)]
         compare(programs, folder, 200)
         for name, script, options in scripts(random.Random(1)):
             if given.only not in name:
                 continue
-            runs = [
-                [run(program, script, options, folder)[0] for program in programs]
-                for _ in range(given.times)
-            ]
-            times = [sorted(column) for column in zip(*runs)]
+            runs = in_turn(given.times, lambda it: run(it, script, options, folder)[0], programs)
+            times = [sorted(of_one) for of_one in runs]
             ratios = ", ".join(
                 f"{one[0]:.3f} s ({one[0] / times[-1][0]:.2f})" for one in times[:-1]
             )

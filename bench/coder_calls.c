@@ -1,5 +1,5 @@
-/* Calls of the coder from C, which bench/python_coder.py times in turn with those from Python. Each
- * function makes a call some times, on the same buffers. */
+/* Calls of the coder from C, which bench/python_coder.py times in turn with those from Python, and
+ * bench/go_coder with those from Go. Each function makes a call some times, on the same buffers. */
 #include "lrc_coder.h"
 
 #include <time.h>
@@ -33,6 +33,7 @@ static uint16_t fill(const arguments *of, lrc_slice *slices) {
 
 double time_encode(const arguments *of, uint32_t times);
 double time_rebuild(const arguments *of, uint32_t times);
+double time_decode(const arguments *of, uint32_t times);
 double time_plan_decode(const arguments *of, uint32_t times);
 
 /* The nanoseconds of a call, or -1 if one fails. */
@@ -54,6 +55,19 @@ double time_rebuild(const arguments *of, uint32_t times) {
     for (uint32_t i = 0; i < times; i++) {
         const uint16_t lost = fill(of, slices);
         if (lrc_rebuild(12, slices, lost, 0, 0, of->targets[0], of->width)) return -1;
+    }
+    return (now_ns() - begin) / times;
+}
+
+double time_decode(const arguments *of, uint32_t times) {
+    lrc_slice slices[FRAGMENTS];
+    const uint8_t numbers[TARGETS] = {0, LRC_NONE, LRC_NONE, LRC_NONE};
+    const double begin = now_ns();
+    for (uint32_t i = 0; i < times; i++) {
+        const uint16_t lost = fill(of, slices);
+        if (lrc_decode(12, slices, lost, numbers, 0, of->width, of->targets[0], of->width,
+                       of->targets[1], 0, of->targets[2], 0, of->targets[3], 0))
+            return -1;
     }
     return (now_ns() - begin) / times;
 }

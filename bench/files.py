@@ -14,19 +14,20 @@ ISA-L are file_loops.py, which checks nothing. par2 keeps the file in twelve par
 blocks as four parts have.
 """
 
-import argparse
 import json
 import os
 import shutil
 import subprocess
 import sys
 import tempfile
+from pathlib import Path
 
-from program import TOP, measured
+from program import GONE, measured
+from turns import TOP, parser_of
 
 LRC = os.path.join(TOP, "crates", "lrc", "out", "lrc")
 LOOPS = ["/usr/bin/python3", os.path.join(TOP, "bench", "file_loops.py")]
-ONE, FOUR = [0], [0, 1, 6, 7]
+ONE, FOUR = [0], list(GONE)
 MIB = 1 << 20
 
 
@@ -101,10 +102,7 @@ class Par2:
 
 def least(program, lost, command, times):
     """The run that takes the least time, after which what was lost is there as before."""
-    whole, runs = [], []
-    for number in lost:
-        with open(program.path(number), "rb") as file:
-            whole.append(file.read())
+    whole, runs = [Path(program.path(number)).read_bytes() for number in lost], []
     for _ in range(times):
         for number in lost:
             os.remove(program.path(number))
@@ -112,9 +110,8 @@ def least(program, lost, command, times):
         if runs[-1].status != 0:
             sys.exit(f"{command} ended with {runs[-1].status}")
     for number, content in zip(lost, whole):
-        with open(program.path(number), "rb") as file:
-            if file.read() != content:
-                sys.exit(f"{program.name}: fragment {number} is another one")
+        if Path(program.path(number)).read_bytes() != content:
+            sys.exit(f"{program.name}: fragment {number} is another one")
     return min(runs, key=lambda run: run.wall)
 
 
@@ -123,7 +120,7 @@ def bytes_read(program, lost, source):
     for number in lost:
         os.remove(program.path(number))
     words = program.words("repair", program.folder, "--json")
-    printed = subprocess.run(words, stdout=subprocess.PIPE, check=True).stdout
+    printed = subprocess.check_output(words)
     return json.loads(printed)["bytes_read"] / os.path.getsize(source)
 
 
@@ -152,10 +149,7 @@ def programs(lrc, source, folder):
 
 
 def main():
-    parser = argparse.ArgumentParser(description=__doc__.splitlines()[0])
-    parser.add_argument("--mib", type=int, default=1024)
-    parser.add_argument("--times", type=int, default=3)
-    parser.add_argument("--only", default="", metavar="TEXT")
+    parser = parser_of(__doc__, mib=1024, times=3, only="")
     parser.add_argument("lrc", nargs="?", default=LRC, metavar="LRC")
     given = parser.parse_args()
     if not os.path.exists(given.lrc):

@@ -10,15 +10,16 @@ milliseconds (500), in turn. It prints the greatest number of calls a second, an
 CLIENTS are earlier builds of the clients, which are run too.
 """
 
-import argparse
 import os
 import shutil
 import statistics
 import subprocess
 import sys
 import tempfile
+from pathlib import Path
 
-TOP = os.path.dirname(os.path.dirname(os.path.abspath(__file__)))
+from turns import TOP, compiled, in_turn, parser_of
+
 sys.path.insert(0, os.path.join(TOP, "tools"))
 import build  # noqa: E402
 
@@ -26,21 +27,20 @@ CLIENTS = os.path.join(TOP, "bench", "clients")
 PARTS = ("src", "specs", "proofs", os.path.join("out", "rlib"))
 
 
+def run_rt(crate, folder, *words):
+    """Runs rt in the folder of a crate; what it prints."""
+    kinds = {"stdout": subprocess.PIPE, "stderr": subprocess.STDOUT, "text": True}
+    ran = subprocess.run(["rt", *words], cwd=folder, **kinds)
+    if ran.returncode != 0:
+        sys.exit(f"{ran.stdout}{crate} is not built")
+    return ran.stdout
+
+
 def copied(name, folder):
     """Proves a crate, where it isn't yet, and copies its files and its library."""
-    ran = subprocess.run(
-        ["rt", "lib"],
-        cwd=os.path.join(TOP, "crates", name),
-        stdout=subprocess.PIPE,
-        stderr=subprocess.STDOUT,
-        text=True,
-    )
-    if ran.returncode != 0:
-        sys.exit(ran.stdout + f"{name} is not built")
+    run_rt(name, os.path.join(TOP, "crates", name), "lib")
     for part in PARTS:
-        source, to = os.path.join(TOP, "crates", name, part), os.path.join(
-            folder, "crates", name, part
-        )
+        source, to = (os.path.join(top, "crates", name, part) for top in (TOP, folder))
         shutil.rmtree(to, ignore_errors=True)
         if os.path.isdir(source):
             shutil.copytree(source, to)
@@ -62,38 +62,19 @@ def built(folder, crate, top, uses, files, words):
     for file in files:
         shutil.copy(file, os.path.join(source, os.path.basename(file).replace(".rattle", ".rt")))
     shutil.copy(os.path.join(TOP, "HANDLES"), folder)
-    with open(os.path.join(TOP, "crates.txt"), encoding="utf-8") as lines:
-        rows = [line for line in lines if line.partition(":")[0].partition(" ")[0] in names]
-    with open(os.path.join(folder, "crates.txt"), "w", encoding="utf-8") as lines:
-        lines.writelines([*rows, f"{crate}: anyhow {uses}\n"])
-    ran = subprocess.run(
-        ["rt", "run", "--", *words],
-        cwd=os.path.dirname(source),
-        stdout=subprocess.PIPE,
-        stderr=subprocess.STDOUT,
-        text=True,
-    )
+    lines = Path(TOP, "crates.txt").read_text("utf-8").splitlines(True)
+    rows = [line for line in lines if line.partition(":")[0].partition(" ")[0] in names]
+    Path(folder, "crates.txt").write_text("".join(rows) + f"{crate}: anyhow {uses}\n", "utf-8")
+    printed = run_rt(crate, os.path.dirname(source), "run", "--", *words)
     program = os.path.join(os.path.dirname(source), "out", crate)
-    if ran.returncode != 0 or not os.path.exists(program):
-        sys.exit(ran.stdout + f"{crate} is not built")
-    return program
-
-
-def plain(folder):
-    """The plain store, compiled."""
-    program = os.path.join(folder, "store")
-    subprocess.run(
-        ["rustc", "-O", "--edition", "2021", "-o", program, os.path.join(TOP, "bench", "store.rs")],
-        check=True,
-    )
+    if not os.path.exists(program):
+        sys.exit(f"{printed}{crate} is not built")
     return program
 
 
 def run_figures(program, *words):
     """What a run prints, as numbers by their names."""
-    printed = subprocess.run(
-        [program, *words], stdout=subprocess.PIPE, check=True, text=True
-    ).stdout.split()
+    printed = subprocess.check_output([program, *words], text=True).split()
     return dict(zip(printed[::2], map(int, printed[1::2])))
 
 
@@ -106,23 +87,18 @@ def rate(program, calls, threads, millis):
 
 
 def main():
-    parser = argparse.ArgumentParser(description=__doc__.splitlines()[0])
-    parser.add_argument("--times", type=int, default=9)
-    parser.add_argument("--millis", type=int, default=500)
-    parser.add_argument("--folder", default=os.path.join(tempfile.gettempdir(), "lrcstore_clients"))
+    folder = os.path.join(tempfile.gettempdir(), "lrcstore_clients")
+    parser = parser_of(__doc__, times=9, millis=500, folder=folder)
     parser.add_argument("clients", nargs="*")
     given = parser.parse_args()
     os.makedirs(given.folder, exist_ok=True)
     clients = built(given.folder, "clients", "shared", "shared", sources(), ["trims"])
-    programs = [*given.clients, clients, plain(given.folder)]
+    programs = [*given.clients, clients, compiled("store.rs", given.folder)]
     for calls in ("reads", "walks"):
         for threads in (1, 4):
-            runs = [
-                [rate(program, calls, threads, given.millis) for program in programs]
-                for _ in range(given.times)
-            ]
+            runs = in_turn(given.times, lambda it: rate(it, calls, threads, given.millis), programs)
             for word, of in (("at most", max), ("median", statistics.median)):
-                rates = [of(column) for column in zip(*runs)]
+                rates = [of(of_one) for of_one in runs]
                 ratios = ", ".join(f"{one:.2f} ({one / rates[-1]:.2f})" for one in rates[:-1])
                 print(
                     f"{calls} by {threads}, {word}: {ratios}; "

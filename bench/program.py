@@ -8,16 +8,18 @@ time counts, of a mend the least wall time. With no PROGRAM it is the one that t
 Nothing is fetched, and the scripts lie in a folder that is removed.
 """
 
-import argparse
 import collections
 import os
 import subprocess
 import sys
 import tempfile
+from pathlib import Path
 
-TOP = os.path.dirname(os.path.dirname(os.path.abspath(__file__)))
+from turns import TOP, in_turn, parser_of
+
 BUILT = os.path.join(TOP, "crates", "lrcstore", "out", "lrcstore")
 FULL = ["--limit", "1048576"]
+GONE = (0, 1, 6, 7)  # four fragments, of both groups, that can be lost together
 SMALL = "1,1,put,a,text,ABCDEFGHIJKL"
 LONG = "1,1,put,a,text," + "x" * 49152
 MIB_48 = 48 << 20
@@ -46,15 +48,13 @@ def trims(names):
 def losses(stripes):
     """16,384 losses, four in a stripe, in as many blobs of so many stripes as it takes."""
     put = "1,1,put,a,text," + "x" * (12 * stripes)
-    lost = [
-        f"1,1,lose,a,{stripe},{fragment}" for fragment in (0, 1, 6, 7) for stripe in range(stripes)
-    ]
+    lost = [f"1,1,lose,a,{stripe},{fragment}" for fragment in GONE for stripe in range(stripes)]
     return ([put] + lost) * (16384 // len(lost))
 
 
 def reads(lost):
     """65,535 reads of 12 bytes in a blob with so many losses, and a trim at the end."""
-    gone = [f"1,1,lose,a,{k % 4096},{(0, 1, 6, 7)[k // 4096]}" for k in range(lost)]
+    gone = [f"1,1,lose,a,{k % 4096},{GONE[k // 4096]}" for k in range(lost)]
     return (
         [LONG] + gone + ["1,1,trim,,0,"] + ["1,1,read,a,0,12"] * (65533 - lost) + ["1,1,trim,,0,"]
     )
@@ -66,7 +66,7 @@ def mend(width, is_mended):
     stripes, rows = MIB_48 // (12 * width), ["1,1,put,a,hex," + "5a" * MIB_48]
     for turn in range(1024 // stripes):
         rows += [
-            f"{2 * turn + 1},1,lose,a,{k % stripes},{(0, 1, 6, 7)[k // stripes]}"
+            f"{2 * turn + 1},1,lose,a,{k % stripes},{GONE[k // stripes]}"
             for k in range(4 * stripes)
         ]
         rows += [f"{2 * turn + 2},0,mend,,,"] * is_mended
@@ -97,20 +97,15 @@ def measured(program, words):
     A process of its own starts the run, since what the system tells of a child's peak is no less
     than its parent had when it started it.
     """
-    figures = subprocess.run(
-        [sys.executable, "-I", "-c", START, program, *words],
-        stdout=subprocess.PIPE,
-        check=True,
-        text=True,
-    ).stdout.split()
-    return Run(int(figures[0]), float(figures[1]), float(figures[2]), int(figures[3]) * 1024)
+    command = [sys.executable, "-I", "-c", START, program, *words]
+    status, seconds, wall, peak = subprocess.check_output(command, text=True).split()
+    return Run(int(status), float(seconds), float(wall), int(peak) * 1024)
 
 
 def run(program, script, options, folder):
     """Processor seconds, wall seconds and peak bytes of a run that ends well."""
-    path = os.path.join(folder, "script.csv")
-    with open(path, "w", encoding="ascii") as file:
-        file.write("\n".join(script) + "\n")
+    path = Path(folder, "script.csv")
+    path.write_text("\n".join(script) + "\n", "ascii")
     one = measured(program, [path, *options])
     if one.status != 0:
         sys.exit(f"{program} ended with {one.status}")
@@ -119,10 +114,8 @@ def run(program, script, options, folder):
 
 def least(programs, script, options, times, folder):
     """The least of each measure, for each program."""
-    runs = [[run(program, script, options, folder) for program in programs] for _ in range(times)]
-    return [
-        [min(one[k][measure] for one in runs) for measure in range(3)] for k in range(len(programs))
-    ]
+    runs = in_turn(times, lambda program: run(program, script, options, folder), programs)
+    return [[min(measure) for measure in zip(*of_one)] for of_one in runs]
 
 
 def show(what, programs, figures):
@@ -132,75 +125,40 @@ def show(what, programs, figures):
 
 def compare(what, programs, less, more, options, times, folder):
     """The processor time of one script as a ratio to that of another one, both run in turn."""
-    rounds = [
-        [least(programs, script, options, 1, folder) for script in (less, more)]
-        for _ in range(times)
-    ]
-    small, great = (
-        [min(one[which][k][0] for one in rounds) for k in range(len(programs))] for which in (0, 1)
+    rounds = in_turn(
+        times, lambda script: least(programs, script, options, 1, folder), (less, more)
     )
-    show(
-        what, programs, [f"{a:.3f} and {b:.3f} s, {b / a:.2f} times" for a, b in zip(small, great)]
-    )
+    small, great = ([min(one)[0] for one in zip(*of_script)] for of_script in rounds)
+    ratios = [f"{a:.3f} and {b:.3f} s, {b / a:.2f} times" for a, b in zip(small, great)]
+    show(what, programs, ratios)
 
 
 def main():
-    parser = argparse.ArgumentParser(description=__doc__.splitlines()[0])
-    parser.add_argument("--times", type=int, default=5)
+    parser = parser_of(__doc__, times=5)
     parser.add_argument("programs", nargs="*", default=[BUILT])
     given = parser.parse_args()
     programs, times = given.programs, given.times
     with tempfile.TemporaryDirectory() as folder:
-        compare(
-            "4,000 and 8,000 names, with trims",
-            programs,
-            trims(4000),
-            trims(8000),
-            FULL,
-            times,
-            folder,
-        )
-        compare(
-            "16,384 losses in blobs of 64 and of 4,096 stripes",
-            programs,
-            losses(64),
-            losses(4096),
-            FULL,
-            times,
-            folder,
-        )
-        compare(
-            "reads of a blob with no loss and with 16,000",
-            programs,
-            reads(0),
-            reads(16000),
-            FULL,
-            times,
-            folder,
-        )
         wide = [*FULL, "--width", "65536"]
-        compare("48 MiB put, and read", programs, whole(False), whole(True), wide, times, folder)
-        for is_read, what in (
-            (False, "48 MiB put, peak memory"),
-            (True, "48 MiB put, and read, peak memory"),
+        for what, make, less, more, options in (
+            ("4,000 and 8,000 names, with trims", trims, 4000, 8000, FULL),
+            ("16,384 losses in blobs of 64 and of 4,096 stripes", losses, 64, 4096, FULL),
+            ("reads of a blob with no loss and with 16,000", reads, 0, 16000, FULL),
+            ("48 MiB put, and read", whole, False, True, wide),
         ):
+            compare(what, programs, make(less), make(more), options, times, folder)
+        for is_read, what in (False, "48 MiB put"), (True, "48 MiB put, and read"):
             peaks = least(programs, whole(is_read), wide, 1, folder)
-            show(
-                what,
-                programs,
-                [f"{one[2] / MIB_48:.2f} bytes for each of the blob" for one in peaks],
-            )
+            figures = [f"{one[2] / MIB_48:.2f} bytes for each of the blob" for one in peaks]
+            show(f"{what}, peak memory", programs, figures)
         for width in (1, 64, 1024, 65536):
             wide, count = [*FULL, "--width", str(width)], MIB_12 // blob_size(width)
             some, twice = (
                 least(programs, blobs(width, number), wide, 1, folder)
                 for number in (count, 2 * count)
             )
-            show(
-                f"a stored byte at width {width}",
-                programs,
-                [f"{(b[2] - a[2]) / MIB_12:.2f} bytes of memory" for a, b in zip(some, twice)],
-            )
+            figures = [f"{(b[2] - a[2]) / MIB_12:.2f} bytes of memory" for a, b in zip(some, twice)]
+            show(f"a stored byte at width {width}", programs, figures)
         for width in (4096, 65536):
             for workers in (1, 2, 4):
                 options = [*FULL, "--width", str(width), "--workers", str(workers)]

@@ -12,7 +12,6 @@ one round.
 
 from __future__ import annotations
 
-import argparse
 import ctypes
 import os
 import shutil
@@ -22,7 +21,9 @@ import tempfile
 import time
 import timeit
 
-TOP = os.path.dirname(os.path.dirname(os.path.abspath(__file__)))
+import turns
+from turns import TOP
+
 sys.path.insert(0, os.path.join(TOP, "tools"))
 import libraries  # noqa: E402
 import python_extension  # noqa: E402
@@ -46,19 +47,10 @@ def compiled(folder, ready):
     package = os.path.join(folder, "python", "lrcstore")
     python_extension.build("_coder", ready, package, ready)
     sys.path.insert(0, os.path.join(folder, "python"))
-    calls = os.path.join(folder, "calls.so")
-    libraries.run(
-        *libraries.COMPILE[:-1],
-        "-shared",
-        "-I",
-        os.path.join(TOP, "include"),
-        os.path.join(TOP, "bench", "coder_calls.c"),
-        f"-L{ready}",
-        "-l:liblrc_coder.so",
-        f"-Wl,-rpath,{ready}",
-        "-o",
-        calls,
-    )
+    calls, source = os.path.join(folder, "calls.so"), os.path.join(TOP, "bench", "coder_calls.c")
+    words = "-shared", "-I", os.path.join(TOP, "include"), source, "-o", calls
+    linked = f"-L{ready}", "-l:liblrc_coder.so", f"-Wl,-rpath,{ready}"
+    libraries.run(*libraries.COMPILE[:-1], *words, *linked)
     return ctypes.CDLL(calls)
 
 
@@ -125,14 +117,9 @@ def measured(calls, coder, width, rounds, nanos):
 
 
 def main():
-    parser = argparse.ArgumentParser(description=__doc__.splitlines()[0])
-    parser.add_argument("--rounds", type=int, default=31)
-    parser.add_argument("--millis", type=float, default=5)
-    given = parser.parse_args()
-    if "LRC_LIBRARIES" not in os.environ:
-        sys.exit("LRC_LIBRARIES has to name a folder that tools/libraries.py has filled")
+    given = turns.parser_of(__doc__, rounds=31, millis=5.0).parse_args()
     with tempfile.TemporaryDirectory() as folder:
-        calls = compiled(folder, os.path.abspath(os.environ["LRC_LIBRARIES"]))
+        calls = compiled(folder, turns.libraries())
         from lrcstore import coder
 
         for width in WIDTHS:

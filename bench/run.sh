@@ -1,7 +1,7 @@
 #!/bin/sh
-# bench/run.sh [ROUNDS]: proves and builds the coder as a static library for x86-64-v2, x86-64-v3
-# and x86-64-v4, and times it beside ISA-L and memcpy. Prints five tables. It needs gcc, binutils
-# and libisal-dev of Debian, and fetches nothing.
+# bench/run.sh [--lost] [ROUNDS]: proves and builds the coder as a static library for x86-64-v2,
+# x86-64-v3 and x86-64-v4, and times it beside ISA-L and memcpy. Prints five tables, or with --lost
+# that of lost fragments alone. It needs gcc, binutils and libisal-dev of Debian, and fetches nothing.
 set -eu
 bench=$(cd "$(dirname "$0")" && pwd)
 for tool in gcc objcopy nm ar; do
@@ -19,7 +19,9 @@ linked() {
     objcopy --redefine-syms="$made/names" "$made/$1.$2.linked"
     rm "$made"/*.o
 }
-for each in bench_coder/v2 bench_coder/v3 coder_c/v2 coder_c/v3 coder_c/v4; do
+archives='coder_c/v2 coder_c/v3 coder_c/v4'
+if [ "${1:-}" = --lost ]; then shift; else archives="bench_coder/v2 bench_coder/v3 $archives"; fi
+for each in $archives; do
     crate=${each%/*} cpu=${each#*/}
     python3 "$bench/../tools/rt_once.py" archive "$crate" "$cpu" "$made/lib$crate.a" > "$made/log" 2>&1 \
         || { cat "$made/log" >&2; exit 1; }

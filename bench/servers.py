@@ -25,6 +25,7 @@ import statistics
 import subprocess
 import tempfile
 import time
+from pathlib import Path
 
 TURNS, CLIENTS, KEYS = 9, 16, 300_000
 LOADS = ((64, 60_000), (4096, 40_000), (1 << 20, 600))
@@ -63,29 +64,24 @@ def commands(server, width):
 
 
 def processor_seconds(process):
-    with open(f"/proc/{process.pid}/stat", encoding="ascii") as file:
-        fields = file.read().rpartition(")")[2].split()
+    fields = Path(f"/proc/{process.pid}/stat").read_text("ascii").rpartition(")")[2].split()
     return (int(fields[11]) + int(fields[12])) / TICKS
 
 
 def resident_bytes(process):
-    with open(f"/proc/{process.pid}/statm", encoding="ascii") as file:
-        return int(file.read().split()[1]) * os.sysconf("SC_PAGE_SIZE")
+    pages = Path(f"/proc/{process.pid}/statm").read_text("ascii").split()[1]
+    return int(pages) * os.sysconf("SC_PAGE_SIZE")
 
 
 def load(process, port, words, count, clients=CLIENTS, keys=1000):
     """Requests a second, microseconds of the server a request, and milliseconds at 99.9 % and of
     the longest."""
     command = ["redis-benchmark", "-p", str(port), "-n", str(count), "-c", str(clients)]
+    command += ["--threads", "2", "-r", str(keys), *words]
     before = processor_seconds(process)
     began = time.monotonic()
-    printed = subprocess.run(
-        [*command, "--threads", "2", "-r", str(keys), *words],
-        stdout=subprocess.PIPE,
-        stderr=subprocess.DEVNULL,  # that there is no CONFIG
-        text=True,
-        check=True,
-    ).stdout
+    # on standard error it says that there is no CONFIG
+    printed = subprocess.check_output(command, stderr=subprocess.DEVNULL, text=True)
     took = time.monotonic() - began
     rows = re.findall(r"^([\d.]+)% <= ([\d.]+) milliseconds", printed, re.M)
     high = min(float(time) for share, time in rows if float(share) >= 99.9)
@@ -187,12 +183,8 @@ def load_memcached(process, kind, size, count, window=1):
         file.flush()
         words = ["-F", file.name, "-T", "2", "-c", str(CLIENTS), "-w", f"{window}k"]
         before = processor_seconds(process)
-        printed = subprocess.run(
-            ["memcaslap", "-s", f"127.0.0.1:{MEMCACHED[1]}", *words, "-x", str(count)],
-            stdout=subprocess.PIPE,
-            text=True,
-            check=True,
-        ).stdout
+        command = ["memcaslap", "-s", f"127.0.0.1:{MEMCACHED[1]}", *words, "-x", str(count)]
+        printed = subprocess.check_output(command, text=True)
     done = [int(re.search(rf"cmd_{word}: (\d+)", printed)[1]) for word in ("set", "get")]
     return processor_seconds(process) - before, *done
 

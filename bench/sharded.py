@@ -12,7 +12,6 @@ It prints a table. With --write it keeps the figures in bench/results/sharded.cs
 docs/pictures/sharded.svg from them, and puts table and picture into docs/performance.md.
 """
 
-import argparse
 import csv
 import functools
 import itertools
@@ -22,17 +21,18 @@ import subprocess
 import sys
 import tempfile
 import textwrap
+from pathlib import Path
 
 import library
-from library import TOP
+from turns import TOP, compiled, parser_of
 
 sys.path.insert(0, os.path.join(TOP, "tools"))
 from svg import GREY, INK, RED, drawing, line, middle, text  # noqa: E402
 
 CLIENTS = os.path.join(TOP, "bench", "sharded_clients")
-RESULTS = os.path.join(TOP, "bench", "results", "sharded.csv")
-PICTURE = os.path.join(TOP, "docs", "pictures", "sharded.svg")
-PAGE = os.path.join(TOP, "docs", "performance.md")
+RESULTS = Path(TOP, "bench", "results", "sharded.csv")
+PICTURE = Path(TOP, "docs", "pictures", "sharded.svg")
+PAGE = Path(TOP, "docs", "performance.md")
 HEADING = "## Threads on a sharded store"
 CALLS, THREADS, SHARDS = ("reads", "walks"), (1, 2, 4), (1, 4, 16, 64)
 NAMES = {"own": "a name for each", "one": "one name"}
@@ -74,7 +74,7 @@ def measured(programs, rounds, millis):
 
 def machine():
     """The processor and how many there are."""
-    found = subprocess.run(["lscpu"], stdout=subprocess.PIPE, text=True, check=True).stdout
+    found = subprocess.check_output(["lscpu"], text=True)
     rows = [row.partition(":") for row in found.splitlines()]
     models = [value.strip() for word, _, value in rows if word == "Model name"]
     return f"{os.cpu_count()} x {(models or [platform.machine()])[0]}"
@@ -172,19 +172,7 @@ def picture(rates):
 # ---- what is kept
 
 
-def read(path):
-    with open(path, encoding="utf-8") as kept_text:
-        return kept_text.read()
-
-
-def write(path, content):
-    os.makedirs(os.path.dirname(path), exist_ok=True)
-    with open(path, "w", encoding="utf-8") as out:
-        out.write(content)
-
-
 def keep(rates):
-    os.makedirs(os.path.dirname(RESULTS), exist_ok=True)
     with open(RESULTS, "w", encoding="utf-8", newline="") as out:
         rows = csv.writer(out, lineterminator="\n")
         rows.writerow(FIELDS)
@@ -213,21 +201,11 @@ def section(rates, where):
     words = (
         "Each figure is how many calls a second a case makes, divided by those that one thread "
         "makes of a plain store. It is the greatest of many short runs, on a machine with "
-        f"{where}. "
-        "[Threads](threads.md#when-to-shard) says when to shard."
+        f"{where}. [Threads](threads.md#when-to-shard) says when to shard."
     )
-    yield from (
-        HEADING,
-        "",
-        *wrapped(words),
-        "",
-        "    bench/sharded.py --write",
-        "",
-        *wrapped(f"![{description(rates)}](pictures/sharded.svg)"),
-        "",
-        *table(rates),
-        "",
-    )
+    shown = wrapped(f"![{description(rates)}](pictures/sharded.svg)")
+    for lines in [HEADING], wrapped(words), ["    bench/sharded.py --write"], shown, table(rates):
+        yield from (*lines, "")
 
 
 def with_section(page, lines):
@@ -244,14 +222,12 @@ def wrong_pages():
         return []
     made = "\n".join(section(*results())).strip()
     complaint = "docs/performance.md: bench/sharded.py makes another section of its kept figures"
-    return [] if made in read(PAGE) else [complaint]
+    return [] if made in PAGE.read_text("utf-8") else [complaint]
 
 
 def main():
-    parser = argparse.ArgumentParser(description=__doc__.splitlines()[0])
-    parser.add_argument("--rounds", type=int, default=30)
-    parser.add_argument("--millis", type=int, default=25)
-    parser.add_argument("--folder", default=os.path.join(tempfile.gettempdir(), "lrcstore_sharded"))
+    folder = os.path.join(tempfile.gettempdir(), "lrcstore_sharded")
+    parser = parser_of(__doc__, rounds=30, millis=25, folder=folder)
     parser.add_argument("--write", action="store_true")
     given = parser.parse_args()
     os.makedirs(given.folder, exist_ok=True)
@@ -262,14 +238,15 @@ def main():
     programs = {
         STORE: build("clients", "shared", "shared", library.sources(), ["trims"]),
         SHARDED: build("sharded_clients", "sharded", "shared sharded", files, words),
-        PLAIN: library.plain(given.folder),
+        PLAIN: compiled("store.rs", given.folder),
     }
     rates = measured(programs, given.rounds, given.millis)
     if given.write:
         keep(rates)
         rates, where = results()
-        write(PICTURE, picture(rates))
-        write(PAGE, with_section(read(PAGE), section(rates, where)))
+        PICTURE.write_text(picture(rates), "utf-8")
+        page = with_section(PAGE.read_text("utf-8"), section(rates, where))
+        PAGE.write_text(page, "utf-8")
     print(*table(rates), sep="\n")
 
 
