@@ -10,4 +10,4 @@ if ! bench/gate_time.py | tee "$LRC_GATE_LOG"; then
     echo "0 passed, 1 failed: rt ci"
     exit 1
 fi
-exec tests/programs.sh 1
+exec tests/gate.py 1

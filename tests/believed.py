@@ -22,6 +22,8 @@ PARTS = {
         ("shared", "Pass"),
         ("shared", "Receipt"),
         ("lent", "Grant"),
+        *(("named_calls", name) for name in ("Makes", "Waits", "WaitingCalls", "TryCalls")),
+        *(("named_calls", name) for name in ("WaitingSnapshots", "TrySnapshots", "Store")),
     ],
     "the mender": [("mender", "")],
     "a store in shards": [("sharded", "ShardedStore"), ("sharded", "ShardedPass"), ("sharded", "")],
@@ -137,14 +139,23 @@ class Definitions:
         return {key for key in seen if key in self.bodies}
 
 
+def given(text, owner):
+    """The relations that a type gives to the traits of its calls."""
+    for found in re.finditer(rf"^impl \w+ for {owner} \{{\n(.*?)^\}}", text, re.M | re.S):
+        yield from re.findall(r"^    ghost \w+ = \{(.*?)\};", found.group(1), re.M | re.S)
+
+
 def roots(definitions, part):
-    """What the clauses of the public functions of a part cite."""
+    """What the clauses of the public functions of a part cite, and what its types give to traits of
+    calls."""
     for crate, owner in PARTS[part]:
         for path in files_of(os.path.join(CRATES, crate, "src")):
             text = read(path)
+            for relation in given(text, owner) if owner else ():
+                yield from definitions.cited(relation, crate, None, imports_of(text))
             for function in functions_of(text):
                 if function.is_public and function.owner == owner:
-                    clauses = re.split(r"\n *\{\n", text[function.start : function.end])[0]
+                    clauses = text[function.start : function.body]
                     yield from definitions.cited(clauses, crate, None, imports_of(text))
 
 

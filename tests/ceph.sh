@@ -1,6 +1,6 @@
 #!/usr/bin/env bash
 # Tests Ceph's plugin without a cluster: by Ceph's own tool, and by a program that loads plugins as
-# Ceph does. tests/library.sh runs it. integrations/ceph/cluster_test.py tests the plugin in a
+# Ceph does. tests/test_library.py runs it. integrations/ceph/cluster_test.py tests the plugin in a
 # cluster. LRC_LIBRARIES names the folder of the libraries.
 set -eu
 cd "$(dirname "$0")/.."
@@ -54,7 +54,7 @@ other_version() {
     local other
     other=$(ceph-osd --version | awk '{ sub(/[0-9]+$/, "99", $3); print $3 }')
     mkdir "$work/other"
-    CEPH_VERSION=$other "$here/build.sh" "$work/other"
+    CEPH_VERSION=$other compile_plugin "$work/other"
     if tool other test-plugin-exists azure_lrc; then
         echo "a plugin for Ceph $other is loaded"
         return 1
@@ -73,18 +73,28 @@ untested_release() {
         fi
         grep -q "tested with Ceph 16.2, 18.2 and 20.2, and this is $version" "$work/printed"
     done
-    CEPH_VERSION=18.2.99 "$here/build.sh" "$work/other"
+    CEPH_VERSION=18.2.99 compile_plugin "$work/other"
     echo "Ceph: no plugin is built for a release that was not tested"
 }
 
-# The calls that Ceph 20.2 adds are tested beside any release: the plugin takes of Ceph's package
-# only the header of buffers, which these calls use alike.
-shards() {
-    local -x CEPH_VERSION=20.2.4
-    mkdir "$work/shards"
-    "$here/build.sh" "$work/shards" -O0
-    program plugin_test -O0
-    "$work/plugin_test" "$work/shards" tests/corpus shards
+# A build tests the plugin before it leaves the file. The calls that Ceph 20.2 adds are tested beside
+# any release: the plugin takes of Ceph's package only the header of buffers, which these calls use
+# alike.
+built() {
+    local copy=$work/copy
+    mkdir "$work/built" "$copy" "$work/unfit"
+    "$here/build.sh" "$work/built"
+    CEPH_VERSION=20.2.4 "$here/build.sh" "$work/built" -O0
+    cp -r include integrations "$copy/"
+    sed -i 's/return order != Order::GROUPS;/return true;/' "$copy/integrations/ceph/azure_lrc.cc"
+    if CEPH_VERSION=20.2.4 LRC_LIBRARIES=$(dirname "$archive") \
+        "$copy/integrations/ceph/build.sh" "$work/unfit" -O0 2> "$work/printed"; then
+        echo "a plugin that fails its test is built"
+        return 1
+    fi
+    grep -q "k=12 groups: what it supports" "$work/printed"
+    [ -z "$(ls "$work/unfit")" ]
+    echo "Ceph: a plugin that fails its test is not left"
 }
 
 sanitized() {
@@ -106,4 +116,4 @@ decoded_by_tool
 other_version
 untested_release
 sanitized
-shards
+built

@@ -1,24 +1,22 @@
-"""Has pytest run all tests but those of `rt ci`, so that `pytest -k TEXT` takes those whose name
-has the text. Each `test_of` of a shell script is a test, and so is each check of
-tests/parts.sh and tests/programs.sh. tests/release.sh is one test, as its parts need those before
-them."""
+"""What the tests share: the libraries, the extension modules for Python, and the library that
+counts its blocks of memory. LRC_LIBRARIES names the folder that tools/libraries.py has filled. A
+test without its tools is skipped."""
 
-import atexit
+import functools
 import os
-import re
 import shutil
-import subprocess
 import sys
 import tempfile
 
 import pytest
+from building import TOP, build_shared, output, require, run
 
-HERE = os.path.dirname(os.path.abspath(__file__))
-TOP = os.path.dirname(HERE)
 sys.path.append(os.path.join(TOP, "tools"))
 
 import python_extension  # noqa: E402
 
+if os.environ.get("LRC_LIBRARIES"):
+    os.environ["LRC_LIBRARIES"] = os.path.abspath(os.environ["LRC_LIBRARIES"])
 LIBRARIES = os.environ.get("LRC_LIBRARIES")
 HAS_HEADER = os.path.exists(python_extension.header())
 # What loads the libraries is not collected without them, nor Python's coder if it isn't compiled.
@@ -26,74 +24,95 @@ collect_ignore = [] if LIBRARIES else ["library", "release", "services", "store"
 collect_ignore += [] if HAS_HEADER else ["library", "services"]
 
 
+@functools.lru_cache(maxsize=None)
 def compile_coder():
     """Puts a copy of Python's modules before them, with the extension module of the coder."""
-    folder = tempfile.mkdtemp()
-    atexit.register(shutil.rmtree, folder)
-    copy = os.path.join(folder, "python")
+    copy = os.path.join(tempfile.mkdtemp(), "python")
     shutil.copytree(os.path.join(TOP, "bindings", "python"), copy)
-    ready = os.path.abspath(LIBRARIES)
-    python_extension.build("_coder", ready, os.path.join(copy, "lrcstore"), ready)
+    python_extension.build("_coder", LIBRARIES, os.path.join(copy, "lrcstore"), LIBRARIES)
     sys.path.insert(0, copy)
     os.environ["PYTHONPATH"] = copy
+    return os.path.dirname(copy)
 
 
-def pytest_configure():
-    if LIBRARIES and HAS_HEADER:
+def pytest_pycollect_makemodule(module_path):
+    """A module of a folder with tests of the libraries loads them as it is imported."""
+    if module_path.parent.name in ("library", "services", "store"):
         compile_coder()
-    for name in ("coder", "store"):
-        if LIBRARIES:
-            path = os.path.join(os.path.abspath(LIBRARIES), f"liblrc_{name}.so")
+        for name in ("coder", "store"):
+            path = os.path.join(LIBRARIES, f"liblrc_{name}.so")
             os.environ.setdefault(f"LRC_{name.upper()}_SO", path)
 
 
-def pytest_collect_file(file_path, parent):
-    if file_path.parent.samefile(HERE) and file_path.suffix == ".sh":
-        return Script.from_parent(parent, path=file_path)
-    return None
+def pytest_unconfigure():
+    if compile_coder.cache_info().currsize:
+        shutil.rmtree(compile_coder())
 
 
-class Script(pytest.File):
-    """A shell script: the tests that it names, itself, or the checks that it runs."""
-
-    def collect(self):
-        text = self.path.read_text(encoding="utf-8")
-        command = [str(self.path)]
-        if self.path.name in ("parts.sh", "programs.sh"):
-            for names in re.findall(r"^ *for each in ([\w ]+); do\s*part python3", text, re.M):
-                for name in names.split():
-                    command = ["python3", os.path.join(HERE, f"{name}.py")]
-                    yield Command.from_parent(self, name=name, command=command)
-        elif self.path.name == "release.sh":
-            yield Command.from_parent(self, name="release", command=command)
-        elif ". tests/runner.sh" in text:
-            for name in re.findall(r'^ *test_of "([^"]+)"', text, re.M):
-                yield Command.from_parent(self, name=name, command=command, chosen=name)
+def pytest_addoption(parser):
+    parser.addoption("--seconds", help="how long each random run of the libraries lasts")
+    parser.addoption("--cases", default=1000, help="how many cases of damage `lrc` gets")
 
 
-class Command(pytest.Item):
-    """A command that has to end with status 0. It is skipped if it lacks what it needs."""
+@pytest.fixture(scope="session")
+def libraries():
+    """The folder of the libraries."""
+    if not LIBRARIES:
+        pytest.skip("LRC_LIBRARIES names no folder of tools/libraries.py")
+    assert os.path.exists(f"{LIBRARIES}/liblrc_store.a"), f"{LIBRARIES} has no libraries"
+    return LIBRARIES
 
-    def __init__(self, command, chosen="", **others):
-        super().__init__(**others)
-        self.command, self.chosen = command, chosen
 
-    def runtest(self):
-        ran = subprocess.run(
-            self.command,
-            cwd=TOP,
-            env={**os.environ, "LRC_TEST": self.chosen},
-            stdin=subprocess.DEVNULL,
-            stdout=subprocess.PIPE,
-            stderr=subprocess.STDOUT,
-            text=True,
-            check=False,
-        )
-        lacks = re.search(r"LRC_LIBRARIES: has to .*|^0 tests of .* 1 skipped.*", ran.stdout, re.M)
-        if lacks:
-            pytest.skip(lacks.group())
-        if ran.returncode:
-            pytest.fail(ran.stdout, pytrace=False)
+@pytest.fixture(scope="session")
+def cargo_target(tmp_path_factory):
+    """A folder for what cargo builds."""
+    return tmp_path_factory.mktemp("cargo")
 
-    def reportinfo(self):
-        return self.path, None, f"{self.path.name}: {self.name}"
+
+@pytest.fixture(scope="session")
+def counted(libraries, tmp_path_factory):
+    """The folder of a library of the store that counts its blocks of memory."""
+    folder = tmp_path_factory.mktemp("counted")
+    run("tests/store/counted.sh", folder)
+    return folder
+
+
+@pytest.fixture(scope="session")
+def busy(libraries, tmp_path_factory):
+    """A store that is busy for ever, to be loaded before the library."""
+    return build_shared(tmp_path_factory.mktemp("busy") / "busy.so", "tests/store/busy.c")
+
+
+@pytest.fixture(scope="session")
+def python_header():
+    """The header of Python, by which its extension modules are compiled."""
+    path = output("tools/python_extension.py", "--header").strip()
+    require(path, "python3-dev")
+    return path
+
+
+@pytest.fixture(scope="session")
+def package_with(python_header, tmp_path_factory):
+    """A function that copies Python's modules, with extension modules over the libraries of a
+    folder, and returns the copy's path."""
+
+    def made(folder, *modules):
+        copy = tmp_path_factory.mktemp("package") / "python"
+        shutil.copytree(os.path.join(TOP, "bindings", "python"), copy)
+        words = ["--libraries", os.environ["LRC_LIBRARIES"], "--to", copy / "lrcstore"]
+        run("tools/python_extension.py", *words, "--rpath", folder, *modules)
+        return copy
+
+    return made
+
+
+@pytest.fixture
+def python(libraries):
+    """A function that runs Python over the libraries, with modules of a folder."""
+
+    def python_with(modules, *words, **environment):
+        names = {f"LRC_{it}_SO": f"{libraries}/liblrc_{it.lower()}.so" for it in ("STORE", "CODER")}
+        names.update(PYTHONDONTWRITEBYTECODE="1", PYTHONPATH=modules)
+        return output("python3", *words, **{**names, **environment})
+
+    return python_with

@@ -1,21 +1,99 @@
 #!/usr/bin/env python3
-"""Prints the lines and branches that tests ran: coverage.py C.json PYTHON.json
+"""Prints which lines and branches of the headers, of library/ and of the Python modules the tests
+run. Fails if it is less than 95 % of the lines of a file. LRC_LIBRARIES names the folder of the
+libraries.
 
-The first file has what `gcov --json-format` printed, one object a line, and the second one what
-`coverage json` wrote. A line that several programs have counts as run if one of them ran it. The
-edges of exceptions are no branches here. The status is 1 if less than 95 % of the lines of a file
-are run.
+A line that several programs have counts as run if one of them ran it. The edges of exceptions are
+no branches here.
 """
 
+import glob
 import json
 import os
+import shutil
 import sys
+import tempfile
 from collections import defaultdict
 from typing import NamedTuple
 
-TOP = os.path.dirname(os.path.dirname(os.path.abspath(__file__)))
+from building import CHOICE, TOP, build, build_numbers, library, output, require, run
+
 LEAST = 95.0
 FOLDERS = ("include/", "library/", "bindings/python/")
+FLAGS = ["--coverage", "-O0", "-w"]
+# The programs that are run. Some have more sources of library/ than they test, or words.
+PROGRAMS = "waiting pool shards totals handed plan versions names coder".split()
+MORE = {
+    "waits": ["library/store_wait.c"],
+    "mending": ["library/store_wait.c"],
+    "edges of texts": ["library/store_text.c", "library/coder_text.c"],
+    "texts": ["library/store_text.c", "library/coder_text.c"],
+}
+IN_CPP = {"random calls of the coder": ["40"], "C++": [], "store in C++": []}
+MODULES = {"_native": "store", "_coder": "coder"}
+
+
+def run_programs(work):
+    """Builds each program in a folder of its own, where it leaves its counts."""
+    rows = [(name, MORE.get(name, []), []) for name in (*PROGRAMS, *MORE)]
+    rows += [(name, ["-fkeep-inline-functions"], words) for name, words in IN_CPP.items()]
+    for name, flags, words in rows:
+        folder = os.path.join(work, name)
+        os.mkdir(folder)
+        output(build(folder, name, flags=[*FLAGS, *flags]), *words)
+    folder = tempfile.mkdtemp(dir=work)
+    run(build_numbers(folder, *FLAGS))
+    # both sources are called choice.c, and so would be their counts
+    folder = tempfile.mkdtemp(dir=work)
+    made = os.path.join(folder, "chosen.o")
+    run("gcc", *FLAGS, "-O1", *CHOICE, "-DHAS_V4", "-c", "library/choice.c", "-o", made)
+    chosen = build(folder, "choice", "library", flags=[*FLAGS, made])
+    run(chosen, "v2", CHOICE="v2")
+    output("tests/edges/choice.sh", chosen)
+
+
+def of_python(work):
+    """Runs the tests of the Python modules, and of a copy with the extension modules. Returns the
+    path of what was counted."""
+    package = os.path.join(work, "package")
+    modules = os.path.join(TOP, "bindings", "python")
+    shutil.copytree(modules, package)
+    header = output("/usr/bin/python3", "tools/python_extension.py", "--header", PYTHONPATH="tools")
+    where = ["-w", "-I", "include", "-I", os.path.dirname(header)]
+    for module, name in MODULES.items():
+        source = f"bindings/python/lrcstore/{module}.c"
+        linked = [library(f"liblrc_{name}.so"), f"-Wl,-rpath,{library('')}"]
+        made = os.path.join(package, "lrcstore", f"{module}.abi3.so")
+        run("gcc", *FLAGS, *where, "-fPIC", "-shared", source, *linked, "-o", made)
+    for file in ("library/watched", "store/busy"):
+        made = os.path.join(work, f"{os.path.basename(file)}.so")
+        run("gcc", *where, "-fPIC", "-shared", f"tests/{file}.c", "-o", made)
+    names = {f"LRC_{it}_SO": library(f"liblrc_{it.lower()}.so") for it in ("STORE", "CODER")}
+    names.update(PYTHONDONTWRITEBYTECODE="1", COVERAGE_FILE=os.path.join(work, "python"))
+    counts = ["python3-coverage", "run", "--parallel-mode", "--branch"]
+    counts.append("--include=*/lrc*.py,*/lrcstore/*")
+    for path, preloaded, words in (
+        (modules, "", "tests/store/bindings.py"),
+        (modules, "", "tests/store/package.py ctypes"),
+        (package, f"{work}/watched.so", "tests/library/bindings.py"),
+        (package, "", "tests/store/package.py native"),
+        (package, f"{work}/busy.so", "tests/store/package_busy.py"),
+    ):
+        output(*counts, *words.split(), PYTHONPATH=path, LD_PRELOAD=preloaded, **names)
+    # the copy's lines are those of the package
+    with open(os.path.join(work, "paths"), "w", encoding="utf-8") as paths:
+        paths.write(f"[paths]\nof =\n    {modules}\n    {package}\n")
+    run("python3-coverage", "combine", "--quiet", "--rcfile", f"{work}/paths", **names)
+    run("python3-coverage", "json", "--quiet", "-o", f"{work}/python.json", **names)
+    return f"{work}/python.json"
+
+
+def of_c(work):
+    """What gcov says of each object that has counted, as objects of JSON."""
+    for path in glob.glob(f"{work}/**/*.gcda", recursive=True):
+        folder, name = os.path.split(path)
+        words = ["gcov", "--json-format", "--branch-probabilities", "--stdout", name]
+        yield from map(json.loads, filter(str.strip, output(*words, cwd=folder).splitlines()))
 
 
 class Counts:
@@ -54,13 +132,11 @@ def name_of(path, folder):
     return os.path.relpath(os.path.join(folder, path), TOP)
 
 
-def of_c(path):
+def reports_of_c(runs):
     """The report on each file of the repository, by what gcov printed."""
     files = defaultdict(Counts)
-    with open(path, encoding="utf-8") as printed:
-        runs = [json.loads(line) for line in printed if line.strip()]
-    for run in runs:
-        for file in run["files"]:
+    for run_of in runs:
+        for file in run_of["files"]:
             name = name_of(file["file"], TOP)
             for line in file["lines"] if name.startswith(FOLDERS) else ():
                 branches = [it["count"] for it in line["branches"] if not it["throw"]]
@@ -68,19 +144,14 @@ def of_c(path):
     return {name: counts.report() for name, counts in files.items()}
 
 
-def of_python(path):
+def reports_of_python(path):
     with open(path, encoding="utf-8") as written:
         files = json.load(written)["files"]
-    reports = {}
-    for name, file in files.items():
-        sums = file["summary"]
-        reports[name_of(name, TOP)] = Report(
-            sums["num_statements"],
-            sums["num_branches"],
-            sums["covered_branches"],
-            file["missing_lines"],
-        )
-    return reports
+    names = ("num_statements", "num_branches", "covered_branches")
+    return {
+        name_of(path, TOP): Report(*map(of["summary"].get, names), of["missing_lines"])
+        for path, of in files.items()
+    }
 
 
 def percent(part, whole):
@@ -93,7 +164,13 @@ def row(name, report):
 
 
 def main():
-    reports = {**of_c(sys.argv[1]), **of_python(sys.argv[2])}
+    for each in ("gcc", "g++", "gcov", "python3-coverage"):
+        require(each)
+    os.environ["LRC_LIBRARIES"] = os.path.abspath(os.environ["LRC_LIBRARIES"])
+    with tempfile.TemporaryDirectory() as work:
+        run_programs(work)
+        python = reports_of_python(of_python(work))
+        reports = {**reports_of_c(of_c(work)), **python}
     print("| File | Lines | run | Branches | taken |\n|---|---|---|---|---|")
     for name, report in sorted(reports.items()):
         print(row(name, report))

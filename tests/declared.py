@@ -12,6 +12,7 @@ TOP = os.path.dirname(os.path.dirname(os.path.abspath(__file__)))
 sys.path.append(os.path.join(TOP, "tools"))
 
 import libraries  # noqa: E402
+from libraries import read  # noqa: E402,F401
 
 # What C passes for a parameter of each type of an export. A slice is an address and a length.
 RATTLE = {
@@ -50,11 +51,6 @@ C.update({f"lrc_{kind}": kind for kind in STRUCTURES})
 RUST = {"Slot": "slot", "Slice": "slice", "RawBuffer": "buffer", "RawEntry": "entry"}
 RUST.update({"RawPool": "pool", "RawNumbers": "numbers", "RawShape": "shape", "usize": "size"})
 RUST.update({"RawShards": "shards", "RawOptions": "options"})
-
-
-def read(*path):
-    with open(os.path.join(TOP, *path), encoding="utf-8") as file:
-        return file.read()
 
 
 def rust_like(pattern, text):
@@ -139,14 +135,3 @@ def variants(text):
     block = re.search(r"pub enum Status \{(.*?)\n\}", text, flags=re.S)[1]
     found = numbers(r"    (\w+) = (\d+),", block)
     return {re.sub(r"(?<!^)(?=[A-Z])", "_", name).upper(): found[name] for name in found}
-
-
-def compare_versions(name, soname=None):
-    """The version of the program is that of the crate, and a module's soname is named after it."""
-    version = re.search(
-        r'VERSION: &str = "((\d+\.\d+)\.\d+)"', read("crates/command_line/src/reading.rt")
-    )
-    folder = {"lrc_coder": "rust", "lrc_store": "rust_store"}[name]
-    crate = re.search(r'^version = "(.*)"', read("bindings", folder, "Cargo.toml"), flags=re.M)
-    assert crate[1] == version[1], f"the version of {name} in Cargo.toml"
-    assert soname in (None, f"lib{name}.so.{version[2]}"), f"the soname in {name}.py"

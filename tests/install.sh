@@ -61,6 +61,19 @@ in_go() {
         "cd bindings/go && go run ./examples/store"
 }
 
+# A program of the coder over the installed module, which needs nothing of the clone.
+coder_in_go() {
+    local in_go=$work/app_in_go
+    mkdir -p "$in_go" && cp bindings/go/examples/rebuild/main.go "$in_go/" || return
+    {
+        printf 'module app\n\ngo 1.19\n\n'
+        sed -n 's/^    \(require lrcstore .*\)/\1/p' "$page"
+        sed -n "s#^    \(replace lrcstore => \)/srv/lrc#\1$prefix#p" "$page"
+    } > "$in_go/go.mod"
+    prints HELL env PKG_CONFIG_PATH="$prefix/lib/pkgconfig" GOCACHE="$work/go" GOFLAGS=-mod=mod \
+        bash -c "cd '$in_go' && go build lrcstore/coder/reedsolomon && go run ."
+}
+
 # The program of each language that uses shards: the page's commands, with other files.
 of_shards() {
     local language text="HELLO, WORLD: 2000 repaired, 0 lost"
@@ -142,7 +155,6 @@ uninstall() {
 
 installs || exit 1
 write_app
-test_of "version" python3 python3 tests/install/versions.py
 test_of "program" pkg-config pkg-config program
 test_of "C" pkg-config pkg-config command_of_page 1
 test_of "C++" pkg-config pkg-config command_of_page 2
@@ -150,6 +162,7 @@ test_of "Python" python3 python3 command_of_page 3
 test_of "CMake" cmake cmake command_of_page 4
 test_of "Rust" cargo cargo command_of_page 5
 test_of "Go" go golang-go in_go
+test_of "coder in Go" go golang-go coder_in_go
 test_of "shards in each language" go golang-go of_shards
 test_of "both kinds of each library" cmake cmake with_cmake
 test_of "versions that CMake accepts" cmake cmake cmake_versions

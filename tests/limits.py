@@ -1,10 +1,10 @@
-#!/usr/bin/env python3
-"""Runs lrcstore at its limits with ample memory, and compares what it prints: tests/limits.py
+"""What lrcstore prints at its limits, with ample memory. tests/test_limits.py runs it, and
+tests/store/limits.py makes the same calls of the library.
 
 Each case is a script with its options, which is run by each of its numbers of workers. What it must
 print is computed here, from the lost fragments that `tools/lrc.py` finds open and from the bytes
 that were put. The entries of a round are compared in the order of each worker, those of a mend in
-the order of its plan. `tests/programs.sh` runs it.
+the order of its plan.
 """
 
 import os
@@ -20,8 +20,8 @@ PROGRAM = os.path.join(TOP, "crates", "lrcstore", "out", "lrcstore")
 sys.path.insert(0, os.path.join(TOP, "tools"))
 import history  # noqa: E402
 import lrc  # noqa: E402
+from history import CODES  # noqa: E402
 
-CODES = {"put": "Wide", "put6": "Small"}
 MOST_STRIPES = 4096
 # A longer blob is not read whole, since each byte is printed as two digits.
 MOST_READ = 4 << 20
@@ -40,42 +40,13 @@ Entry = namedtuple("Entry", "round who call note")
 Case = namedtuple("Case", "what words rows workers", defaults=([1],))
 
 
-class Blob:
-    """A blob: its version, its bytes, its code, and the lost fragments of each stripe."""
-
-    def __init__(self, version, data, code, width):
-        self.version, self.data, self.code, self.width = version, data, code, width
-        self.lost = {}
-
-    def stripes(self):
-        return -(-len(self.data) // (lrc.data_fragments(self.code) * self.width))
-
-    def has(self, stripe, f):
-        return stripe < self.stripes() and f < lrc.fragments(self.code)
-
-    def lost_of(self, stripe):
-        return self.lost.get(stripe, frozenset())
-
-    def is_open(self, stripe, f):
-        return lrc.is_open(self.code, self.lost_of(stripe), f)
-
-    def parts(self, start, length):
-        """The (stripe, fragment) of each part into which a range is cut."""
-        if not length:
-            return []
-        numbers = range(start // self.width, -(-(start + length) // self.width))
-        return [divmod(number, lrc.data_fragments(self.code)) for number in numbers]
-
-    def all_lost(self):
-        return [(j, f) for j in sorted(self.lost) for f in sorted(self.lost[j])]
-
-
 class Model:
-    """The store of one thread with its journal: the replies that a script prints."""
+    """The sequential specification with its journal and the bytes: the replies that a script
+    prints."""
 
     def __init__(self, width, limit):
-        self.width, self.limit = width, limit
-        self.puts, self.blobs, self.journal, self.trimmed = 0, {}, [], 0
+        self.replay, self.limit = history.Replay(width), limit
+        self.data, self.journal, self.trimmed = {}, [], 0
 
     def reply(self, row):
         """What a row prints, and the change that it makes."""
@@ -94,7 +65,8 @@ class Model:
         return note + text
 
     def is_too_long(self, row):
-        return Blob(0, row.b, CODES[row.op], self.width).stripes() > MOST_STRIPES
+        blob = history.Blob(0, len(row.b), CODES[row.op], self.replay.width)
+        return blob.stripes() > MOST_STRIPES
 
     def trim(self, keep):
         trimmed = max(0, len(self.journal) - keep)
@@ -104,8 +76,8 @@ class Model:
 
     def mend(self, row):
         counts = Counter()
-        blobs = sorted(self.blobs.items())
-        for name, stripe, f in [(n, *at) for n, blob in blobs for at in blob.all_lost()]:
+        blobs = sorted(self.replay.blobs.items())
+        for name, stripe, f in [(n, *at) for n, blob in blobs for at in sorted(blob.lost)]:
             repair = Row(row.round, 0, "repair", name, str(stripe), str(f))
             reply = self.reply(repair)
             if reply == "full":
@@ -115,49 +87,20 @@ class Model:
 
     def step(self, row):
         """The note of a call, and what is printed behind it."""
+        numbers = [len(row.b)] if row.op in CODES else [int(it) for it in row[4:] if it != ""]
+        entry = history.Entry(0, row.worker, row.op, row.name, numbers, "")
+        note = self.replay.note(entry)
         if row.op in CODES:
-            self.puts += 1
-            self.blobs[row.name] = Blob(self.puts, row.b, CODES[row.op], self.width)
-            return f"stored {self.puts}", ""
-        blob = self.blobs.get(row.name)
-        if blob is None:
-            return "no-name", ""
-        if row.op == "delete":
-            del self.blobs[row.name]
-            return f"deleted {blob.version}", ""
-        if row.op == "stat":
-            lost = sum(map(len, blob.lost.values()))
-            return f"shape {blob.version} {len(blob.data)} {blob.stripes()} {lost}", ""
-        if row.op == "read":
-            return read(blob, int(row.a), int(row.b))
-        return change(blob, row.op, int(row.a), int(row.b)), ""
+            self.data[row.name] = row.b
+        return note, self.granted(row.name, *numbers) if note.startswith("granted") else ""
 
-
-def read(blob, start, length):
-    if start > len(blob.data) or length > len(blob.data) - start:
-        return "out-of-range", ""
-    parts = blob.parts(start, length)
-    if any(blob.lost and blob.is_open(*at) for at in parts):
-        return f"unrecoverable {blob.version}", ""
-    built = sum(f in blob.lost_of(j) for j, f in parts)
-    digits = blob.data[start : start + length].hex() or "-"
-    return f"granted {blob.version}", f" {len(parts) - built} {built} {digits}"
-
-
-def change(blob, op, stripe, f):
-    """The note of a loss or of a repair."""
-    lost = blob.lost_of(stripe)
-    if not blob.has(stripe, f):
-        return "no-fragment"
-    if op == "lose":
-        blob.lost[stripe] = lost | {f}
-        return "already-lost" if f in lost else f"lost {blob.version}"
-    if f not in lost:
-        return "not-lost"
-    if blob.is_open(stripe, f):
-        return f"unrecoverable {blob.version}"
-    blob.lost[stripe] = lost - {f}
-    return f"repaired {blob.version}"
+    def granted(self, name, start, length):
+        """How many parts of a range are stored, how many are rebuilt, and the bytes."""
+        blob = self.replay.blobs[name]
+        parts = blob.covers(start, length)
+        built = sum(at in blob.lost for at in parts)
+        digits = self.data[name][start : start + length].hex() or "-"
+        return f" {len(parts) - built} {built} {digits}"
 
 
 def data_of(length):
@@ -270,8 +213,11 @@ def workers():
             yield Case(f"{each} rows of each worker", words, rows, [many])
 
 
+TABLES = (shapes, trims, names, mends, full_journals, workers)
+
+
 def cases():
-    for table in (shapes, trims, names, mends, full_journals, workers):
+    for table in TABLES:
         yield from table()
 
 
@@ -340,26 +286,8 @@ def faults(case):
     script = "".join(map(line_of, case.rows)).encode()
     for workers in case.workers:
         words = [PROGRAM, "/dev/stdin", "--workers", str(workers), *map(str, case.words)]
-        ran = subprocess.run(
-            words, input=script, env={}, timeout=60, stdout=subprocess.PIPE, stderr=subprocess.PIPE
-        )
+        ran = subprocess.run(words, input=script, env={}, timeout=60, capture_output=True)
         if ran.returncode or ran.stderr:
             yield f"status {ran.returncode}, {ran.stderr}"
         else:
             yield expectation.fault(ran.stdout)
-
-
-def main():
-    made, wrong = 0, 0
-    for case in cases():
-        for workers, complaint in zip(case.workers, faults(case)):
-            made += 1
-            if complaint:
-                wrong += 1
-                print(f"{case.what}, {workers} workers: {complaint}")
-    print(made, "runs at the limits,", wrong, "wrong")
-    return 1 if wrong else 0
-
-
-if __name__ == "__main__":
-    sys.exit(main())

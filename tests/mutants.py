@@ -18,81 +18,69 @@ first failure (LRC_FIRST_FAILURE).
 
 import argparse
 import concurrent.futures
-import contextlib
-import functools
 import glob
 import os
 import shutil
-import signal
 import subprocess
 import sys
 import tempfile
-import threading
 import time
+from pathlib import Path
 from typing import NamedTuple
 
 HERE = os.path.dirname(os.path.abspath(__file__))
 TOP = os.path.dirname(HERE)
 sys.path.append(os.path.join(TOP, "tools"))
 
+import building  # noqa: E402
 import python_extension  # noqa: E402
 
 COPIED = ("include", "library", "bindings", "integrations", "packaging", "tests", "tools", "docs")
 COPIED += ("examples",)
-COPIED += ("README.md", "CHANGELOG.md", "crates/test_vectors/data", "crates/command_line/src")
-COPIED += ("crates/lrc_line/src",)
+COPIED += ("pyproject.toml", "README.md", "CHANGELOG.md", "crates/test_vectors/data")
+COPIED += ("crates/command_line/src", "crates/lrc_line/src")
 COPIED += ("crates/coder_c/src", "crates/store_c/src", "crates.txt")
 NOT_COPIED = shutil.ignore_patterns("__pycache__", "target", "*.so", "out")
 
 C = "gcc -std=gnu11 -O1 -w -I include -I tests/store"
 CPP = "g++ -std=c++17 -O0 -w -I include -I tests/store"
-WRAP = "-Wl,--wrap=malloc,--wrap=realloc"
 # A source of library/ comes before the archive, whose own is then left aside.
 STORE = "-Wl,--allow-multiple-definition $LRC_LIBRARIES/liblrc_store.a -lpthread"
 CODER = "$LRC_LIBRARIES/liblrc_coder.a"
 TEXTS = "library/store_text.c library/coder_text.c"
 BACKEND = "integrations/liberasurecode"
-SHARDS = ["tests/store/shards.c", "library/store_shards.c", "library/store_pool.c"]
-OF_SHARDS = f"-Wl,--wrap=malloc,--wrap=calloc,--wrap=lrc_store_numbers_wait {STORE}"
-VERSIONS = ["tests/store/versions.c", "library/store_get.c"]
 SANITIZED = "-g -fsanitize=address,undefined"
-LIBERASURECODE = (
-    "/usr/include/liberasurecode/erasurecode_backend.h",
-    "liberasurecode-dev",
-)
-CEPH = ("ceph-osd", "ceph-osd", "/usr/include/rados/librados.h", "librados-dev")
-CEPH += ("/usr/include/rados/buffer.h", "libradospp-dev")
-FUSE = ("/usr/lib/python3/dist-packages/fusepy.py", "python3-fusepy", "/dev/fuse", "FUSE")
+PYTEST = "pytest -q -x -p no:cacheprovider"
+# What tests need: a command or a file, and the package that has it.
+CARGO, GO, PYTEST_PACKAGE = {"cargo": "cargo"}, {"go": "golang-go"}, {"pytest": "python3-pytest"}
+PYTHON = {python_extension.header(): "python3-dev"}
+LIBERASURECODE = {"/usr/include/liberasurecode/erasurecode_backend.h": "liberasurecode-dev"}
+PYECLIB = {"/usr/lib/python3/dist-packages/pyeclib": "python3-pyeclib"}
+CEPH = {"ceph-osd": "ceph-osd", "/usr/include/rados/librados.h": "librados-dev"}
+CEPH["/usr/include/rados/buffer.h"] = "libradospp-dev"
+FUSE = {"/usr/lib/python3/dist-packages/fusepy.py": "python3-fusepy", "/dev/fuse": "FUSE"}
+FUSE["fusermount"] = "fuse3"
 CEPH_20 = "CEPH_VERSION=20.2.4"
 # How long a command may take that should pass, and the status of one whose test does not build.
 PATIENCE, NOT_BUILT = 600, 99
-# Installing takes the program as it is: one that knows its version.
-
-
-@functools.lru_cache(maxsize=None)
-def levels():
-    """The levels of this processor."""
-    printed = subprocess.run([f"{HERE}/levels.sh"], stdout=subprocess.PIPE, text=True)
-    return printed.stdout.split()
 
 
 class Test(NamedTuple):
     """How a test is built, and how it is run. What `prepare` makes is made once, and so is the
-    whole build for mutants of files that are not in `reads`. `needs` has a command or a file and
-    its package, in turn, and `level` that of the processor."""
+    whole build for mutants of files that are not in `reads`. `needs` has packages by a command or
+    a file, and `level` that of the processor."""
 
     build: str
     run: str
     prepare: str = "true"
-    needs: tuple = ()
+    needs: dict = {}
     level: str = "v2"
     reads: tuple = ("",)
 
     def missing(self):
         """The packages that are not here, and what the processor lacks."""
-        pairs = zip(self.needs[::2], self.needs[1::2])
-        lacks = [package for it, package in pairs if not (shutil.which(it) or os.path.exists(it))]
-        return lacks + [f"x86-64-{self.level}"] * (self.level not in levels())
+        lacks = [package for it, package in self.needs.items() if not building.is_here(it)]
+        return lacks + [f"x86-64-{self.level}"] * (self.level not in building.levels())
 
 
 def objects(compile_one, *sources):
@@ -110,20 +98,19 @@ def program(compile_one, sources, linked):
     return f"{objects(compile_one, *sources)} && {compile_one} {names} {linked} -o program"
 
 
-def store_program(file, words="", **others):
-    """A test of the store's library in C or C++, with the sources of its waiting forms."""
-    wrap = WRAP + (",--wrap=free" if file.endswith(".cpp") else "")
-    forms = objects(C, "library/store_wait.c", "library/store_get.c")
-    return Test(
-        f"{forms} && "
-        + program(
-            CPP if file.endswith(".cpp") else C,
-            [f"tests/{file}"],
-            f"store_wait.o store_get.o {wrap} {STORE}",
-        ),
-        f"./program {words}",
-        **others,
-    )
+def of_program(name, words="", flags="", first=""):
+    """A program of tests/building.py, with the sources of library/ that it tests. What is linked
+    first comes before the archive, whose own is then left aside."""
+    made = building.PROGRAMS[name]
+    compile_one = f"{CPP if made.file.endswith('.cpp') else C} -I library {flags}"
+    links = " ".join([first, *made.links()]).replace(building.library(""), "$LRC_LIBRARIES/")
+    return Test(program(compile_one, made.sources(), links), f"./program {words}")
+
+
+def store_program(name, words=""):
+    """The same with the source of the waiting forms."""
+    test = of_program(name, words, first="store_wait.o")
+    return test._replace(build=f"{objects(C, 'library/store_wait.c')} && {test.build}")
 
 
 def explored(name, source):
@@ -150,16 +137,14 @@ def copy_of_open(name):
 
 def choice(level):
     """A test of library/choice.c by mutants that show on processors of this level."""
-    return Test(
-        f"{C} -fPIC tests/edges/choice.c library/choice.c '-DCHOICE_ENV=\"CHOICE\"'"
-        " -DCHOICE_CPU=choice_cpu '-DEACH(of)=of(choice_first) of(choice_second)' -DHAS_V4"
-        " -o program",
-        "tests/edges/choice.sh ./program",
-        level=level,
-    )
+    flags = " ".join(f"'{flag}'" for flag in (*building.CHOICE, "-DHAS_V4"))
+    sources = " ".join(building.PROGRAMS["choice"].sources())
+    built = f"{C} {flags} {sources} -o program"
+    return Test(built, "tests/edges/choice.sh ./program", level=level)
 
 
 COUNTED = "tests/store/counted.sh counted"
+GO_CODER = "LRC_GO_LIBRARY=lrc_coder tests/store/go.sh"
 RUST_LEAKS = "cargo test --quiet --offline --test leaks"
 
 
@@ -182,66 +167,20 @@ def rust_crate(folder):
     return Test(
         f"cd {folder} && cargo build --quiet --offline",
         f"{command} && cargo test --quiet --offline --doc",
-        needs=("cargo", "cargo"),
+        needs=CARGO,
     )
 
 
 TESTS = {
-    "waiting": Test(
-        program(C, ["tests/store/waiting.c", "library/store_wait.c"], "-lpthread"), "./program"
-    ),
-    "pool": Test(
-        program(
-            C,
-            ["tests/store/pool.c", "library/store_pool.c"],
-            f"-Wl,--wrap=malloc,--wrap=calloc,--wrap=pthread_cond_clockwait {STORE}",
-        ),
-        "./program",
-    ),
-    "order": Test(
-        program(
-            C,
-            ["tests/store/order.c", "library/store_pool.c"],
-            f"-Wl,--wrap=lrc_slot_learn,--wrap=lrc_store_split {STORE}",
-        ),
-        "./program",
-    ),
-    "explore_pool": explored("pool", "library/store_pool.c"),
-    "explore_mend": explored("mend", "library/store_mend.c"),
-    "explore_wait": explored("wait", "tests/explore/turns.c"),
-    "shards": Test(program(C, SHARDS, OF_SHARDS), "./program"),
-    "totals": Test(
-        program(
-            f"{C} -I library",
-            ["tests/store/totals.c", "library/store_shards.c"],
-            "-Wl,--wrap=clock_gettime",
-        ),
-        "./program",
-    ),
-    "plan": Test(program(C, ["tests/store/plan.c", "library/store_plan.c"], ""), "./program"),
-    "handed": Test(
-        program(C, ["tests/store/handed.c", "library/store_mend.c"], "-lpthread"), "./program"
-    ),
-    "shards_sanitized": Test(
-        program(f"{C} {SANITIZED}", SHARDS, OF_SHARDS), "./program uncancelled"
-    ),
-    "versions": Test(program(C, VERSIONS, STORE), "./program"),
-    "versions_sanitized": Test(program(f"{C} {SANITIZED}", VERSIONS, STORE), "./program"),
-    "names": Test(
-        program(f"{C} -I library", ["tests/store/names.c", "library/store_name.c"], ""),
-        "./program",
-    ),
-    "mending": Test(
-        program(
-            C,
-            ["tests/store/mending.c", "library/store_mend.c", "library/store_wait.c"],
-            f"-Wl,--wrap=calloc,--wrap=lrc_store_plan_part_wait {STORE}",
-        ),
-        "./program",
-    ),
-    "waits": store_program("edges/waits.c"),
-    "calls": store_program("edges/calls.cpp", "40"),
-    "threads": store_program("edges/threads.cpp", "4"),
+    **{name: of_program(name) for name in ("waiting", "pool", "order")},
+    **{f"explore_{name}": explored(name, of) for name, of in building.EXPLORED.items()},
+    **{name: of_program(name) for name in ("shards", "totals", "plan", "handed", "versions")},
+    "names": of_program("names"),
+    "mending": store_program("mending"),
+    "shards_sanitized": of_program("shards", "uncancelled", SANITIZED),
+    "waits": store_program("waits"),
+    "calls": store_program("random calls", "40"),
+    "threads": store_program("random calls of threads", "4"),
     "numbers": Test(
         f"{copy_of_open('first')} && {copy_of_open('second')} && "
         + program(C, ["tests/edges/numbers.c"], "first.o second.o"),
@@ -261,11 +200,9 @@ TESTS = {
     ),
     "choice": choice("v3"),
     "choice_v4": choice("v4"),
-    "coder": Test(program(CPP, ["tests/edges/coder.cpp"], CODER), "./program 60"),
-    "cpp": Test(program(CPP, ["tests/store/bindings.cpp"], STORE), "./program"),
-    "cpp_sanitized": Test(
-        program(f"{CPP} {SANITIZED}", ["tests/store/bindings.cpp"], STORE), "./program"
-    ),
+    "coder": of_program("random calls of the coder", "60"),
+    "cpp": of_program("C++"),
+    "cpp_sanitized": of_program("C++", "", SANITIZED),
     "install": Test(
         "true",
         "tests/install.sh",
@@ -274,13 +211,13 @@ TESTS = {
         "chmod +x crates/$each/out/$each; done",
     ),
     "release": Test("true", "python3 tests/release/modules.py -f"),
-    "checked": Test("true", "tests/checked.sh misuse"),
+    "checked": Test("true", f"{PYTEST} tests/test_checked.py -k misuse"),
     "python_coder": Test(
         "tools/python_extension.py --libraries $LRC_LIBRARIES --rpath $LRC_LIBRARIES"
         f" --to bindings/python/lrcstore _coder && {C} -shared -fPIC tests/library/watched.c"
         " -o watched.so",
         "LD_PRELOAD=./watched.so python3 tests/library/bindings.py -f",
-        needs=(python_extension.header(), "python3-dev"),
+        needs=PYTHON,
         reads=("include/", "tools/", "tests/", "bindings/python/lrcstore/_coder.c"),
     ),
     "python_store": Test("true", "python3 tests/store/bindings.py"),
@@ -289,7 +226,7 @@ TESTS = {
         f" --to bindings/python/lrcstore && {C} -shared -fPIC tests/store/busy.c -o busy.so",
         "python3 tests/store/package.py native -f"
         " && LD_PRELOAD=./busy.so python3 tests/store/package_busy.py -f",
-        needs=(python_extension.header(), "python3-dev"),
+        needs=PYTHON,
         reads=("include/", "library/", "tools/", "tests/", "bindings/python/lrcstore/_native.c"),
     ),
     # What bindings leave of the memory of a library that counts its blocks.
@@ -298,7 +235,7 @@ TESTS = {
         " --to bindings/python/lrcstore _native",
         leaks("native"),
         prepare=COUNTED,
-        needs=(python_extension.header(), "python3-dev"),
+        needs=PYTHON,
         reads=("include/", "tools/", "bindings/python/lrcstore/_native.c"),
     ),
     "python_leaks_ctypes": Test("true", leaks("ctypes"), prepare=COUNTED),
@@ -307,7 +244,7 @@ TESTS = {
         "rm -f numbers && LRC_COUNTED=$PWD/numbers LD_LIBRARY_PATH=counted ./program"
         " -test.failfast -test.run TestLeaks",
         prepare=COUNTED,
-        needs=("go", "golang-go"),
+        needs=GO,
     ),
     "rust_leaks": Test(
         f"cd bindings/rust_store && LRC_LIBRARIES=$PWD/../../counted {RUST_LEAKS} --no-run",
@@ -315,13 +252,9 @@ TESTS = {
         f" && {{ {RUST_LEAKS} --no-run || exit {NOT_BUILT}; }} && rm -f ../../numbers"
         f" && LRC_COUNTED=$PWD/../../numbers {RUST_LEAKS}",
         prepare=COUNTED,
-        needs=("cargo", "cargo"),
+        needs=CARGO,
     ),
-    "mount": Test(
-        "true",
-        "/usr/bin/python3 tests/services/mount.py",
-        needs=(*FUSE, "fusermount", "fuse3"),
-    ),
+    "mount": Test("true", "/usr/bin/python3 tests/services/mount.py", needs=FUSE),
     "resp": Test(
         f"{C} examples/server_resp/server.c {STORE} -o program",
         "python3 tests/services/resp_server.py ./program OneThread FewFiles Words",
@@ -347,7 +280,20 @@ TESTS = {
         " && tests/store/go.sh test -c -o ../../program .",
         "./program -test.failfast && LRC_BUSY=1 LD_PRELOAD=./busy.so ./program -test.failfast"
         " -test.run TestBusy",
-        needs=("go", "golang-go"),
+        needs=GO,
+    ),
+    "go_coder": Test(
+        f"{C} -shared -fPIC tests/library/refusing.c -o refusing.so"
+        f" && {GO_CODER} test -c -o ../../program ./coder",
+        "cd bindings/go/coder && ../../../program -test.failfast"
+        " && for each in 2 3; do LRC_REFUSED=$each LD_PRELOAD=../../../refusing.so"
+        " ../../../program -test.run TestStatuses || exit; done",
+        needs=GO,
+    ),
+    "go_reedsolomon": Test(
+        f"{GO_CODER} test -c -o ../../program ./coder/reedsolomon",
+        "./program -test.failfast",
+        needs=GO,
     ),
     "liberasurecode": Test(
         f"{C} -I integrations {BACKEND}/lrc_backend.c {BACKEND}/test_backend.c {CODER}"
@@ -357,10 +303,14 @@ TESTS = {
     ),
     "pyeclib": Test(
         f"{BACKEND}/build.sh .",
-        f"LD_LIBRARY_PATH=. /usr/bin/python3 {BACKEND}/test_pyeclib.py",
-        needs=(*LIBERASURECODE, "/usr/lib/python3/dist-packages/pyeclib", "python3-pyeclib"),
+        f"LD_LIBRARY_PATH=. {PYTEST} {BACKEND}/test_pyeclib.py",
+        needs={**LIBERASURECODE, **PYTEST_PACKAGE, **PYECLIB},
     ),
-    "swift": Test("true", "python3 integrations/swift/test_module.py"),
+    "swift": Test("true", f"{PYTEST} integrations/swift/test_module.py", needs=PYTEST_PACKAGE),
+    "reference": Test(
+        "true",
+        "python3 integrations/reference.py tests/corpus | diff - tests/library/reference.txt",
+    ),
     "ceph": Test(
         "rm -rf plugins && work=$PWD && . integrations/ceph/programs.sh && plugins plugins -O0",
         "./plugin_test plugins tests/corpus integrations/ceph/README.md",
@@ -369,8 +319,8 @@ TESTS = {
     ),
     # What Ceph 20.2 adds, beside any release.
     "ceph_shards": Test(
-        f"{CEPH_20} integrations/ceph/build.sh shards -O0",
-        "./shards/plugin_test shards tests/corpus shards",
+        f"work=$PWD && . integrations/ceph/programs.sh && {CEPH_20} compile_plugin shards -O0",
+        "./shards/plugin_test shards tests/corpus built",
         prepare="mkdir shards && work=$PWD/shards && . integrations/ceph/programs.sh"
         f" && {CEPH_20} program plugin_test -O0",
         needs=CEPH,
@@ -391,53 +341,38 @@ class Mutant(NamedTuple):
 def mutants_of(path):
     """The mutants of a file: blocks of lines `name: text` between empty lines. The first block says
     what they are in."""
-    with open(path, encoding="utf-8") as file:
-        blocks = file.read().strip().split("\n\n")[1:]
-    for block in blocks:
+    for block in Path(path).read_text("utf-8").strip().split("\n\n")[1:]:
         fields = {name: [] for name in Mutant._fields}
         for line in block.split("\n"):
             name, _, text = line.partition(":")
             fields[name].append(text[1:])
-        yield Mutant(*("\n".join(fields[name]) for name in Mutant._fields))
+        yield Mutant(*map("\n".join, fields.values()))
 
 
-def planted(mutant, tree):
-    """The file's text with the edit, or None, and what is wrong with it, or None."""
-    with open(os.path.join(tree, mutant.file), encoding="utf-8") as file:
-        text = file.read()
+def plant(mutant, tree, makes_edit=True):
+    """Makes the edit, or sees that it could be made. Returns what is wrong with it, or None."""
+    path = Path(tree, mutant.file)
+    text = path.read_text("utf-8")
     if text.count(mutant.old) != 1:
-        return None, f"its text stands {text.count(mutant.old)} times"
-    return text.replace(mutant.old, mutant.new), None
-
-
-def plant(mutant, tree):
-    """Makes the edit. Returns what is wrong with it, or None."""
-    text, wrong = planted(mutant, tree)
-    if not wrong:
-        with open(os.path.join(tree, mutant.file), "w", encoding="utf-8") as file:
-            file.write(text)
-    return wrong
+        return f"its text stands {text.count(mutant.old)} times"
+    if makes_edit:
+        path.write_text(text.replace(mutant.old, mutant.new), "utf-8")
+    return None
 
 
 def apply_all(mutants):
     """Whether each mutant has a test and could be planted, and says which could not."""
     wrong = [f"{it}: there is no test {it.test}" for it in mutants if it.test not in TESTS]
-    tried = [(it, planted(it, TOP)[1]) for it in mutants]
+    tried = [(it, plant(it, TOP, makes_edit=False)) for it in mutants]
     wrong += [f"{it}: {fault}" for it, fault in tried if fault]
     print(*wrong, f"{len(mutants)} mutants, {len(wrong)} wrong", sep="\n")
     return bool(wrong)
 
 
-def end(run, took):
-    """Ends a command whose time is over, with all that it has started."""
-    took.append("too long")
-    with contextlib.suppress(ProcessLookupError):
-        os.killpg(run.pid, signal.SIGKILL)
-
-
 def succeeds(command, tree, seconds, **others):
     """Whether a command in the tree ends with status 0 in this time, or None if a test that it
-    builds does not build. Gives also what it took of the processors."""
+    builds does not build. Gives also what it took of the processors. If its time is over, it ends
+    with all that it has started."""
     environment = dict(
         os.environ,
         PYTHONDONTWRITEBYTECODE="1",
@@ -450,38 +385,26 @@ def succeeds(command, tree, seconds, **others):
         LRC_CODER_SO=os.path.join(os.environ["LRC_LIBRARIES"], "liblrc_coder.so"),
         **others,
     )
-    with open(os.path.join(tree, "printed"), "w", encoding="utf-8") as printed:
-        run = subprocess.Popen(
-            ["bash", "-c", command],
-            cwd=tree,
-            env=environment,
-            stdin=subprocess.DEVNULL,
-            stdout=printed,
-            stderr=subprocess.STDOUT,
-            start_new_session=True,
-        )
-    took_long = []
-    timer = threading.Timer(seconds, end, (run, took_long))
-    timer.start()
+    limited = ["timeout", "--signal=KILL", str(seconds), "bash", "-c", command]
+    with open(os.path.join(tree, "printed"), "wb") as printed:
+        streams = {"stdin": subprocess.DEVNULL, "stdout": printed, "stderr": subprocess.STDOUT}
+        run = subprocess.Popen(limited, cwd=tree, env=environment, **streams)
     _, status, used = os.wait4(run.pid, 0)
-    timer.cancel()
-    run.returncode = status
-    is_built = not (os.WIFEXITED(status) and os.WEXITSTATUS(status) == NOT_BUILT)
-    succeeded = (status == 0 and not took_long) if is_built else None
+    run.returncode = os.waitstatus_to_exitcode(status)
+    succeeded = run.returncode == 0 if run.returncode != NOT_BUILT else None
     return succeeded, used.ru_utime + used.ru_stime
 
 
 def last_lines(tree):
-    with open(os.path.join(tree, "printed"), encoding="utf-8", errors="replace") as printed:
-        return "".join(printed.readlines()[-25:])
+    printed = Path(tree, "printed").read_text("utf-8", "replace")
+    return "".join(printed.splitlines(True)[-25:])
 
 
 def forget(mutant, tree):
     """Removes the objects that are made of a mutant's file."""
-    for path in glob.glob(os.path.join(tree, "*.d")):
-        with open(path, encoding="utf-8") as listed:
-            if mutant.file in listed.read().split():
-                os.remove(path[:-2] + ".o")
+    for path in Path(tree).glob("*.d"):
+        if mutant.file in path.read_text("utf-8").split():
+            path.with_suffix(".o").unlink()
 
 
 def fault_of(mutant, tree, base):
@@ -569,9 +492,8 @@ def try_all(mutants, jobs, has_times):
     something was wrong."""
     names = sorted({it.test for it in mutants})
     rejected, wrong, took = 0, 0, dict.fromkeys(names, 0.0)
-    with tempfile.TemporaryDirectory() as folder, concurrent.futures.ThreadPoolExecutor(
-        jobs
-    ) as pool:
+    jobs = concurrent.futures.ThreadPoolExecutor(jobs)
+    with tempfile.TemporaryDirectory() as folder, jobs as pool:
         bases = {name: pool.submit(base_of, name, folder) for name in names}
         tried = {pool.submit(trial, it, bases[it.test]): it for it in mutants}
         for name, base in bases.items():
@@ -611,9 +533,7 @@ def main():
     if given.applies:
         return apply_all(mutants)
     if "LRC_LIBRARIES" not in os.environ:
-        sys.exit(
-            "LRC_LIBRARIES has to name a folder that tools/libraries.py --to FOLDER has filled"
-        )
+        sys.exit("LRC_LIBRARIES has to name a folder that tools/libraries.py --to has filled")
     os.environ["LRC_LIBRARIES"] = os.path.abspath(os.environ["LRC_LIBRARIES"])
     lacks = {name: TESTS[name].missing() for name in sorted({it.test for it in mutants})}
     left = [it for it in mutants if not lacks[it.test]]

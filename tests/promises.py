@@ -74,18 +74,12 @@ class Check:
     def __init__(self, text):
         self.crates, self.lines = sources.crates(), text.splitlines()
         self.rows, self.index = parse(self.lines, self.crates)
-        self.wrong, self.uncovered, self.unnamed_edits, self.unnamed_tests, self.misnamed = (
-            [],
-            [],
-            [],
-            [],
-            [],
-        )
+        self.wrong, self.uncovered, self.unnamed_edits, self.unnamed_tests = [], [], [], []
         self.tests = {test for crate in self.crates.values() for test in crate.tests}
         self.check()
 
     def complain(self, number, complaint):
-        self.wrong.append((number + 1, complaint))
+        self.wrong.append((number, f"tests/promises.md:{number + 1}: {complaint}"))
 
     def functions(self, row):
         """The functions that a row is about."""
@@ -96,9 +90,8 @@ class Check:
             if len(named) == 1 or row.is_inner:
                 found += named
             elif named:
-                self.complain(
-                    row.number, f"`{name}` is " + " or ".join(f"`{f.path()}`" for f in named)
-                )
+                paths = " or ".join(f"`{f.path()}`" for f in named)
+                self.complain(row.number, f"`{name}` is {paths}")
             elif not crate.named(name) and name not in types_of(row.crate):
                 self.complain(row.number, f"no public function of {row.crate} is `{name}`")
             if row.is_inner and not named and not name[0].isupper():
@@ -108,39 +101,27 @@ class Check:
     def is_test(self, row, word):
         """Whether a word names a test, of this crate or with its crate, a program, or a file."""
         crate, _, test = word.rpartition("::")
-        crate = crate or row.crate
-        if crate in self.crates and test in self.crates[crate].tests:
-            return True
-        return (
-            word in self.crates
-            and self.crates[word].is_program
-            or os.path.exists(os.path.join(TOP, word))
-        )
+        own, program = self.crates.get(crate or row.crate), self.crates.get(word)
+        is_named = own and test in own.tests or program and program.is_program
+        return is_named or os.path.exists(os.path.join(TOP, word))
 
     def check_row(self, row):
         if len(row.cells) != 4 or not all(row.cells):
             return self.complain(row.number, "a cell is to be filled in, or there are not four")
         functions = self.functions(row)
+        all_of = [clause for f in functions for clause in f.clauses]
         for function in functions[:1] if row.is_inner else functions:
-            has = (
-                [clause for f in functions for clause in f.clauses]
-                if row.is_inner
-                else function.clauses
-            )
-            for clause in row.clauses:
-                if clause not in has:
-                    self.complain(
-                        row.number,
-                        f"`{function.path()}` has no clause {clause}: it has " + ", ".join(has),
-                    )
+            has = all_of if row.is_inner else function.clauses
+            for clause in set(row.clauses) - set(has):
+                lacks = f"`{function.path()}` has no clause {clause}: it has {', '.join(has)}"
+                self.complain(row.number, lacks)
         for edit in words(row.cells[2]):
             if edit not in self.crates[row.crate].edits:
                 self.complain(row.number, f"no edit of {row.crate} is `{edit}`")
                 row.take_out(2, edit)
         for through in THROUGH.findall(row.cells[3]):
-            if through not in self.crates and not any(
-                crate.named(through) for crate in self.crates.values()
-            ):
+            is_function = any(crate.named(through) for crate in self.crates.values())
+            if through not in self.crates and not is_function:
                 self.complain(row.number, f"`{through}` is no function or crate")
         for test in words(THROUGH.sub("", row.cells[3])):
             if not self.is_test(row, test):
@@ -148,12 +129,9 @@ class Check:
                 row.take_out(3, test)
 
     def check_index(self):
-        known = (
-            {edit for crate in self.crates.values() for edit in crate.edits}
-            | self.tests
-            | set(self.crates)
-        )
-        known |= {f.name for crate in self.crates.values() for f in crate.functions}
+        known = self.tests | set(self.crates)
+        for crate in self.crates.values():
+            known |= {*crate.edits, *(f.name for f in crate.functions)}
         for number, line in self.index:
             for word in words(line.split(" | ", 1)[-1]):
                 if word not in known and not re.fullmatch(r"[A-Z]\w+|serial", word):
@@ -182,16 +160,12 @@ class Check:
                 for clause in row.clauses
             }
             for function in crate.public():
-                lacking = [
-                    clause
-                    for clause in function.clauses
-                    if (function.path(), clause) not in covered
-                ]
+                path = function.path()
+                lacking = [it for it in function.clauses if (path, it) not in covered]
                 if lacking:
                     self.uncovered.append((name, function, lacking))
             named = {edit for row in mine for edit in words(row.cells[2])} if mine else set()
             self.unnamed_edits += [(name, edit) for edit in crate.edits if edit not in named]
-            self.misnamed += [(name, file, wanted) for file, wanted in crate.misnamed]
             self.unnamed_tests += [(name, test) for test in crate.tests if test not in named_tests]
 
     def without_mutant(self):
@@ -214,24 +188,17 @@ class Check:
         self.check_index()
         self.check_whole()
 
-    def report(self):
-        """Prints what is wrong, and gives how much it is."""
-        for number, complaint in sorted(self.wrong):
-            print(f"tests/promises.md:{number}: {complaint}")
+    def complaints(self):
+        """What is wrong, by the lines of the page, and then by crate."""
+        yield from (complaint for _, complaint in sorted(self.wrong))
         for crate, function, lacking in self.uncovered:
-            print(f"{crate}: no row has of `{function.path()}` the clauses " + ", ".join(lacking))
-        for crate, edit in self.unnamed_edits:
-            print(f"{crate}: no row has the edit `{edit}`")
-        for crate, test in self.unnamed_tests:
-            print(f"{crate}: no row has the test `{test}`")
-        for crate, file, wanted in self.misnamed:
-            print(f"crates/{crate}/must-fail/{file} is to be named {wanted}, by what it changes")
-        return sum(
-            map(
-                len,
-                (self.wrong, self.uncovered, self.unnamed_edits, self.unnamed_tests, self.misnamed),
-            )
-        )
+            yield f"{crate}: no row has of `{function.path()}` the clauses {', '.join(lacking)}"
+        yield from (f"{crate}: no row has the edit `{edit}`" for crate, edit in self.unnamed_edits)
+        yield from (f"{crate}: no row has the test `{test}`" for crate, test in self.unnamed_tests)
+        for name, crate in self.crates.items():
+            for file, wanted in crate.misnamed:
+                path = f"crates/{name}/must-fail/{file}"
+                yield f"{path} is to be named {wanted}, by what it changes"
 
 
 class Stubs:
@@ -251,13 +218,9 @@ class Stubs:
         for function, clauses, edits, tests in self.rows[crate]:
             inside = "" if clauses else "inside, "
             first = f"{inside}`{function.path()}`" if function else "inside"
-            said = (
-                ": "
-                + ", ".join(clause if clause == RESULT else f"`{clause}`" for clause in clauses)
-                if clauses
-                else ""
-            )
-            yield f"| {first}{said} |  | {listed(edits)} | {listed(tests)} |"
+            said = ", ".join(it if it == RESULT else f"`{it}`" for it in clauses)
+            first += f": {said}" if said else ""
+            yield f"| {first} |  | {listed(edits)} | {listed(tests)} |"
 
 
 def listed(names):
@@ -266,26 +229,18 @@ def listed(names):
 
 def stubs_of(check):
     """Rows for clauses, and for mutants and tests without one. A mutant goes to the first row of
-    the
-    function that it changes."""
+    the function that it changes."""
     stubs = Stubs()
     for crate, function, lacking in check.uncovered:
         stubs.add(crate, function, lacking, [], [])
     for crate, edit in check.unnamed_edits:
         target = check.crates[crate].edits[edit][1]
-        row = next(
-            (
-                r
-                for r in check.rows
-                if r.crate == crate and target and {target.name, target.path()} & set(r.names)
-            ),
-            None,
-        )
-        stub = stubs.of(crate, target)
+        names = {target.name, target.path()} if target else set()
+        of = (row for row in check.rows if row.crate == crate and names & set(row.names))
+        row, stub = next(of, None), stubs.of(crate, target)
         if row:
-            row.cells[2] = (
-                f"`{edit}`" if row.cells[2].startswith("none") else f"{row.cells[2]}, `{edit}`"
-            )
+            before = "" if row.cells[2].startswith("none") else f"{row.cells[2]}, "
+            row.cells[2] = f"{before}`{edit}`"
         elif stub:
             stub[2].append(edit)
         else:
@@ -345,14 +300,16 @@ def main(arguments):
     if "--write" in arguments:
         write(PROMISES, with_stubs(check))
         check = Check(sources.read(PROMISES))
-    count = check.report()
+    complaints = list(check.complaints())
     crates = check.crates.values()
     clauses = sum(len(f.clauses) for c in crates for f in c.public())
     edits, tests = sum(len(c.edits) for c in crates), sum(len(c.tests) for c in crates)
     functions = sum(len(c.public()) for c in crates)
+    print(*complaints, sep="\n", end="\n" if complaints else "")
     print(len(list(check.without_mutant())), "of", functions, "public functions have no mutant")
+    count = len(complaints)
     print(clauses, "public clauses,", edits, "mutants and", tests, "tests,", count, "wrong")
-    return 1 if count else 0
+    return 1 if complaints else 0
 
 
 if __name__ == "__main__":

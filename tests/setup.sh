@@ -30,8 +30,10 @@ needs=(
     "/usr/lib/python3/dist-packages/pyeclib python3-pyeclib"
 )
 
-# What tests/release.sh and the example of FUSE need. If it can't be had, tests are skipped by name.
+# What tests/release.sh, the example of FUSE and the comparison with another coder for Go need. If it
+# can't be had, tests are skipped by name.
 wishes=(
+    "/usr/share/gocode/src/github.com/klauspost/reedsolomon golang-github-klauspost-reedsolomon-dev"
     "/usr/lib/python3/dist-packages/fusepy.py python3-fusepy"
     "fusermount fuse3"
     "mmdebstrap mmdebstrap"

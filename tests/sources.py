@@ -4,20 +4,38 @@ each changes, and tests."""
 import os
 import re
 from dataclasses import dataclass, field
+from pathlib import Path
 
 TOP = os.path.dirname(os.path.dirname(os.path.abspath(__file__)))
 CRATES = os.path.join(TOP, "crates")
 ITEM = re.compile(
-    r"(?P<cfg>#\[test\])|(?P<impl>\bimpl\b[^{;]*\{)|(?P<open>\{)|(?P<close>\})"
+    r"(?P<cfg>#\[test\])|(?P<impl>\b(?:impl|pub trait)\b[^{;]*\{)|(?P<open>\{)|(?P<close>\})"
     r"|(?P<fn>\b(?:pub(?:\([a-z]+\))?\s+)?(?:const\s+|unsafe\s+|extern\s+)*fn\s+(?P<name>\w+))"
 )
 CLAUSE = re.compile(r"\s*(requires|ensures)\*?(?:\s+(\w+))?\s*\{")
+# From the end of a signature, or of a clause, to the next clause or the body.
+NEXT = re.compile(r"[^{};]*?(?=\b(?:requires|ensures)\b|\{|;)", re.S)
 RESULT = "result"
 
 
 def read(path):
-    with open(path, encoding="utf-8") as text:
-        return text.read()
+    return Path(path).read_text("utf-8")
+
+
+def documents():
+    """The documents, with paths from the top."""
+    for at, folders, names in os.walk(TOP):
+        own = (it for it in folders if it not in ("out", "target", "data"))
+        folders[:] = sorted(it for it in own if not it.startswith("."))
+        for name in sorted(names):
+            if name.endswith(".md"):
+                yield os.path.relpath(os.path.join(at, name), TOP)
+
+
+def expect_none(complaints):
+    """Fails if there is a complaint, with each on its line."""
+    complaints = list(complaints)
+    assert not complaints, "\n".join(complaints)
 
 
 def blanked(code):
@@ -44,18 +62,25 @@ def closing(code, start):
 
 @dataclass
 class Function:
-    """A function: its type, where it is a method, its name, its clauses in order, and which part of
-    the file it is, and its body alone."""
+    """A function: its type, if it is a method, its name, and which part of the file it is. Its
+    signature ends at `head`, and its body begins at `body`. Of each clause there are the word, the
+    name, and where its content begins and ends."""
 
     owner: str
     name: str
     is_public: bool
-    clauses: list
+    is_exported: bool
+    is_test: bool
     start: int
+    head: int
+    spans: list
+    body: int
     end: int
-    is_test: bool = False
-    is_exported: bool = False
-    body: int = 0
+
+    @property
+    def clauses(self):
+        """The names of what it ensures, in order."""
+        return [name or RESULT for word, name, *_ in self.spans if word == "ensures"]
 
     def path(self):
         return f"{self.owner}::{self.name}" if self.owner else self.name
@@ -82,45 +107,34 @@ class Crate:
 
 def owner_of(header):
     """The type of an `impl`: what stands behind `for`, or else behind `impl`, without its
-    parameters."""
+    parameters. The name of a trait."""
+    if header.startswith("pub trait"):
+        return re.match(r"pub trait\s+(\w+)", header).group(1)
     header = re.sub(r"^impl\s*(<(?:[^<>]|<[^<>]*>)*>)?", "", header).strip(" {\n")
     header = header.split(" for ")[-1].strip()
     named = re.match(r"[&\w:' ]*?(\w+)\s*(?:<|$|\swhere)", header)
     return named.group(1) if named else ""
 
 
-def function_at(code, found, owner, is_test):
-    """The function whose header is found, with its clauses and its body."""
+def function_at(code, found, owner, is_test, in_trait):
+    """The function whose header is found, with its clauses and its body. In a public trait each is
+    public."""
     place = code.index("(", found.end())
     angle = code.find("<", found.end(), place)
     if angle >= 0:
         place = code.index("(", matching_angle(code, angle))
-    place = closing(code, place)
-    clauses = []
-    while True:
-        step = re.compile(r"[^{};]*?(?=\b(?:requires|ensures)\b|\{|;)", re.S).match(code, place)
-        clause = CLAUSE.match(code, step.end())
-        if not clause:
-            break
+    head = body = NEXT.match(code, closing(code, place)).end()
+    spans, clause = [], CLAUSE.match(code, head)
+    while clause:
         end = closing(code, clause.end() - 1)
-        if clause.group(1) == "ensures":
-            clauses.append(clause.group(2) or RESULT)
-        place = end
-    brace = step.end()
-    end = closing(code, brace) if code[brace] == "{" else brace
-    is_public = bool(re.match(r"pub\s", found.group()))
+        spans.append((*clause.groups(), clause.end(), end - 1))
+        body = NEXT.match(code, end).end()
+        clause = CLAUSE.match(code, body)
+    end = closing(code, body) if code[body] == "{" else body
+    is_public = in_trait or bool(re.match(r"pub\s", found.group()))
     is_exported = is_public and "extern" in found.group().split()
-    return Function(
-        owner,
-        found.group("name"),
-        is_public,
-        clauses,
-        found.start(),
-        end,
-        is_test,
-        is_exported,
-        brace,
-    )
+    kind = (is_public, is_exported, is_test)
+    return Function(owner, found.group("name"), *kind, found.start(), head, spans, body, end)
 
 
 def matching_angle(code, place):
@@ -137,7 +151,7 @@ def matching_angle(code, place):
 
 def functions_of(text):
     """The functions of a file, in order."""
-    code, owners, found, place, is_test = blanked(text), [], [], 0, False
+    code, owners, traits, found, place, is_test = blanked(text), [], set(), [], 0, False
     while True:
         item = ITEM.search(code, place)
         if not item:
@@ -147,10 +161,10 @@ def functions_of(text):
             is_test = True
         elif item.group("impl"):
             owners.append(owner_of(item.group("impl")))
+            traits |= {owners[-1]} if item.group("impl").startswith("pub trait") else set()
         elif item.group("fn"):
-            function = function_at(
-                code, item, next((o for o in reversed(owners) if o), ""), is_test
-            )
+            owner = next((o for o in reversed(owners) if o), "")
+            function = function_at(code, item, owner, is_test, owner in traits)
             found.append(function)
             place, is_test = function.end, False
         elif item.group("open"):

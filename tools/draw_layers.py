@@ -1,23 +1,8 @@
 """The picture of the crates in layers, from crates.txt, without tests and demos."""
 
-import os
-import re
-
-import lrc
-from svg import (
-    FIRST,
-    FIRST_PARITY,
-    GLOBAL,
-    GREY,
-    MADE,
-    SECOND,
-    SECOND_PARITY,
-    box,
-    drawing,
-    line,
-    middle,
-    text,
-)
+import build
+from svg import FIRST, FIRST_PARITY, GLOBAL, GREY, MADE, SECOND, SECOND_PARITY
+from svg import box, drawing, line, middle, text
 
 ROW, WIDE, HIGH, GAP, LEFT, TOP_EDGE = 58, 106, 28, 12, 24, 84
 # The width of a lane, how often places and before that orders are improved, the colour of a line.
@@ -29,33 +14,26 @@ DESCRIPTION = (
     "The crates in layers, from the field at the bottom to the programs at the top, with a line "
     "from each crate to the nearest ones that it uses."
 )
+STORE_CRATES = "history book gate ledger one_map requests ledger_map shared named_calls"
+STORE_CRATES += " shard mender sharded"
+FILE_CRATES = "fragment_header fragments fragment_files lrc_files lrc_line lrc_json lrc_report"
+FILE_CRATES += " lrc_commands lrc"
 # The colours of the crates, by what they are for.
 KINDS = [
     ("coding", FIRST, "gf256 kernels lrc_code one_pass syndromes decode"),
     ("blobs", SECOND, "sealed lent"),
-    (
-        "store",
-        FIRST_PARITY,
-        "history book gate ledger one_map requests ledger_map shared shard mender sharded",
-    ),
+    ("store", FIRST_PARITY, STORE_CRATES),
     ("scripts", MADE, "script command_line transcript rounds play program lrcstore"),
     ("for C", GLOBAL, "coder_c session pool_order store_c"),
-    (
-        "files",
-        SECOND_PARITY,
-        "fragment_header fragments fragment_files lrc_files lrc_line lrc_json lrc_report"
-        " lrc_commands lrc",
-    ),
+    ("files", SECOND_PARITY, FILE_CRATES),
 ]
 
 
 def uses():
     """The crates of crates.txt, from the bottom up, each with those of them that it uses."""
-    with open(os.path.join(lrc.TOP, "crates.txt"), encoding="utf-8") as lines:
-        rows = [re.match(r"(\w+)[^:]*:(.*)", row).groups() for row in lines if re.match(r"\w", row)]
-    rows = [row for row in rows if not re.match(r"test_|demo_|bench_", row[0])]
-    names = {name for name, _ in rows}
-    return {name: [used for used in words.split() if used in names] for name, words in rows}
+    used = build.dependencies()
+    names = [name for name in used if not name.startswith(("test_", "demo_", "bench_"))]
+    return {name: [one for one in used[name] if one in names] for name in names}
 
 
 def below(name, used):

@@ -9,39 +9,22 @@ program `demo_guide` prints; the layers are those of crates.txt, the plan's numb
 import os
 import re
 import sys
+from pathlib import Path
 
 import lrc
 from draw_layers import layers
 from draw_planner import planner
 from draw_repair import repair
-from svg import (
-    FIRST,
-    GLOBAL,
-    GREY,
-    INK,
-    MADE,
-    RED,
-    SECOND,
-    WHITE,
-    box,
-    drawing,
-    group_fill,
-    line,
-    middle,
-    text,
-)
+from svg import FIRST, GLOBAL, GREY, INK, MADE, RED, SECOND, WHITE
+from svg import box, drawing, group_fill, line, middle, text
 
 CODE = "Wide"
 DATA, ALL = lrc.data_fragments(CODE), lrc.fragments(CODE)
 HALF = DATA // 2
 PLAIN = "#f4f6f8"
-GLOBALS = (
-    f"{DATA + 2} and {DATA + 3} sum both groups, each fragment times its weight, "
-    "or its weight squared."
-)
-FILLING = (
-    "Dashed: the last stripe is filled up with zero bytes, which are stored and can be lost."
-)
+GLOBALS = f"{DATA + 2} and {DATA + 3} sum both groups, each fragment times its weight, "
+GLOBALS += "or its weight squared."
+FILLING = "Dashed: the last stripe is filled up with zero bytes, which are stored and can be lost."
 UNRECOVERABLE = (
     "unrecoverable: two stripes agree on all remaining fragments and differ in these."
     " All others can be read"
@@ -316,8 +299,7 @@ PICTURES = {
 
 def main(folder):
     for name, draw in PICTURES.items():
-        with open(os.path.join(folder, name), "w", encoding="utf-8") as picture:
-            picture.write(draw())
+        Path(folder, name).write_text(draw(), "utf-8")
 
 
 if __name__ == "__main__":

@@ -10,6 +10,7 @@ import os
 import subprocess
 import sys
 from dataclasses import replace
+from pathlib import Path
 
 import lrc
 from history import CODES, Replay, entries
@@ -179,8 +180,8 @@ def panels(printed, width, is_mend):
 
 def has_only_mends(script):
     """Whether all repairs of a script are those of its mends."""
-    with open(script, encoding="utf-8") as rows:
-        words = [row.split(",")[2] for row in rows if row.count(",") > 4]
+    rows = Path(script).read_text("utf-8").split("\n")
+    words = [row.split(",")[2] for row in rows if row.count(",") > 4]
     return "mend" in words and "repair" not in words
 
 
@@ -208,8 +209,7 @@ def main(words):
     script, picture, *options = words
     title = "The run of " + os.path.basename(script)
     drawn = draw(run(script, options), width_of(options), title, has_only_mends(script))
-    with open(picture, "w", encoding="utf-8") as out:
-        out.write(drawn)
+    Path(picture).write_text(drawn, "utf-8")
 
 
 if __name__ == "__main__":

@@ -56,7 +56,7 @@ class Blob:
         return stripe < self.stripes() and f < lrc.fragments(self.code)
 
     def lost_of(self, stripe):
-        return frozenset(f for j, f in self.lost if j == stripe)
+        return frozenset(f for f in range(lrc.fragments(self.code)) if (stripe, f) in self.lost)
 
     def is_open(self, stripe, f):
         return lrc.is_open(self.code, self.lost_of(stripe), f)
@@ -91,7 +91,7 @@ class Replay:
         start, length = entry.numbers
         if start + length > blob.length:
             return "out-of-range"
-        is_open = any(blob.is_open(j, f) for j, f in blob.covers(start, length))
+        is_open = blob.lost and any(blob.is_open(*at) for at in blob.covers(start, length))
         return f"unrecoverable {blob.version}" if is_open else f"granted {blob.version}"
 
     def note_of_lose(self, blob, entry):

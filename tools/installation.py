@@ -123,11 +123,14 @@ class Installation:
         self.copy(os.path.join(TOP, "bindings", "rust", "build.rs"), f"{to}/build.rs")
 
     def go(self):
-        """The sources of the Go module, which links the store by pkg-config."""
-        module = os.path.join(TOP, "bindings", "go")
-        for file in sorted(os.listdir(module)):
-            if file == "go.mod" or file.endswith((".go", ".h")) and not file.endswith("_test.go"):
-                self.copy(os.path.join(module, file), f"share/lrcstore/go/{file}")
+        """The sources of the Go module, whose packages link the libraries by pkg-config."""
+        for package in ("", "coder", "coder/reedsolomon"):
+            folder = os.path.join(TOP, "bindings", "go", package)
+            for file in sorted(os.listdir(folder)):
+                is_source = file.endswith((".go", ".h")) and not file.endswith("_test.go")
+                if file == "go.mod" or is_source:
+                    to = os.path.join("share/lrcstore/go", package, file)
+                    self.copy(os.path.join(folder, file), to)
 
     def finish(self):
         listed = "".join(f"{path}\n" for path in [*self.paths, MANIFEST])

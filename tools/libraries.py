@@ -49,7 +49,6 @@ LIBRARIES = {
         "store_c",
         ("v2", "v3"),
         (
-            "store_get",
             "store_mend",
             "store_name",
             "store_open",

@@ -5,13 +5,13 @@ import itertools
 import os
 import re
 from functools import lru_cache
+from pathlib import Path
 
 TOP = os.path.dirname(os.path.dirname(os.path.abspath(__file__)))
 
 
 def definition(*path):
-    with open(os.path.join(TOP, "crates", *path), encoding="utf-8") as text:
-        return text.read()
+    return Path(TOP, "crates", *path).read_text("utf-8")
 
 
 MODULUS = int(
@@ -54,30 +54,6 @@ def product(a, b):
 INVERSE = {a: b for a in range(1, 256) for b in range(1, 256) if product(a, b) == 1}
 
 
-@lru_cache(maxsize=None)
-def is_open(code, lost, f):
-    """Whether two columns agree on every fragment that is not in `lost`, and differ at `f`.
-
-    A column meets the four equations, and so does the difference of two columns. So `f` is open if
-    and only if the equations, over the lost fragments alone, have a solution that is not zero at
-    `f`: if no sum of equations weighs `f` and no other lost fragment. `lost` is a frozenset.
-    """
-    if f not in lost:
-        return False
-    rows = [[row[i] for i in sorted(lost - {f})] + [row[f]] for row in WEIGHTS[code]]
-    for column in range(len(lost) - 1):
-        pivot = next((row for row in rows if row[column]), None)
-        if pivot is None:
-            continue
-        rows.remove(pivot)
-        scale = INVERSE[pivot[column]]
-        rows = [
-            [x ^ product(product(row[column], scale), y) for x, y in zip(row, pivot)]
-            for row in rows
-        ]
-    return not any(row[-1] for row in rows)
-
-
 def scales_for(rows, others):
     """Numbers by which the rows add up to 0 at each of the others, free ones being 1."""
     equations = [[row[i] for row in rows] for i in others]
@@ -116,3 +92,9 @@ def rebuilt_from(code, lost, f):
             if total[f]:
                 return [i for i, weight in enumerate(total) if weight and i != f]
     return []
+
+
+def is_open(code, lost, f):
+    """Whether two columns agree on every fragment that is not in `lost`, and differ at `f`: whether
+    no sum of equations weighs `f` and nothing else that is lost. `lost` is a frozenset."""
+    return f in lost and not rebuilt_from(code, lost, f)

@@ -2,9 +2,11 @@
 header, and each under its own heading.
 
 What a function does is a sentence of its comment. It waits if it takes a deadline. Whether it can
-lack memory is what its contract in crates/store_c says, or else its comment.
+lack memory is what its contract in crates/store_c says. A function in plain C can if it returns
+that status, or calls a function that can.
 """
 
+import glob
 import os
 import re
 
@@ -41,7 +43,7 @@ TASKS = {
         ),
         ("put a blob", "lrc_store_put"),
         ("put bytes without a copy", "lrc_slot_reserve lrc_slot_buffer lrc_store_put_from"),
-        ("read bytes, or a whole blob", "lrc_store_read lrc_store_get_wait"),
+        ("read bytes, or a whole blob", "lrc_store_read lrc_store_get"),
         ("read without a copy", "lrc_store_lend lrc_slot_runs lrc_slot_slices"),
         (
             "keep a version, and read it later",
@@ -104,6 +106,8 @@ DECLARATION = re.compile(
     r"|^(?:static inline )?(?:uint32_t|void|const char \*) ?lrc_\w+\([^{;]*[{;]",
     re.M | re.S,
 )
+# A function of a source in C, and what stands between its braces.
+BODY = re.compile(r"^[\w *]*?\b(\w+)\([^;{]*\) \{\n(.*?)^\}", re.M | re.S)
 FUNCTION = re.compile(r"^(?:static inline )?(?:uint32_t|void|const char \*) ?(lrc_\w+)\(")
 TITLE = re.compile(r"/\* -{4} ([^.]*)\.")
 # The calls of the sequential store that need memory, and what a contract says of it.
@@ -186,20 +190,29 @@ def functions_of(header):
     return found
 
 
-class Contracts:
-    """What the contracts of crates/store_c say of memory."""
+class Memory:
+    """Which functions of the store can lack memory, by contracts and by the sources in C."""
 
     def __init__(self):
         self.definitions = believed.Definitions()
         text = sources.read(os.path.join(sources.CRATES, "store_c", "src", "lib.rt"))
         self.names = believed.imports_of(text)
-        self.heads = {
-            f.name: re.split(r"\n *\{\n", text[f.start : f.end])[0]
-            for f in sources.functions_of(text)
-            if f.is_exported
-        }
+        exported = (f for f in sources.functions_of(text) if f.is_exported)
+        self.heads = {f.name: text[f.start : f.body] for f in exported}
+        paths = sorted(glob.glob(os.path.join(libraries.TOP, "library", "store_*.c")))
+        code = re.sub(r"/\*.*?\*/", "", "\n".join(map(sources.read, paths)), flags=re.S)
+        self.bodies = dict(BODY.findall(code))
 
-    def may_lack(self, name):
+    def may_lack(self, name, callers=()):
+        """Whether a function, or one in C that it calls, can lack memory."""
+        base = re.sub(r"_wait$", "", name)
+        if base in self.heads:
+            return self.may_lack_by_contract(base)
+        body = self.bodies.get(name, "") if name not in callers else ""
+        called = set(re.findall(r"\b(\w+)\(", body)) - {name}
+        return "NO_MEMORY" in body or any(self.may_lack(it, (*callers, name)) for it in called)
+
+    def may_lack_by_contract(self, name):
         """Whether the contract of a function leaves it a status for refused memory."""
         ahead, seen = [(self.heads[name], None, self.names)], set(GENERAL)
         while ahead:
@@ -215,28 +228,20 @@ class Contracts:
         return False
 
 
-def may_lack_memory(function, contracts):
-    base = re.sub(r"_wait$", "", function.name)
-    if base in contracts.heads:
-        return contracts.may_lack(base)
-    said = " ".join(words_of(function.comment))
-    return "NO_MEMORY" in said or "returns that status" in said
-
-
-def table(functions, contracts):
+def table(functions, memory):
     """A row for each function, but one for a function and its waiting form."""
     names = {one.name for one in functions}
     head = "| Function | What it does |"
-    yield from ("", head + (" Waits | Out of memory |" if contracts else ""))
-    yield "|---|---|---|---|" if contracts else "|---|---|"
+    yield from ("", head + (" Waits | Out of memory |" if memory else ""))
+    yield "|---|---|---|---|" if memory else "|---|---|"
     for one in functions:
         if one.name.endswith("_wait") and one.name[: -len("_wait")] in names:
             continue
         row = f"| [`{one.name}`](#{one.name}) | {one.summary()} |"
-        if contracts:
+        if memory:
             form = one.name + "_wait"
             waits = "yes" if one.waits else f"[`_wait`](#{form})" if form in names else "no"
-            row += f" {waits} | {'yes' if may_lack_memory(one, contracts) else 'no'} |"
+            row += f" {waits} | {'yes' if memory.may_lack(one.name) else 'no'} |"
         yield row
 
 
@@ -263,10 +268,10 @@ def function_lines(one, names):
     yield from code_lines([*one.lines[:-1], *comment, one.lines[-1]])
 
 
-def header_lines(header, note, contracts):
+def header_lines(header, note, memory):
     functions = functions_of(header)
     names = {one.name for one in functions}
-    yield from ("", f"## {header}", "", *filled(note), *table(functions, contracts))
+    yield from ("", f"## {header}", "", *filled(note), *table(functions, memory))
     first = functions[0]
     yield from ("", f"### Rules and types of {header}", "", *code_lines(first.lines[:-1]))
     first.lines = first.lines[-1:]
@@ -304,5 +309,5 @@ def page():
     for rule in RULES:
         yield from filled(rule, "- ", "  ")
     for header, note in HEADERS.items():
-        contracts = Contracts() if header == "lrc_store.h" else None
-        yield from header_lines(header, note, contracts)
+        memory = Memory() if header == "lrc_store.h" else None
+        yield from header_lines(header, note, memory)

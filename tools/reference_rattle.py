@@ -16,9 +16,10 @@ TOP = sources.TOP
 GROUPS = [
     (
         "Put, read and repair",
-        "`shared` is enough for a program that puts, reads and repairs: it re-exports what its "
-        "calls name. The other crates have the types that its calls take and return.",
-        ["shared", "history", "book", "lent", "sealed"],
+        "`shared` and `named_calls` are enough for a program that puts, reads and repairs: "
+        "`shared` re-exports what its calls name. The other crates have the types that calls take "
+        "and return.",
+        ["shared", "named_calls", "history", "book", "lent", "sealed"],
     ),
     (
         "Mend by workers",
@@ -27,7 +28,7 @@ GROUPS = [
     ),
     (
         "Shards",
-        "`sharded` has the calls of `shared` and of `mender`, over a lock for each shard.",
+        "`sharded` has a store and the calls of `mender`, over a lock for each shard.",
         ["sharded", "one_map"],
     ),
     (
@@ -45,6 +46,10 @@ API = [name for _, _, crates in GROUPS for name in crates]
 # The types and functions that a caller meets first, in the order of use. Others follow by name.
 FIRST_TYPES = {
     "shared": ["Store", "Pass"],
+    "named_calls": [
+        *("WaitingCalls", "TryCalls", "WaitingSnapshots", "TrySnapshots"),
+        *("Waits", "Makes"),
+    ],
     "sharded": ["ShardedStore", "ShardedPass"],
     "mender": ["Drawer", "Tickets", "Done", "Report"],
     "history": ["Name", "Limit"],
@@ -60,7 +65,6 @@ FIRST_CALLS = [
     *("stat", "plan", "plan_part", "scrub", "work", "gather", "trim", "trim_part", "numbers"),
     *("split", "join", "receipt", "accept", "close"),
 ]
-CLAUSE = re.compile(r"\s*(requires|ensures)\*?(?:\s+(\w+))?\s*\{")
 TYPE = re.compile(
     r"((?:^ *///.*\n)+)?(?:^ *#\[.*\n)*^pub (struct|enum|trait) (\w+)([^{;]*)([{;])", re.M
 )
@@ -121,12 +125,6 @@ def docs_before(text, place):
     return [paragraph for paragraph in "\n".join(lines).split("\n\n") if paragraph.strip()]
 
 
-def rest_of_head(code, place):
-    """Where the next clause begins behind a place, or the body."""
-    step = re.compile(r"[^{};]*?(?=\b(?:requires|ensures)\b|\{|;)", re.S)
-    return step.match(code, place).end()
-
-
 class Function:
     """A function as a caller sees it: heading, docstring, signature and clauses."""
 
@@ -134,16 +132,10 @@ class Function:
         self.name, self.owner = found.name, found.owner
         self.heading = found.path() if self.owner else f"fn {self.name}"
         self.docs = docs_before(text, found.start)
-        code = sources.blanked(text)
-        place = code.index("(", found.start)
-        angle = code.find("<", found.start, place)
-        if angle >= 0:
-            place = code.index("(", sources.matching_angle(code, angle))
-        stop = rest_of_head(code, sources.closing(code, place))
-        head = " ".join(text[found.start : stop].split())
+        head = " ".join(text[found.start : found.head].split())
         head = re.sub(r"\( ", "(", head).replace(",)", ")").replace(", )", ")")
         self.signature = re.sub(r"^pub ((?:const |extern \"C\" )*)fn ", r"\1fn ", head)
-        self.clauses = list(self.clauses_at(text, code, stop))
+        self.clauses = [(word, name, text[at:end]) for word, name, at, end in found.spans]
 
     def rank(self):
         """Functions that make a value come first, and forms that return `Busy` last. The others
@@ -156,16 +148,6 @@ class Function:
     def does_not_wait(self):
         """Whether it is a form that returns `Busy`."""
         return self.name.startswith("try_")
-
-    def clauses_at(self, text, code, stop):
-        """The word, name and content of each clause."""
-        while True:
-            clause = CLAUSE.match(code, stop)
-            if not clause:
-                return
-            end = sources.closing(code, clause.end() - 1)
-            yield clause.group(1), clause.group(2), text[clause.end() : end - 1]
-            stop = rest_of_head(code, end)
 
 
 def members_of(body, kind):
@@ -183,16 +165,24 @@ def members_of(body, kind):
         yield f"    {name}{rest},"
 
 
+def relations_of(body):
+    """The ghost members of a trait, each with the comment before it."""
+    for found in re.finditer(r"((?:^    // .*\n)*)^    (ghost \w+: \{[^;]*?\});", body, re.M):
+        yield from found.group(1).splitlines()
+        yield f"    {' '.join(found.group(2).split())};"
+
+
 class Type:
-    """A type with what a caller sees of it: its public fields, or its cases."""
+    """A type with what a caller sees of it: its public fields, or its cases, or its relations."""
 
     def __init__(self, text, found):
         _, kind, self.name, parameters, bracket = found.groups()
         self.docs = docs_before(text, found.start(2) - len("pub "))
         self.lines = [f"{kind} {self.name}{parameters.rstrip()}"]
-        if kind != "trait" and bracket != ";":
+        if bracket != ";":
             end = sources.closing(sources.blanked(text), found.end() - 1) - 1
-            members = list(members_of(text[found.end() : end], kind))
+            body = text[found.end() : end]
+            members = list(relations_of(body) if kind == "trait" else members_of(body, kind))
             self.lines = [self.lines[0] + " {", *members, "}"] if members else self.lines
 
 

@@ -207,7 +207,7 @@ class Trial:
         if len(edits) < 2:
             return  # alone it costs the same
         texts = texts_of(edits)
-        ran = self.over_copy(lambda kept: self.rt.checked(self.crate, texts, self.flags, kept))
+        ran = self.over_copy(lambda proof: self.rt.checked(self.crate, texts, self.flags, proof))
         report = Report(self.rt, self.crate, ran, texts)
         report.drop_unless_of(edits)
         for it in edits:
@@ -243,7 +243,7 @@ class Trial:
         self.rt.checked = checked
         try:
             verdict = self.over_copy(
-                lambda kept: self.rt.must_fail(self.crate, edit.edit, self.flags, kept)
+                lambda proof: self.rt.must_fail(self.crate, edit.edit, self.flags, proof)
             )
         finally:
             self.rt.checked = whole

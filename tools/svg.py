@@ -3,13 +3,8 @@
 from html import escape
 
 INK, GREY, WHITE, RED, MADE = "#1d2733", "#6b7785", "#ffffff", "#c0392b", "#fff0b3"
-FIRST, SECOND, FIRST_PARITY, SECOND_PARITY, GLOBAL = (
-    "#cfe3f7",
-    "#d8f0d2",
-    "#9cc6ee",
-    "#a5d79a",
-    "#e2a9d3",
-)
+FIRST, SECOND, FIRST_PARITY, SECOND_PARITY = "#cfe3f7", "#d8f0d2", "#9cc6ee", "#a5d79a"
+GLOBAL = "#e2a9d3"
 FONT = "font-family='DejaVu Sans, Verdana, sans-serif'"
 
 

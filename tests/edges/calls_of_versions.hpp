@@ -49,6 +49,36 @@ protected:
         to.store = from.store;
     }
 
+    // The version is held by a read of no byte, and then read.
+    void get() {
+        Held &from = with(Holds::session), &to = other_with(Holds::nothing, from);
+        const std::string name = this->name();
+        uint64_t version = untouched, len = untouched, pieces = untouched;
+        begin("get", name);
+        const uint32_t got = random.one_in(2)
+                                 ? lrc_store_get(&from.slot, at(name), name.size(), &to.slot,
+                                                 &version, &len, &pieces)
+                                 : lrc_store_get_wait(&from.slot, at(name), name.size(), &to.slot,
+                                                      &version, &len, &pieces, timeout());
+        const bool is_held = version != untouched;
+        const uint32_t called = is_held ? uint32_t{LRC_STORE_DONE} : got;
+        const Statuses reasons =
+            of_named(from, name).add(to.holds != Holds::nothing, LRC_STORE_OCCUPIED);
+        const model::Entry entry = answer(from, LRC_CALL_READ, name, 0, 0, reasons, called);
+        judge_entry(from, entry, reasons, called, version);
+        const model::Blob *blob = is_held ? blob_of(from, name) : nullptr;
+        same(len, blob ? blob->len : untouched, "`len`");
+        if (blob) {
+            const uint32_t read = blob->status_of_read(0, blob->len);
+            judge(got, Statuses().add(read != LRC_STORE_DONE, read), LRC_STORE_NOT_REBUILT);
+        }
+        if (got != LRC_STORE_DONE) return same(pieces, untouched, "`pieces`");
+        to.become(Holds::lending).bytes = blob->bytes;
+        to.start = 0;
+        to.len = blob->len;
+        to.pieces = pieces;
+    }
+
     Statuses not_a_version(const Held &from) {
         return Statuses().add(from.holds != Holds::version, LRC_STORE_EMPTY);
     }
@@ -190,8 +220,9 @@ protected:
     void call_of_versions() {
         const uint64_t kind = random.below(100);
         if (kind < 10) return numbers();
-        if (kind < 30) return hold();
-        if (kind < 40) return shape();
+        if (kind < 25) return hold();
+        if (kind < 35) return get();
+        if (kind < 43) return shape();
         if (kind < 50) return lost();
         if (kind < 65) return fragment();
         if (kind < 75) return range_of_version();

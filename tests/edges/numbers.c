@@ -1,6 +1,6 @@
 /* The numbers that library/store_open.c gives to stores all differ, with and without random bits,
  * also between copies of the library. Link with two copies of that file, whose functions are
- * renamed (tests/edges.sh). */
+ * renamed (tests/test_edges.py). */
 #include "store_test.h"
 #include <stdlib.h>
 #include <sys/types.h>

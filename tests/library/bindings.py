@@ -632,8 +632,8 @@ class Watched(Refusals):
     def during_calls(self, function):
         """Has a function called before each function of the library."""
         found, hook = [], ctypes.c_void_p.in_dll(WATCHED, "watched_hook")
-        kept = HOOK(lambda: found.append(function()))
-        hook.value = ctypes.cast(kept, ctypes.c_void_p).value
+        callback = HOOK(lambda: found.append(function()))
+        hook.value = ctypes.cast(callback, ctypes.c_void_p).value
         try:
             yield found
         finally:

@@ -1,5 +1,6 @@
 /* The coder as C uses it. Prints one line a test, and ends with status 1 where a check fails. */
 #define _DEFAULT_SOURCE
+#include "expect.h"
 #include "lrc_coder.h"
 
 #include <pthread.h>
@@ -8,16 +9,6 @@
 #include <string.h>
 #include <sys/mman.h>
 #include <unistd.h>
-
-static int failures;
-
-#define CHECK(fact)                                                                                \
-    do {                                                                                           \
-        if (!(fact)) {                                                                             \
-            printf("line %d: not so: %s\n", __LINE__, #fact);                                      \
-            failures++;                                                                            \
-        }                                                                                          \
-    } while (0)
 
 enum { WIDTH = 3, WIDE = 12, SMALL = 6, MOST = 16 };
 
@@ -436,7 +427,7 @@ static void test_parts(void) {
 
 static void *rebuild_in_thread(void *shared) {
     const stripe *made = shared;
-    uintptr_t wrong = 0;
+    uintptr_t faults = 0;
     for (unsigned n = 0; n < 20000; n++) {
         const uint8_t *left[MOST];
         uint8_t rebuilt[WIDTH], f = (uint8_t)(n % MOST);
@@ -445,9 +436,9 @@ static void *rebuild_in_thread(void *shared) {
         left[n / MOST % MOST] = NULL;
         if (lrc_rebuild_arrays(WIDE, WIDTH, left, f, rebuilt) != LRC_DONE ||
             memcmp(rebuilt, made->bytes[f], WIDTH) != 0)
-            wrong++;
+            faults++;
     }
-    return (void *)wrong;
+    return (void *)faults;
 }
 
 static void test_threads(void) {
@@ -461,8 +452,8 @@ static void test_threads(void) {
             exit(1);
         }
     for (size_t i = 0; i < THREADS; i++) {
-        void *wrong;
-        CHECK(pthread_join(threads[i], &wrong) == 0 && wrong == NULL);
+        void *faults;
+        CHECK(pthread_join(threads[i], &faults) == 0 && faults == NULL);
     }
     puts("threads: four rebuilt from one stripe");
 }
@@ -497,6 +488,5 @@ int main(void) {
     test_decoded_sets(SMALL);
     test_parts();
     test_threads();
-    if (failures) printf("%d checks failed\n", failures);
-    return failures != 0;
+    return report("coder");
 }

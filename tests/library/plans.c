@@ -1,21 +1,12 @@
 /* Plans: every recoverable set of up to four lost fragments of both codes is decoded by a plan from
  * the fragments that it reads alone. A plan reads no lost fragment and none that it can do without;
  * any bytes are safe as a plan. */
+#include "expect.h"
 #include "lrc_coder.h"
 
 #include <stdio.h>
 #include <stdlib.h>
 #include <string.h>
-
-static int failures;
-
-#define CHECK(fact)                                                                                \
-    do {                                                                                           \
-        if (!(fact)) {                                                                             \
-            printf("line %d: not so: %s\n", __LINE__, #fact);                                      \
-            failures++;                                                                            \
-        }                                                                                          \
-    } while (0)
 
 enum { WIDTH = 200, FROM = 3, LEN = 190, WIDE = 12, SMALL = 6, MOST = 16, FILL = 0xEE };
 
@@ -137,9 +128,11 @@ static void test_lost_sets(size_t data_fragments, unsigned wanted) {
 /* Lengths around a vector's and a block's, for sets that are decoded in different ways. */
 static void test_lengths(void) {
     enum { LONGEST = 8201 };
-    static const size_t lengths[] = {0, 1, 31, 32, 33, 63, 64, 65, 511, 4095, 4096, 4097, LONGEST};
-    static const uint16_t sets[] = {0x0001, 0x0041, 0x0003, 0x0007, 0x00C3, 0x4000, 0xC000,
-                                    0x4001, 0x8001, 0xC001, 0xC041, 0x0047, 0x4003, 0x3000};
+    static const size_t lengths[] = {0,   1,   31,  32,  33,   63,   64,   65,
+                                     255, 256, 511, 512, 4095, 4096, 4097, LONGEST};
+    static const uint16_t sets[] = {0x0001, 0x0041, 0x0003, 0x0007, 0x00C3, 0x4000,
+                                    0xC000, 0x4001, 0x8001, 0xC001, 0xC041, 0x0047,
+                                    0x4003, 0x3000, 0x0043, 0x4041, 0x10C1, 0x2007};
     static uint8_t bytes[MOST][LONGEST], targets[4][LONGEST + 1];
     const uint8_t *data[WIDE];
     lrc_slice slices[MOST];
@@ -168,6 +161,100 @@ static void test_lengths(void) {
         }
     }
     puts("plans: lengths from 0 to 8201");
+}
+
+/* The fragments of a stripe, and targets, that are long enough for fragments to be put into the
+ * order of their groups. */
+enum { LONG = 520, FIRST = 5 };
+static uint8_t long_bytes[MOST][LONG], long_targets[4][LONG];
+
+static void make_long(lrc_slice slices[MOST]) {
+    const uint8_t *data[WIDE];
+    uint8_t *parities[4];
+    for (size_t i = 0; i < MOST; i++) {
+        for (size_t k = 0; i < WIDE && k < LONG; k++) long_bytes[i][k] = draw();
+        slices[i] = (lrc_slice){long_bytes[i], LONG};
+        if (i < WIDE) data[i] = long_bytes[i];
+    }
+    for (size_t i = 0; i < 4; i++) parities[i] = long_bytes[WIDE + i];
+    CHECK(lrc_encode_arrays(WIDE, LONG, data, parities) == LRC_DONE);
+}
+
+/* Whether the targets have these fragments from FIRST on, and no target for none was accessed. */
+static int have_long(const uint8_t numbers[4]) {
+    for (size_t i = 0; i < 4; i++) {
+        if (numbers[i] != LRC_NONE &&
+            memcmp(long_targets[i], long_bytes[numbers[i]] + FIRST, LONG - FIRST) != 0)
+            return 0;
+        if (numbers[i] == LRC_NONE && long_targets[i][0] != FILL) return 0;
+    }
+    return 1;
+}
+
+static uint32_t plan_long(const uint8_t plan[LRC_PLAN_BYTES], const lrc_slice slices[MOST]) {
+    const size_t len = LONG - FIRST;
+    memset(long_targets, FILL, sizeof long_targets);
+    return lrc_plan_decode(plan, slices, FIRST, len, long_targets[0], len, long_targets[1], len,
+                           long_targets[2], len, long_targets[3], len);
+}
+
+static uint32_t decode_long(unsigned lost, const uint8_t numbers[4], const lrc_slice slices[MOST]) {
+    const size_t len = LONG - FIRST;
+    memset(long_targets, FILL, sizeof long_targets);
+    return lrc_decode(WIDE, slices, (uint16_t)lost, numbers, FIRST, len, long_targets[0], len,
+                      long_targets[1], len, long_targets[2], len, long_targets[3], len);
+}
+
+/* Every set of three or four, in each order of its numbers, with and without a plan. */
+static void test_orders(void) {
+    lrc_slice slices[MOST];
+    uint8_t plan[LRC_PLAN_BYTES], sorted[4];
+    uint16_t reads;
+    unsigned decoded = 0;
+    make_long(slices);
+    for (unsigned lost = 0; lost < 1u << MOST; lost++) {
+        if (__builtin_popcount(lost) != 3 && __builtin_popcount(lost) != 4) continue;
+        numbers_of(lost, sorted);
+        for (unsigned order = 0; order < 256; order++) {
+            const unsigned a = order & 3, b = order >> 2 & 3, c = order >> 4 & 3, d = order >> 6;
+            const uint8_t numbers[4] = {sorted[a], sorted[b], sorted[c], sorted[d]};
+            if ((1u << a | 1u << b | 1u << c | 1u << d) != 15) continue;
+            const uint32_t status = lrc_plan(WIDE, (uint16_t)lost, numbers, plan, &reads);
+            CHECK(decode_long(lost, numbers, slices) == status);
+            if (status != LRC_DONE) {
+                for (size_t i = 0; i < 4; i++) CHECK(long_targets[i][0] == FILL);
+                continue;
+            }
+            CHECK(have_long(numbers));
+            CHECK(plan_long(plan, slices) == LRC_DONE && have_long(numbers));
+            decoded++;
+        }
+    }
+    CHECK(decoded == 24 * 2128);
+    printf("plans: %u orders of three and four lost fragments\n", decoded);
+}
+
+/* A fragment that is alone lost in its group is its sum, and is put back. So its shares are not
+ * read, nor those of its group's syndrome: the plan gives the fragments also if these change. */
+static void test_put_back(void) {
+    static const struct {
+        unsigned lost;
+        int alone; /* the bits of the targets that are alone */
+        int share; /* the bits of their groups' syndromes */
+    } sets[] = {{0x0043, 4, 2}, {0x1081, 2, 2}, {0x4041, 3, 3}, {0x0047, 8, 2}, {0x2007, 8, 2},
+                {0x0381, 1, 1}, {0xC001, 1, 1}, {0xC041, 3, 3}, {0x4043, 4, 2}};
+    lrc_slice slices[MOST];
+    uint8_t plan[LRC_PLAN_BYTES], numbers[4];
+    uint16_t reads;
+    make_long(slices);
+    for (size_t s = 0; s < sizeof sets / sizeof *sets; s++) {
+        numbers_of(sets[s].lost, numbers);
+        CHECK(lrc_plan(WIDE, (uint16_t)sets[s].lost, numbers, plan, &reads) == LRC_DONE);
+        for (int k = 0; k < 16; k++)
+            if (sets[s].alone >> k / 4 & 1 || sets[s].share >> k % 4 & 1) plan[8 + k] ^= 0x5A;
+        CHECK(plan_long(plan, slices) == LRC_DONE && have_long(numbers));
+    }
+    puts("plans: what is alone is put back");
 }
 
 /* Plans of random bytes, and plans with a byte changed: a status, and no byte outside. */
@@ -238,8 +325,9 @@ int main(void) {
     test_lost_sets(WIDE, 2265);
     test_lost_sets(SMALL, 356);
     test_lengths();
+    test_orders();
+    test_put_back();
     test_any_bytes();
     test_refusals();
-    if (failures) printf("%d checks failed\n", failures);
-    return failures != 0;
+    return report("plans");
 }

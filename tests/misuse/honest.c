@@ -27,13 +27,13 @@ static void moves(void) {
     lrc_slot_release(&second);
 }
 
-static void *nothing(void *argument) { return argument; }
+static void *end_at_once(void *argument) { return argument; }
 
 /* A process with one thread has a child that goes on. */
 static void forks(void) {
     pthread_t thread;
     int status = 1;
-    EXPECT(pthread_create(&thread, NULL, nothing, NULL), 0);
+    EXPECT(pthread_create(&thread, NULL, end_at_once, NULL), 0);
     EXPECT(pthread_join(thread, NULL), 0);
     pid_t child = fork();
     if (child == 0) {

@@ -2,8 +2,10 @@
 """The modules of tools/package.py and tools/verify_release.py, without the prover and without
 packages of Debian. LRC_LIBRARIES names the folder of the libraries."""
 
+import contextlib
 import hashlib
 import importlib.util
+import io
 import os
 import re
 import shutil
@@ -31,6 +33,7 @@ from packages import (  # noqa: E402
     licence,
     manual,
     packing,
+    plugins,
     record,
     reproducible,
     wheel,
@@ -71,6 +74,13 @@ class Words(unittest.TestCase):
         self.assertEqual(self.done("build", "--to", "b", *of_build), ([built], []))
         words = ("pack", "--from", "b", "--to", "d", *of_pack)
         self.assertEqual(self.done(*words), ([], [packed]))
+        words = ("plugins", "--from", "l", "--to", "d")
+        with mock.patch.object(plugins, "pack") as pack:
+            self.assertEqual(self.done(*words), ([], []))
+            package.main((*words, "--unlicensed"))
+        self.assertEqual(
+            [each.args for each in pack.mock_calls], [("l", "d", False), ("l", "d", True)]
+        )
         words = ("all", "--to", "d", "--built", "b", *of_build, *of_pack)
         self.assertEqual(self.done(*words), ([built], [packed]))
         self.assertEqual(
@@ -460,8 +470,87 @@ class Debian(Folder):
 
     def test_the_plugin_is_for_the_ceph_that_is_tested(self):
         self.assertRegex(libraries.read("docs", "limits.md"), rf"\| Ceph \| {debian.CEPH}\b")
-        *first, last = debian.CEPH.split(".")
-        self.assertEqual(debian.AFTER_CEPH, ".".join([*first, f"{int(last) + 1}~"]))
+        self.assertEqual(debian.after(debian.CEPH), "16.2.16~")
+        self.assertEqual(debian.after("20.2.9"), "20.2.10~")
+
+
+class Plugins(Folder):
+    """The packages of the plugins alone, of which integrations/roots.sh makes the whole."""
+
+    def setUp(self):
+        super().setUp()
+        shutil.copy(os.path.join(LINKED, plugins.ARCHIVE), self.folder)
+
+    def test_what_is_missing_is_named(self):
+        with mock.patch.object(plugins, "NEEDED", {"/no/file": "a-package"}):
+            with mock.patch.object(debian, "PROGRAMS", {"no-program": "dpkg-dev"}):
+                with self.assertRaisesRegex(SystemExit, "need dpkg-dev a-package$"):
+                    plugins.demand(self.folder)
+            with mock.patch.object(debian, "PROGRAMS", {"sh": "dash"}):
+                with self.assertRaisesRegex(SystemExit, "need a-package$"):
+                    plugins.demand(self.folder)
+        with self.assertRaisesRegex(SystemExit, "has no liblrc_coder.a"):
+            plugins.demand(self.path("none"))
+
+    def test_a_later_debian_has_a_later_version(self):
+        found = []
+        for text in ('NAME="Debian"\nVERSION_ID="12"\n', 'VERSION_ID="13"\n', "ID=debian\n\n"):
+            with open(self.path("os-release"), "w", encoding="utf-8") as file:
+                file.write(text)
+            found.append(plugins.revision(self.path("os-release")))
+        self.assertEqual(found, ["1+deb12", "1+deb13", "1+sid"])
+
+    def test_the_time_is_given_or_the_commit_s(self):
+        with mock.patch.dict(os.environ, {"SOURCE_DATE_EPOCH": "77"}):
+            self.assertEqual(plugins.when_made(), 77)
+        with mock.patch.dict(os.environ, clear=True), mock.patch.object(plugins, "moment", int):
+            self.assertEqual(plugins.when_made(), 0)
+
+    def test_the_version_of_ceph(self):
+        printed = "ceph version 18.2.7 (6b0e) reef (stable)\n"
+        with mock.patch.object(libraries, "run", lambda *words: printed):
+            self.assertEqual(plugins.ceph_version(), "18.2.7")
+
+    def packed(self):
+        """What debhelper would be given: the files, and the words of `debian.build`."""
+        seen = []
+
+        def build(work, dist, when, ceph, profile):
+            debian_folder = os.path.join(work, "debian")
+            texts = [reproducible.read_bytes(debian_folder, it) for it in ("control", "changelog")]
+            names = set(reproducible.files_below(work))
+            seen.append((names, texts, (dist, when, ceph, profile)))
+            package_of = os.path.join(dist, "one.deb")
+            return [libraries.write(["one"], package_of)]
+
+        with contextlib.ExitStack() as stack:
+            for where, name, it in (
+                (debian, "build", build),
+                (plugins, "demand", lambda folder: None),
+                (plugins, "settle", lambda when: None),
+                (plugins, "when_made", lambda: WHEN),
+                (plugins, "ceph_version", lambda: "20.2.4"),
+                (plugins, "revision", lambda: "1+sid"),
+            ):
+                stack.enter_context(mock.patch.object(where, name, it))
+            stack.enter_context(contextlib.redirect_stdout(io.StringIO()))
+            plugins.pack(self.folder, self.path("dist"), True)
+        return seen[0]
+
+    def test_only_the_plugins_are_packed(self):
+        names, (control, changelog), words = self.packed()
+        wanted = (self.path("dist"), WHEN, "20.2.4", "pkg.lrcstore.onlyplugins")
+        self.assertEqual(words, wanted)
+        self.assertIn("linked/liblrc_coder.a", names)
+        self.assertIn("integrations/ceph/build.sh", names)
+        self.assertIn(b"ceph-base (>= 20.2.4), ceph-base (<< 20.2.5~)", control)
+        self.assertTrue(changelog.startswith(b"lrcstore (0.1.0-1+sid) "), changelog)
+        others = [it for it in control.decode().split("\n\n") if "onlyplugins>" in it]
+        named = [re.search(r"Package: (\S+)", it)[1] for it in others]
+        self.assertEqual(
+            named,
+            ["lrcstore", "liblrc-coder0.1", "liblrc-store0.1", "liblrc-dev", "python3-lrcstore"],
+        )
 
 
 class Manuals(Folder):

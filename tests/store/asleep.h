@@ -37,9 +37,10 @@ static inline int others_sleep(void) {
 }
 
 /* A lock inside of malloc may hold a thread up for a moment, so several looks in a row have to find
- * all of them asleep. */
+ * all of them asleep, each at least a millisecond after the one before. */
+enum { LOOKS = 10 };
+
 static inline void until_others_sleep(void) {
-    enum { LOOKS = 10 };
     for (int seen = 0; seen < LOOKS; seen = others_sleep() ? seen + 1 : 0) usleep(1000);
 }
 #endif

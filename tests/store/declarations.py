@@ -58,9 +58,6 @@ class Declarations(unittest.TestCase):
         forms = {name: words for name, words in header.items() if name.endswith("_wait")}
         self.assertEqual(len(forms), 17)
         self.assertEqual(forms.pop("lrc_store_mend_wait"), ["*mut slot", "*mut u64", "i64"])
-        # of a hold, and of a range of what is held
-        hold, lend = header["lrc_store_hold"], header["lrc_slot_lend"]
-        self.assertEqual(forms.pop("lrc_store_get_wait"), [*hold, lend[-1], "i64"])
         for name, words in forms.items():
             self.assertEqual(words, [*header[name.removesuffix("_wait")], "i64"])
         rust = declared.in_rust(self.rust)
@@ -74,7 +71,7 @@ class Declarations(unittest.TestCase):
 
     def test_attributes(self):
         declarations = list(declared.attributes(self.header))
-        self.assertEqual(len(declarations), 68)
+        self.assertEqual(len(declarations), 69)
         for name, kinds, wanted in declarations:
             self.assertEqual(kinds, wanted, name)
             is_plain = re.fullmatch(f"lrc_({IGNORED}|{NO_STATUS})", name)
@@ -120,8 +117,7 @@ class Declarations(unittest.TestCase):
             error = "#error" in ran.stderr and "lrc_store.hpp needs C++17" in ran.stderr
             self.assertEqual(error, not is_enough)
 
-    def test_calls_and_versions(self):
+    def test_calls(self):
         calls = declared.numbers(r"    LRC_CALL_(\w+) = (\d+)", self.header)
         self.assertEqual(calls, {name: number for number, name in enumerate(CALLS)})
         self.assertEqual(lrc_store._CALLS, tuple(map(str.lower, CALLS)))
-        declared.compare_versions("lrc_store", lrc_store.SONAME)

@@ -55,6 +55,9 @@ static void holds(lrc_slot *slot) {
     CALL(lrc_slot_lend(&held, 0, 54, &lent, &pieces));
     EXPECT(gather(&lent, got), 54);
     EXPECT(memcmp(got, FOX, 54), 0);
+    lrc_slot_release(&lent);
+    CALL(lrc_store_get(slot, NAME("a"), &lent, &version, &len, &pieces));
+    EXPECT(gather(&lent, got), 54);
     CALL(lrc_store_install(slot, &held, 0, 1, (const uint8_t *)FOX + 4, 4, &version));
     CALL(lrc_store_lose(slot, NAME("a"), 0, 1, &version));
     lrc_slot_release(&lent);

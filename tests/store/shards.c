@@ -422,7 +422,7 @@ static void has_one_deadline(void) {
     blocked.session = sessions[0];
     EXPECT(pthread_create(&thread, NULL, give_later, &blocked), 0);
     EXPECT(lrc_shards_numbers(shards, &numbers, 5000), LRC_STORE_DONE);
-    EXPECT(last_timeout_ms > 0 && last_timeout_ms < 4990, 1);
+    EXPECT(last_timeout_ms > 0 && last_timeout_ms <= 5000 - (LOOKS - 1), 1);
     EXPECT(pthread_join(thread, NULL), 0);
     EXPECT(lrc_shards_numbers(shards, &numbers, -7), LRC_STORE_DONE);
     EXPECT(last_timeout_ms, -1);

@@ -1,29 +1,12 @@
-/* What the tests of the store in C share: expectations, names, and bytes to store. With
- * LRC_FIRST_FAILURE a test ends at its first failure. */
+/* What the tests of the store in C share: expectations, names, and bytes to store. */
 #ifndef STORE_TEST_H
 #define STORE_TEST_H
+#include "expect.h"
 #include "lrc_store.h"
-#include <inttypes.h>
-#include <stdio.h>
-#include <stdlib.h>
 #include <string.h>
 
 /* a name and its length, as two arguments */
 #define NAME(text) (const uint8_t *)(text), strlen(text)
-
-static long wrong;
-
-#define EXPECT(got, want) expect(__FILE__, __LINE__, #got, (uint64_t)(got), (uint64_t)(want))
-
-static inline void expect(const char *file, int line, const char *what, uint64_t got,
-                          uint64_t want) {
-    if (got != want) {
-        fprintf(stderr, "%s:%d: %s is %" PRIu64 ", expected %" PRIu64 "\n", file, line, what, got,
-                want);
-        wrong++;
-        if (getenv("LRC_FIRST_FAILURE")) _Exit(1);
-    }
-}
 
 /* bytes that differ from place to place and from seed to seed */
 static inline void fill(uint8_t *bytes, size_t len, unsigned seed) {
@@ -62,10 +45,5 @@ static inline size_t gather_runs(lrc_slot *lent, uint64_t from, size_t capacity,
         number += count;
     } while (count == capacity);
     return number;
-}
-
-static inline int report(const char *what) {
-    printf("%s: %ld wrong\n", what, wrong);
-    return wrong != 0;
 }
 #endif

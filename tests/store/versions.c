@@ -149,17 +149,11 @@ static void unrecoverable(lrc_slot *slot) {
 static void refused_gets(lrc_slot *slot, lrc_slot *held) {
     lrc_slot whole = LRC_SLOT_EMPTY;
     uint64_t version = 77, len = 77, pieces = 77;
-    EXPECT(lrc_store_get_wait(held, NAME("fox"), &whole, &version, &len, &pieces, 0),
-           LRC_STORE_EMPTY);
-    EXPECT(lrc_store_get_wait(slot, NAME("Fox"), &whole, &version, &len, &pieces, 0),
-           LRC_STORE_BAD_NAME);
-    EXPECT(lrc_store_get_wait(slot, NAME("none"), &whole, &version, &len, &pieces, 0),
-           LRC_STORE_NO_NAME);
+    EXPECT(lrc_store_get(held, NAME("fox"), &whole, &version, &len, &pieces), LRC_STORE_EMPTY);
+    EXPECT(lrc_store_get(slot, NAME("Fox"), &whole, &version, &len, &pieces), LRC_STORE_BAD_NAME);
+    EXPECT(lrc_store_get(slot, NAME("none"), &whole, &version, &len, &pieces), LRC_STORE_NO_NAME);
+    EXPECT(lrc_store_get(slot, NAME("fox"), held, &version, &len, &pieces), LRC_STORE_OCCUPIED);
     EXPECT(version + len + pieces, 231);
-    EXPECT(lrc_store_get_wait(slot, NAME("fox"), held, &version, &len, &pieces, 0),
-           LRC_STORE_OCCUPIED);
-    EXPECT(version * 100 + len, 154);
-    EXPECT(pieces, 77);
     EXPECT(whole.at != NULL, 0);
 }
 
@@ -179,8 +173,7 @@ static void whole_reads(void) {
     for (uint64_t f = 2; f < 6; f++)
         EXPECT(lrc_store_lose(&slot, NAME("fox"), 0, f, &version), LRC_STORE_DONE);
     version = len = pieces = 0;
-    EXPECT(lrc_store_get_wait(&slot, NAME("fox"), &(lrc_slot)LRC_SLOT_EMPTY, &version, &len,
-                              &pieces, -1),
+    EXPECT(lrc_store_get(&slot, NAME("fox"), &(lrc_slot)LRC_SLOT_EMPTY, &version, &len, &pieces),
            LRC_STORE_UNRECOVERABLE);
     EXPECT(version * 100 + len + pieces, 154);
     EXPECT(lrc_store_put(&slot, NAME("fox"), (const uint8_t *)"", 0, 12, &version), LRC_STORE_DONE);

@@ -170,6 +170,12 @@ uint32_t lrc_store_hold(lrc_slot *slot, const uint8_t *name, size_t name_len, lr
     return called(ARGUMENTS(AT(slot), AT(name), name_len, AT(other), AT(version), AT(len)));
 }
 
+uint32_t lrc_store_get(lrc_slot *slot, const uint8_t *name, size_t name_len, lrc_slot *other,
+                       uint64_t *version, uint64_t *len, uint64_t *pieces) {
+    return called(
+        ARGUMENTS(AT(slot), AT(name), name_len, AT(other), AT(version), AT(len), AT(pieces)));
+}
+
 uint32_t lrc_store_install(lrc_slot *slot, lrc_slot *other, uint64_t stripe, uint64_t fragment,
                            const uint8_t *bytes, size_t len, uint64_t *version) {
     return called(ARGUMENTS(AT(slot), AT(other), stripe, fragment, AT(bytes), len, AT(version), 1));
@@ -209,6 +215,8 @@ static void arguments(int64_t timeout_ms) {
     PASSES(lrc_store_numbers_wait(&s, &numbers, timeout_ms), AT(&s), AT(&numbers));
     PASSES(lrc_store_hold_wait(&s, n, 2, &o, &v, &x, timeout_ms), AT(&s), AT(n), 2, AT(&o), AT(&v),
            AT(&x));
+    PASSES(lrc_store_get_wait(&s, n, 2, &o, &v, &x, &y, timeout_ms), AT(&s), AT(n), 2, AT(&o),
+           AT(&v), AT(&x), AT(&y));
     PASSES(lrc_store_install_wait(&s, &o, 5, 4, b, 3, &v, timeout_ms), AT(&s), AT(&o), 5, 4, AT(b),
            3, AT(&v), 1);
 }
