@@ -71,6 +71,24 @@ inline const uint8_t *bytes(std::string_view text) {
     return reinterpret_cast<const uint8_t *>(text.data() ? text.data() : "");
 }
 
+// Passes each run of a lent range to `take`, in order.
+template <class Take> void for_each_run(lrc_slot *lent, Take take) {
+    std::array<lrc_slice, 16> runs;
+    uint64_t from = 0, written = 0;
+    do {
+        runs.fill({reinterpret_cast<const uint8_t *>(""), 0});
+        lrc_slot_runs(lent, from, runs.data(), runs.size(), &written);
+        for (size_t i = 0; i < written; i++) {
+            from += runs[i].len;
+            take(runs[i]);
+        }
+    } while (written == runs.size());
+}
+
+inline void append(std::string &text, const lrc_slice &run) {
+    text.append(reinterpret_cast<const char *>(run.at), run.len);
+}
+
 // A timeout as the library has it. Without one a call waits for ever.
 inline int64_t wait_of(std::optional<std::chrono::milliseconds> timeout) {
     return timeout ? std::max<int64_t>(timeout->count(), 0) : -1;
@@ -116,8 +134,7 @@ public:
         for (const lrc_slice &run : joined) len += run.len;
         std::string text;
         text.reserve(len);
-        for (const lrc_slice &run : joined)
-            text.append(reinterpret_cast<const char *>(run.at), run.len);
+        for (const lrc_slice &run : joined) detail::append(text, run);
         return text;
     }
 
@@ -127,18 +144,11 @@ private:
 
     // Takes `count` pieces and all runs from the slot.
     void take(uint64_t count) {
-        const lrc_slice none{reinterpret_cast<const uint8_t *>(""), 0};
-        uint64_t written = 0, from = 0;
-        pieces.assign(count + 1, none);
+        uint64_t written = 0;
+        pieces.assign(count + 1, {reinterpret_cast<const uint8_t *>(""), 0});
         lrc_slot_slices(lent.get(), pieces.data(), count, &written);
         pieces.resize(written);
-        std::array<lrc_slice, 16> some;
-        do {
-            some.fill(none);
-            lrc_slot_runs(lent.get(), from, some.data(), some.size(), &written);
-            for (size_t i = 0; i < written; i++) from += some[i].len;
-            joined.insert(joined.end(), some.data(), some.data() + written);
-        } while (written == some.size());
+        detail::for_each_run(lent.get(), [this](const lrc_slice &run) { joined.push_back(run); });
     }
 
     slot lent;
@@ -299,23 +309,33 @@ public:
 
     // Copies `len` bytes of a blob, from the byte `start` on, into `target`. Returns the version.
     uint64_t read_into(std::string_view name, uint64_t start, void *target, size_t len) {
-        uint64_t version = 0;
-        detail::check(copy(name, start, target, len, &version), "read_into", name, start, len);
+        uint64_t version = 0, lent = 0, built = 0;
+        uint8_t none = 0;
+        auto *const at_target = target ? static_cast<uint8_t *>(target) : &none;
+        detail::check(named(name,
+                            [&](const uint8_t *at, size_t name_len) {
+                                return lrc_store_read_wait(held.get(), at, name_len, start,
+                                                           at_target, len, &version, &lent, &built,
+                                                           wait_ms);
+                            }),
+                      "read_into", name, start, len);
         return version;
     }
 
-    // A copy of the whole blob, all of one version. It asks for the length and reads, and does so
-    // again if a put came between.
+    // A copy of the whole blob, all of one version.
     std::string get(std::string_view name) {
-        for (;;) {
-            const shape asked = shape_for("get", name);
-            std::string blob(asked.len, '\0');
-            uint64_t version = 0;
-            const uint32_t status = copy(name, 0, blob.data(), blob.size(), &version);
-            if (status == LRC_STORE_OUT_OF_RANGE) continue;
-            detail::check(status, "get", name);
-            if (version == asked.version) return blob;
-        }
+        slot lent;
+        uint64_t version = 0, len = 0, count = 0;
+        detail::check(named(name,
+                            [&](const uint8_t *at, size_t name_len) {
+                                return lrc_store_get_wait(held.get(), at, name_len, lent.get(),
+                                                          &version, &len, &count, wait_ms);
+                            }),
+                      "get", name);
+        std::string blob;
+        blob.reserve(len);
+        detail::for_each_run(lent.get(), [&](const lrc_slice &run) { detail::append(blob, run); });
+        return blob;
     }
 
     // Holds the version that the blob has now.
@@ -381,7 +401,17 @@ public:
         return version;
     }
 
-    shape stat(std::string_view name) { return shape_for("stat", name); }
+    shape stat(std::string_view name) {
+        shape found{};
+        detail::check(named(name,
+                            [&](const uint8_t *at, size_t name_len) {
+                                return lrc_store_stat_wait(held.get(), at, name_len, &found.version,
+                                                           &found.len, &found.stripes, &found.lost,
+                                                           wait_ms);
+                            }),
+                      "stat", name);
+        return found;
+    }
 
     uint64_t trim(uint64_t keep) {
         uint64_t discarded = 0;
@@ -412,29 +442,6 @@ private:
         if (status != LRC_STORE_DONE) return status;
         return found == shard ? call(detail::bytes(name), name.size())
                               : uint32_t{LRC_STORE_BAD_ARGUMENT};
-    }
-
-    uint32_t copy(std::string_view name, uint64_t start, void *target, size_t len,
-                  uint64_t *version) {
-        uint64_t lent = 0, built = 0;
-        uint8_t none = 0;
-        return named(name, [&](const uint8_t *at, size_t name_len) {
-            return lrc_store_read_wait(held.get(), at, name_len, start,
-                                       target ? static_cast<uint8_t *>(target) : &none, len,
-                                       version, &lent, &built, wait_ms);
-        });
-    }
-
-    shape shape_for(const char *call, std::string_view name) {
-        shape found{};
-        detail::check(named(name,
-                            [&](const uint8_t *at, size_t name_len) {
-                                return lrc_store_stat_wait(held.get(), at, name_len, &found.version,
-                                                           &found.len, &found.stripes, &found.lost,
-                                                           wait_ms);
-                            }),
-                      call, name);
-        return found;
     }
 
     friend class session;

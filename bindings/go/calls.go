@@ -3,10 +3,7 @@ package lrcstore
 // #include "calls.h"
 import "C"
 
-import (
-	"context"
-	"errors"
-)
+import "context"
 
 // Code is the code of a blob.
 type Code uint32
@@ -73,23 +70,21 @@ func (s *Store) version(ctx context.Context, op, name string,
 	return uint64(r.version), nil
 }
 
-// Get returns a copy of the whole blob and its version. It asks for the length and reads, and does
-// so again if a put came between. It returns ErrNoName, ErrUnrecoverable or what ReadAt returns.
+// Get returns a copy of the whole blob, all of one version, and that version. It returns ErrNoName,
+// ErrUnrecoverable, ErrNoMemory, ErrNotRebuilt or ErrJournalFull.
 func (s *Store) Get(ctx context.Context, name string) (blob []byte, version uint64, err error) {
-	for {
-		shape, err := s.stat(ctx, "Get", name)
-		if err != nil {
-			return nil, 0, err
-		}
-		blob := make([]byte, shape.Len)
-		version, err := s.readAt(ctx, "Get", name, blob, 0)
-		if err == nil && version == shape.Version {
-			return blob, version, nil
-		}
-		if err != nil && !errors.Is(err, ErrOutOfRange) {
-			return nil, 0, err
-		}
+	var lent C.lrc_slot
+	r, err := s.do(ctx, "Get", name, func(ms int64) reply {
+		got := C.store_get(s.shards, name, C.int64_t(ms))
+		lent = got.slot
+		return got.reply
+	})
+	if err != nil {
+		return nil, 0, err
 	}
+	blob = make([]byte, r.len)
+	C.copy_all(lent, address(blob))
+	return blob, uint64(r.version), nil
 }
 
 // ReadAt fills p with bytes of the blob from off on, and rebuilds those of lost fragments. It
@@ -99,12 +94,8 @@ func (s *Store) Get(ctx context.Context, name string) (blob []byte, version uint
 // ErrNoName, ErrUnrecoverable or ErrJournalFull.
 func (s *Store) ReadAt(ctx context.Context, name string, p []byte,
 	off int64) (version uint64, err error) {
-	return s.readAt(ctx, "ReadAt", name, p, off)
-}
-
-// readAt casts a negative offset to one that no blob has.
-func (s *Store) readAt(ctx context.Context, op, name string, p []byte, off int64) (uint64, error) {
-	return s.version(ctx, op, name, func(ms int64) reply {
+	return s.version(ctx, "ReadAt", name, func(ms int64) reply {
+		// no blob has the offset that a negative one becomes
 		return C.store_read(s.shards, name, C.uint64_t(off), address(p), C.size_t(len(p)), C.int64_t(ms))
 	})
 }
@@ -138,11 +129,7 @@ func (s *Store) Delete(ctx context.Context, name string) (version uint64, err er
 
 // Stat returns the shape of the blob. It returns ErrNoName, ErrNoMemory or ErrJournalFull.
 func (s *Store) Stat(ctx context.Context, name string) (Shape, error) {
-	return s.stat(ctx, "Stat", name)
-}
-
-func (s *Store) stat(ctx context.Context, op, name string) (Shape, error) {
-	r, err := s.do(ctx, op, name, func(ms int64) reply {
+	r, err := s.do(ctx, "Stat", name, func(ms int64) reply {
 		return C.store_stat(s.shards, name, C.int64_t(ms))
 	})
 	if err != nil {

@@ -15,6 +15,12 @@ typedef struct {
     uint64_t len, stripes, lost;
 } lrc_reply;
 
+/* The reply of a call that lends, with the range. */
+typedef struct {
+    lrc_reply reply;
+    lrc_slot slot;
+} lrc_lent;
+
 /* The name as two arguments, of which the address is not NULL. */
 #define NAME (const uint8_t *)(_GoStringLen(name) ? _GoStringPtr(name) : ""), _GoStringLen(name)
 
@@ -59,6 +65,18 @@ static inline lrc_reply store_lend(lrc_shards *shards, _GoString_ name, uint64_t
                                    uint64_t len, lrc_slot *range, int64_t timeout_ms) {
     AT_NAME(lrc_store_lend_wait(slot, NAME, start, len, range, &reply.version, &reply.count,
                                 timeout_ms));
+}
+
+static inline lrc_reply store_get_to(lrc_shards *shards, _GoString_ name, lrc_slot *range,
+                                     int64_t timeout_ms) {
+    AT_NAME(lrc_store_get_wait(slot, NAME, range, &reply.version, &reply.len, &reply.count,
+                               timeout_ms));
+}
+
+static inline lrc_lent store_get(lrc_shards *shards, _GoString_ name, int64_t timeout_ms) {
+    lrc_lent lent = {.slot = LRC_SLOT_EMPTY};
+    lent.reply = store_get_to(shards, name, &lent.slot, timeout_ms);
+    return lent;
 }
 
 static inline lrc_reply store_lose(lrc_shards *shards, _GoString_ name, uint64_t stripe,
@@ -168,6 +186,14 @@ static inline uint64_t runs_of(lrc_slot *range, uint64_t from, lrc_slice *runs, 
     for (size_t i = 0; i < capacity; i++) runs[i] = (lrc_slice){(const uint8_t *)"", 0};
     lrc_slot_runs(range, from, runs, capacity, &count);
     return count;
+}
+
+/* Copies all bytes of a lent range, and frees it. */
+static inline void copy_all(lrc_slot range, uint8_t *target) {
+    lrc_slice run;
+    for (uint64_t from = 0; runs_of(&range, from, &run, 1); from += run.len)
+        memcpy(target + from, run.at, run.len);
+    lrc_slot_release(&range);
 }
 
 #endif

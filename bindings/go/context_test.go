@@ -266,42 +266,6 @@ func TestMendEndsAtEachStep(t *testing.T) {
 	}
 }
 
-// A put comes between the two calls in C of a Get, which asks again then.
-func TestGetAsksAgain(t *testing.T) {
-	s, background := openedStore(t), context.Background()
-	defer s.Close()
-	for _, blob := range []string{"short", "the same size", "a blob that is longer"} {
-		if _, err := s.Put(background, "a", []byte("13 characters")); err != nil {
-			t.Fatal(err)
-		}
-		var version uint64
-		ctx := &meddler{Context: background, done: make(chan struct{}), act: func() {
-			version, _ = s.Put(background, "a", []byte(blob))
-		}}
-		got, seen, err := s.Get(ctx, "a")
-		if string(got) != blob || seen != version || err != nil {
-			t.Errorf("%q of version %d, %v, want %q of %d", got, seen, err, blob, version)
-		}
-	}
-}
-
-// meddler is a context that acts when it is asked for the second time, before the second call in C.
-type meddler struct {
-	context.Context
-	asked int
-	done  chan struct{}
-	act   func()
-}
-
-func (m *meddler) Done() <-chan struct{} { return m.done }
-
-func (m *meddler) Err() error {
-	if m.asked++; m.asked == 2 {
-		m.act()
-	}
-	return nil
-}
-
 // countdown is a context that ends once it was asked so often.
 type countdown struct {
 	context.Context

@@ -74,6 +74,17 @@ func TestPutAndGet(t *testing.T) {
 	}
 }
 
+func TestGetOfLostFragments(t *testing.T) {
+	store, blob := opened(t), pattern(10000)
+	must(t)(store.Put(background, "blob", blob))
+	for stripe := 0; stripe < 10000/(12*width); stripe++ {
+		must(t)(store.Lose(background, "blob", stripe, 5))
+	}
+	if got, _, err := store.Get(background, "blob"); err != nil || !bytes.Equal(got, blob) {
+		t.Errorf("%d other bytes, %v", len(got), err)
+	}
+}
+
 func TestPutIsInLRC12(t *testing.T) {
 	store := opened(t)
 	must(t)(store.Put(background, "blob", pattern(100)))

@@ -154,6 +154,7 @@ DECLARED = {
     "lrc_store_put_wait": [*_NAMED, _ADDRESS, _SIZE, _U32, _OUT, _MS],
     "lrc_store_read_wait": [*_NAMED, _U64, _ADDRESS, _SIZE, _OUT, _OUT, _OUT, _MS],
     "lrc_store_lend_wait": [*_NAMED, _U64, _U64, _SLOT, _OUT, _OUT, _MS],
+    "lrc_store_get_wait": [*_NAMED, _SLOT, _OUT, _OUT, _OUT, _MS],
     "lrc_slot_slices": [_SLOT, ctypes.POINTER(_Slice), _SIZE, _OUT],
     "lrc_slot_runs": [_SLOT, _U64, ctypes.POINTER(_Slice), _SIZE, _OUT],
     "lrc_store_lose_wait": [*_NAMED, _U64, _U64, _OUT, _MS],
@@ -196,8 +197,6 @@ def _load() -> ctypes.CDLL:
 
 _library = _load()
 _NOTHING = ctypes.c_char_p(b"")  # an address that is not NULL
-_new_bytes = ctypes.pythonapi.PyBytes_FromStringAndSize
-_new_bytes.argtypes, _new_bytes.restype = [ctypes.c_void_p, ctypes.c_ssize_t], ctypes.py_object
 # How long a call of the library waits at a time. Between two, Python handles signals.
 _SLICE_SECONDS = 0.05
 # How many items of a mend are planned at once.
@@ -369,6 +368,11 @@ def _runs(lent: _Slot) -> List[Tuple[int, ...]]:
     return runs
 
 
+def _joined(runs: List[Tuple[int, ...]]) -> bytes:
+    """A copy of the bytes of all runs."""
+    return b"".join([ctypes.string_at(at, length) for at, length in runs])
+
+
 class _Range:
     """A lent range in its slot, with the places of its bytes. They are valid as long as it lives,
     so who uses them has a reference to it."""
@@ -426,7 +430,7 @@ class Grant:
 
     def __bytes__(self) -> bytes:
         lent = self._lent()
-        return b"".join([ctypes.string_at(at, length) for at, length in lent.places])
+        return _joined(lent.places)
 
     def __enter__(self) -> Grant:
         return self
@@ -680,12 +684,6 @@ class Session:
         _check(status, "read", name, start, length)
         return Grant(lent, version.value, pieces.value)
 
-    def _copy(self, name: str, start: int, target: object, length: int) -> Tuple[int, int]:
-        """The status and the version of a read into the target."""
-        version, lent, built = _U64(), _U64(), _U64()
-        words = *_named(name), start, target, length, version, lent, built
-        return self._wait("lrc_store_read_wait", *words), version.value
-
     def read_into(self, name: str, start: int, buffer: bytearray | memoryview) -> int:
         """Copies as many bytes of a blob as the buffer has, from the byte `start` on.
 
@@ -696,23 +694,17 @@ class Session:
             raise TypeError(
                 f"the buffer is of type {type(buffer).__name__}, expected a writable one"
             )
-        status, version = self._copy(name, _number("start", start), _pinned(view), len(view))
+        version, lent, built = _U64(), _U64(), _U64()
+        words = _number("start", start), _pinned(view), len(view), version, lent, built
+        status = self._wait("lrc_store_read_wait", *_named(name), *words)
         _check(status, "read_into", name, start, len(view))
-        return version
+        return version.value
 
     def get(self, name: str) -> bytes:
-        """A copy of the whole blob, all of one version.
-
-        It asks for the length and reads, and does so again if a put came between.
-        """
-        while True:
-            shape = self._shape("get", name)
-            blob: bytes = _new_bytes(None, shape.len)
-            status, version = self._copy(name, 0, blob, shape.len)
-            if status != Status.OUT_OF_RANGE:
-                _check(status, "get", name)
-                if version == shape.version:
-                    return blob
+        """A copy of the whole blob, all of one version."""
+        lent, numbers = _Slot(), [_U64() for _ in range(3)]
+        _check(self._wait("lrc_store_get_wait", *_named(name), lent, *numbers), "get", name)
+        return _joined(_runs(lent))
 
     def hold(self, name: str) -> Version:
         """Holds the version that a blob has now."""
@@ -761,11 +753,8 @@ class Session:
 
     def stat(self, name: str) -> Shape:
         """The shape of a blob."""
-        return self._shape("stat", name)
-
-    def _shape(self, call: str, name: str) -> Shape:
         numbers = [_U64() for _ in range(4)]
-        _check(self._wait("lrc_store_stat_wait", *_named(name), *numbers), call, name)
+        _check(self._wait("lrc_store_stat_wait", *_named(name), *numbers), "stat", name)
         return Shape(*(number.value for number in numbers))
 
     def trim(self, keep: int) -> int:

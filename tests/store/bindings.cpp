@@ -11,6 +11,7 @@
 #include <memory>
 #include <optional>
 #include <string>
+#include <functional>
 #include <thread>
 #include <vector>
 
@@ -271,17 +272,15 @@ void names() {
     EXPECT(s.get(lrc::name_of("Some Key/1")), "x");
 }
 
-void get_asks_again() {
-    session s = session::open(4, 1000), other = s.split(1);
-    const std::string blob = bytes_of(200);
-    s.put("a", "short");
-    recorder::after_stat = {[&] { other.put("a", blob); }};
+void get_copies_all() {
+    session s = session::open(4, 1000);
+    const std::string blob = bytes_of(2000);
+    s.put("a", blob);
     EXPECT(s.get("a"), blob);
-    recorder::after_stat = {[&] { other.put("a", "short"); }, [&] { other.put("a", "last!"); }};
-    EXPECT(s.get("a"), "last!");
-    recorder::after_stat = {[&] { other.remove("a"); }};
-    EXPECT_ERROR(s.get("a"), LRC_STORE_NO_NAME, "get(\"a\")");
-    EXPECT(recorder::after_stat.size(), 0u);
+    for (uint64_t stripe = 0; stripe < 42; stripe++) s.lose("a", stripe, 3);
+    EXPECT(s.get("a"), blob);
+    s.put("a", "");
+    EXPECT(s.get("a"), "");
 }
 
 struct waiting_call {
@@ -301,7 +300,7 @@ std::vector<waiting_call> waiting_calls(session &s, lrc::buffer &blob, char *tar
         {"delete", "remove(\"b\")", [&] { s.remove("b"); }},
         {"stat", "stat(\"a\")", [&] { s.stat("a"); }},
         {"trim", "trim(2)", [&] { s.trim(2); }},
-        {"stat", "get(\"a\")", [&] { s.get("a"); }},
+        {"get", "get(\"a\")", [&] { s.get("a"); }},
         {"mend", "mend() after 0 repaired fragments", [&] { s.mend(); }},
         {"hold", "hold(\"a\")", [&] { s.hold("a"); }},
         {"numbers", "numbers()", [&] { s.numbers(); }},
@@ -320,8 +319,6 @@ void each_call_has_the_timeout(session &s, int64_t wanted) {
         EXPECT_ERROR(each.call(), LRC_STORE_BUSY, each.text);
         EXPECT(recorder::statuses.size(), 0u);
     }
-    recorder::statuses = {LRC_STORE_DONE, LRC_STORE_BUSY};
-    EXPECT_ERROR(s.get("a"), LRC_STORE_BUSY, "get(\"a\")");
 }
 
 void timeouts() {
@@ -812,7 +809,7 @@ int main() {
     installs();
     numbers();
     names();
-    get_asks_again();
+    get_copies_all();
     timeouts();
     a_call_ends_at_its_deadline();
     mends();

@@ -288,20 +288,6 @@ class Blobs(unittest.TestCase):
         self.assertEqual(self.session.repair("a", 1, 3), self.session.stat("a").version)
         self.assertEqual(self.session.get("a"), self.blob)
 
-    def test_get_asks_again_after_a_put(self):
-        session, other = self.session, self.session.split(1)
-        session.put("a", b"short")
-        with Recorder() as record:
-            record.after_stat = [lambda: other.put("a", self.blob)]
-            self.assertEqual(session.get("a"), self.blob)
-            record.after_stat = [lambda: other.put("a", b"short"), lambda: other.put("a", b"last!")]
-            self.assertEqual(session.get("a"), b"last!")
-            record.after_stat = [lambda: other.delete("a")]
-            with self.assertRaises(lrc_store.NotFound) as caught:
-                session.get("a")
-            self.assertEqual(record.after_stat, [])
-        self.assertEqual(str(caught.exception), "get('a'): the name has no blob")
-
 
 class Versions(unittest.TestCase):
     def setUp(self):

@@ -66,6 +66,7 @@ class Stores(Leaks):
                 lambda: store.put("a", bytes(12 * 4 * 4096 + 1)),
                 lambda: store.get("none"),
                 lambda: store.get("n1", 10, 1000),
+                lambda: store.get("n1", 1000),
                 lambda: store.hold("none"),
                 lambda: store.hold("BAD"),
                 lambda: store.install(store.hold("n1"), 0, 1, b"abc"),

@@ -6,7 +6,6 @@
 
 #include <cstdint>
 #include <deque>
-#include <functional>
 #include <string_view>
 #include <tuple>
 #include <type_traits>
@@ -19,8 +18,6 @@ namespace recorder {
 inline thread_local std::vector<std::pair<std::string_view, int64_t>> calls;
 // What the next waiting forms return, without a call of the library.
 inline thread_local std::deque<uint32_t> statuses;
-// What happens after the next calls of lrc_store_stat_wait.
-inline thread_local std::deque<std::function<void()>> after_stat;
 
 // How many addresses were NULL, which the library may not get.
 inline thread_local unsigned nulls = 0;
@@ -34,18 +31,9 @@ template <class Form, class... Arguments>
 uint32_t recorded(const char *name, Form form, Arguments... arguments) {
     nulls += (0u + ... + (is_null(arguments) ? 1u : 0u));
     calls.emplace_back(name, std::get<sizeof...(arguments) - 1>(std::tie(arguments...)));
-    uint32_t status = 0;
-    if (statuses.empty()) {
-        status = form(arguments...);
-    } else {
-        status = statuses.front();
-        statuses.pop_front();
-    }
-    if (calls.back().first == "stat" && !after_stat.empty()) {
-        const std::function<void()> act = after_stat.front();
-        after_stat.pop_front();
-        act();
-    }
+    if (statuses.empty()) return form(arguments...);
+    const uint32_t status = statuses.front();
+    statuses.pop_front();
     return status;
 }
 
@@ -76,6 +64,7 @@ inline void releasing(lrc_slot *slot) {
 #define lrc_store_put_from_wait(...) RECORDED(put_from, __VA_ARGS__)
 #define lrc_store_read_wait(...) RECORDED(read, __VA_ARGS__)
 #define lrc_store_lend_wait(...) RECORDED(lend, __VA_ARGS__)
+#define lrc_store_get_wait(...) RECORDED(get, __VA_ARGS__)
 #define lrc_store_lose_wait(...) RECORDED(lose, __VA_ARGS__)
 #define lrc_store_repair_wait(...) RECORDED(repair, __VA_ARGS__)
 #define lrc_store_delete_wait(...) RECORDED(delete, __VA_ARGS__)

@@ -26,7 +26,7 @@ CALLS = {
     "put": (lambda session: session.put("a", b"HELLO"), "lrc_store_put_wait"),
     "read": (lambda session: session.read("a", 1, 3), "lrc_store_lend_wait"),
     "read_into": (lambda session: session.read_into("a", 1, bytearray(3)), "lrc_store_read_wait"),
-    "get": (lambda session: session.get("a"), "lrc_store_stat_wait"),
+    "get": (lambda session: session.get("a"), "lrc_store_get_wait"),
     "lose": (lambda session: session.lose("a", 0, 9), "lrc_store_lose_wait"),
     "repair": (lambda session: session.repair("a", 0, 9), "lrc_store_repair_wait"),
     "stat": (lambda session: session.stat("a"), "lrc_store_stat_wait"),
@@ -71,18 +71,14 @@ class Timeouts(unittest.TestCase):
                 self.assertEqual(record.calls[0][0], form)
                 self.assertEqual({waited for _, waited in record.calls}, {milliseconds})
 
-    def test_get_and_mend_wait_at_each_step(self):
+    def test_a_mend_waits_at_each_step(self):
         self.session.put("a", b"HELLO")
         self.session.lose("a", 0, 1)
         self.session.timeout = 0
         with Recorder() as record:
-            self.session.get("a")
             self.session.mend()
-        forms = ["stat", "read", "plan_part", "mend_step", "mend_step"]
+        forms = ["plan_part", "mend_step", "mend_step"]
         self.assertEqual(record.calls, [(f"lrc_store_{form}_wait", 0) for form in forms])
-        with Recorder([0, BUSY]), self.assertRaises(Busy) as caught:
-            self.session.get("a")
-        self.assertTrue(str(caught.exception).startswith("get('a'): "))
 
     def test_each_call_ends_at_the_timeout(self):
         for name, (call, form) in CALLS.items():

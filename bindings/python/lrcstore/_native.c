@@ -44,8 +44,9 @@ struct call {
     uint8_t *bytes;
     Py_ssize_t len;
     held_version *held;
-    int may_be_long; /* also with few bytes */
-    lrc_slot *copy;  /* of what is put, once that was found busy */
+    lrc_slot *version; /* what a hold fills */
+    int may_be_long;   /* also with few bytes */
+    lrc_slot *copy;    /* of what is put, once that was found busy */
     uint64_t numbers[MOST_NUMBERS];
 };
 
@@ -104,10 +105,14 @@ static uint32_t copy_once(const struct call *call) {
 }
 
 static uint32_t hold(lrc_slot *session, struct call *call, int64_t timeout_ms) {
+    return lrc_store_hold_wait(session, call->name, (size_t)call->name_len, call->version,
+                               &call->numbers[0], &call->numbers[1], timeout_ms);
+}
+
+static uint32_t hold_with_name(lrc_slot *session, struct call *call, int64_t timeout_ms) {
     held_version *held = call->held;
-    const uint32_t status =
-        lrc_store_hold_wait(session, call->name, (size_t)call->name_len, &held->slot,
-                            &call->numbers[0], &call->numbers[1], timeout_ms);
+    call->version = &held->slot;
+    const uint32_t status = hold(session, call, timeout_ms);
     if (status != LRC_STORE_DONE) return status;
     memcpy(held->name, call->name, (size_t)call->name_len);
     held->name_len = call->name_len;
@@ -317,24 +322,49 @@ static int read_new(store_calls *self, struct call *call, uint64_t length, int64
     return PyErr_Occurred() ? -1 : 0;
 }
 
-/* Reads all bytes from `call->first` on. It asks for the length and reads, and does so again if a
- * put came between. */
+/* Copies a range of the version, in which no other call is. */
+static uint32_t copy_range(lrc_slot *version, uint64_t start, uint64_t length, char *target) {
+    lrc_slot range = LRC_SLOT_EMPTY;
+    uint64_t pieces;
+    const uint32_t status = lrc_slot_lend(version, start, length, &range, &pieces);
+    for (uint64_t from = 0, count = 1; status == LRC_STORE_DONE && count;) {
+        lrc_slice run = {(const uint8_t *)"", 0};
+        lrc_slot_runs(&range, from, &run, 1, &count);
+        memcpy(target + from, run.at, run.len);
+        from += run.len;
+    }
+    lrc_slot_release(&range);
+    return status;
+}
+
+/* Copies the bytes of a version from `start` on into `bytes`, a new object, and empties the slot.
+ * Returns -1 if there is an exception. */
+static int take_rest(lrc_slot *version, uint64_t start, uint64_t length, PyObject **bytes,
+                     uint32_t *status) {
+    *bytes = PyBytes_FromStringAndSize(NULL, (Py_ssize_t)length);
+    char *target = *bytes ? PyBytes_AsString(*bytes) : NULL;
+    PyThreadState *thread = length <= SHORT_BYTES ? NULL : PyEval_SaveThread();
+    if (target) *status = copy_range(version, start, length, target);
+    lrc_slot_release(version);
+    if (thread) PyEval_RestoreThread(thread);
+    if (target && *status != LRC_STORE_DONE) Py_CLEAR(*bytes);
+    return target ? 0 : -1;
+}
+
+/* Reads all bytes from `call->first` on, of the version that the blob has now. Returns -1 if there
+ * is an exception. */
 static int read_rest(store_calls *self, struct call *call, int64_t timeout_ms, PyObject **bytes,
                      uint32_t *status) {
-    struct call shape = {.run = stat_blob, .name = call->name, .name_len = call->name_len};
-    for (;;) {
-        if (make(self, &shape, timeout_ms, status) < 0) return -1;
-        if (*status != LRC_STORE_DONE) return 0;
-        const uint64_t size = shape.numbers[1];
-        if (call->first > size) {
-            *status = LRC_STORE_OUT_OF_RANGE;
-            return 0;
-        }
-        if (read_new(self, call, size - call->first, timeout_ms, bytes, status) < 0) return -1;
-        if (*status == LRC_STORE_DONE && call->numbers[0] == shape.numbers[0]) return 0;
-        Py_CLEAR(*bytes);
-        if (*status != LRC_STORE_DONE && *status != LRC_STORE_OUT_OF_RANGE) return 0;
-    }
+    lrc_slot version = LRC_SLOT_EMPTY;
+    call->run = hold;
+    call->version = &version;
+    const int failed = make(self, call, timeout_ms, status);
+    const uint64_t start = call->first, size = call->numbers[1];
+    if (!failed && *status == LRC_STORE_DONE && start <= size)
+        return take_rest(&version, start, size - start, bytes, status);
+    if (*status == LRC_STORE_DONE) *status = LRC_STORE_OUT_OF_RANGE;
+    release(&version);
+    return failed;
 }
 
 /* get(name, start, length or None, timeout_ms) -> (status, version, bytes or None), of one version.
@@ -559,7 +589,7 @@ static void leave(held_version *held) {
 
 /* hold(name, held, timeout_ms) -> (status, version, length) */
 static PyObject *calls_hold(store_calls *self, PyObject *const *words, Py_ssize_t count) {
-    struct call call = {.run = hold};
+    struct call call = {.run = hold_with_name};
     int64_t timeout_ms;
     if (!count_is("hold", count, 3) || name_to(&call, words[0]) < 0 ||
         !(call.held = held_of(words[1])) || timeout_to(&timeout_ms, words[2]) < 0)
@@ -620,21 +650,6 @@ static PyObject *held_lost(held_version *self, PyObject *stripe) {
     leave(self);
     call.numbers[0] = found;
     return reply(status, &call, 1);
-}
-
-/* Copies a range of the version, in which no other call is. */
-static uint32_t copy_range(lrc_slot *version, uint64_t start, uint64_t length, char *target) {
-    lrc_slot range = LRC_SLOT_EMPTY;
-    uint64_t pieces;
-    const uint32_t status = lrc_slot_lend(version, start, length, &range, &pieces);
-    for (uint64_t from = 0, count = 1; status == LRC_STORE_DONE && count;) {
-        lrc_slice run = {(const uint8_t *)"", 0};
-        lrc_slot_runs(&range, from, &run, 1, &count);
-        memcpy(target + from, run.at, run.len);
-        from += run.len;
-    }
-    lrc_slot_release(&range);
-    return status;
 }
 
 /* The status of a range that does not lie inside the version, whose bytes are not to be reserved.

@@ -195,19 +195,13 @@ class Calls:
         wanted = _number("length", length or 0)
 
         def copied(session: Session) -> Tuple[int, bytes]:
-            while True:
-                shape = session.stat(text) if length is None else None
-                if shape and start > shape.len:
+            if length is None:
+                held = session.hold(text)
+                if start > held.size:
                     raise StoreError("get", (), Status.OUT_OF_RANGE)
-                target = bytearray(shape.len - start if shape else wanted)
-                try:
-                    version = session.read_into(text, start, target)
-                except StoreError as error:
-                    if not shape or error.status != Status.OUT_OF_RANGE:
-                        raise
-                else:
-                    if not shape or version == shape.version:
-                        return version, bytes(target)
+                return held.number, bytes(held.read(start, held.size - start))
+            target = bytearray(wanted)
+            return session.read_into(text, start, target), bytes(target)
 
         status, result = self._reply(timeout_ms, text, copied)
         version, found = result or (0, None)

@@ -132,7 +132,8 @@ impl Grant {
         if status != DONE {
             return Err(status);
         }
-        let runs = runs_of(&mut lent);
+        let mut runs = Vec::new();
+        for_runs(&mut lent, |some| runs.extend_from_slice(some));
         Ok(Grant {
             _lent: lent,
             version,
@@ -173,18 +174,18 @@ impl Grant {
     }
 }
 
-/// All runs of a slot's lent range.
-fn runs_of(lent: &mut Slot) -> Vec<Slice> {
-    let (mut runs, mut from) = (Vec::new(), 0);
+/// Passes all runs of a slot's lent range to `take`, up to 16 at a time.
+fn for_runs(lent: &mut Slot, mut take: impl FnMut(&[Slice])) {
+    let mut from = 0;
     loop {
         let (mut some, mut count) = ([Slice::empty(); 16], 0);
         // SAFETY: the slices are valid, and so many are passed. On an error none is written.
         unsafe { lrc_slot_runs(lent, from, some.as_mut_ptr(), some.len(), &mut count) };
         let written = &some[..count as usize];
+        take(written);
         from += written.iter().map(|run| run.len as u64).sum::<u64>();
-        runs.extend_from_slice(written);
         if written.len() < some.len() {
-            return runs;
+            return;
         }
     }
 }
@@ -421,15 +422,8 @@ impl Session {
     /// version. After [`Status::NotRebuilt`], any byte of `target` may have been written.
     pub fn read_into(&mut self, name: &str, start: u64, target: &mut [u8]) -> Result<u64, Error> {
         let (at, len) = (target.as_mut_ptr(), target.len());
-        let (status, version) = unsafe { self.copy(name, start, at, len) };
-        check(status, format_args!("read_into({name:?}, {start}, {len})"))?;
-        Ok(version)
-    }
-
-    /// The status and the version of a read of `len` bytes to an address.
-    unsafe fn copy(&mut self, name: &str, start: u64, at: *mut u8, len: usize) -> (u32, u64) {
         let (mut version, mut lent, mut built) = (0, 0, 0);
-        let status = self.named(name, |slot, wait_ms| {
+        let status = self.named(name, |slot, wait_ms| unsafe {
             lrc_store_read_wait(
                 slot,
                 name.as_ptr(),
@@ -443,27 +437,34 @@ impl Session {
                 wait_ms,
             )
         });
-        (status, version)
+        check(status, format_args!("read_into({name:?}, {start}, {len})"))?;
+        Ok(version)
     }
 
-    /// A copy of the whole blob, all of one version. It asks for the length and reads, and does so
-    /// again if a put came between.
+    /// A copy of the whole blob, all of one version.
     pub fn get(&mut self, name: &str) -> Result<Vec<u8>, Error> {
-        loop {
-            let asked = self.shape(name, format_args!("get({name:?})"))?;
-            let len = asked.len as usize;
-            let mut bytes = Vec::with_capacity(len);
-            let (status, version) = unsafe { self.copy(name, 0, bytes.as_mut_ptr(), len) };
-            if status == Status::OutOfRange as u32 {
-                continue;
+        let (mut lent, mut version, mut len, mut pieces) = (Slot::empty(), 0, 0, 0);
+        let status = self.named(name, |slot, wait_ms| unsafe {
+            lrc_store_get_wait(
+                slot,
+                name.as_ptr(),
+                name.len(),
+                &mut lent,
+                &mut version,
+                &mut len,
+                &mut pieces,
+                wait_ms,
+            )
+        });
+        check(status, format_args!("get({name:?})"))?;
+        let mut bytes = Vec::with_capacity(len as usize);
+        for_runs(&mut lent, |runs| {
+            for run in runs {
+                // SAFETY: the slot has the bytes as long as it is not released.
+                bytes.extend_from_slice(unsafe { std::slice::from_raw_parts(run.at, run.len) });
             }
-            check(status, format_args!("get({name:?})"))?;
-            if version == asked.version {
-                // SAFETY: the read has written so many bytes.
-                unsafe { bytes.set_len(len) };
-                return Ok(bytes);
-            }
-        }
+        });
+        Ok(bytes)
     }
 
     /// Loses a fragment of a stripe, as after a disk failure.
@@ -518,10 +519,6 @@ impl Session {
 
     /// The shape of a blob.
     pub fn stat(&mut self, name: &str) -> Result<Shape, Error> {
-        self.shape(name, format_args!("stat({name:?})"))
-    }
-
-    fn shape(&mut self, name: &str, call: std::fmt::Arguments) -> Result<Shape, Error> {
         let mut shape = Shape::default();
         let status = self.named(name, |slot, wait_ms| unsafe {
             lrc_store_stat_wait(
@@ -535,7 +532,7 @@ impl Session {
                 wait_ms,
             )
         });
-        check(status, call)?;
+        check(status, format_args!("stat({name:?})"))?;
         Ok(shape)
     }
 

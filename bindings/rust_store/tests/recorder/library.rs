@@ -25,8 +25,6 @@ pub struct Record {
     pub statuses: VecDeque<u32>,
     /// Whether a close says that there was no memory for the check.
     pub is_unchecked: bool,
-    /// What happens after the next calls of `lrc_store_stat_wait`.
-    pub after_stat: VecDeque<Box<dyn FnOnce()>>,
 }
 
 thread_local! {
@@ -39,14 +37,6 @@ fn note(name: &'static str, timeout_ms: i64) -> Option<u32> {
         record.calls.push((name, timeout_ms));
         record.statuses.pop_front()
     })
-}
-
-fn act_after(name: &str) {
-    if name == "lrc_store_stat_wait" {
-        if let Some(act) = RECORD.with_borrow_mut(|record| record.after_stat.pop_front()) {
-            act();
-        }
-    }
 }
 
 /// Says that the journal was not checked, if the record wants so.
@@ -78,10 +68,8 @@ macro_rules! recorded {
     ($($name:ident($($argument:ident: $type:ty),*);)*) => {$(
         #[allow(clippy::too_many_arguments)]
         pub unsafe fn $name($($argument: $type,)* timeout_ms: i64) -> u32 {
-            let status = note(stringify!($name), timeout_ms)
-                .unwrap_or_else(|| real::$name($($argument,)* timeout_ms));
-            act_after(stringify!($name));
-            status
+            note(stringify!($name), timeout_ms)
+                .unwrap_or_else(|| real::$name($($argument,)* timeout_ms))
         }
     )*};
 }
@@ -92,6 +80,7 @@ recorded! {
     lrc_store_put_wait(slot: *mut Slot, name: *const u8, name_len: usize, blob: *const u8, blob_len: usize, data_fragments: u32, version: *mut u64);
     lrc_store_read_wait(slot: *mut Slot, name: *const u8, name_len: usize, start: u64, target: *mut u8, len: usize, version: *mut u64, lent: *mut u64, built: *mut u64);
     lrc_store_lend_wait(slot: *mut Slot, name: *const u8, name_len: usize, start: u64, len: u64, other: *mut Slot, version: *mut u64, pieces: *mut u64);
+    lrc_store_get_wait(slot: *mut Slot, name: *const u8, name_len: usize, other: *mut Slot, version: *mut u64, len: *mut u64, pieces: *mut u64);
     lrc_store_lose_wait(slot: *mut Slot, name: *const u8, name_len: usize, stripe: u64, fragment: u64, version: *mut u64);
     lrc_store_repair_wait(slot: *mut Slot, name: *const u8, name_len: usize, stripe: u64, fragment: u64, version: *mut u64);
     lrc_store_delete_wait(slot: *mut Slot, name: *const u8, name_len: usize, version: *mut u64);

@@ -1,10 +1,8 @@
-//! Each call passes its session's timeout on and returns what the library does; `get` asks again
-//! after a put of another session; a mend that stops says how much it did.
+//! Each call passes its session's timeout on and returns what the library does; a mend that stops
+//! says how much it did.
 
 use crate::library::RECORD;
 use crate::*;
-use std::cell::RefCell;
-use std::rc::Rc;
 
 const BUSY: u32 = Status::Busy as u32;
 
@@ -21,7 +19,7 @@ fn script(statuses: &[u32]) {
 }
 
 fn unread() -> usize {
-    RECORD.with_borrow(|record| record.statuses.len() + record.after_stat.len())
+    RECORD.with_borrow(|record| record.statuses.len())
 }
 
 /// All calls that wait, with an argument that makes each fail or succeed.
@@ -33,6 +31,7 @@ fn waiting_calls(session: &mut Session) -> Vec<Result<(), Error>> {
         session.put_buffer("b", &mut buffer, Code::Wide).map(drop),
         session.read("a", 1, 3).map(drop),
         session.read_into("a", 1, &mut target).map(drop),
+        session.get("a").map(drop),
         session.lose("a", 0, 9).map(drop),
         session.repair("a", 0, 9).map(drop),
         session.delete("b").map(drop),
@@ -43,11 +42,12 @@ fn waiting_calls(session: &mut Session) -> Vec<Result<(), Error>> {
     ]
 }
 
-const NAMES: [&str; 11] = [
+const NAMES: [&str; 12] = [
     "lrc_store_put_wait",
     "lrc_store_put_from_wait",
     "lrc_store_lend_wait",
     "lrc_store_read_wait",
+    "lrc_store_get_wait",
     "lrc_store_lose_wait",
     "lrc_store_repair_wait",
     "lrc_store_delete_wait",
@@ -100,7 +100,7 @@ fn an_install_has_the_timeout() {
 #[test]
 fn a_deadline_is_an_error_of_each_call() {
     let mut session = Session::open(4, 1000).unwrap();
-    script(&[BUSY; 11]);
+    script(&[BUSY; 12]);
     let results = waiting_calls(&mut session);
     let shown: Vec<String> = results
         .into_iter()
@@ -119,6 +119,7 @@ fn a_deadline_is_an_error_of_each_call() {
         "put_buffer(\"b\", 5, Wide)",
         "read(\"a\", 1, 3)",
         "read_into(\"a\", 1, 3)",
+        "get(\"a\")",
         "lose(\"a\", 0, 9)",
         "repair(\"a\", 0, 9)",
         "delete(\"b\")",
@@ -132,29 +133,14 @@ fn a_deadline_is_an_error_of_each_call() {
 }
 
 #[test]
-fn get_and_mend_have_the_timeout() {
+fn a_mend_has_the_timeout() {
     let mut session = Session::open(4, 1000).unwrap();
     session.put("a", b"HELLO", Code::Wide).unwrap();
     session.lose("a", 0, 1).unwrap();
     session.set_timeout(Some(Duration::from_millis(77)));
-    let (got, calls) = recorded(|| session.get("a"));
-    assert_eq!(got.unwrap(), b"HELLO");
-    assert_eq!(
-        calls,
-        [("lrc_store_stat_wait", 77), ("lrc_store_read_wait", 77)]
-    );
     let (mended, calls) = recorded(|| session.mend());
     assert_eq!(mended, Ok(1));
     assert_eq!(calls, [("lrc_store_mend_wait", 77)]);
-    for statuses in [&[BUSY][..], &[0, BUSY]] {
-        script(statuses);
-        let error = session.get("a").unwrap_err();
-        assert_eq!(
-            (error.status, &error.call[..]),
-            (Status::Busy, "get(\"a\")")
-        );
-    }
-    assert_eq!(unread(), 0);
 }
 
 #[test]
@@ -171,44 +157,21 @@ fn the_sessions_of_a_pool_have_its_timeout() {
     drop(Pool::new(session).unwrap());
 }
 
-/// Has other sessions' calls come between the next stats and reads of this thread.
-fn between(
-    other: &Rc<RefCell<Session>>,
-    act: impl FnOnce(&mut Session) -> Result<(), Error> + 'static,
-) {
-    let other = other.clone();
-    let act = Box::new(move || act(&mut other.borrow_mut()).unwrap());
-    RECORD.with_borrow_mut(|record| record.after_stat.push_back(act));
-}
-
 #[test]
-fn get_asks_again_after_a_put() {
+fn get_copies_the_whole_blob() {
     let mut session = Session::open(4, 1000).unwrap();
-    let other = Rc::new(RefCell::new(session.split(1).unwrap()));
-    let (long, short) = (vec![b'L'; 200], b"short".to_vec());
-    session.put("a", &short, Code::Wide).unwrap();
-
-    let put = |blob: &[u8]| {
-        let blob = blob.to_vec();
-        move |other: &mut Session| other.put("a", &blob, Code::Small).map(drop)
-    };
-    between(&other, put(&long)); // the short length of a long blob would be read
+    let long: Vec<u8> = (0..2000).map(|i| (i % 251) as u8).collect();
+    for blob in [&long[..], b"short", b""] {
+        session.put("a", blob, Code::Wide).unwrap();
+        assert_eq!(session.get("a").unwrap(), blob);
+    }
+    session.put("a", &long, Code::Wide).unwrap();
+    for stripe in 0..long.len().div_ceil(48) as u64 {
+        session.lose("a", stripe, 3).unwrap(); // so that there is a run for each part
+    }
     assert_eq!(session.get("a").unwrap(), long);
-    between(&other, put(&short)); // the long length is out of the short blob's range
-    between(&other, put(b"other"));
-    assert_eq!(session.get("a").unwrap(), b"other");
-
-    between(&other, |other| other.delete("a").map(drop));
-    let error = session.get("a").unwrap_err();
-    assert_eq!(
-        (error.status, &error.call[..]),
-        (Status::NoName, "get(\"a\")")
-    );
-    let asked = session.get("none").unwrap_err();
-    assert_eq!(asked.to_string(), "get(\"none\"): the name has no blob");
-    session.put("a", b"", Code::Wide).unwrap();
-    assert_eq!(session.get("a").unwrap(), b"");
-    assert_eq!(unread(), 0);
+    let missing = session.get("none").unwrap_err();
+    assert_eq!(missing.to_string(), "get(\"none\"): the name has no blob");
 }
 
 #[test]
