@@ -1,7 +1,7 @@
 /* What a blob takes of the heap: its stripes of sixteen (or ten) fragments, and little more. A put
  * leaves no second copy of the last stripe, be it from an array or from a buffer that fills no
- * stripe. A small blob is one allocation with its parities, and takes no more after a loss and its
- * repair. */
+ * stripe. A small blob is one allocation with its parities. No blob takes more after a loss and its
+ * repair, unless a grant shares its bytes. */
 #include "store_test.h"
 #include <malloc.h>
 
@@ -66,6 +66,16 @@ static void put_all(lrc_slot *slot, int blobs, size_t len) {
     }
 }
 
+static void put_all_from(lrc_slot *slot, int blobs, size_t len) {
+    for (int i = 0; i < blobs; i++) {
+        lrc_slot own = LRC_SLOT_EMPTY;
+        uint64_t version = 0;
+        EXPECT(lrc_slot_reserve(len, &own), LRC_STORE_DONE);
+        EXPECT(lrc_store_put_from(slot, NAME(name_of(i).text), &own, 12, &version),
+               LRC_STORE_DONE);
+    }
+}
+
 /* What each of many blobs of 64 bytes takes, with its name in a tree that is half full, as names in
  * order leave it. A list by stripe would take 32 bytes more, and parities of their own 144. */
 static void takes_little(void) {
@@ -112,13 +122,14 @@ static void mend_all_lent(lrc_slot *slot, int i, uint64_t stripes) {
 /* Blobs take as much after all was lost and repaired as before. With a fragment of each lost they
  * take a name more in the set of those that lack one. */
 static void mended_takes_no_more(uint32_t width, size_t len, int blobs,
+                                 void store(lrc_slot *slot, int blobs, size_t len),
                                  void mend(lrc_slot *slot, int i, uint64_t stripes)) {
     enum { LACKING = 128 };
     const uint64_t stripes = (len + 12 * width - 1) / (12 * width);
     lrc_slot slot = LRC_SLOT_EMPTY;
     EXPECT(lrc_store_open_unjournaled(width, &slot), LRC_STORE_DONE);
     const size_t before = in_use();
-    put_all(&slot, blobs, len);
+    store(&slot, blobs, len);
     const size_t held = in_use() - before;
     for (int i = 0; i < blobs; i++) mend(&slot, i, stripes);
     EXPECT(in_use() - before <= held + held / 20 + LITTLE, 1);
@@ -131,10 +142,14 @@ static void mended_takes_no_more(uint32_t width, size_t len, int blobs,
 
 int main(void) {
     takes_little();
-    mended_takes_no_more(6, 64, 1000, mend_all);
-    mended_takes_no_more(86, 1024, 1000, mend_all);
-    mended_takes_no_more(342, 4096, 1000, mend_all);
-    mended_takes_no_more(6, 64, 1000, mend_all_lent);
+    mended_takes_no_more(6, 64, 1000, put_all, mend_all);
+    mended_takes_no_more(86, 1024, 1000, put_all, mend_all);
+    mended_takes_no_more(342, 4096, 1000, put_all, mend_all);
+    mended_takes_no_more(6, 64, 1000, put_all, mend_all_lent);
+    mended_takes_no_more(64, 1 << 20, 2, put_all, mend_all);
+    mended_takes_no_more(4096, 100000, 20, put_all, mend_all);
+    mended_takes_no_more(4096, 100000, 20, put_all_from, mend_all);
+    mended_takes_no_more(WIDTH, sizeof blob, 2, put_all_from, mend_all);
     for (uint32_t data = 6; data <= 12; data += 6) {
         const size_t stripe = (size_t)data * WIDTH;
         const size_t lens[] = {1,      stripe - WIDTH + 1, stripe - 1,

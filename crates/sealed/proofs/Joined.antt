@@ -22,10 +22,10 @@ pub none_by : {A : Type 0} (o : Option A) → is_some o ≡ false → o ≡ None
 none_by None e = refl
 none_by (Some a) e = absurd (let no : true ≡ false = e in cc)
 
-take_inside : (s a b : ℕ) (xs : List ℕ) → b ≤ s → slice_range (take s xs) a b ≡ slice_range xs a b
+pub take_inside : (s a b : ℕ) (xs : List ℕ) → b ≤ s → slice_range (take s xs) a b ≡ slice_range xs a b
 take_inside s a b xs l = between_is (take s xs) a b ∙ ap (drop a) (take-take b s xs l) ∙ sym (between_is xs a b)
 
-drop_behind : (s a b : ℕ) (xs : List ℕ) → slice_range (drop s xs) a b ≡ slice_range xs (s + a) (s + b)
+pub drop_behind : (s a b : ℕ) (xs : List ℕ) → slice_range (drop s xs) a b ≡ slice_range xs (s + a) (s + b)
 drop_behind s a b xs =
     ap (take (b - a)) (drop-drop a s xs)
     ∙ ap (λ n. take n (drop (s + a) xs)) (let e : b - a ≡ s + b - (s + a) = omega arith in e)
@@ -116,7 +116,7 @@ module _ (code : Code) (w : ℕ) (some : 1 ≤ w) (count : ℕ) where
           complete = back ys long ∙ sym (back xs full) ∙ are.complete;
         }
 
-  here_true : (i j g f : ℕ) → i ≡ j → g ≡ f → ((i == j) && (g == f)) ≡ true
+  pub here_true : (i j g f : ℕ) → i ≡ j → g ≡ f → ((i == j) && (g == f)) ≡ true
   here_true i j g f a b = grind (arith, common_steps)
 
   module _ (xs : List ℕ) (long : length xs ≡ size + 4 * w) where

@@ -88,6 +88,12 @@ module _ (code : Code) (w : ℕ) (blob last parities : List ℕ) (count : ℕ) w
       ap (λ (row : List (Option (List ℕ))). get_or row f None) (packed_row j l)
       ∙ part_at code w (held_by (stripe_size code w) blob last j) (parities_by w parities j) f
 
+-- equal lists are equal stripes
+pub packed_alike : (code : Code) (w count : ℕ) {blob blob' last last' parities parities' : List ℕ} → blob ≡ blob' → last ≡ last' → parities ≡ parities'
+    → packed code w blob last parities count ≡ packed code w blob' last' parities' count
+packed_alike code w count {blob} {blob'} {last} {last'} {parities} {parities'} one two three =
+    ap₂ (λ (xs ys : List ℕ). packed code w xs ys parities count) one two ∙ ap (λ (zs : List ℕ). packed code w blob' last' zs count) three
+
 -- what holds, holds of each error
 pub on_err : {A E : Type 0} (r : Result A E) {P : Type 0} → P → OnErr r P
 on_err (Ok a) p = tt

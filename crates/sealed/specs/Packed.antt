@@ -1,5 +1,5 @@
 -- The stripes of a blob as they are sealed: slices of the blob's bytes and of the parities of all its stripes.
-use Rattle.std.specs.Prelude.{◌≡◌, ℕ, ◌+◌, ◌-◌, ◌*◌, ◌<◌, ◌≤◌, List, Option, None, Some, [], map, length, nat_lt, slice_range, slice_index_or, take, drop, if◌then◌else◌}
+use Rattle.std.specs.Prelude.{◌≡◌, ◌==◌, ◌&&◌, ℕ, ◌+◌, ◌-◌, ◌*◌, ◌<◌, ◌≤◌, List, Option, None, Some, [], map, length, nat_lt, slice_range, slice_index_or, take, drop, if◌then◌else◌}
 use Rattle.std.specs.List.{range_with_len}
 use Rattle.lrc_code.specs.declared.Code.{Code}
 use Rattle.lrc_code.specs.Code.{data_count, fragment_count}
@@ -60,6 +60,16 @@ pub record ArePacked (code : Code) (w : ℕ) (blob last parities : List ℕ) (co
   pub begin : (j : ℕ) → j < count → stripe_size code w * j < length blob
   pub hold : (j : ℕ) → j < count → length (held_by (stripe_size code w) blob last j) ≡ stripe_size code w
   pub complete : length parities ≡ 4 * w * count
+
+-- the fragment f of stripe j in these parts
+abbrev pub slot_in : Code → ℕ → Parts → ℕ → ℕ → Option (List ℕ)
+slot_in code w parts j f = part_of code w (held_by (stripe_size code w) parts.blob parts.last j) (parities_by w parts.parities j) f
+
+-- of the first stripes, as many as `count`, the fragment f of stripe j alone was written
+pub record IsWritten (code : Code) (w count j f : ℕ) (bytes : List ℕ) (old new : Parts) : Type 0 where
+  pub still : ArePacked code w old.blob old.last old.parities count → ArePacked code w new.blob new.last new.parities count
+  pub slots : ArePacked code w old.blob old.last old.parities count
+      → (i g : ℕ) → i < count → slot_in code w new i g ≡ (if (i == j) && (g == f) then Some bytes else slot_in code w old i g)
 
 -- the bytes are those of b, with zeros after them
 pub record IsPadded (b bytes : List ℕ) : Type 0 where

@@ -7,13 +7,12 @@ ghost use Rattle.std.specs.Option.{option_map};
 ghost use Rattle.lrc_code.specs.Code.{fragment_count, is_lost};
 ghost use Rattle.sealed.specs.Layout.{stripe_size};
 ghost use Rattle.sealed.specs.Stripes.{fragment_at};
-ghost use Rattle.sealed.specs.Packed.{packed, held_by, parities_by, part_of, ArePacked};
+ghost use Rattle.sealed.specs.Packed.{packed, held_by, parities_by, part_of, ArePacked, IsWritten};
 ghost use Rattle.sealed.specs.Packed.{data_bytes, last_bytes, parity_bytes};
 ghost use Rattle.sealed.specs.Runs.{IsDataFrom};
 
 use crate::Width;
-use crate::buffer::put_part;
-use bytes::Bytes;
+use crate::buffer::{Buffer, put_part};
 use lrc_code::{Code, LostSet, NoMemory};
 use std::alloc::Global;
 use std::marker::Model;
@@ -35,9 +34,9 @@ pub(crate) struct Packed {
 /// all its stripes.
 #[derive(Drop)]
 pub(crate) struct Parts {
-    pub(crate) blob: Bytes,
-    pub(crate) last: Bytes,
-    pub(crate) parities: Bytes,
+    pub(crate) blob: Buffer,
+    pub(crate) last: Buffer,
+    pub(crate) parities: Buffer,
 }
 
 impl Model for Packed {
@@ -169,11 +168,16 @@ impl Packed {
     {
         let w = self.width.get() as usize;
         let data = usize::from(self.code.data_fragments());
-        if bytes.len() != w || f >= data + 4 || self.parts.is_some() {
+        if bytes.len() != w || f >= data + 4 {
             return false;
         }
-        write_joined(&mut self.joined, f, bytes);
-        true
+        match &mut self.parts {
+            Some(parts) => write_apart(parts, self.code, j, f, bytes),
+            None => {
+                write_joined(&mut self.joined, f, bytes);
+                true
+            }
+        }
     }
 
     /// The bytes of the data from the byte `start` on that lie one behind another, up to the byte
@@ -192,6 +196,46 @@ impl Packed {
         let size = usize::from(code.data_fragments()) * width.get() as usize;
         let blob = blob_in(&self.parts, self.joined.as_slice(), size);
         run_in(blob, last_in(&self.parts), size, start, end)
+    }
+}
+
+impl Parts {
+    /// Writes a fragment of a stripe in place. `false`, with nothing changed, if its bytes have
+    /// other owners.
+    fn write(&mut self, code: Code, j: usize, f: usize, bytes: &[u8]) -> bool
+        requires inside { f < fragment_count code }
+        requires width { length bytes.now ≤ 65536 }
+        requires packed { (count : ℕ) × (j < count) × ArePacked code (length bytes.now)
+            self.old.blob self.old.last self.old.parities count }
+        ensures ok { OnTrue result ((count : ℕ) → j < count
+            → IsWritten code (length bytes.now) count j f bytes.now self.old self.new) }
+        ensures kept { OnFalse result (self.new ≡ self.old) }
+    {
+        let data = usize::from(code.data_fragments());
+        if f >= data {
+            return self.parities.put(4 * j + (f - data), bytes);
+        }
+        let size = data * bytes.len();
+        if self.blob.as_slice().len() - size * j < size {
+            return self.last.put(f, bytes);
+        }
+        self.blob.put(data * j + f, bytes)
+    }
+}
+
+/// Does the same if the parts have one owner.
+fn write_apart(parts: &mut Arc<Parts>, code: Code, j: usize, f: usize, bytes: &[u8]) -> bool
+    requires inside { f < fragment_count code }
+    requires width { length bytes.now ≤ 65536 }
+    requires packed { (count : ℕ) × (j < count) × ArePacked code (length bytes.now)
+        parts.old.value.blob parts.old.value.last parts.old.value.parities count }
+    ensures ok { OnTrue result ((count : ℕ) → j < count → IsWritten code (length bytes.now)
+        count j f bytes.now parts.old.value parts.new.value) }
+    ensures kept { OnFalse result (parts.new.value ≡ parts.old.value) }
+{
+    match Arc::get_mut(parts) {
+        Some(own) => own.write(code, j, f, bytes),
+        None => false,
     }
 }
 

@@ -9,30 +9,30 @@ use std::alloc::Global;
 
 /// The bytes of a last, partial stripe, padded with zeros. They are empty if the blob fills its
 /// last stripe.
-pub(crate) fn last_held(alloc: Global, bytes: &Bytes, size: usize) -> Result<Bytes, NoMemory>
+pub(crate) fn last_held(alloc: Global, bytes: &Bytes, size: usize) -> Result<Vec<u8>, NoMemory>
     requires { (1 ≤ size) × (size ≤ 786432) }
     ensures long { IfOk result (λ last. (j : ℕ) → size * j < length bytes.now
-        → length (held_by size bytes.now last j) ≡ size) }
+        → length (held_by size bytes.now last.items j) ≡ size) }
     ensures bytes { IfOk result (λ last. (j i : ℕ) → size * j < length bytes.now → i < size
-        → slice_index_or (held_by size bytes.now last j) i 0
+        → slice_index_or (held_by size bytes.now last.items j) i 0
         ≡ slice_index_or bytes.now (size * j + i) 0) }
 {
     let rest = bytes.len() % size;
     if rest == 0 {
-        return Ok(Bytes::new());
+        return Ok(Vec::new(alloc));
     }
     copy_padded(alloc, &bytes.as_slice()[bytes.len() - rest..], size)
 }
 
 /// A copy of the bytes, padded with zeros to `size` bytes.
-fn copy_padded(alloc: Global, bytes: &[u8], size: usize) -> Result<Bytes, NoMemory>
+fn copy_padded(alloc: Global, bytes: &[u8], size: usize) -> Result<Vec<u8>, NoMemory>
     requires { (length bytes.now ≤ size) × (size ≤ 786432) }
-    ensures long { IfOk result (λ copy. length copy ≡ size) }
-    ensures bytes { IfOk result (λ copy. IsPadded bytes.now copy) }
+    ensures long { IfOk result (λ copy. length copy.items ≡ size) }
+    ensures bytes { IfOk result (λ copy. IsPadded bytes.now copy.items) }
 {
     let mut copy = Vec::with_capacity(alloc, size)?;
     push_padded(&mut copy, bytes, size)?;
-    Ok(Bytes::from_vec(copy)?)
+    Ok(copy)
 }
 
 /// Appends the bytes, padded with zeros to `size` bytes.

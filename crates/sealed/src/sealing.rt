@@ -6,6 +6,7 @@ ghost use Rattle.sealed.specs.Blob.{nothing};
 ghost use Rattle.sealed.specs.Packed.{ArePackedOf, AreParitiesOf, AreWhole, IsPadded};
 ghost use Rattle.sealed.specs.Sealed.{StandsFor};
 
+use crate::buffer::Buffer;
 use crate::packed::{Packed, Parts};
 use crate::padding::{last_held, push_padded};
 use crate::parities::{all_parities, push_parities, write_parities};
@@ -114,11 +115,10 @@ fn all_stripes(
     }
     let last = last_held(alloc, &bytes, size)?;
     let parities = all_parities(alloc, code, w, bytes.as_slice(), last.as_slice(), count)?;
-    let parities = Bytes::from_vec(parities)?;
     let parts = Parts {
-        blob: bytes,
-        last,
-        parities,
+        blob: Buffer::shared(bytes),
+        last: Buffer::own(last),
+        parities: Buffer::own(parities),
     };
     let packed = Packed::apart(alloc, code, width, parts, count)?;
     Ok(Stripes::from_packed(packed))
@@ -142,12 +142,10 @@ fn stripes_of_copy(
     }
     let w = width.get() as usize;
     let (blob, parities) = copy_and_encode(alloc, code, w, bytes, count)?;
-    let blob = Bytes::from_vec(blob)?;
-    let parities = Bytes::from_vec(parities)?;
     let parts = Parts {
-        blob,
-        last: Bytes::new(),
-        parities,
+        blob: Buffer::own(blob),
+        last: Buffer::own(Vec::new(alloc)),
+        parities: Buffer::own(parities),
     };
     let packed = Packed::apart(alloc, code, width, parts, count)?;
     Ok(Stripes::from_packed(packed))

@@ -8,12 +8,12 @@ use Rattle.sealed.proofs.padding.last_held.Goals as goal
 pub returns-then-rest-eq0-clause-long : goal.returns-then-rest-eq0-clause-long
 returns-then-rest-eq0-clause-long c =
     let none : length c.args.bytes.now % c.args.size ≡ 0 = ap (λ n. n % c.args.size) (sym c.len.ensures.value) ∙ c.if-rest-eq0.true in
-    held_long c.args.size c.args.bytes.now c.new.result (λ some. absurd (some none)) (λ some i. absurd (some none))
+    held_long c.args.size c.args.bytes.now c.new.result.items (λ some. absurd (some none)) (λ some i. absurd (some none))
 
 pub returns-then-rest-eq0-clause-bytes : goal.returns-then-rest-eq0-clause-bytes
 returns-then-rest-eq0-clause-bytes c =
     let none : length c.args.bytes.now % c.args.size ≡ 0 = ap (λ n. n % c.args.size) (sym c.len.ensures.value) ∙ c.if-rest-eq0.true in
-    held_bytes c.args.size c.args.bytes.now c.new.result (λ some. absurd (some none)) (λ some i. absurd (some none))
+    held_bytes c.args.size c.args.bytes.now c.new.result.items (λ some. absurd (some none)) (λ some i. absurd (some none))
 
 pub returns-clause-bytes : goal.returns-clause-bytes
 returns-clause-bytes c =
@@ -23,7 +23,7 @@ returns-clause-bytes c =
     ap₂ (λ (n m : ℕ). n - m % size) c.len-2.ensures.value c.len.ensures.value in
     both_ok c.copy_padded.result _ _ _
     (λ filled long at.
-    held_bytes size b filled (λ some. long)
+    held_bytes size b filled.items (λ some. long)
     (λ some i.
     at.same i
     ∙ ap (λ (xs : List ℕ). slice_index_or xs i 0) (take_rest c.as_slice.result.now (c.len-2.result - c.len.result % size))
