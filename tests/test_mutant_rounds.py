@@ -72,6 +72,16 @@ pub fn head(bytes: &[u8]) -> u8
 {
     bytes[0]
 }
+
+/// A trait for values that give a number back.
+pub trait Returns {
+    /// The number itself.
+    final fn given(&self, a: u8) -> u8
+        ensures { result ≡ a }
+    {
+        if a < 1 { 0 } else { a }
+    }
+}
 """
 ROUND, ALONE, SURVIVES = "refused, in a round", "refused, as it must be", "NOT REFUSED"
 UNCOVERED, UNREAD = "BAD EDIT: the prover does not cover", "BAD EDIT: it did not reach the prover"
@@ -89,6 +99,7 @@ MUTANTS = {
     # these two make a cycle together
     "first.calls_second": ("let _b = b;", "if b < a { return second(b, b); }", ROUND),
     "second.calls_first": ("let _a = a;", "if a < b { return first(a, a); }", ROUND),
+    "Returns.given.zero_becomes_one": ("if a < 1 { 0 } else", "if a < 1 { 1 } else", ROUND),
     "head.holds_a_loan": ("    bytes[0]", "    let _ = (bytes, bytes.len()); 0", UNCOVERED),
 }
 # What the prover says of `first` with a mutant, where the fault is its own.

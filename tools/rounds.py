@@ -34,6 +34,8 @@ ITEM = re.compile(r"\b(const|enum|fn|ghost|impl|macro_rules|mod|static|struct|tr
 # What a report says of an item.
 SAID = re.compile(r"^(?:const|enum|fn|impl|static|struct|trait|type|union) (\S+): (.*)$", re.M)
 PLACE = re.compile(r"(note: )?(?:\./)?([^\s:]+):(\d+):\d+: (error: )?")
+# What stands before the body of an `impl` or a `trait`.
+HEAD = re.compile(r"^(?:impl(?P<impl>[^{]*)|(?:pub(?:\(\w+\))? )?(?P<trait>trait\b)[^{]*)\{", re.M)
 # The lines of comments and attributes above a function.
 ATTRIBUTES = r"(?m)(^[ \t]*(#\[|///).*\n)*[ \t]*\Z"
 # What the prover says of a function that it refuses, also where that one calls another that is not
@@ -89,7 +91,8 @@ class Edit:
         by the type's name with the trait's behind it."""
         it = self.function
         if it.owner:
-            head = self.whole[: it.start].rpartition("\nimpl")[2].partition("{")[0]
+            *_, around = HEAD.finditer(sources.blanked(self.whole)[: it.start])
+            head = "" if around["trait"] else around["impl"]
             behind = sources.matching_angle(head, 0) if head.startswith("<") else 0
             own = set(re.findall(r"\w+", head[:behind]))
             trait, is_of_trait, _ = re.sub(r"\w+::|'\w+", "", head[behind:]).partition(" for ")
