@@ -362,6 +362,12 @@ uint32_t lrc_slot_lost(lrc_slot *slot, uint64_t stripe, uint16_t *lost) LRC_STAT
 uint32_t lrc_slot_lend(lrc_slot *slot, uint64_t start, uint64_t len, lrc_slot *other,
                        uint64_t *pieces) LRC_STATUS LRC_FILLS(4);
 
+/* Copies `len` bytes of the version, from the byte `start` on, into `target`, and rebuilds those of
+ * lost fragments. On LRC_STORE_NOT_REBUILT, for which memory ran out, any byte of `target` may be
+ * written. It makes no list of pieces. */
+uint32_t lrc_slot_copy(lrc_slot *slot, uint64_t start, uint8_t *target, size_t len) LRC_STATUS
+    LRC_WRITES(3, 4);
+
 /* Lends a fragment of a stripe, data or parity, which has as many bytes as the store's width.
  * Before the call `*bytes` is a valid slice, such as { (const uint8_t *)"", 0 }. Afterwards it is
  * valid until the slot is passed to another function. LRC_STORE_ALREADY_LOST if the fragment was

@@ -71,22 +71,10 @@ inline const uint8_t *bytes(std::string_view text) {
     return reinterpret_cast<const uint8_t *>(text.data() ? text.data() : "");
 }
 
-// Passes each run of a lent range to `take`, in order.
-template <class Take> void for_each_run(lrc_slot *lent, Take take) {
-    std::array<lrc_slice, 16> runs;
-    uint64_t from = 0, written = 0;
-    do {
-        runs.fill({reinterpret_cast<const uint8_t *>(""), 0});
-        lrc_slot_runs(lent, from, runs.data(), runs.size(), &written);
-        for (size_t i = 0; i < written; i++) {
-            from += runs[i].len;
-            take(runs[i]);
-        }
-    } while (written == runs.size());
-}
-
-inline void append(std::string &text, const lrc_slice &run) {
-    text.append(reinterpret_cast<const char *>(run.at), run.len);
+// An address that is not NULL, also if no byte is written there.
+inline uint8_t *target(void *at) {
+    static uint8_t none;
+    return at ? static_cast<uint8_t *>(at) : &none;
 }
 
 // A timeout as the library has it. Without one a call waits for ever.
@@ -134,7 +122,8 @@ public:
         for (const lrc_slice &run : joined) len += run.len;
         std::string text;
         text.reserve(len);
-        for (const lrc_slice &run : joined) detail::append(text, run);
+        for (const lrc_slice &run : joined)
+            text.append(reinterpret_cast<const char *>(run.at), run.len);
         return text;
     }
 
@@ -144,11 +133,18 @@ private:
 
     // Takes `count` pieces and all runs from the slot.
     void take(uint64_t count) {
-        uint64_t written = 0;
-        pieces.assign(count + 1, {reinterpret_cast<const uint8_t *>(""), 0});
+        const lrc_slice none{reinterpret_cast<const uint8_t *>(""), 0};
+        uint64_t written = 0, from = 0;
+        pieces.assign(count + 1, none);
         lrc_slot_slices(lent.get(), pieces.data(), count, &written);
         pieces.resize(written);
-        detail::for_each_run(lent.get(), [this](const lrc_slice &run) { joined.push_back(run); });
+        std::array<lrc_slice, 16> some;
+        do {
+            some.fill(none);
+            lrc_slot_runs(lent.get(), from, some.data(), some.size(), &written);
+            for (size_t i = 0; i < written; i++) from += some[i].len;
+            joined.insert(joined.end(), some.data(), some.data() + written);
+        } while (written == some.size());
     }
 
     slot lent;
@@ -186,6 +182,12 @@ public:
                       start, count);
         made.take(pieces);
         return made;
+    }
+
+    // Copies `count` bytes, from the byte `start` on, into `target`.
+    void read_into(uint64_t start, void *target, size_t count) {
+        detail::check(lrc_slot_copy(held.get(), start, detail::target(target), count), "read_into",
+                      start, count);
     }
 
     // Lends a fragment of a stripe, data or parity, until the next call of this version.
@@ -310,13 +312,11 @@ public:
     // Copies `len` bytes of a blob, from the byte `start` on, into `target`. Returns the version.
     uint64_t read_into(std::string_view name, uint64_t start, void *target, size_t len) {
         uint64_t version = 0, lent = 0, built = 0;
-        uint8_t none = 0;
-        auto *const at_target = target ? static_cast<uint8_t *>(target) : &none;
         detail::check(named(name,
                             [&](const uint8_t *at, size_t name_len) {
                                 return lrc_store_read_wait(held.get(), at, name_len, start,
-                                                           at_target, len, &version, &lent, &built,
-                                                           wait_ms);
+                                                           detail::target(target), len, &version,
+                                                           &lent, &built, wait_ms);
                             }),
                       "read_into", name, start, len);
         return version;
@@ -324,17 +324,16 @@ public:
 
     // A copy of the whole blob, all of one version.
     std::string get(std::string_view name) {
-        slot lent;
-        uint64_t version = 0, len = 0, count = 0;
+        slot kept;
+        uint64_t version = 0, len = 0;
         detail::check(named(name,
                             [&](const uint8_t *at, size_t name_len) {
-                                return lrc_store_get_wait(held.get(), at, name_len, lent.get(),
-                                                          &version, &len, &count, wait_ms);
+                                return lrc_store_hold_wait(held.get(), at, name_len, kept.get(),
+                                                           &version, &len, wait_ms);
                             }),
                       "get", name);
-        std::string blob;
-        blob.reserve(len);
-        detail::for_each_run(lent.get(), [&](const lrc_slice &run) { detail::append(blob, run); });
+        std::string blob(len, '\0');
+        detail::check(lrc_slot_copy(kept.get(), 0, detail::target(blob.data()), len), "get", name);
         return blob;
     }
 

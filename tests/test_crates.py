@@ -28,6 +28,7 @@ TABLES = {"gate", "ledger", "mender"}  # each table has a rule, seats, and what 
 SAME = {
     "AreParitiesOf": "that four blocks are the parities of a stripe's bytes, by two definitions",
     "IsSeat": "a seat between two calls, of a gate and of a shard",
+    "bytes_of": "the bytes of a slice, if there is one, and of a buffer",
     "code_with": "the code whose stripes have so many data fragments, for either library",
     "is_gone": "that a blob is gone, as an answer and as a note",
     "is_member": "that a number is in a list, in two crates of which neither uses the other",

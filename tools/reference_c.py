@@ -47,7 +47,8 @@ TASKS = {
         ("read without a copy", "lrc_store_lend lrc_slot_runs lrc_slot_slices"),
         (
             "keep a version, and read it later",
-            "lrc_store_hold lrc_slot_shape lrc_slot_lend lrc_slot_lost lrc_slot_fragment",
+            "lrc_store_hold lrc_slot_copy lrc_slot_lend lrc_slot_shape lrc_slot_lost"
+            " lrc_slot_fragment",
         ),
         ("delete a blob, or ask for its shape", "lrc_store_delete lrc_store_stat"),
         ("report a lost fragment", "lrc_store_lose"),

@@ -73,17 +73,20 @@ func (s *Store) version(ctx context.Context, op, name string,
 // Get returns a copy of the whole blob, all of one version, and that version. It returns ErrNoName,
 // ErrUnrecoverable, ErrNoMemory, ErrNotRebuilt or ErrJournalFull.
 func (s *Store) Get(ctx context.Context, name string) (blob []byte, version uint64, err error) {
-	var lent C.lrc_slot
+	var held C.lrc_slot
 	r, err := s.do(ctx, "Get", name, func(ms int64) reply {
-		got := C.store_get(s.shards, name, C.int64_t(ms))
-		lent = got.slot
+		got := C.store_holding(s.shards, name, C.int64_t(ms))
+		held = got.version
 		return got.reply
 	})
 	if err != nil {
 		return nil, 0, err
 	}
 	blob = make([]byte, r.len)
-	C.copy_all(lent, address(blob))
+	r.status = C.copy_all(held, address(blob), C.size_t(r.len))
+	if err := failure("Get", name, r); err != nil {
+		return nil, 0, err
+	}
 	return blob, uint64(r.version), nil
 }
 

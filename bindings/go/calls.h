@@ -15,11 +15,11 @@ typedef struct {
     uint64_t len, stripes, lost;
 } lrc_reply;
 
-/* The reply of a call that lends, with the range. */
+/* The reply of a hold, with the version. */
 typedef struct {
     lrc_reply reply;
-    lrc_slot slot;
-} lrc_lent;
+    lrc_slot version;
+} lrc_holding;
 
 /* The name as two arguments, of which the address is not NULL. */
 #define NAME (const uint8_t *)(_GoStringLen(name) ? _GoStringPtr(name) : ""), _GoStringLen(name)
@@ -67,18 +67,6 @@ static inline lrc_reply store_lend(lrc_shards *shards, _GoString_ name, uint64_t
                                 timeout_ms));
 }
 
-static inline lrc_reply store_get_to(lrc_shards *shards, _GoString_ name, lrc_slot *range,
-                                     int64_t timeout_ms) {
-    AT_NAME(lrc_store_get_wait(slot, NAME, range, &reply.version, &reply.len, &reply.count,
-                               timeout_ms));
-}
-
-static inline lrc_lent store_get(lrc_shards *shards, _GoString_ name, int64_t timeout_ms) {
-    lrc_lent lent = {.slot = LRC_SLOT_EMPTY};
-    lent.reply = store_get_to(shards, name, &lent.slot, timeout_ms);
-    return lent;
-}
-
 static inline lrc_reply store_lose(lrc_shards *shards, _GoString_ name, uint64_t stripe,
                                    uint64_t fragment, int64_t timeout_ms) {
     AT_NAME(lrc_store_lose_wait(slot, NAME, stripe, fragment, &reply.version, timeout_ms));
@@ -117,6 +105,13 @@ static inline lrc_reply store_mend_step(lrc_shards *shards, uint32_t shard, lrc_
 static inline lrc_reply store_hold(lrc_shards *shards, _GoString_ name, lrc_slot *held,
                                    int64_t timeout_ms) {
     AT_NAME(lrc_store_hold_wait(slot, NAME, held, &reply.version, &reply.len, timeout_ms));
+}
+
+/* The same, for a caller that keeps no slot. */
+static inline lrc_holding store_holding(lrc_shards *shards, _GoString_ name, int64_t timeout_ms) {
+    lrc_holding held = {.version = LRC_SLOT_EMPTY};
+    held.reply = store_hold(shards, name, &held.version, timeout_ms);
+    return held;
 }
 
 static inline lrc_reply store_install(lrc_shards *shards, _GoString_ name, lrc_slot *held,
@@ -188,12 +183,17 @@ static inline uint64_t runs_of(lrc_slot *range, uint64_t from, lrc_slice *runs, 
     return count;
 }
 
-/* Copies all bytes of a lent range, and frees it. */
-static inline void copy_all(lrc_slot range, uint8_t *target) {
-    lrc_slice run;
-    for (uint64_t from = 0; runs_of(&range, from, &run, 1); from += run.len)
-        memcpy(target + from, run.at, run.len);
-    lrc_slot_release(&range);
+/* Copies a range of a held version, also one of no byte. */
+static inline uint32_t copy_to(lrc_slot *version, uint64_t start, uint8_t *target, size_t len) {
+    uint8_t none;
+    return lrc_slot_copy(version, start, len ? target : &none, len);
+}
+
+/* Copies all bytes of a version, and frees it. */
+static inline uint32_t copy_all(lrc_slot version, uint8_t *target, size_t len) {
+    const uint32_t status = copy_to(&version, 0, target, len);
+    lrc_slot_release(&version);
+    return status;
 }
 
 #endif

@@ -160,16 +160,16 @@ func (v *Version) ReadAt(p []byte, off int64) (n int, err error) {
 		return 0, io.EOF
 	}
 	wanted := min(int64(len(p)), v.size-off)
-	grant, err := v.Lend(off, wanted)
+	err = v.call("ReadAt", func() C.uint32_t {
+		return C.copy_to(v.slot, C.uint64_t(off), address(p), C.size_t(wanted))
+	})
 	if err != nil {
 		return 0, err
 	}
-	defer grant.Close()
-	n, err = grant.ReadAt(p[:wanted], 0)
-	if err == nil && n < len(p) {
+	if int(wanted) < len(p) {
 		err = io.EOF
 	}
-	return n, err
+	return int(wanted), err
 }
 
 // Fragment returns a copy of a fragment of a stripe, data or parity. It returns ErrAlreadyLost if

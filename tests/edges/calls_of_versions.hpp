@@ -156,6 +156,22 @@ protected:
         to.pieces = pieces;
     }
 
+    void copy_of_version() {
+        Held &from = with(Holds::version);
+        const bool is = from.holds == Holds::version;
+        const auto [start, len] = range(is ? &from.blob : nullptr);
+        const size_t offset = 1 + random.below(33);
+        std::string target(offset + len + 1, char(0xC7));
+        begin("copy of a version", start, len);
+        const uint32_t read = is ? from.blob.status_of_read(start, len) : uint32_t{LRC_STORE_DONE};
+        auto *to = reinterpret_cast<uint8_t *>(target.data()) + offset;
+        const uint32_t got = lrc_slot_copy(&from.slot, start, to, len);
+        judge(
+            got, not_a_version(from).add(read != LRC_STORE_DONE, read),
+            Statuses(LRC_STORE_NO_MEMORY).add(is && read == LRC_STORE_DONE, LRC_STORE_NOT_REBUILT));
+        judge_target(target, offset, len, got, &from.blob, start);
+    }
+
     // The bytes are those of the version, as the caller has to ensure, or as few as to be refused.
     void install() {
         Held &from = with(Holds::session), &known = other_with(Holds::version, from);
@@ -225,7 +241,8 @@ protected:
         if (kind < 43) return shape();
         if (kind < 50) return lost();
         if (kind < 65) return fragment();
-        if (kind < 75) return range_of_version();
+        if (kind < 70) return range_of_version();
+        if (kind < 76) return copy_of_version();
         if (kind < 90) return install();
         if (kind < 97) return items();
         return skip();

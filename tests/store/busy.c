@@ -96,10 +96,9 @@ uint32_t lrc_slot_shape(lrc_slot *slot, lrc_shape *shape) {
     return LRC_STORE_DONE;
 }
 
-uint32_t lrc_slot_lend(lrc_slot *slot, uint64_t start, uint64_t len, lrc_slot *other,
-                       uint64_t *pieces) {
-    REAL(lrc_slot_lend);
-    if (!busy_holds) return real(slot, start, len, other, pieces);
+uint32_t lrc_slot_copy(lrc_slot *slot, uint64_t start, uint8_t *target, size_t len) {
+    REAL(lrc_slot_copy);
+    if (!busy_holds) return real(slot, start, target, len);
     stay();
     return LRC_STORE_EMPTY;
 }
@@ -118,6 +117,7 @@ uint32_t lrc_store_put_wait(lrc_slot *slot, const uint8_t *name, size_t name_len
 uint32_t lrc_store_hold_wait(lrc_slot *slot, const uint8_t *name, size_t name_len, lrc_slot *other,
                              uint64_t *version, uint64_t *len, int64_t timeout_ms) {
     if (name_len != 4 || memcmp(name, "held", 4) != 0) return busy(timeout_ms);
-    *version = *len = 1;
+    *version = 1;
+    *len = 100000;
     return LRC_STORE_DONE;
 }

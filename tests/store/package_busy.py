@@ -152,6 +152,7 @@ class BusyForEver(unittest.TestCase):
             ("read into a buffer", lambda: self.store.read_into("a", 0, bytearray(5000))),
             ("install", lambda: self.store.install(held, 0, 1, bytes(65536))),
             ("read of a version", lambda: held.read(0, 100)),
+            ("get of a long rest", lambda: self.store.get("held", 10)),
             ("close", self.store.close),
         ):
             IS_LET_GO.value, HOLDS.value = 0, 1

@@ -56,6 +56,9 @@ static void holds(lrc_slot *slot) {
     EXPECT(gather(&lent, got), 54);
     EXPECT(memcmp(got, FOX, 54), 0);
     lrc_slot_release(&lent);
+    memset(got, 0, sizeof got);
+    CALL(lrc_slot_copy(&held, 0, got, 54));
+    EXPECT(memcmp(got, FOX, 54), 0);
     CALL(lrc_store_get(slot, NAME("a"), &lent, &version, &len, &pieces));
     EXPECT(gather(&lent, got), 54);
     CALL(lrc_store_install(slot, &held, 0, 1, (const uint8_t *)FOX + 4, 4, &version));

@@ -71,8 +71,7 @@ static void put_all_from(lrc_slot *slot, int blobs, size_t len) {
         lrc_slot own = LRC_SLOT_EMPTY;
         uint64_t version = 0;
         EXPECT(lrc_slot_reserve(len, &own), LRC_STORE_DONE);
-        EXPECT(lrc_store_put_from(slot, NAME(name_of(i).text), &own, 12, &version),
-               LRC_STORE_DONE);
+        EXPECT(lrc_store_put_from(slot, NAME(name_of(i).text), &own, 12, &version), LRC_STORE_DONE);
     }
 }
 

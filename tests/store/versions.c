@@ -71,6 +71,10 @@ static void expect_range(lrc_slot *held, uint64_t start) {
     EXPECT(gather(&lent, got), BYTES - start);
     EXPECT(memcmp(got, FOX + start, BYTES - start), 0);
     lrc_slot_release(&lent);
+    memset(got, 0, sizeof got);
+    EXPECT(lrc_slot_copy(held, start, got, BYTES - start), LRC_STORE_DONE);
+    EXPECT(memcmp(got, FOX + start, BYTES - start), 0);
+    EXPECT(got[BYTES - start], 0);
 }
 
 /* What a held version of the text is, with the losses above. */
@@ -105,6 +109,7 @@ static void expect_version(lrc_slot *held) {
 static void refused_ranges(lrc_slot *slot, lrc_slot *held) {
     lrc_slot lent = LRC_SLOT_EMPTY;
     uint64_t pieces = 77;
+    uint8_t got[BYTES] = {0};
     EXPECT(lrc_slot_lend(held, 0, BYTES + 1, &lent, &pieces), LRC_STORE_OUT_OF_RANGE);
     EXPECT(lrc_slot_lend(held, UINT64_MAX, 2, &lent, &pieces), LRC_STORE_OUT_OF_RANGE);
     EXPECT(lrc_slot_lend(held, 0, 1, slot, &pieces), LRC_STORE_OCCUPIED);
@@ -112,6 +117,11 @@ static void refused_ranges(lrc_slot *slot, lrc_slot *held) {
     EXPECT(lrc_slot_lend(&lent, 0, 1, held, &pieces), LRC_STORE_EMPTY);
     EXPECT(pieces, 77);
     EXPECT(lent.at != NULL, 0);
+    EXPECT(lrc_slot_copy(held, 1, got, BYTES), LRC_STORE_OUT_OF_RANGE);
+    EXPECT(lrc_slot_copy(held, UINT64_MAX, got, 2), LRC_STORE_OUT_OF_RANGE);
+    EXPECT(lrc_slot_copy(slot, 0, got, 1), LRC_STORE_EMPTY);
+    EXPECT(lrc_slot_copy(&lent, 0, got, 1), LRC_STORE_EMPTY);
+    for (size_t i = 0; i < BYTES; i++) EXPECT(got[i], 0);
 }
 
 /* A slot without a version: an empty one, and that of a session. */
@@ -129,13 +139,15 @@ static void no_version(lrc_slot *slot) {
 static void unrecoverable(lrc_slot *slot) {
     lrc_slot held = LRC_SLOT_EMPTY, lent = LRC_SLOT_EMPTY;
     uint64_t version = 0, len = 0, pieces = 0;
-    uint8_t got[4];
+    uint8_t got[4] = {0};
     EXPECT(lrc_store_put(slot, NAME("fox"), (const uint8_t *)FOX, BYTES, 6, &version),
            LRC_STORE_DONE);
     for (uint64_t f = 0; f < 5; f++)
         EXPECT(lrc_store_lose(slot, NAME("fox"), 1, f, &version), LRC_STORE_DONE);
     EXPECT(lrc_store_hold(slot, NAME("fox"), &held, &version, &len), LRC_STORE_DONE);
     EXPECT(lrc_slot_lend(&held, 0, 25, &lent, &pieces), LRC_STORE_UNRECOVERABLE);
+    EXPECT(lrc_slot_copy(&held, 24, got, 1), LRC_STORE_UNRECOVERABLE);
+    EXPECT(got[0], 0);
     EXPECT(lrc_slot_lend(&held, 20, 4, &lent, &pieces), LRC_STORE_DONE);
     EXPECT(gather(&lent, got), 4);
     EXPECT(memcmp(got, FOX + 20, 4), 0);

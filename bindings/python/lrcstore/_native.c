@@ -322,21 +322,6 @@ static int read_new(store_calls *self, struct call *call, uint64_t length, int64
     return PyErr_Occurred() ? -1 : 0;
 }
 
-/* Copies a range of the version, in which no other call is. */
-static uint32_t copy_range(lrc_slot *version, uint64_t start, uint64_t length, char *target) {
-    lrc_slot range = LRC_SLOT_EMPTY;
-    uint64_t pieces;
-    const uint32_t status = lrc_slot_lend(version, start, length, &range, &pieces);
-    for (uint64_t from = 0, count = 1; status == LRC_STORE_DONE && count;) {
-        lrc_slice run = {(const uint8_t *)"", 0};
-        lrc_slot_runs(&range, from, &run, 1, &count);
-        memcpy(target + from, run.at, run.len);
-        from += run.len;
-    }
-    lrc_slot_release(&range);
-    return status;
-}
-
 /* Copies the bytes of a version from `start` on into `bytes`, a new object, and empties the slot.
  * Returns -1 if there is an exception. */
 static int take_rest(lrc_slot *version, uint64_t start, uint64_t length, PyObject **bytes,
@@ -344,7 +329,7 @@ static int take_rest(lrc_slot *version, uint64_t start, uint64_t length, PyObjec
     *bytes = PyBytes_FromStringAndSize(NULL, (Py_ssize_t)length);
     char *target = *bytes ? PyBytes_AsString(*bytes) : NULL;
     PyThreadState *thread = length <= SHORT_BYTES ? NULL : PyEval_SaveThread();
-    if (target) *status = copy_range(version, start, length, target);
+    if (target) *status = lrc_slot_copy(version, start, (uint8_t *)target, (size_t)length);
     lrc_slot_release(version);
     if (thread) PyEval_RestoreThread(thread);
     if (target && *status != LRC_STORE_DONE) Py_CLEAR(*bytes);
@@ -673,7 +658,7 @@ static PyObject *held_read(held_version *self, PyObject *const *words, Py_ssize_
     if (bytes) {
         char *target = PyBytes_AsString(bytes);
         PyThreadState *thread = PyEval_SaveThread();
-        status = copy_range(&self->slot, start, length, target);
+        status = lrc_slot_copy(&self->slot, start, (uint8_t *)target, (size_t)length);
         PyEval_RestoreThread(thread);
     }
     leave(self);

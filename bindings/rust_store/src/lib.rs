@@ -132,8 +132,7 @@ impl Grant {
         if status != DONE {
             return Err(status);
         }
-        let mut runs = Vec::new();
-        for_runs(&mut lent, |some| runs.extend_from_slice(some));
+        let runs = runs_of(&mut lent);
         Ok(Grant {
             _lent: lent,
             version,
@@ -174,18 +173,18 @@ impl Grant {
     }
 }
 
-/// Passes all runs of a slot's lent range to `take`, up to 16 at a time.
-fn for_runs(lent: &mut Slot, mut take: impl FnMut(&[Slice])) {
-    let mut from = 0;
+/// All runs of a slot's lent range.
+fn runs_of(lent: &mut Slot) -> Vec<Slice> {
+    let (mut runs, mut from) = (Vec::new(), 0);
     loop {
         let (mut some, mut count) = ([Slice::empty(); 16], 0);
         // SAFETY: the slices are valid, and so many are passed. On an error none is written.
         unsafe { lrc_slot_runs(lent, from, some.as_mut_ptr(), some.len(), &mut count) };
         let written = &some[..count as usize];
-        take(written);
         from += written.iter().map(|run| run.len as u64).sum::<u64>();
+        runs.extend_from_slice(written);
         if written.len() < some.len() {
-            return;
+            return runs;
         }
     }
 }
@@ -443,27 +442,26 @@ impl Session {
 
     /// A copy of the whole blob, all of one version.
     pub fn get(&mut self, name: &str) -> Result<Vec<u8>, Error> {
-        let (mut lent, mut version, mut len, mut pieces) = (Slot::empty(), 0, 0, 0);
+        let (mut held, mut version, mut len) = (Slot::empty(), 0, 0);
+        let (at, name_len) = (name.as_ptr(), name.len());
         let status = self.named(name, |slot, wait_ms| unsafe {
-            lrc_store_get_wait(
+            lrc_store_hold_wait(
                 slot,
-                name.as_ptr(),
-                name.len(),
-                &mut lent,
+                at,
+                name_len,
+                &mut held,
                 &mut version,
                 &mut len,
-                &mut pieces,
                 wait_ms,
             )
         });
         check(status, format_args!("get({name:?})"))?;
-        let mut bytes = Vec::with_capacity(len as usize);
-        for_runs(&mut lent, |runs| {
-            for run in runs {
-                // SAFETY: the slot has the bytes as long as it is not released.
-                bytes.extend_from_slice(unsafe { std::slice::from_raw_parts(run.at, run.len) });
-            }
-        });
+        let len = len as usize;
+        let mut bytes = Vec::with_capacity(len);
+        let status = unsafe { lrc_slot_copy(&mut held, 0, bytes.as_mut_ptr(), len) };
+        check(status, format_args!("get({name:?})"))?;
+        // SAFETY: the copy has written so many bytes.
+        unsafe { bytes.set_len(len) };
         Ok(bytes)
     }
 

@@ -125,7 +125,6 @@ extern "C" {
     pub fn lrc_store_put_wait(slot: *mut Slot, name: *const u8, name_len: usize, blob: *const u8, blob_len: usize, data_fragments: u32, version: *mut u64, timeout_ms: i64) -> u32;
     pub fn lrc_store_read_wait(slot: *mut Slot, name: *const u8, name_len: usize, start: u64, target: *mut u8, len: usize, version: *mut u64, lent: *mut u64, built: *mut u64, timeout_ms: i64) -> u32;
     pub fn lrc_store_lend_wait(slot: *mut Slot, name: *const u8, name_len: usize, start: u64, len: u64, other: *mut Slot, version: *mut u64, pieces: *mut u64, timeout_ms: i64) -> u32;
-    pub fn lrc_store_get_wait(slot: *mut Slot, name: *const u8, name_len: usize, other: *mut Slot, version: *mut u64, len: *mut u64, pieces: *mut u64, timeout_ms: i64) -> u32;
     pub fn lrc_slot_slices(slot: *mut Slot, slices: *mut Slice, capacity: usize, count: *mut u64) -> u32;
     pub fn lrc_slot_runs(slot: *mut Slot, from: u64, runs: *mut Slice, capacity: usize, count: *mut u64) -> u32;
     pub fn lrc_store_lose_wait(slot: *mut Slot, name: *const u8, name_len: usize, stripe: u64, fragment: u64, version: *mut u64, timeout_ms: i64) -> u32;
@@ -139,6 +138,7 @@ extern "C" {
     pub fn lrc_store_numbers_wait(slot: *mut Slot, numbers: *mut RawNumbers, timeout_ms: i64) -> u32;
     pub fn lrc_slot_shape(slot: *mut Slot, shape: *mut RawShape) -> u32;
     pub fn lrc_slot_lost(slot: *mut Slot, stripe: u64, lost: *mut u16) -> u32;
+    pub fn lrc_slot_copy(slot: *mut Slot, start: u64, target: *mut u8, len: usize) -> u32;
     pub fn lrc_slot_lend(slot: *mut Slot, start: u64, len: u64, other: *mut Slot, pieces: *mut u64) -> u32;
     pub fn lrc_slot_fragment(slot: *mut Slot, stripe: u64, fragment: u64, bytes: *mut Slice) -> u32;
     pub fn lrc_pool_open(slot: *mut Slot, pool: *mut *mut RawPool) -> u32;

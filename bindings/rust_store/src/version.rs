@@ -121,6 +121,14 @@ impl Version {
         Grant::of(lent, self.number, pieces).map_err(failed)
     }
 
+    /// Copies as many bytes as `target` has, from the byte `start` on. After
+    /// [`Status::NotRebuilt`], any byte of `target` may have been written.
+    pub fn read_into(&mut self, start: u64, target: &mut [u8]) -> Result<(), Error> {
+        let (at, len) = (target.as_mut_ptr(), target.len());
+        let status = unsafe { lrc_slot_copy(&mut self.slot, start, at, len) };
+        check(status, format_args!("read_into({start}, {len})"))
+    }
+
     /// The bytes of a fragment of a stripe, data or parity.
     pub fn fragment(&mut self, stripe: u64, fragment: u64) -> Result<&[u8], Error> {
         let mut found = Slice::empty();

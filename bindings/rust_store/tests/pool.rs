@@ -35,7 +35,7 @@ fn threads_take_turns() {
     assert_eq!(stored.into_inner(), THREADS * TURNS);
     let mut session = pool.close().unwrap();
     assert_eq!(session.stat("n0").unwrap().len, 100);
-    assert_eq!(session.close().unwrap().entries, 3 * THREADS * TURNS + 1);
+    assert_eq!(session.close().unwrap().entries, 2 * THREADS * TURNS + 1);
 }
 
 #[test]

@@ -44,6 +44,12 @@ fn a_version_stays_as_it_is() {
     }
     let error = held.read(1, 200).err().unwrap();
     assert_eq!(error.call, "read(1, 200)");
+    let mut target = [0; 80];
+    held.read_into(3, &mut target).unwrap();
+    assert_eq!(target, blob[3..83]);
+    let error = held.read_into(121, &mut target).unwrap_err();
+    assert_eq!(error.status, Status::OutOfRange);
+    assert_eq!(error.call, "read_into(121, 80)");
     let code = |session: &mut Session| session.hold("b").unwrap().shape().unwrap().code;
     let mut other = Session::open(4, None).unwrap();
     assert_eq!(other.hold("b").err().unwrap().call, "hold(\"b\")");

@@ -22,6 +22,7 @@ use Rattle.session.specs.KnownFault.{IsBusyOrCallFault}
 use Rattle.session.specs.VersionShows.{VersionShows, IsHeldFrom, IsKnownVersion, sealed_in}
 use Rattle.store_c.specs.Status.{done, no_name, status_of_fault}
 use Rattle.store_c.specs.OnSession.{HasBytes}
+use Rattle.store_c.specs.Versions.{IsRangeCopy, IsCopyCall}
 use Rattle.store_c.specs.Hold.{IsHold, IsHoldTo, IsHoldCall, held, nothing_held, hold_refused}
 
 -- ---- the call of a session
@@ -77,3 +78,10 @@ range_bytes x g start len bytes is sealed_is start_is len_is range_is =
       version_is = v.represents.version;
       put_is = v.put_is;
     }
+
+-- ---- copies of a held version
+-- if the slot holds one
+pub on_copy : (old new : Option Held) (x : VersionShows) (number start status : ℕ) (before after : List ℕ) → old ≡ Some (Version x number) → new ≡ old → IsRangeCopy x start status before after
+    → IsCopyCall old start status before after new
+on_copy old new x number start status before after was same is =
+    subst (λ (h : Option Held). IsCopyCall h start status before after new) (sym was) (is, same ∙ was)

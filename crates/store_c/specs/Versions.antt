@@ -1,4 +1,4 @@
--- What C reads of a version that it holds: its shape, its lost fragments, a fragment and a range.
+-- What C reads of a version that it holds: its shape, its lost fragments, a fragment, and ranges.
 use Rattle.std.specs.Prelude.{◌≡◌, ◌<◌, ℕ, List, length, true, Option, Some, None}
 use Rattle.std.specs.List.{concat}
 use Rattle.lrc_code.specs.Code.{data_count}
@@ -8,6 +8,8 @@ use Rattle.sealed.specs.Sealed.{absent_in}
 use Rattle.lent.specs.declared.grant.Grant.{Grant}
 use Rattle.lent.specs.declared.grant.Asked.TheVariants.{Granted, OutOfRange, Unrecoverable}
 use Rattle.lent.specs.Asked.{IsAnswer}
+use Rattle.lent.specs.Granted.{cut_of}
+use Rattle.lent.specs.Walk.{HasAbsent}
 use Rattle.book.specs.Known.{IsFragmentIn}
 use Rattle.session.specs.declared.held.Held.{Held}
 use Rattle.session.specs.declared.held.Held.TheVariants.{Lending, Version}
@@ -15,7 +17,7 @@ use Rattle.session.specs.LentFrom.{IsLentFrom}
 use Rattle.session.specs.LostBits.{AreLostBits, lost_count}
 use Rattle.session.specs.VersionShows.{VersionShows}
 use Rattle.store_c.specs.declared.versions.VersionShape.{VersionShape}
-use Rattle.store_c.specs.Status.{already_lost, done, empty, no_fragment, no_memory, occupied, out_of_range, unrecoverable}
+use Rattle.store_c.specs.Status.{already_lost, done, empty, no_fragment, no_memory, not_rebuilt, occupied, out_of_range, unrecoverable}
 use Rattle.store_c.specs.OnSession.{HasBytes}
 
 -- the number of stripes of a blob
@@ -66,6 +68,21 @@ pub data IsRange (x : VersionShows) (start len status : ℕ) (counts : ℕ × �
   outside_range : IsAnswer x.sealed start len OutOfRange → status ≡ out_of_range → counts.1 ≡ counts.0 → given ≡ None → IsRange x start len status counts given
   unreadable_range : IsAnswer x.sealed start len Unrecoverable → status ≡ unrecoverable → counts.1 ≡ counts.0 → given ≡ None → IsRange x start len status counts given
   no_room_for_range : status ≡ no_memory → counts.1 ≡ counts.0 → given ≡ None → IsRange x start len status counts given
+
+-- With `done` the target has the bytes of the range, which are bytes of the put of the version. With
+-- `not_rebuilt`, memory to rebuild some ran out, and any byte of the target may have been written.
+-- Otherwise the target is unchanged
+pub data IsRangeCopy (x : VersionShows) (start status : ℕ) (old new : List ℕ) : Type 0 where
+  copied_range : (g : Grant) → IsAnswer x.sealed start (length old) (Granted g) → status ≡ done → HasBytes x.known.seen x.name start (length old) new x.sealed.version → IsRangeCopy x start status old new
+  outside_copy : IsAnswer x.sealed start (length old) OutOfRange → status ≡ out_of_range → new ≡ old → IsRangeCopy x start status old new
+  unreadable_copy : IsAnswer x.sealed start (length old) Unrecoverable → status ≡ unrecoverable → new ≡ old → IsRangeCopy x start status old new
+  no_memory_to_ask : status ≡ no_memory → new ≡ old → IsRangeCopy x start status old new
+  unbuilt_copy : (g : Grant) → IsAnswer x.sealed start (length old) (Granted g) → status ≡ not_rebuilt → HasAbsent g.sealed.value (cut_of g) → IsRangeCopy x start status old new
+
+-- the slot holds a version; or nothing was done. The slot is as it was
+abbrev pub IsCopyCall : Option Held → ℕ → ℕ → List ℕ → List ℕ → Option Held → Type 0
+IsCopyCall (Some (Version x number)) start status old new slot = IsRangeCopy x start status old new × (slot ≡ Some (Version x number))
+IsCopyCall held start status old new slot = (status ≡ empty) × (new ≡ old) × (slot ≡ held)
 
 -- the other slot is empty before; or nothing was done
 abbrev pub IsRangeTo : VersionShows → Option Held → ℕ → ℕ → ℕ → ℕ × ℕ → Option Held → Type 0

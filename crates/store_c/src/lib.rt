@@ -36,7 +36,8 @@ ghost use Rattle.store_c.specs.Plan.{IsPlanTo, IsPlanPartTo, IsMendCall, IsSkipC
 ghost use Rattle.store_c.specs.Sessions.{IsOpenCall, IsUnjournaledCall, IsSplitCall, IsJoinCall};
 ghost use Rattle.store_c.specs.Sessions.{AreOfOneStore, IsLearnCall, IsCloseCall, IsNumberCall};
 ghost use Rattle.store_c.specs.Shards.{IsShardCall};
-ghost use Rattle.store_c.specs.Versions.{IsShapeCall, IsLostCall, IsFragmentCall, IsRangeCall};
+ghost use Rattle.store_c.specs.Versions.{IsShapeCall, IsLostCall, IsFragmentCall};
+ghost use Rattle.store_c.specs.Versions.{IsCopyCall, IsRangeCall};
 
 use crate::items::PlanItem;
 use crate::journal::JournalEntry;
@@ -711,6 +712,28 @@ pub extern "C" fn lrc_slot_lend(
         Some(Held::Version { version, .. }) => {
             versions::lend_to(alloc, version, start, len, other, pieces)
         }
+        _ => EMPTY,
+    };
+    slot.put(held);
+    status
+}
+
+/// Copies bytes of a held version to `target`, as many as it has, from the byte `start` on. It
+/// rebuilds the bytes of lost fragments. It is no call of the store.
+#[unsafe(no_mangle)]
+pub extern "C" fn lrc_slot_copy(
+    alloc: Global,
+    slot: &mut Slot,
+    start: u64,
+    target: &mut [u8],
+) -> u32
+    ensures { IsCopyCall slot.old.held start result target.old target.new slot.new.held }
+{
+    let Some(held) = slot.take(alloc) else {
+        return EMPTY;
+    };
+    let status = match &*held {
+        Some(Held::Version { version, .. }) => versions::copy_to(alloc, version, start, target),
         _ => EMPTY,
     };
     slot.put(held);

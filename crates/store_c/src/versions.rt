@@ -3,15 +3,15 @@ ghost use Rattle.std.specs.Prelude.{◌≡◌, None, Some};
 ghost use Rattle.store_c.specs.Hold.{IsHold, IsHoldTo, IsHoldCall};
 ghost use Rattle.store_c.specs.Install.{CanInstall, MayInstall, IsInstall, IsInstallCall};
 ghost use Rattle.store_c.specs.Versions.{IsShapeOf, IsLostOf, IsFragmentTo};
-ghost use Rattle.store_c.specs.Versions.{IsRange, IsRangeTo};
+ghost use Rattle.store_c.specs.Versions.{IsRange, IsRangeCopy, IsRangeTo};
 
 use crate::answers::{name_of, number_of, write_version};
 use crate::places::{fill, make_room};
 use crate::status::{
-    ALREADY_LOST, BAD_ARGUMENT, BAD_NAME, DONE, EMPTY, NO_FRAGMENT, NO_MEMORY, NO_NAME, OCCUPIED,
-    OUT_OF_RANGE, UNRECOVERABLE,
+    ALREADY_LOST, BAD_ARGUMENT, BAD_NAME, DONE, EMPTY, NO_FRAGMENT, NO_MEMORY, NO_NAME,
+    NOT_REBUILT, OCCUPIED, OUT_OF_RANGE, UNRECOVERABLE,
 };
-use session::{Asked, Bytes, Code, Held, Lending, LentSlice, Session, Slot, Version};
+use session::{Asked, Bytes, Code, Held, Lending, LentSlice, Session, Slot, Version, copy_out};
 use std::alloc::Global;
 
 /// The shape of a version in C's layout: its number, its length in bytes, the numbers of stripes
@@ -225,6 +225,22 @@ pub(crate) fn lend_to(
         return OCCUPIED;
     }
     lend(alloc, version, start, len, other, pieces)
+}
+
+/// Copies a range of a version to `target`, and returns the status.
+pub(crate) fn copy_to(alloc: Global, version: &Version, start: u64, target: &mut [u8]) -> u32
+    ensures { IsRangeCopy version.now start result target.old target.new }
+{
+    let grant = match version.snapshot().read(start, target.len() as u64) {
+        Ok(Asked::Granted(grant)) => grant,
+        Ok(Asked::OutOfRange) => return OUT_OF_RANGE,
+        Ok(Asked::Unrecoverable) => return UNRECOVERABLE,
+        Err(_) => return NO_MEMORY,
+    };
+    match copy_out(alloc, &grant, target) {
+        Ok(_) => DONE,
+        Err(_) => NOT_REBUILT,
+    }
 }
 
 /// Repairs a fragment with bytes from outside, by the session and the version that the slots hold.

@@ -7,7 +7,7 @@ mod real;
 pub use real::{
     lrc_pool_close, lrc_pool_give, lrc_pool_open, lrc_pool_take, lrc_shards_at, lrc_shards_close,
     lrc_shards_mend, lrc_shards_numbers, lrc_shards_open, lrc_shards_trim, lrc_slot_buffer,
-    lrc_slot_entry, lrc_slot_fragment, lrc_slot_learn, lrc_slot_lend, lrc_slot_lost,
+    lrc_slot_copy, lrc_slot_entry, lrc_slot_fragment, lrc_slot_learn, lrc_slot_lend, lrc_slot_lost,
     lrc_slot_reserve, lrc_slot_runs, lrc_slot_shape, lrc_slot_slices, lrc_store_join,
     lrc_store_name, lrc_store_open, lrc_store_open_unjournaled, lrc_store_shard, lrc_store_split,
     lrc_store_text, RawBuffer, RawEntry, RawNumbers, RawOptions, RawPool, RawShape, RawShards,
@@ -80,7 +80,6 @@ recorded! {
     lrc_store_put_wait(slot: *mut Slot, name: *const u8, name_len: usize, blob: *const u8, blob_len: usize, data_fragments: u32, version: *mut u64);
     lrc_store_read_wait(slot: *mut Slot, name: *const u8, name_len: usize, start: u64, target: *mut u8, len: usize, version: *mut u64, lent: *mut u64, built: *mut u64);
     lrc_store_lend_wait(slot: *mut Slot, name: *const u8, name_len: usize, start: u64, len: u64, other: *mut Slot, version: *mut u64, pieces: *mut u64);
-    lrc_store_get_wait(slot: *mut Slot, name: *const u8, name_len: usize, other: *mut Slot, version: *mut u64, len: *mut u64, pieces: *mut u64);
     lrc_store_lose_wait(slot: *mut Slot, name: *const u8, name_len: usize, stripe: u64, fragment: u64, version: *mut u64);
     lrc_store_repair_wait(slot: *mut Slot, name: *const u8, name_len: usize, stripe: u64, fragment: u64, version: *mut u64);
     lrc_store_delete_wait(slot: *mut Slot, name: *const u8, name_len: usize, version: *mut u64);

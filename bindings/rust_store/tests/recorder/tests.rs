@@ -47,7 +47,7 @@ const NAMES: [&str; 12] = [
     "lrc_store_put_from_wait",
     "lrc_store_lend_wait",
     "lrc_store_read_wait",
-    "lrc_store_get_wait",
+    "lrc_store_hold_wait",
     "lrc_store_lose_wait",
     "lrc_store_repair_wait",
     "lrc_store_delete_wait",
@@ -167,7 +167,7 @@ fn get_copies_the_whole_blob() {
     }
     session.put("a", &long, Code::Wide).unwrap();
     for stripe in 0..long.len().div_ceil(48) as u64 {
-        session.lose("a", stripe, 3).unwrap(); // so that there is a run for each part
+        session.lose("a", stripe, 3).unwrap();
     }
     assert_eq!(session.get("a").unwrap(), long);
     let missing = session.get("none").unwrap_err();
