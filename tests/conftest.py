@@ -19,17 +19,18 @@ if os.environ.get("LRC_LIBRARIES"):
     os.environ["LRC_LIBRARIES"] = os.path.abspath(os.environ["LRC_LIBRARIES"])
 LIBRARIES = os.environ.get("LRC_LIBRARIES")
 HAS_HEADER = os.path.exists(python_extension.header())
-# What loads the libraries is not collected without them, nor Python's coder if it isn't compiled.
+# What loads the libraries is not collected without them, nor Python's package if it isn't compiled.
 collect_ignore = [] if LIBRARIES else ["library", "release", "services", "store"]
-collect_ignore += [] if HAS_HEADER else ["library", "services"]
+collect_ignore += [] if HAS_HEADER else ["library", "services", "store"]
 
 
 @functools.lru_cache(maxsize=None)
-def compile_coder():
-    """Puts a copy of Python's modules before them, with the extension module of the coder."""
+def compile_modules():
+    """Puts a copy of Python's modules before them, with the extension modules."""
     copy = os.path.join(tempfile.mkdtemp(), "python")
     shutil.copytree(os.path.join(TOP, "bindings", "python"), copy)
-    python_extension.build("_coder", LIBRARIES, os.path.join(copy, "lrcstore"), LIBRARIES)
+    for name in python_extension.MODULES:
+        python_extension.build(name, LIBRARIES, os.path.join(copy, "lrcstore"), LIBRARIES)
     sys.path.insert(0, copy)
     os.environ["PYTHONPATH"] = copy
     return os.path.dirname(copy)
@@ -38,15 +39,13 @@ def compile_coder():
 def pytest_pycollect_makemodule(module_path):
     """A module of a folder with tests of the libraries loads them as it is imported."""
     if module_path.parent.name in ("library", "services", "store"):
-        compile_coder()
-        for name in ("coder", "store"):
-            path = os.path.join(LIBRARIES, f"liblrc_{name}.so")
-            os.environ.setdefault(f"LRC_{name.upper()}_SO", path)
+        compile_modules()
+        os.environ.setdefault("LRC_CODER_SO", os.path.join(LIBRARIES, "liblrc_coder.so"))
 
 
 def pytest_unconfigure():
-    if compile_coder.cache_info().currsize:
-        shutil.rmtree(compile_coder())
+    if compile_modules.cache_info().currsize:
+        shutil.rmtree(compile_modules())
 
 
 def pytest_addoption(parser):
@@ -111,8 +110,8 @@ def python(libraries):
     """A function that runs Python over the libraries, with modules of a folder."""
 
     def python_with(modules, *words, **environment):
-        names = {f"LRC_{it}_SO": f"{libraries}/liblrc_{it.lower()}.so" for it in ("STORE", "CODER")}
-        names.update(PYTHONDONTWRITEBYTECODE="1", PYTHONPATH=modules)
+        names = {"LRC_CODER_SO": f"{libraries}/liblrc_coder.so", "PYTHONPATH": modules}
+        names.update(PYTHONDONTWRITEBYTECODE="1")
         return output("python3", *words, **{**names, **environment})
 
     return python_with

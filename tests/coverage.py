@@ -53,8 +53,8 @@ def run_programs(work):
 
 
 def of_python(work):
-    """Runs the tests of the Python modules, and of a copy with the extension modules. Returns the
-    path of what was counted."""
+    """Runs the tests of the Python package, in a copy with the extension modules. Returns the path
+    of what was counted."""
     package = os.path.join(work, "package")
     modules = os.path.join(TOP, "bindings", "python")
     shutil.copytree(modules, package)
@@ -68,18 +68,16 @@ def of_python(work):
     for file in ("library/watched", "store/busy"):
         made = os.path.join(work, f"{os.path.basename(file)}.so")
         run("gcc", *where, "-fPIC", "-shared", f"tests/{file}.c", "-o", made)
-    names = {f"LRC_{it}_SO": library(f"liblrc_{it.lower()}.so") for it in ("STORE", "CODER")}
+    names = {"LRC_CODER_SO": library("liblrc_coder.so"), "PYTHONPATH": package}
     names.update(PYTHONDONTWRITEBYTECODE="1", COVERAGE_FILE=os.path.join(work, "python"))
     counts = ["python3-coverage", "run", "--parallel-mode", "--branch"]
     counts.append("--include=*/lrc*.py,*/lrcstore/*")
-    for path, preloaded, words in (
-        (modules, "", "tests/store/bindings.py"),
-        (modules, "", "tests/store/package.py ctypes"),
-        (package, f"{work}/watched.so", "tests/library/bindings.py"),
-        (package, "", "tests/store/package.py native"),
-        (package, f"{work}/busy.so", "tests/store/package_busy.py"),
+    for preloaded, file in (
+        (f"{work}/watched.so", "tests/library/bindings.py"),
+        ("", "tests/store/package.py"),
+        (f"{work}/busy.so", "tests/store/package_busy.py"),
     ):
-        output(*counts, *words.split(), PYTHONPATH=path, LD_PRELOAD=preloaded, **names)
+        output(*counts, file, LD_PRELOAD=preloaded, **names)
     # the copy's lines are those of the package
     with open(os.path.join(work, "paths"), "w", encoding="utf-8") as paths:
         paths.write(f"[paths]\nof =\n    {modules}\n    {package}\n")

@@ -1,7 +1,6 @@
-"""What a library's crate exports, and what its header, Rust crate and Python module declare.
+"""What a library's crate exports, and what its header and Rust crate declare.
 
-A type is written as `*const u8`, `*mut slot`, `u64` or `size`. ctypes does not say what is const,
-and has one type for u64 and size.
+A type is written as `*const u8`, `*mut slot`, `u64` or `size`.
 """
 
 import os
@@ -116,14 +115,6 @@ def in_rust(text):
 
     block = re.search(r'extern "C" \{(.*?)\n\}', text, flags=re.S)[1]
     return {name: [*map(shown, types)] for name, types in rust_like("", block)}
-
-
-def of_ctypes(declared):
-    """The same without what ctypes cannot say."""
-    return {
-        name: [re.sub(r"\*(const|mut)", "*", word).replace("size", "u64") for word in words]
-        for name, words in declared.items()
-    }
 
 
 def numbers(pattern, text):

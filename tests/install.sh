@@ -11,6 +11,8 @@ top=$PWD
 page=docs/install.md
 prefix=$work/srv/lrc
 app=$work/app
+# Without it no package for Python is installed.
+header=$(tools/python_extension.py --header)
 
 # block LANGUAGE NUMBER: a fenced block of the page, for this prefix and this Python
 block() {
@@ -82,6 +84,7 @@ of_shards() {
     cp bindings/python/shards.py "$app/store.py"
     cp bindings/rust_store/examples/shards.rs "$app/src/main.rs"
     for language in 1 2 3 5; do
+        [ $language = 3 ] && [ ! -e "$header" ] && continue
         command_of_page $language "$text" || return
     done
     prints "$text" env PKG_CONFIG_PATH="$prefix/lib/pkgconfig" GOCACHE="$work/go" bash -c \
@@ -127,7 +130,8 @@ package() {
     grep -qE '^export (PATH|PKG_CONFIG_PATH|CMAKE_PREFIX_PATH)' "$work/log" && return 1
     grep -q '^prefix=/usr$' "$root/$libdir/pkgconfig/lrc_store.pc" \
         && ! grep -q rpath "$root/$libdir/pkgconfig/lrc_store.pc" \
-        && [ -e "$root/lib/python3/dist-packages/liblrc_store.so" ]
+        && { [ ! -e "$header" ] || PYTHONPATH=$root/lib/python3/dist-packages \
+            PYTHONDONTWRITEBYTECODE=1 python3 -c "from lrcstore import Store, coder"; }
 }
 
 # The program of the tutorial makes no mistake, as the installed library says. That finds the store
@@ -158,7 +162,7 @@ write_app
 test_of "program" pkg-config pkg-config program
 test_of "C" pkg-config pkg-config command_of_page 1
 test_of "C++" pkg-config pkg-config command_of_page 2
-test_of "Python" python3 python3 command_of_page 3
+test_of "Python" "$header" python3-dev command_of_page 3
 test_of "CMake" cmake cmake command_of_page 4
 test_of "Rust" cargo cargo command_of_page 5
 test_of "Go" go golang-go in_go

@@ -143,17 +143,13 @@ def choice(level):
     return Test(built, "tests/edges/choice.sh ./program", level=level)
 
 
+# Compiles the extension module of Python's store.
+NATIVE = "tools/python_extension.py --libraries $LRC_LIBRARIES --rpath $LRC_LIBRARIES"
+NATIVE += " --to bindings/python/lrcstore _native"
+NATIVE_READS = ("include/", "tools/", "bindings/python/lrcstore/_native.c")
 COUNTED = "tests/store/counted.sh counted"
 GO_CODER = "LRC_GO_LIBRARY=lrc_coder tests/store/go.sh"
 RUST_LEAKS = "cargo test --quiet --offline --test leaks"
-
-
-def leaks(way):
-    """Runs the test of what Python's modules leave, if they call in this way."""
-    return (
-        "rm -f numbers && LRC_STORE_SO=counted/liblrc_store.so LRC_COUNTED=numbers"
-        f" PYTHONPATH=bindings/python:tests/store python3 tests/store/leaks.py {way} -f"
-    )
 
 
 def rust_crate(folder):
@@ -209,6 +205,7 @@ TESTS = {
         prepare="for each in lrcstore lrc; do mkdir -p crates/$each/out || exit; "
         "printf '#!/bin/sh\\necho %s 0.1.0\\n' $each > crates/$each/out/$each; "
         "chmod +x crates/$each/out/$each; done",
+        needs=PYTHON,
     ),
     "release": Test("true", "python3 tests/release/modules.py -f"),
     "checked": Test("true", f"{PYTEST} tests/test_checked.py -k misuse"),
@@ -220,11 +217,11 @@ TESTS = {
         needs=PYTHON,
         reads=("include/", "tools/", "tests/", "bindings/python/lrcstore/_coder.c"),
     ),
-    "python_store": Test("true", "python3 tests/store/bindings.py"),
+    "declarations": Test("true", f"{PYTEST} tests/test_declarations.py", needs=PYTEST_PACKAGE),
     "python_package": Test(
         "tools/python_extension.py --libraries $LRC_LIBRARIES --rpath $LRC_LIBRARIES"
         f" --to bindings/python/lrcstore && {C} -shared -fPIC tests/store/busy.c -o busy.so",
-        "python3 tests/store/package.py native -f"
+        "python3 tests/store/package.py -f"
         " && LD_PRELOAD=./busy.so python3 tests/store/package_busy.py -f",
         needs=PYTHON,
         reads=("include/", "library/", "tools/", "tests/", "bindings/python/lrcstore/_native.c"),
@@ -233,12 +230,12 @@ TESTS = {
     "python_leaks": Test(
         "tools/python_extension.py --libraries $LRC_LIBRARIES --rpath $PWD/counted"
         " --to bindings/python/lrcstore _native",
-        leaks("native"),
+        "rm -f numbers && LRC_COUNTED=numbers PYTHONPATH=bindings/python:tests/store"
+        " python3 tests/store/leaks.py -f",
         prepare=COUNTED,
         needs=PYTHON,
-        reads=("include/", "tools/", "bindings/python/lrcstore/_native.c"),
+        reads=NATIVE_READS,
     ),
-    "python_leaks_ctypes": Test("true", leaks("ctypes"), prepare=COUNTED),
     "go_leaks": Test(
         "LRC_COUNTED=yes LRC_LIBRARIES=$PWD/counted tests/store/go.sh test -c -o ../../program .",
         "rm -f numbers && LRC_COUNTED=$PWD/numbers LD_LIBRARY_PATH=counted ./program"
@@ -254,7 +251,12 @@ TESTS = {
         prepare=COUNTED,
         needs=CARGO,
     ),
-    "mount": Test("true", "/usr/bin/python3 tests/services/mount.py", needs=FUSE),
+    "mount": Test(
+        NATIVE,
+        "/usr/bin/python3 tests/services/mount.py",
+        needs={**FUSE, **PYTHON},
+        reads=NATIVE_READS,
+    ),
     "resp": Test(
         f"{C} examples/server_resp/server.c {STORE} -o program",
         "python3 tests/services/resp_server.py ./program OneThread FewFiles Words",
@@ -270,8 +272,9 @@ TESTS = {
         " tests/services/resp_server.py ./program OneThread.test_other_commands",
         prepare=COUNTED,
     ),
-    "http": Test("true", "python3 tests/services/http_server.py"),
-    "python_sessions": Test("true", "python3 tests/store/package.py ctypes -f"),
+    "http": Test(
+        NATIVE, "python3 tests/services/http_server.py", needs=PYTHON, reads=NATIVE_READS
+    ),
     "rust_coder": rust_crate("bindings/rust"),
     "rust_store": rust_crate("bindings/rust_store"),
     "cache": rust_crate("examples/cache"),
@@ -381,7 +384,6 @@ def succeeds(command, tree, seconds, **others):
         CARGO_INCREMENTAL="0",
         CARGO_PROFILE_DEV_DEBUG="0",
         CARGO_PROFILE_TEST_DEBUG="0",
-        LRC_STORE_SO=os.path.join(os.environ["LRC_LIBRARIES"], "liblrc_store.so"),
         LRC_CODER_SO=os.path.join(os.environ["LRC_LIBRARIES"], "liblrc_coder.so"),
         **others,
     )

@@ -52,11 +52,11 @@ clone_here() {
 # What wheels and Debian packages need here. What is missing is skipped.
 choose_kinds() {
     local missing
-    if [ -e "$(tools/python_extension.py --header)" ]; then
-        kinds+=(wheel)
-    else
-        skipped+=("wheel: no python3-dev")
+    if [ ! -e "$(tools/python_extension.py --header)" ]; then
+        skipped+=("wheel, Debian packages: no python3-dev")
+        return
     fi
+    kinds+=(wheel)
     if ! has dpkg-buildpackage || ! has dh || ! has dh_python3; then
         skipped+=("Debian packages: no debhelper, dh-python")
         return
@@ -81,7 +81,7 @@ packs() {
         compgen -G "$work/dist/*$kind" > /dev/null || { echo "no $kind"; return 1; }
     done
     if [[ " ${kinds[*]} " == *" wheel "* ]]; then
-        compgen -G "$work/dist/*-cp311.py3-abi3.none-*.whl" > /dev/null || return
+        compgen -G "$work/dist/*-cp311-abi3-*.whl" > /dev/null || return
     fi
     (cd "$work/dist" && sha256sum --quiet -c SHA256SUMS)
 }

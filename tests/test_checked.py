@@ -227,9 +227,8 @@ def test_resp_server(checked, tmp_path):
 def test_python_package(checked, package_with, libraries):
     """The extension module calls the wrappers, which the loader finds before the library."""
     python = output("python3", "-c", "import sys; print(sys.executable)").strip()
-    names = {f"LRC_{it}_SO": f"{libraries}/liblrc_{it.lower()}.so" for it in ("STORE", "CODER")}
-    names.update(PYTHONPATH=package_with(libraries), PYTHONDONTWRITEBYTECODE=1)
-    is_quiet(checked, python, "tests/store/package.py", "native", **names)
+    names = {"PYTHONPATH": package_with(libraries), "PYTHONDONTWRITEBYTECODE": 1}
+    is_quiet(checked, python, "tests/store/package.py", **names)
 
 
 def test_go_package(checked, tmp_path):

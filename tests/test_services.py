@@ -30,15 +30,10 @@ def test_redis_protocol_sanitized(tmp_path):
     drive_server(tmp_path, [*SANITIZERS, library("liblrc_store.a")])
 
 
-def test_http_by_ctypes(python):
-    python(PYTHON, "tests/services/http_server.py")
-
-
 def test_http(python, package_with, counted, tmp_path):
-    """By the extension module, over the library that counts its blocks of memory."""
-    where = {"LRC_STORE_SO": counted / "liblrc_store.so", "LRC_COUNTED": tmp_path / "numbers"}
+    """Over the library that counts its blocks of memory."""
     modules = f"{package_with(counted, '_native')}:tests/store"
-    python(modules, "tests/services/http_server.py", **where)
+    python(modules, "tests/services/http_server.py", LRC_COUNTED=tmp_path / "numbers")
 
 
 def test_objects_over_nodes(python, package_with, libraries):
@@ -54,10 +49,9 @@ def test_cache(cargo_target):
     assert output("cargo", "run", *words, CARGO_TARGET_DIR=cargo_target) == shown
 
 
-def test_file_system(libraries):
+def test_file_system(package_with, libraries):
     """By the Python of the system, which has fusepy."""
-    names = {f"LRC_{it}_SO": f"{libraries}/liblrc_{it.lower()}.so" for it in ("STORE", "CODER")}
-    names.update(PYTHONDONTWRITEBYTECODE=1, PYTHONPATH=PYTHON)
+    names = {"PYTHONPATH": package_with(libraries, "_native"), "PYTHONDONTWRITEBYTECODE": 1}
     words = ["/usr/bin/python3", "tests/services/mount.py"]
     try:
         run(*words, "--can", **names)

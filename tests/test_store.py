@@ -36,7 +36,6 @@ CALLED += "|__pthread_(register_cancel|unregister_cancel|unwind_next)|__sigsetjm
 # What the examples of each language print.
 EXAMPLES = {"store": "HELLO, WORLD\n", "shards": "HELLO, WORLD: 2000 repaired, 0 lost\n"}
 example = pytest.mark.parametrize("name", EXAMPLES)
-PYTHON = "bindings/python"
 
 
 @pytest.mark.parametrize("name, how", [(name, how) for name, hows in RUNS.items() for how in hows])
@@ -69,6 +68,10 @@ def test_two_copies_of_the_library(tmp_path):
     run(build(tmp_path, "copies", flags=["-ldl"]), *copies)
 
 
+def test_limits(python):
+    python("", "tests/store/limits.py")
+
+
 @example
 def test_example_in_c(tmp_path, name):
     assert output(build(tmp_path, f"{name} in C", standard="c99")) == EXAMPLES[name]
@@ -99,36 +102,30 @@ def test_leaks_in_rust(cargo_target, counted, tmp_path):
 # ---- Python
 
 
+@pytest.fixture(scope="module")
+def modules(package_with, libraries):
+    """The Python package with its extension modules."""
+    return package_with(libraries)
+
+
 @example
-def test_example_in_python(python, name):
-    assert python(PYTHON, f"bindings/python/{name}.py") == EXAMPLES[name]
+def test_example_in_python(python, modules, name):
+    assert python(modules, modules / f"{name}.py") == EXAMPLES[name]
 
 
-@pytest.mark.parametrize("words", ["bindings.py", "package.py ctypes", "limits.py"])
-def test_python(python, words):
-    file, *rest = words.split()
-    python(PYTHON, f"tests/store/{file}", *rest)
+def test_python(python, modules):
+    python(modules, "tests/store/package.py")
 
 
-def test_python_package(python, package_with, libraries, busy):
-    """The package with its extension module, and a store that is busy for ever."""
-    modules = package_with(libraries)
-    python(modules, "tests/store/package.py", "native")
+def test_busy_store_in_python(python, modules, busy):
+    """The calls of a store that is busy for ever end at their deadline, or by a signal."""
     python(modules, "tests/store/package_busy.py", LD_PRELOAD=busy)
 
 
-def leaks(python, counted, folder, way, modules):
-    """What Python's modules leave of the library's memory."""
-    where = {"LRC_STORE_SO": counted / "liblrc_store.so", "LRC_COUNTED": folder / "numbers"}
-    python(f"{modules}:tests/store", "tests/store/leaks.py", way, **where)
-
-
-def test_leaks_in_python_by_ctypes(python, counted, tmp_path):
-    leaks(python, counted, tmp_path, "ctypes", PYTHON)
-
-
 def test_leaks_in_python(python, package_with, counted, tmp_path):
-    leaks(python, counted, tmp_path, "native", package_with(counted, "_native"))
+    """What Python's package leaves of the library's memory."""
+    modules = f"{package_with(counted, '_native')}:tests/store"
+    python(modules, "tests/store/leaks.py", LRC_COUNTED=tmp_path / "numbers")
 
 
 # ---- Go

@@ -12,7 +12,6 @@ ABI = libraries.abi(NUMBER)
 PLACES = [
     ("README.md", r"^> \*\*Status: ([\d.]+\d),", NUMBER),
     ("CHANGELOG.md", r"\A(?:(?!^## ).)*^## ([\d.]+\d)", NUMBER),
-    ("bindings/python/lrc_store.py", r"\.so\.(\d[\d.]*)", ABI),
     ("bindings/rust/Cargo.toml", r'^version = "([^"]*)"', NUMBER),
     ("bindings/rust_store/Cargo.toml", r'^version = "([^"]*)"', NUMBER),
     ("bindings/rust_store/Cargo.lock", r'^version = "([^"]*)"', NUMBER),

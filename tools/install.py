@@ -6,12 +6,12 @@
 
 Under P it leaves bin/lrcstore and bin/lrc, the headers, man pages, completions for shells, the
 sources of the Rust crates and of the Go module, and for `lrc_coder` and `lrc_store` each a static
-library, a shared one, a pkg-config file, a CMake package and a Python module; the Python package
-`lrcstore`; and liblrc_store_checked.so, which finds callers' mistakes. At its end it prints the
-variables to set, so that programs find them. The libraries have the code for x86-64-v2 and
-x86-64-v3 and choose when they are loaded; the programs are for the processor that --cpu names.
-Libraries in the folder that LRC_LIBRARIES names are taken as they are, and with --reuse the
-programs that were built before. It needs `rt`, gcc and binutils.
+library, a shared one, a pkg-config file and a CMake package; the Python package `lrcstore`, if the
+headers of Python 3.11 or later are here; and liblrc_store_checked.so, which finds callers'
+mistakes. At its end it prints the variables to set, so that programs find them. The libraries have
+the code for x86-64-v2 and x86-64-v3 and choose when they are loaded; the programs are for the
+processor that --cpu names. Libraries in the folder that LRC_LIBRARIES names are taken as they are,
+and with --reuse the programs that were built before. It needs `rt`, gcc and binutils.
 """
 
 import argparse
@@ -57,7 +57,6 @@ def install(installation, cpu, reuse):
         installation.headers()
         for name in libraries.LIBRARIES:
             installation.library(name, ready)
-            installation.python(name)
             installation.rust(name)
         installation.checked(ready)
         installation.python_package(ready)

@@ -14,6 +14,8 @@ TOP = libraries.TOP
 HEADERS = ("lrc_coder.h", "lrc_store.h", "lrc_store.hpp")
 RUST = {"lrc_coder": "rust", "lrc_store": "rust_store"}
 PACKAGE = "lrcstore"
+# A Python module beside the package: the coder by its older name.
+ALIAS = "lrc_coder"
 MANIFEST = os.path.join("share", "lrcstore", "installed.txt")
 # Where each shell looks for the completions of a program, under a prefix.
 COMPLETIONS = {
@@ -87,27 +89,17 @@ class Installation:
         there = os.path.dirname(self.place(f"{self.libdir}/{checked_library.NAME}"))
         checked_library.build(folder, there, "$ORIGIN" if has_path else None)
 
-    def module(self, name):
-        """A Python module, which loads the library that the system's loader finds."""
-        source = os.path.join(TOP, "bindings", "python", f"{name}.py")
-        self.copy(source, f"{self.pythondir}/{name}.py")
-
-    def python(self, name):
-        """A Python module, and beside it the library that it loads."""
-        self.module(name)
-        library = f"{self.libdir}/{libraries.soname(name)}"
-        self.link(os.path.relpath(library, self.pythondir), f"{self.pythondir}/lib{name}.so")
-
     def python_package(self, folder, has_path=True):
-        """The Python package, and its extension modules if this machine can compile them over the
-        libraries in a folder. They find the installed ones by a path, or as the system's loader
-        does."""
-        source, to = os.path.join(TOP, "bindings", "python", PACKAGE), f"{self.pythondir}/{PACKAGE}"
-        for file in sorted(os.listdir(source)):
-            if file.endswith((".py", ".pyi", ".typed")):
-                self.copy(os.path.join(source, file), f"{to}/{file}")
+        """The Python package, if this machine can compile its extension modules over the libraries
+        in a folder. They find the installed ones by a path, or as the system's loader does."""
         if not os.path.exists(python_extension.header()):
+            print(f"no package for Python, as there is no {python_extension.header()}")
             return
+        source, to = os.path.join(TOP, "bindings", "python"), f"{self.pythondir}/{PACKAGE}"
+        self.copy(os.path.join(source, f"{ALIAS}.py"), f"{self.pythondir}/{ALIAS}.py")
+        for file in sorted(os.listdir(os.path.join(source, PACKAGE))):
+            if file.endswith((".py", ".pyi", ".typed")):
+                self.copy(os.path.join(source, PACKAGE, file), f"{to}/{file}")
         rpath = f"$ORIGIN/{os.path.relpath(self.libdir, to)}" if has_path else None
         for name in python_extension.MODULES:
             there = os.path.dirname(self.place(f"{to}/{python_extension.file_of(name)}"))

@@ -8,7 +8,7 @@ FOLDER has the libraries: `_coder` calls liblrc_coder.so, and `_native` calls li
 are compiled if none is named. A module finds its library where PATH says, or else where the
 system's loader looks. It is of Python's stable ABI, so that of one Python serves all later ones. It
 needs gcc and the headers of Python 3.11 or later, and --header prints the path of the first.
-Without `_native` the package calls the store by ctypes, and without `_coder` it has no coder.
+Without `_native` the package has no store, and without `_coder` no coder.
 """
 
 import argparse

@@ -333,19 +333,19 @@ print(*sorted({it for it in lines if "/liblrc_" in it}))
         return ran.stdout.split()
 
     def library(self, name, *folder):
-        return self.path(*(folder or ("site",)), f"lrc_{name}", f"liblrc_{name}.so.0.1")
+        return self.path(*(folder or ("site",)), "lrcstore", f"liblrc_{name}.so.0.1")
 
     @unittest.skipUnless(importlib.util.find_spec("pip"), "no pip")
-    def test_a_fresh_environment_calls_by_the_extension(self):
+    def test_a_fresh_environment_has_the_package_and_the_program(self):
         venv.create(self.path("fresh"), symlinks=True)
         command = [sys.executable, "-m", "pip", "install", "-qqq", "--no-index", self.wheel]
         subprocess.run([*command, "--prefix", self.path("fresh")], check=True)
-        code = "import sys, lrcstore; from lrcstore import _store; print(_store.Calls.__module__)"
-        code += "\nstore = lrcstore.Store(4); store.put('a', b'HELLO'); print(store.get('a'))"
+        code = "from lrcstore import Store; store = Store(4); store.put('a', b'HELLO')"
+        code += "; print(store.get('a'))"
         version = "python{}.{}".format(*sys.version_info)
         site = ("fresh", "lib", version, "site-packages")
         said = self.printed(code + self.MAPS, self.path("fresh", "bin", "python"), PYTHONPATH="")
-        self.assertEqual(said, ["lrcstore._native", "b'HELLO'", self.library("store", *site)])
+        self.assertEqual(said, ["b'HELLO'", self.library("store", *site)])
         subprocess.run([self.path("fresh", "bin", "lrc")], check=True)
 
     def test_each_extension_finds_its_library_without_the_modules(self):
@@ -356,7 +356,6 @@ print(*sorted({it for it in lines if "/liblrc_" in it}))
 
     def test_each_module_loads_its_library_alone(self):
         for code, library in (
-            ("import lrc_store", "store"),
             ("from lrcstore import Store", "store"),
             ("import lrcstore; lrcstore.name_of('a')", "store"),
             ("import lrc_coder", "coder"),
@@ -369,29 +368,31 @@ print(*sorted({it for it in lines if "/liblrc_" in it}))
         code = "from lrcstore import coder; print(coder.is_unrecoverable(12, [3], 3))"
         self.assertEqual(self.printed(code), ["False"])
 
-    def test_an_older_python_calls_by_ctypes(self):
-        for version, wanted in (((3, 10, 13), "_sessions"), ((3, 11, 0), "_native")):
-            code = f"import sys; sys.version_info = {version}; from lrcstore import _store"
-            said = self.printed(f"{code}; print(_store.Calls.__module__)")
-            self.assertEqual(said, [f"lrcstore.{wanted}"])
-
-    def test_an_older_python_has_no_coder(self):
-        code = """
-import sys; sys.version_info = 3, 10, 13
+    def test_an_older_python_is_refused(self):
+        for version, said in (
+            ((3, 10, 13), "lrcstore needs Python 3.11 or later, whose stable ABI its modules have"),
+            ((3, 11, 0), "imported"),
+        ):
+            code = f"""
+import sys; sys.version_info = {version}
 try:
-    import lrcstore.coder
+    import lrcstore
+    print("imported")
 except ImportError as error:
     print(error)
 """
-        self.assertIn("needs Python 3.11,", " ".join(self.printed(code)))
+            self.assertEqual(" ".join(self.printed(code)), said)
 
-    def test_its_name_and_its_tags_are_those_of_both_ways_to_call(self):
-        platform = re.search("manylinux_2_[0-9]+_x86_64", self.name).group(0)
-        self.assertEqual(self.name, f"lrcstore-0.1.0-cp311.py3-abi3.none-{platform}.whl")
-        with open(self.path("site", "lrcstore-0.1.0.dist-info", "WHEEL"), encoding="utf-8") as file:
-            listed = [line[5:].rstrip("\n") for line in file if line.startswith("Tag: ")]
-        wanted = {f"{it}-{platform}" for it in ("cp311-abi3", "cp311-none", "py3-abi3", "py3-none")}
-        self.assertEqual((set(listed), len(listed)), (wanted, 4))
+    def test_its_name_and_its_tag_are_those_of_the_stable_abi(self):
+        tag = re.search("cp311-abi3-manylinux_2_[0-9]+_x86_64", self.name).group(0)
+        self.assertEqual(self.name, f"lrcstore-0.1.0-{tag}.whl")
+        info = self.path("site", "lrcstore-0.1.0.dist-info")
+        self.assertIn(f"\nTag: {tag}\n", reproducible.read_bytes(info, "WHEEL").decode())
+        metadata = reproducible.read_bytes(info, "METADATA").decode()
+        self.assertIn("\nRequires-Python: >=3.11\n", metadata)
+        names = {it.partition("/")[0] for it in self.names}
+        data = {f"lrcstore-0.1.0.{it}" for it in ("data", "dist-info")}
+        self.assertEqual(names, {"lrc_coder.py", "lrcstore", *data})
 
     def test_without_the_header_of_python_none_is_made(self):
         with mock.patch.object(python_extension, "header", lambda: "/no/Python.h"):

@@ -18,6 +18,19 @@ TOP = os.path.dirname(os.path.dirname(os.path.dirname(os.path.abspath(__file__))
 SERVER = os.path.join(TOP, "examples", "server_http", "server.py")
 PATIENCE = 60  # seconds that no step takes
 COUNTED = "LRC_COUNTED" in os.environ
+# Runs the server so that other calls come between a hold of a version and what follows it.
+SLOW = """
+import runpy, sys, time
+from lrcstore import Store
+hold = Store.hold
+def slow(*words):
+    version = hold(*words)
+    time.sleep(0.01)
+    return version
+Store.hold = slow
+del sys.argv[0]
+runpy.run_path(sys.argv[0], run_name="__main__")
+"""
 if COUNTED:
     import counted
 
@@ -29,8 +42,8 @@ def bytes_of(length, seed=0):
 class Server:
     """A server in a process of its own, for a with block."""
 
-    def __init__(self, *words):
-        self.command = [sys.executable, SERVER, "--port", "0", *words]
+    def __init__(self, *words, program=(SERVER,)):
+        self.command = [sys.executable, *program, "--port", "0", *words]
 
     def __enter__(self):
         self.process = subprocess.Popen(self.command, stdout=subprocess.PIPE, text=True)
@@ -197,7 +210,8 @@ class Objects(unittest.TestCase):
 
 class Versions(unittest.TestCase):
     def test_headers_and_bytes_are_of_one_version(self):
-        with Server("--width", "16", "--scrub", "3600") as server:
+        slow = ["-c", SLOW, SERVER]
+        with Server("--width", "16", "--scrub", "3600", program=slow) as server:
             ends, wrong, seen = threading.Event(), [], {}
 
             def put():

@@ -1,16 +1,14 @@
 #!/usr/bin/env python3
-"""What Python's modules leave of the library's memory: leaks.py native|ctypes, over the library
-that tests/store/counted.sh makes."""
+"""What the Python package `lrcstore` leaves of the library's memory, over the library that
+tests/store/counted.sh makes."""
 
 import gc
-import sys
 import threading
 import unittest
 
 import counted
-import lrc_store
 import lrcstore
-from lrcstore import _store
+from lrcstore import _native
 
 NAMES = [f"n{number}" for number in range(30)]
 
@@ -52,7 +50,7 @@ class Stores(Leaks):
         degraded().close()
         for words in ({"width": 0}, {"width": 4, "limit": 0}, {"width": 4, "shards": 65}):
             self.assertRaises(lrcstore.StoreError, lrcstore.Store, **words)
-        store = _store.Calls()
+        store = _native.Calls()
         for _ in range(2):
             store.open(4, None, 3)
 
@@ -132,80 +130,5 @@ class Stores(Leaks):
         self.assertEqual(store.mend(), 0)
 
 
-class Sessions(Leaks):
-    """The module lrc_store."""
-
-    def opened(self, limit=None):
-        session = lrc_store.Session.open(4, limit)
-        for name in NAMES:
-            session.put(name, bytes(range(200)))
-            session.lose(name, 1, 15)
-        return session
-
-    def test_sessions_that_are_dropped(self):
-        session = self.opened()
-        others = [session.split(who) for who in range(10)]
-        others[3].put("a", b"x")
-        session.join(others[0])
-        session.learn(others[1])
-        self.assertRaises(lrc_store.StoreError, session.close)
-        self.assertRaises(lrc_store.StoreError, session.join, session)
-
-    def test_sessions_that_are_closed(self):
-        self.opened(500).close()
-        journal = self.opened(500).close_to_journal()
-        self.assertEqual(len(journal.entries), 2 * len(NAMES))
-
-    def test_a_session_of_another_store(self):
-        first, other = self.opened(), self.opened()
-        self.assertRaises(lrc_store.StoreError, first.join, other)
-        self.assertRaises(lrc_store.StoreError, first.learn, other)
-        other.get("n1")
-
-    def test_grants(self):
-        """A view of a grant keeps its memory, and nothing else does."""
-        session = self.opened()
-        for _ in range(20):
-            with session.read("n1", 0, 200) as grant:
-                bytes(grant)
-            self.assertRaises(ValueError, bytes, grant)
-            dropped = session.read("n2", 5, 100)
-            views = dropped.runs, dropped.pieces, session.read("n3", 0, 200).runs[0]
-            session.put("n2", b"another")
-            session.put("n2", bytes(range(200)))
-        first = views[0]
-        del dropped, views, grant
-        session.close()
-        self.assertEqual(b"".join(first), bytes(range(5, 105)))
-
-    def test_versions(self):
-        session = self.opened()
-        held = [session.hold(name) for name in NAMES]
-        for version in held:
-            bytes(version.read(0, 200))
-            version.fragment(0, 1)
-            self.assertRaises(lrc_store.StoreError, version.read, 0, 201)
-            self.assertRaises(lrc_store.StoreError, version.fragment, 1, 15)
-        session.install(held[0], 1, 15, b"abcd")
-        session.mend()
-        session.close()
-
-    def test_calls_that_are_refused(self):
-        session = self.opened(100)
-        for _ in range(20):
-            for call in (
-                lambda: session.put("BAD", bytearray(100_000)),
-                lambda: session.read("none", 0, 1),
-                lambda: session.read("n1", 0, 500),
-                lambda: session.get("none"),
-                lambda: session.hold("none"),
-                lambda: session.split(3).close(),
-            ):
-                self.assertRaises(lrc_store.StoreError, call)
-
-
 if __name__ == "__main__":
-    wanted = {"native": "lrcstore._native", "ctypes": "lrcstore._sessions"}[sys.argv.pop(1)]
-    if _store.Calls.__module__ != wanted:
-        sys.exit(f"calls are made by {_store.Calls.__module__}, not by {wanted}")
     unittest.main()

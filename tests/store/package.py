@@ -1,26 +1,27 @@
 #!/usr/bin/env python3
-"""The Python package `lrcstore`: package.py native|ctypes, as its calls are made."""
+"""The store of the Python package `lrcstore`. package_busy.py has a store that is busy for ever."""
 
 import array
 import base64
 import gc
 import hashlib
-import importlib
 import os
+import pickle
+import shutil
 import signal
 import subprocess
 import sys
+import tempfile
 import threading
+import time
 import unittest
-import unittest.mock
 
-import lrc_store
 import lrcstore
 from lrcstore import Status, Store, StoreError
-from lrcstore import _store
-from recorder import Recorder
+from lrcstore import _native, _store
 
-NATIVE, CTYPES = "lrcstore._native", "lrcstore._sessions"
+FOREVER = 60  # seconds that no test takes
+INTERRUPTS = 1000  # at any place of a call
 
 
 def bytes_of(length):
@@ -57,22 +58,30 @@ class Calls(unittest.TestCase):
             (
                 ("str", blob, 12),
                 (b"bytes", bytearray(blob), 6),
-                ("memoryview", memoryview(blob), 12),
-                ("array", array.array("B", blob), 6),
+                ("memoryview", memoryview(bytearray(b"..." + blob))[3:], 12),
+                ("array", array.array("I", blob), 6),
             ),
             1,
         ):
+            self.assertEqual(memoryview(given).nbytes, 200)
             self.assertEqual(store.put(name, given, fragments), version)
             self.assertEqual(store.get(name), blob)
             stripes = -(-200 // (4 * fragments))
             self.assertEqual(store.stat(name), (version, 200, stripes, 0))
         self.assertEqual(store.get("bytes"), blob)
-        self.assertEqual(store.put("empty", b""), store.stat("empty").version)
-        self.assertEqual(store.get("empty"), b"")
-        for length in (4095, 4096, 4097, 49152):
+        for empty in (b"", bytearray()):
+            self.assertEqual(store.put("empty", empty), store.stat("empty").version)
+            self.assertEqual(store.get("empty"), b"")
+        for length in (1, 47, 48, 49, 4095, 4096, 4097, 49152):
             Store(4).put("a", bytes_of(length))
             store.put("long", bytes_of(length))
             self.assertEqual(store.get("long"), bytes_of(length))
+
+    def test_what_is_put_is_copied(self):
+        source = bytearray(self.blob)
+        self.store.put("a", source)
+        source[0] ^= 1
+        self.assertEqual(self.store.get("a"), self.blob)
 
     def test_ranges(self):
         store, blob = self.store, self.blob
@@ -91,6 +100,16 @@ class Calls(unittest.TestCase):
             Status.OUT_OF_RANGE, "read_into('a', 192, 9)", store.read_into, "a", 192, target
         )
         self.assertEqual(target, b"\xee" * 9)
+
+    def test_a_range_is_read_into_a_part_of_a_buffer(self):
+        store, target, words = self.store, bytearray(b"\xee" * 100), array.array("I", [0, 0])
+        store.put("a", self.blob)
+        store.lose("a", 0, 1)
+        store.read_into("a", 3, memoryview(target)[10:90])
+        self.assertEqual(target[10:90], self.blob[3:83])
+        self.assertEqual(target[:10] + target[90:], b"\xee" * 20)
+        store.read_into("a", 8, words)
+        self.assertEqual(words.tobytes(), self.blob[8:16])
 
     def test_buffers_are_given_back(self):
         store, blob = self.store, bytearray(self.blob)
@@ -116,6 +135,22 @@ class Calls(unittest.TestCase):
             store.lose("a", 0, fragment)
         self.refused(Status.UNRECOVERABLE, "get('a', 0, None)", store.get, "a")
         self.assertEqual(store.get("a", 48), blob[48:])
+        target, read = bytearray(b"\xee" * 12), store.read_into
+        self.refused(Status.UNRECOVERABLE, "read_into('a', 0, 12)", read, "a", 0, target)
+        self.assertEqual(target, b"\xee" * 12)
+        self.assertEqual((store.mend(), store.stat("a").lost), (0, 5))
+
+    def test_a_mend_repairs_all_that_can_be_rebuilt(self):
+        store = self.store
+        store.put("a", self.blob)
+        store.put("b", bytes_of(30), 6)
+        for fragment in (0, 1, 6, 7):
+            store.lose("a", 0, fragment)
+        for fragment in range(5):
+            store.lose("b", 0, fragment)
+        self.assertEqual(store.mend(), 4)
+        self.assertEqual((store.stat("a").lost, store.stat("b").lost), (0, 5))
+        self.assertEqual(store.get("a"), self.blob)
 
     def test_delete(self):
         version = self.store.put("a", b"x")
@@ -129,9 +164,36 @@ class Calls(unittest.TestCase):
     def refused(self, status, text, call, *arguments):
         with self.assertRaises(StoreError) as caught:
             call(*arguments)
-        self.assertIs(caught.exception.status, status)
-        self.assertEqual(str(caught.exception).split(": ")[0], text)
-        return caught.exception
+        error = caught.exception
+        self.assertIs(error.status, status)
+        self.assertEqual(str(error), f"{text}: {_native.text(status)}")
+        self.assertEqual(error.args, (str(error),))
+        shown = f"{error.call}({', '.join(map(repr, error.arguments))})"
+        self.assertEqual(text.split(" after ")[0], shown)
+        return error
+
+    def test_each_status_has_a_class_and_a_text(self):
+        usual = {
+            Status.NO_NAME: (lrcstore.NotFound, KeyError),
+            Status.BUSY: (lrcstore.Busy, TimeoutError),
+            Status.NO_MEMORY: (lrcstore.OutOfMemory, MemoryError),
+            Status.NOT_REBUILT: (lrcstore.OutOfMemory, MemoryError),
+        }
+        for status in Status:
+            if status is Status.DONE:
+                continue
+            error = self.refused(status, "stat('a')", _store._check, status, "stat", "a")
+            kind, builtin = usual.get(status, (StoreError, Exception))
+            self.assertIs(type(error), kind)
+            self.assertIsInstance(error, builtin)
+            for repaired in (None, 3):
+                error = kind("mend", ("a",), status, repaired)
+                copy = pickle.loads(pickle.dumps(error))
+                self.assertEqual((type(copy), str(copy)), (kind, str(error)))
+                found = copy.call, copy.arguments, copy.status, copy.repaired
+                self.assertEqual(found, ("mend", ("a",), status, repaired))
+        text = "mend() after 3 repaired fragments: the journal is full: trim it"
+        self.assertEqual(str(StoreError("mend", (), Status.JOURNAL_FULL, 3)), text)
 
     def test_refused_arguments(self):
         store = self.store
@@ -188,7 +250,8 @@ class Calls(unittest.TestCase):
     def test_the_timeout_is_none_or_a_time(self):
         store = self.store
         self.assertIsNone(store.timeout)
-        for seconds, milliseconds in ((0, 0), (0.0301, 31), (3, 3000), (1e300, -1)):
+        endless = float("inf")
+        for seconds, milliseconds in ((0, 0), (0.0301, 31), (3, 3000), (1e300, -1), (endless, -1)):
             store.timeout = seconds
             self.assertEqual((store.timeout, store._timeout_ms), (seconds, milliseconds))
             self.assertEqual(store.put("a", b"x"), store.stat("a").version)
@@ -207,8 +270,8 @@ class Calls(unittest.TestCase):
         self.refused(Status.EMPTY, "get('a', 0, 3)", store.get, "a", 0, 3)
         self.refused(Status.EMPTY, "mend() after 0 repaired fragments", store.mend)
         self.refused(Status.EMPTY, "trim(3)", store.trim, 3)
-        self.assertEqual(_store.Calls().close()[0], Status.EMPTY)
-        calls = _store.Calls()
+        self.assertEqual(_native.Calls().close()[0], Status.EMPTY)
+        calls = _native.Calls()
         self.assertEqual(calls.open(4, None, 2)[0], Status.DONE)
         self.assertEqual(calls.open(4, None, 2)[0], Status.OCCUPIED)
         with Store(4) as other:
@@ -254,7 +317,7 @@ class Calls(unittest.TestCase):
         self.refused(Status.ALREADY_LOST, "fragment(4, 15)", held.fragment, 4, 15)
         self.refused(Status.NO_FRAGMENT, "fragment(4, 16)", held.fragment, 4, 16)
         self.assertEqual(len(held.fragment(3, 15)), 4)
-        empty = _store.Held()
+        empty = _native.Held()
         self.assertEqual(empty.read(0, 1), (Status.EMPTY, None))
         self.assertEqual(empty.fragment(0, 1), (Status.EMPTY, None))
         self.assertEqual(empty.lost(0), (Status.EMPTY, 0))
@@ -284,7 +347,7 @@ class Calls(unittest.TestCase):
         self.assertRaises(ValueError, install, whole, -1, 3, fragment)
         self.assertRaises(ValueError, install, whole, 1, 2**64, fragment)
         self.assertEqual(
-            store._calls.install(_store.Held(), 1, 3, fragment, -1), (Status.EMPTY, 0)
+            store._calls.install(_native.Held(), 1, 3, fragment, -1), (Status.EMPTY, 0)
         )
         store.close()
         self.refused(Status.EMPTY, "install(1, 3, 4)", install, whole, 1, 3, fragment)
@@ -310,6 +373,7 @@ class Calls(unittest.TestCase):
         self.assertRaises(TypeError, lrcstore.name_of, 3)
 
     def test_a_journal(self):
+        self.assertEqual(self.store.trim(0), 0)  # it has none
         store = Store(4, limit=5)
         for _ in range(5):
             store.put("a", b"x")
@@ -344,7 +408,7 @@ class Shards(unittest.TestCase):
         for name in self.NAMES:
             self.assertEqual(store.get(name), name.encode())
         blobs = len(self.NAMES)
-        self.assertEqual(store.numbers(), (blobs, 30 * 3 + 10 * 2, blobs, 0, 4 * blobs, 0))
+        self.assertEqual(store.numbers(), (blobs, 30 * 3 + 10 * 2, blobs, 0, 3 * blobs, 0))
         store.delete("n7")
         with self.assertRaises(StoreError) as caught:
             store.get("n7")
@@ -462,38 +526,10 @@ class Threads(unittest.TestCase):
         self.run_all(4, work)
 
 
-@unittest.skipUnless(_store.Calls.__module__ == CTYPES, "package_busy.py has this")
-class BusyForCtypes(unittest.TestCase):
-    def test_a_call_ends_at_its_deadline(self):
-        store = Store(4)
-        store.put("a", b"x")
-        store.timeout = 0
-        with Recorder([Status.BUSY]), self.assertRaises(lrcstore.Busy):
-            store.stat("a")
-        self.assertEqual(store.stat("a").lost, 0)
-
-    def test_a_caller_waits_for_a_session(self):
-        store = Store(4)
-        store.timeout = 0.01
-        (shard,) = store._calls._shards
-        for _ in range(63):
-            shard._places.acquire()
-        for call in (lambda: store.stat("a"), store.numbers, store.mend, lambda: store.trim(1)):
-            self.assertRaises(lrcstore.Busy, call)
-        shard._places.release()
-        self.assertRaises(lrcstore.NotFound, store.stat, "a")
-
-    def test_no_store_is_closed_under_a_call(self):
-        store = Store(4)
-        (shard,) = store._calls._shards
-        with shard.lent(0):
-            with shard.lent(0):
-                pass
-            with self.assertRaises(StoreError) as caught:
-                store.close()
-            self.assertIs(caught.exception.status, Status.NOT_ALONE)
-            self.assertEqual(len(shard._idle), 1)
-        self.assertEqual(store.close(), (0, False))
+def resident():
+    """The process's pages of memory in use."""
+    with open("/proc/self/statm", encoding="ascii") as file:
+        return int(file.read().split()[1])
 
 
 class Memory(unittest.TestCase):
@@ -510,51 +546,60 @@ class Memory(unittest.TestCase):
                 store.close()
             del store
             gc.collect()
-            with open("/proc/self/statm", encoding="ascii") as file:
-                pages = int(file.read().split()[1])
             if turn == 9:
-                before = pages
-        self.assertLess(pages - before, 20_000)  # 80 MB, where leaks would be 400
+                before = resident()
+        self.assertLess(resident() - before, 20_000)  # 80 MB, where leaks would be 400
 
 
-class Order(unittest.TestCase):
-    @unittest.skipUnless(_store.Calls.__module__ == CTYPES, "a pool in C has the sessions")
-    def test_each_use_stands_after_those_that_ended(self):
-        """The first session learns of each that is given back, and each learns of it when lent."""
-        learned = []
+class Interrupts(unittest.TestCase):
+    def test_an_interrupt_leaves_nothing_behind(self):
+        """The exception of a signal handler may come at any place of a call."""
+        store, count, armed = Store(4, limit=100_000), 0, []
+        store.put("a", b"HELLO")
+        end = time.monotonic() + FOREVER
 
-        def learn(session, other):
-            learned.append((session, other))
+        def handler(*_):
+            if armed:
+                armed.clear()
+                raise Interrupted
 
-        with unittest.mock.patch.object(lrc_store.Session, "learn", learn):
-            store = Store(4)
-            store.put("a", b"x")
-            store.get("a")
-        (first, made), *later = learned
-        self.assertEqual(later, [(made, first), (first, made)])
+        signal.signal(signal.SIGALRM, handler)
+        signal.setitimer(signal.ITIMER_REAL, 0.001, 0.0007)
+        while count < INTERRUPTS and time.monotonic() < end:
+            try:
+                armed.append(True)
+                while armed:
+                    store.stat("a")
+                    store.hold("a").read()
+                    store.get("a")
+                    store.trim(0)
+                    store.mend()
+            except Interrupted:
+                count += 1
+        signal.setitimer(signal.ITIMER_REAL, 0)
+        signal.signal(signal.SIGALRM, signal.SIG_IGN)
+        self.assertEqual((count, store.get("a")), (INTERRUPTS, b"HELLO"))
+        self.assertTrue(store.close().is_checked)
 
 
-@unittest.skipUnless(_store.Calls.__module__ == CTYPES, "the coder has its module")
-class NoCoder(unittest.TestCase):
-    def test_the_import_says_what_is_missing(self):
-        with self.assertRaises(ImportError) as caught:
-            importlib.import_module("lrcstore.coder")
-        wanted = "the coder needs Python 3.11, and a module that tools/python_extension.py compiles"
-        self.assertEqual(str(caught.exception).rpartition(": ")[2], wanted)
+class Modules(unittest.TestCase):
+    """What a package without an extension module says, in a process of its own."""
 
+    HINT = "install a package of lrcstore, or compile the module by tools/python_extension.py"
 
-@unittest.skipUnless(_store.Calls.__module__ == NATIVE, "the coder has no module")
-class Coder(unittest.TestCase):
-    def test_the_coder_is_in_the_package(self):
-        from lrcstore import coder
+    def run_without(self, modules, code):
+        with tempfile.TemporaryDirectory() as folder:
+            ignored = shutil.ignore_patterns(*(f"{it}.*" for it in modules))
+            package = os.path.dirname(lrcstore.__file__)
+            shutil.copytree(package, f"{folder}/lrcstore", ignore=ignored)
+            names = {**os.environ, "PYTHONPATH": folder}
+            words = [sys.executable, "-c", code, self.HINT]
+            subprocess.run(words, env=names, check=True)
 
-        data = [bytes([number]) * 8 for number in range(12)]
-        fragments = [*data, *coder.encode(data)]
-        others = {number: it for number, it in enumerate(fragments) if number != 3}
-        self.assertEqual(coder.rebuild(12, others, 3), data[3])
-
-    def test_the_coder_alone_needs_no_library_of_the_store(self):
+    def test_a_store_without_its_module(self):
+        """The coder needs its own module alone."""
         code = """
+import sys
 from lrcstore import coder
 import lrcstore
 assert {*lrcstore.__all__, "coder"} <= {*dir(lrcstore)}
@@ -563,22 +608,38 @@ for name in lrcstore.__all__:
     try:
         getattr(lrcstore, name)
     except ImportError as error:
-        assert "set LRC_STORE_SO" in str(error)
+        assert "_native" in str(error) and str(error).endswith(f": {sys.argv[1]}"), error
     else:
         raise AssertionError(name)
 """
-        without = {**os.environ, "LRC_STORE_SO": "/no/library"}
-        subprocess.run([sys.executable, "-c", code], env=without, check=True)
+        self.run_without(["_native"], code)
+
+    def test_a_coder_without_its_module(self):
+        code = """
+import sys
+from lrcstore import Store
+try:
+    from lrcstore import coder
+except ImportError as error:
+    assert "_coder" in str(error) and str(error).endswith(f": {sys.argv[1]}"), error
+else:
+    raise AssertionError
+"""
+        self.run_without(["_coder"], code)
+
+    def test_the_coder_is_in_the_package(self):
+        from lrcstore import coder
+
+        data = [bytes([number]) * 8 for number in range(12)]
+        fragments = [*data, *coder.encode(data)]
+        others = {number: it for number, it in enumerate(fragments) if number != 3}
+        self.assertEqual(coder.rebuild(12, others, 3), data[3])
 
     def test_each_name_is_of_the_store(self):
         self.assertTrue({*lrcstore.__all__} <= {*dir(lrcstore)})
         for name in lrcstore.__all__:
-            home = _store if name in ("Store", "Version") else lrc_store
-            self.assertIs(getattr(lrcstore, name), getattr(home, name))
+            self.assertIs(getattr(lrcstore, name), getattr(_store, name))
 
 
 if __name__ == "__main__":
-    wanted = {"native": NATIVE, "ctypes": CTYPES}[sys.argv.pop(1)]
-    if _store.Calls.__module__ != wanted:
-        sys.exit(f"calls are made by {_store.Calls.__module__}, not by {wanted}")
     unittest.main()

@@ -11,11 +11,13 @@ import unittest
 from lrcstore import Busy, Status, Store, StoreError
 
 FOREVER = 60  # seconds that no test takes
+SESSIONS = 63  # that a shard lends at a time
 # What busy.c counts: puts of bytes; and how a test holds its calls in C.
 BUSY = ctypes.CDLL(None)
 PUTS = ctypes.c_uint.in_dll(BUSY, "busy_puts")
-HOLDS, IS_LET_GO, WAS_LATE = (
-    ctypes.c_int.in_dll(BUSY, f"busy_{name}") for name in ("holds", "is_let_go", "was_late")
+HOLDS, IS_LET_GO, WAS_LATE, PASSES = (
+    ctypes.c_int.in_dll(BUSY, f"busy_{name}")
+    for name in ("holds", "is_let_go", "was_late", "passes")
 )
 CALLS = {
     "put": lambda store: store.put("a", b"x"),
@@ -112,6 +114,18 @@ class BusyForEver(unittest.TestCase):
         self.assertRaises(Busy, self.store.put, "a", blob)
         self.assertEqual(PUTS.value - before, 1)
 
+    def test_a_put_that_waits_stores_the_copy(self):
+        self.store.timeout = FOREVER
+        PASSES.value = 1
+        try:
+            for blob in (b"", b"HELLO", bytearray(range(200)) * 50, memoryview(bytes(99))[1:]):
+                version = self.store.put("a", blob, 6)
+                held = self.store.hold("a")
+                self.assertEqual((held.number, held.read()), (version, bytes(blob)))
+                self.assertEqual(held.shape().data_fragments, 6)
+        finally:
+            PASSES.value = 0
+
     def start(self, call, *arguments):
         """A thread that makes a call, which fails. It is in the call when this returns."""
         self.store.timeout = FOREVER
@@ -133,6 +147,15 @@ class BusyForEver(unittest.TestCase):
         self.assertIs(caught.exception.status, Status.NOT_ALONE)
         self.assertTrue(thread.is_alive())
         self.end(thread)
+        self.assertEqual(self.store.close(), (0, False))
+
+    def test_a_call_waits_for_a_session_until_its_deadline(self):
+        threads = [self.start(self.store.stat, "a") for _ in range(SESSIONS)]
+        until(lambda: CALLERS.value == SESSIONS)
+        self.store.timeout = 0.02
+        for call in (lambda: self.store.stat("a"), self.store.mend):
+            self.assertRaises(Busy, call)
+        self.end(*threads)
         self.assertEqual(self.store.close(), (0, False))
 
     def test_other_threads_run_during_each_long_call(self):

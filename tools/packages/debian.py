@@ -10,6 +10,7 @@ import tempfile
 import time
 
 import libraries
+import python_extension
 from installation import Installation
 from packages import licence, record
 from packages.reproducible import environment, normalise
@@ -49,6 +50,7 @@ def missing_for_plugins():
 def demand(has_plugins):
     """Ends if the packages can't be made here."""
     missing = [package for it, package in PROGRAMS.items() if not shutil.which(it)]
+    missing += [] if os.path.exists(python_extension.header()) else ["python3-dev"]
     if missing:
         sys.exit(f"Debian packages need {' '.join(missing)}")
     missing = missing_for_plugins() if has_plugins else []
@@ -71,7 +73,6 @@ def fill(work, source, linked):
     staged.headers()
     for name in libraries.LIBRARIES:
         staged.library(name, linked)
-        staged.module(name)
         staged.rust(name)
     staged.checked(linked, has_path=False)
     staged.python_package(linked, has_path=False)

@@ -30,7 +30,6 @@ def fill(root, source, linked, provenance):
     files.headers()
     for name in libraries.LIBRARIES:
         files.library(name, linked)
-        files.python(name)
         files.rust(name)
     files.checked(linked)
     files.python_package(linked)

@@ -1,7 +1,5 @@
-"""The wheel of both Python modules and of the package over them. Each module is a folder with its
-library beside it, so that it loads this one. The package's extension modules serve Python 3.11 and
-later, and find their libraries by the path from there. By ctypes the wheel serves every Python with
-the store. It has the program `lrc` too."""
+"""The wheel of the Python package, for Python 3.11 and later. Its extension modules have their
+libraries beside them, so that they load these. It has the program `lrc` too."""
 
 import base64
 import hashlib
@@ -12,7 +10,7 @@ import tempfile
 
 import libraries
 import python_extension
-from installation import PACKAGE
+from installation import ALIAS, PACKAGE
 from packages import licence
 from packages.reproducible import read_bytes, write_zip
 
@@ -21,8 +19,8 @@ PROGRAM = "lrc"
 SUMMARY = "In-memory blob store in the Local Reconstruction Code LRC(12,2,2), and its coder"
 # The oldest glibc that a wheel's tag names: pip knows no older one by numbers.
 OLDEST = (2, 17)
-# Which Pythons it serves: those of the extension's stable ABI by that, and every other by ctypes.
-PYTHONS = ("cp{}{}".format(*python_extension.OLDEST), "py3"), ("abi3", "none")
+# Which Pythons it serves: those of the extension modules' stable ABI.
+PYTHONS = "cp{}{}-abi3".format(*python_extension.OLDEST)
 
 
 def glibc_of(*files):
@@ -32,23 +30,17 @@ def glibc_of(*files):
     return max([OLDEST, *((int(major), int(minor)) for major, minor in found)])
 
 
-def tags(platform):
-    """The tags of the wheel: what its name says in short, each on its own."""
-    pythons, abis = PYTHONS
-    return [f"{python}-{abi}-{platform}" for python in pythons for abi in abis]
-
-
-def described(number, platform):
+def described(number, tag):
     """The texts by which pip knows the wheel, by their names."""
-    text = licence.text()
+    text, python = licence.text(), "{}.{}".format(*python_extension.OLDEST)
     license_line = "License-File: LICENSE\n" if text else ""
     return {
         "METADATA": f"Metadata-Version: 2.1\nName: lrcstore\nVersion: {number}\n"
-        f"Summary: {SUMMARY}\nRequires-Python: >=3.8\n{license_line}"
+        f"Summary: {SUMMARY}\nRequires-Python: >={python}\n{license_line}"
         "Classifier: Operating System :: POSIX :: Linux\n",
         "WHEEL": "Wheel-Version: 1.0\nGenerator: tools/package.py\nRoot-Is-Purelib: false\n"
-        + "".join(f"Tag: {it}\n" for it in tags(platform)),
-        "top_level.txt": "".join(f"{it}\n" for it in (*libraries.LIBRARIES, PACKAGE)),
+        f"Tag: {tag}\n",
+        "top_level.txt": f"{ALIAS}\n{PACKAGE}\n",
         **({"LICENSE": text} if text else {}),
     }
 
@@ -68,16 +60,16 @@ def demand():
 
 def modules(linked, folder):
     """The extension modules, each of which looks for its library where the wheel has it."""
-    for name, library in python_extension.MODULES.items():
-        yield python_extension.build(name, linked, folder, f"$ORIGIN/../{library}")
+    for name in python_extension.MODULES:
+        yield python_extension.build(name, linked, folder, "$ORIGIN")
 
 
 def pack(source, linked, dist, number, when):
     """Writes the wheel of a program in BUILT and of the libraries in a folder."""
-    files, python = {}, os.path.join(libraries.TOP, "bindings", "python")
+    python = os.path.join(libraries.TOP, "bindings", "python")
+    files = {f"{ALIAS}.py": read_bytes(python, f"{ALIAS}.py")}
     for name in libraries.LIBRARIES:
-        files[f"{name}/__init__.py"] = read_bytes(python, f"{name}.py")
-        files[f"{name}/{libraries.soname(name)}"] = read_bytes(linked, f"lib{name}.so")
+        files[f"{PACKAGE}/{libraries.soname(name)}"] = read_bytes(linked, f"lib{name}.so")
     for file in sorted(os.listdir(os.path.join(python, PACKAGE))):
         if file.endswith((".py", ".pyi", ".typed")):
             files[f"{PACKAGE}/{file}"] = read_bytes(python, PACKAGE, file)
@@ -88,10 +80,9 @@ def pack(source, linked, dist, number, when):
             files[f"{PACKAGE}/{os.path.basename(built)}"] = read_bytes(built)
         binaries.append(os.path.join(source, PROGRAM))
         files[f"lrcstore-{number}.data/scripts/{PROGRAM}"] = read_bytes(binaries[-1])
-        platform = "manylinux_{}_{}_x86_64".format(*glibc_of(*binaries))
+        tag = "{}-manylinux_{}_{}_x86_64".format(PYTHONS, *glibc_of(*binaries))
     info = f"lrcstore-{number}.dist-info"
-    for name, text in described(number, platform).items():
+    for name, text in described(number, tag).items():
         files[f"{info}/{name}"] = text.encode()
     files[f"{info}/RECORD"] = "".join([*recorded(files), f"{info}/RECORD,,\n"]).encode()
-    short = "-".join([*(".".join(it) for it in PYTHONS), platform])
-    return [write_zip(os.path.join(dist, f"lrcstore-{number}-{short}.whl"), files, when)]
+    return [write_zip(os.path.join(dist, f"lrcstore-{number}-{tag}.whl"), files, when)]

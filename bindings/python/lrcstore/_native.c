@@ -44,9 +44,9 @@ struct call {
     uint8_t *bytes;
     Py_ssize_t len;
     held_version *held;
-    lrc_slot *version; /* what a hold fills */
-    int may_be_long;   /* also with few bytes */
-    lrc_slot *copy;    /* of what is put, once that was found busy */
+    lrc_slot *filled; /* by a hold */
+    int may_be_long;  /* also with few bytes */
+    lrc_slot *copy;   /* of what is put, once that was found busy */
     uint64_t numbers[MOST_NUMBERS];
 };
 
@@ -105,13 +105,13 @@ static uint32_t copy_once(const struct call *call) {
 }
 
 static uint32_t hold(lrc_slot *session, struct call *call, int64_t timeout_ms) {
-    return lrc_store_hold_wait(session, call->name, (size_t)call->name_len, call->version,
+    return lrc_store_hold_wait(session, call->name, (size_t)call->name_len, call->filled,
                                &call->numbers[0], &call->numbers[1], timeout_ms);
 }
 
 static uint32_t hold_with_name(lrc_slot *session, struct call *call, int64_t timeout_ms) {
     held_version *held = call->held;
-    call->version = &held->slot;
+    call->filled = &held->slot;
     const uint32_t status = hold(session, call, timeout_ms);
     if (status != LRC_STORE_DONE) return status;
     memcpy(held->name, call->name, (size_t)call->name_len);
@@ -342,7 +342,7 @@ static int read_rest(store_calls *self, struct call *call, int64_t timeout_ms, P
                      uint32_t *status) {
     lrc_slot version = LRC_SLOT_EMPTY;
     call->run = hold;
-    call->version = &version;
+    call->filled = &version;
     const int failed = make(self, call, timeout_ms, status);
     const uint64_t start = call->first, size = call->numbers[1];
     if (!failed && *status == LRC_STORE_DONE && start <= size)
@@ -782,6 +782,31 @@ static PyType_Spec held_spec = {
     .slots = held_slots,
 };
 
+/* text(status) -> what it means */
+static PyObject *native_text(PyObject *module, PyObject *status) {
+    const unsigned long number = PyLong_AsUnsignedLong(status);
+    (void)module;
+    if (PyErr_Occurred()) return NULL;
+    return PyUnicode_FromString(lrc_store_text((uint32_t)number));
+}
+
+/* name(key) -> the name of a key, which may be any buffer */
+static PyObject *native_name(PyObject *module, PyObject *key) {
+    uint8_t name[LRC_STORE_NAME_LEN];
+    Py_buffer bytes;
+    (void)module;
+    if (PyObject_GetBuffer(key, &bytes, PyBUF_SIMPLE) < 0) return NULL;
+    lrc_store_name(bytes.len ? bytes.buf : (uint8_t *)"", (size_t)bytes.len, name);
+    PyBuffer_Release(&bytes);
+    return PyUnicode_FromStringAndSize((const char *)name, sizeof name);
+}
+
+static PyMethodDef functions[] = {
+    {"text", native_text, METH_O, NULL},
+    {"name", native_name, METH_O, NULL},
+    {NULL, NULL, 0, NULL},
+};
+
 static int add_type(PyObject *module, const char *name, PyType_Spec *spec) {
     PyObject *type = PyType_FromSpec(spec);
     if (!type) return -1;
@@ -799,6 +824,7 @@ static PyModuleDef_Slot module_slots[] = {{Py_mod_exec, add_types}, {0, NULL}};
 static struct PyModuleDef module = {
     PyModuleDef_HEAD_INIT,
     .m_name = "_native",
+    .m_methods = functions,
     .m_slots = module_slots,
 };
 

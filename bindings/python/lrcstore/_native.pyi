@@ -1,7 +1,12 @@
 from typing import Tuple, Union
 
+from _typeshed import ReadableBuffer
+
 _Name = Union[str, bytes]
 _Bytes = Union[bytes, bytearray, memoryview]
+
+def text(status: int, /) -> str: ...
+def name(key: ReadableBuffer, /) -> str: ...
 
 class Held:
     def shape(self) -> Tuple[int, int, int, int, int, int, int]: ...

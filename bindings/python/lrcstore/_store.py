@@ -2,35 +2,141 @@
 
 from __future__ import annotations
 
+import enum
 import math
-import sys
-from typing import TYPE_CHECKING, List, Union
+from typing import Any, List, NamedTuple, Tuple, Union
 
-from lrc_store import (
-    _ERRORS,
-    Closed,
-    Numbers,
-    Shape,
-    Status,
-    StoreError,
-    VersionShape,
-    _check,
-)
-
-if TYPE_CHECKING:
-    from ._native import Calls, Held
-else:
-    try:
-        if sys.version_info < (3, 11):
-            raise ImportError("the stable ABI of this Python has no buffers")
-        from ._native import Calls, Held
-    except ImportError:
-        from ._sessions import Calls, Held
+try:
+    from . import _native
+except ImportError as error:
+    hint = "install a package of lrcstore, or compile the module by tools/python_extension.py"
+    raise ImportError(f"{error}: {hint}") from error
 
 Name = Union[str, bytes]
 # No call waits so long: 31 years.
 _LONGEST_SECONDS = 10**9
 Buffer = Union[bytes, bytearray, memoryview]
+
+
+class Status(enum.IntEnum):
+    """What a function of the library returns, and what a journal entry has."""
+
+    DONE = 0
+    BUSY = 1
+    NO_NAME = 2
+    OUT_OF_RANGE = 3
+    UNRECOVERABLE = 4
+    NO_FRAGMENT = 5
+    ALREADY_LOST = 6
+    NOT_LOST = 7
+    NO_MEMORY = 8
+    JOURNAL_FULL = 9
+    TOO_LONG = 10
+    BAD_NAME = 11
+    BAD_WIDTH = 12
+    NO_PASS = 13
+    EMPTY = 14
+    OCCUPIED = 15
+    BAD_ARGUMENT = 16
+    NOT_ALONE = 17
+    NOT_REBUILT = 18
+    NOTHING_LEFT = 19
+
+
+class StoreError(Exception):
+    """A call failed. `arguments` are those of the call: a put has the blob's length in place of it.
+
+    `repaired` is the number of fragments that a mend repaired before it stopped.
+    """
+
+    def __init__(
+        self, call: str, arguments: Tuple[object, ...], status: Status, repaired: int | None = None
+    ) -> None:
+        shown = f"{call}({', '.join(map(repr, arguments))})"
+        after = "" if repaired is None else f" after {repaired} repaired fragments"
+        self.text = f"{shown}{after}: {_native.text(status)}"
+        super().__init__(self.text)
+        self.call, self.arguments, self.status, self.repaired = call, arguments, status, repaired
+
+    def __str__(self) -> str:
+        return self.text
+
+    def __reduce__(self) -> Tuple[Any, ...]:
+        return type(self), (self.call, self.arguments, self.status, self.repaired)
+
+
+class NotFound(StoreError, KeyError):
+    """The name has no blob."""
+
+
+class Busy(StoreError, TimeoutError):
+    """The store's timeout has passed, and another thread was in the critical section."""
+
+
+class OutOfMemory(StoreError, MemoryError):
+    """The store is out of memory."""
+
+
+_ERRORS = {
+    Status.NO_NAME: NotFound,
+    Status.BUSY: Busy,
+    Status.NO_MEMORY: OutOfMemory,
+    Status.NOT_REBUILT: OutOfMemory,
+}
+
+
+def _check(status: int, call: str, *arguments: object) -> None:
+    """Raises StoreError if the call with these arguments failed."""
+    if status != Status.DONE:
+        raise _ERRORS.get(Status(status), StoreError)(call, arguments, Status(status))
+
+
+class Shape(NamedTuple):
+    """A blob's version, its length in bytes, and the numbers of its stripes and lost fragments."""
+
+    version: int
+    len: int
+    stripes: int
+    lost: int
+
+
+class VersionShape(NamedTuple):
+    """A held version's number, its length in bytes, the numbers of its stripes and lost fragments,
+    the bytes of a fragment, and the data fragments of a stripe: 12 or 6."""
+
+    version: int
+    len: int
+    stripes: int
+    lost: int
+    width: int
+    data_fragments: int
+
+
+class Numbers(NamedTuple):
+    """The numbers of a store: of blobs, of their bytes, lost fragments and unrecoverable stripes,
+    of calls, and of entries in the journal."""
+
+    blobs: int
+    bytes: int
+    lost: int
+    unrecoverable: int
+    calls: int
+    entries: int
+
+
+class Closed(NamedTuple):
+    """The number of entries in a closed store's journal, and whether a check found them lawful.
+
+    `is_checked` is false if there was no memory for the check, or no journal.
+    """
+
+    entries: int
+    is_checked: bool
+
+
+def name_of(key: Union[str, Buffer]) -> str:
+    """A name for a key of any characters or bytes. Nobody has found two keys with one name."""
+    return _native.name(key.encode() if isinstance(key, str) else key)
 
 
 class _Keyword(str):
@@ -51,7 +157,7 @@ class Version:
     and `size` its length in bytes.
     """
 
-    def __init__(self, held: Held, number: int, size: int) -> None:
+    def __init__(self, held: _native.Held, number: int, size: int) -> None:
         self._held, self.number, self.size = held, number, size
 
     def shape(self) -> VersionShape:
@@ -98,7 +204,7 @@ class Store:
         wait for each other. Without a limit it has no journal, as a service wants it, and with one
         a journal of at most `limit` entries for each shard.
         """
-        self._calls = Calls()
+        self._calls = _native.Calls()
         self._timeout: float | None = None
         self._timeout_ms = -1
         status = self._calls.open(width, limit, shards)[0]
@@ -195,7 +301,7 @@ class Store:
 
     def hold(self, name: Name) -> Version:
         """Holds the version that a blob has now."""
-        held = Held()
+        held = _native.Held()
         status, number, size = self._calls.hold(name, held, self._timeout_ms)
         if status:
             _check(status, "hold", name)

@@ -15,7 +15,6 @@ from __future__ import annotations
 
 import enum
 import io
-import sys
 from typing import (
     TYPE_CHECKING,
     Dict,
@@ -29,11 +28,9 @@ from typing import (
 )
 
 try:
-    if sys.version_info < (3, 11):
-        raise ImportError("the stable ABI of this Python has no buffers")
     from . import _coder
 except ImportError as error:
-    hint = "the coder needs Python 3.11, and a module that tools/python_extension.py compiles"
+    hint = "install a package of lrcstore, or compile the module by tools/python_extension.py"
     raise ImportError(f"{error}: {hint}") from error
 
 if TYPE_CHECKING:
