@@ -101,6 +101,14 @@ uint32_t lrc_slot_copy(lrc_slot *slot, uint64_t start, uint8_t *target, size_t l
     return LRC_STORE_EMPTY;
 }
 
+uint32_t lrc_slot_lend(lrc_slot *slot, uint64_t start, uint64_t len, lrc_slot *other,
+                       uint64_t *pieces) {
+    REAL(lrc_slot_lend);
+    if (!busy_holds) return real(slot, start, len, other, pieces);
+    stay();
+    return LRC_STORE_EMPTY;
+}
+
 /* How many puts of bytes there were, which a call has to copy. If a test sets `busy_passes`, a put
  * of such a copy and a hold are those of the library. */
 unsigned busy_puts;

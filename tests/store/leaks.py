@@ -65,6 +65,9 @@ class Stores(Leaks):
                 lambda: store.get("none"),
                 lambda: store.get("n1", 10, 1000),
                 lambda: store.get("n1", 1000),
+                lambda: store.lend("none"),
+                lambda: store.lend("n1", 10, 1000),
+                lambda: store.lend("n1", 1000),
                 lambda: store.hold("none"),
                 lambda: store.hold("BAD"),
                 lambda: store.install(store.hold("n1"), 0, 1, b"abc"),
@@ -95,6 +98,8 @@ class Stores(Leaks):
             version.read(3, 100)
             version.fragment(0, 1)
             version.shape()
+            bytes(version.lend(3, 100))
+            self.assertRaises(lrcstore.StoreError, version.lend, 0, 201)
             self.assertRaises(lrcstore.StoreError, version.fragment, 0, 15)
             self.assertRaises(lrcstore.StoreError, version.read, 5, 1000)
         whole = held[1].fragment(0, 3)
@@ -107,6 +112,33 @@ class Stores(Leaks):
         del store
         self.assertEqual(held[2].read(), bytes(range(200)))
         held.pop()
+
+    def test_grants(self):
+        """A view keeps the memory of its range, and nothing else does."""
+        store = degraded()
+        held = store.hold("n1")
+        for lend in (held.lend, lambda *words: store.lend("n1", *words)):
+            before = counted.blocks()
+            with lend(0, 200) as grant:
+                self.assertGreater(counted.blocks(), before)
+                self.assertEqual(bytes(grant), bytes(range(200)))
+            self.assertEqual(counted.blocks(), before)
+            view = lend(5, 100).runs[-1][-3:]
+            self.assertGreater(counted.blocks(), before)
+            self.assertEqual(bytes(view), bytes(range(102, 105)))
+            del view
+            self.assertEqual(counted.blocks(), before)
+
+    def test_views_outlive_the_store(self):
+        store = degraded(shards=4)
+        grants = [store.lend(name) for name in NAMES]
+        views = [grant.runs[0] for grant in grants[::2]]
+        for name in NAMES:
+            store.put(name, b"another")
+            store.delete(name)
+        store.close()
+        del store, grants
+        self.assertEqual(bytes(views[3]), bytes(range(200))[: len(views[3])])
 
     def test_a_block_that_raises(self):
         with self.assertRaises(Failure), degraded() as store:
@@ -121,6 +153,7 @@ class Stores(Leaks):
                 store.put(name, bytes(100_000))
                 store.hold(name).read(0, 50_000)
                 store.get(name)
+                bytes(store.lend(name, 0, 70_000))
 
         threads = [threading.Thread(target=work, args=(number,)) for number in range(4)]
         for thread in threads:

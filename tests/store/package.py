@@ -5,8 +5,10 @@ import array
 import base64
 import gc
 import hashlib
+import importlib
 import os
 import pickle
+import queue
 import shutil
 import signal
 import subprocess
@@ -15,6 +17,7 @@ import tempfile
 import threading
 import time
 import unittest
+from unittest import mock
 
 import lrcstore
 from lrcstore import Status, Store, StoreError
@@ -506,6 +509,23 @@ class Threads(unittest.TestCase):
         self.run_all(80, work)
         self.assertEqual(store.close(), (0, False))
 
+    def test_a_grant_is_handed_on(self):
+        """Each thread uses grants of others, and drops what is left of them."""
+        store, grants = Store(16, limit=100_000), queue.SimpleQueue()
+
+        def work(number):
+            blob = bytes([number]) * 5000
+            for turn in range(100):
+                store.put(f"n{number}", blob)
+                store.lose(f"n{number}", turn % 9, turn % 16)
+                grants.put(store.lend(f"n{number}", 0, 5000))
+                with grants.get() as grant:
+                    found = bytes(grant)
+                self.assertEqual(found, found[:1] * 5000)
+
+        self.run_all(8, work)
+        self.assertEqual((grants.qsize(), store.close()), (0, (8 * 100 * 3, True)))
+
     def test_a_whole_read_is_of_one_version(self):
         store, stop = Store(64), threading.Event()
         store.put("a", bytes(5000))
@@ -526,6 +546,116 @@ class Threads(unittest.TestCase):
         self.run_all(4, work)
 
 
+class Grants(unittest.TestCase):
+    def setUp(self):
+        self.store, self.blob = Store(4), bytes_of(10000)
+        self.number = self.store.put("a", self.blob)
+
+    def lenders(self):
+        """The same call of the store, and of a version."""
+        return (lambda *words: self.store.lend("a", *words)), self.store.hold("a").lend
+
+    def test_a_range_is_lent(self):
+        for lend in self.lenders():
+            for start, length in ((0, 0), (0, 1), (3, 50), (0, 10000), (9999, 1), (10000, 0)):
+                grant = lend(start, length)
+                wanted = self.blob[start : start + length]
+                self.assertEqual((grant.version, bytes(grant)), (self.number, wanted))
+                self.assertEqual([*map(bytes, grant.runs)], [wanted] if length else [])
+            for start in (0, 60, 10000):
+                self.assertEqual(bytes(lend(start)), self.blob[start:])
+        self.store.put("empty", b"")
+        self.assertEqual(self.store.lend("empty").runs, [])
+
+    def test_a_degraded_range_has_several_runs(self):
+        """Also more than one call of the library gives."""
+        for stripe in range(0, 200, 2):
+            self.store.lose("a", stripe, 5)
+            for lend in self.lenders():
+                runs = lend(5, 9990).runs
+                self.assertEqual(b"".join(runs), self.blob[5:9995])
+        self.assertGreater(len(runs), 1200)
+        self.store.mend()
+        self.assertEqual(bytes(self.store.lend("a")), self.blob)
+
+    def test_views_are_read_only_bytes(self):
+        for view in self.store.lend("a", 3, 50).runs:
+            self.assertEqual((view.readonly, view.format, view.shape), (True, "B", (50,)))
+            with self.assertRaises(TypeError):
+                view[0] = 1
+
+    def test_what_is_lent_stays_as_it_is(self):
+        store = self.store
+        store.lose("a", 1, 3)
+        grants = [lend(5, 9000) for lend in self.lenders()]
+        part = grants[0].runs[-1][-10:]
+        store.repair("a", 1, 3)
+        store.lose("a", 2, 2)
+        store.put("a", bytes(10000))
+        store.delete("a")
+        store.close()
+        gc.collect()
+        for grant in grants:
+            self.assertEqual((grant.version, bytes(grant)), (self.number, self.blob[5:9005]))
+        runs = grants[1].runs
+        del grants, grant
+        gc.collect()
+        self.assertEqual((b"".join(runs), bytes(part)), (self.blob[5:9005], self.blob[8995:9005]))
+
+    def test_a_grant_ends_with_its_block(self):
+        with self.store.lend("a", 0, 10) as grant:
+            self.assertEqual(bytes(grant), self.blob[:10])
+            (run,) = grant.runs
+        for use in (bytes, lambda ended: ended.runs):
+            self.assertRaisesRegex(ValueError, "the grant has ended", use, grant)
+        self.assertEqual(bytes(run), self.blob[:10])
+        with self.assertRaises(Interrupted), self.store.lend("a") as grant:
+            raise Interrupted
+        self.assertRaises(ValueError, bytes, grant)
+
+    def refused(self, status, text, call, *arguments):
+        with self.assertRaises(StoreError) as caught:
+            call(*arguments)
+        self.assertIs(caught.exception.status, status)
+        self.assertEqual(str(caught.exception), f"{text}: {_native.text(status)}")
+
+    def test_refused_arguments(self):
+        store, held = self.store, self.store.hold("a")
+        self.refused(Status.OUT_OF_RANGE, "lend('a', 1, 10000)", store.lend, "a", 1, 10000)
+        self.refused(Status.OUT_OF_RANGE, "lend('a', 10001, None)", store.lend, "a", 10001)
+        self.refused(Status.OUT_OF_RANGE, "lend(1, 10000)", held.lend, 1, 10000)
+        self.refused(Status.OUT_OF_RANGE, "lend(10001, None)", held.lend, 10001)
+        self.refused(Status.NO_NAME, "lend('b', 0, 1)", store.lend, "b", 0, 1)
+        self.refused(Status.NO_NAME, "lend('b', 0, None)", store.lend, "b")
+        self.refused(Status.BAD_NAME, "lend('A', 0, 1)", store.lend, "A", 0, 1)
+        for fragment in range(5):
+            store.lose("a", 0, fragment)
+        self.refused(Status.UNRECOVERABLE, "lend('a', 0, 48)", store.lend, "a", 0, 48)
+        self.refused(Status.UNRECOVERABLE, "lend('a', 0, None)", store.lend, "a")
+        self.assertEqual(bytes(store.lend("a", 48)), self.blob[48:])
+        for lend in self.lenders():
+            for words in ((-1, 1), (0, -1), (2**64, 0), (0, 2**64)):
+                self.assertRaises(ValueError, lend, *words)
+            for words in (("0", 1), (0, 1.5), ("0",), (1.5,)):
+                self.assertRaises(TypeError, lend, *words)
+        self.assertRaises(TypeError, store.lend, 3, 0, 1)
+        store.close()
+        self.refused(Status.EMPTY, "lend('a', 0, 1)", store.lend, "a", 0, 1)
+        self.refused(Status.EMPTY, "lend('a', 0, None)", store.lend, "a")
+
+    def test_a_range_is_lent_once(self):
+        calls, lent = self.store._calls, _native.Lent()
+        self.assertEqual(bytes(lent), b"")
+        self.assertEqual(_native.Held().lend(0, 1, lent), (Status.EMPTY, None))
+        self.assertEqual(calls.lend("a", 0, 1, lent, -1)[:2], (Status.DONE, self.number))
+        self.assertEqual(calls.lend("a", 0, 1, lent, -1), (Status.OCCUPIED, 0, None))
+        for call in (
+            lambda: calls.lend("a", 0, 1, _native.Held(), -1),
+            lambda: _native.Held().lend(0, 1, b"x"),
+        ):
+            self.assertRaisesRegex(TypeError, "the range is no Lent", call)
+
+
 def resident():
     """The process's pages of memory in use."""
     with open("/proc/self/statm", encoding="ascii") as file:
@@ -540,6 +670,7 @@ class Memory(unittest.TestCase):
             store.put("a", bytes(5_000_000))
             self.assertEqual(len(store.get("a")), 5_000_000)
             self.assertEqual(store.hold("a").size, 5_000_000)
+            self.assertEqual(len(bytes(store.lend("a"))), 5_000_000)
             for call in (lambda: store.get("b"), lambda: store.put("A", b"x")):
                 self.assertRaises(StoreError, call)
             if turn % 2:
@@ -549,6 +680,16 @@ class Memory(unittest.TestCase):
             if turn == 9:
                 before = resident()
         self.assertLess(resident() - before, 20_000)  # 80 MB, where leaks would be 400
+
+    def test_grants_that_have_ended_go(self):
+        store, grants = Store(65536), []
+        before = resident()
+        for _ in range(40):
+            store.put("a", bytes(4 << 20), 6)
+            with store.lend("a") as grant:
+                grants.append(grant)
+        self.assertLess(resident() - before, 20_000)
+        self.assertEqual(len(grants), 40)
 
 
 class Interrupts(unittest.TestCase):
@@ -570,6 +711,8 @@ class Interrupts(unittest.TestCase):
                 armed.append(True)
                 while armed:
                     store.stat("a")
+                    with store.lend("a", 0, 5) as grant:
+                        bytes(grant)
                     store.hold("a").read()
                     store.get("a")
                     store.trim(0)
@@ -595,6 +738,10 @@ class Modules(unittest.TestCase):
             names = {**os.environ, "PYTHONPATH": folder}
             words = [sys.executable, "-c", code, self.HINT]
             subprocess.run(words, env=names, check=True)
+
+    def test_an_older_python(self):
+        with mock.patch.object(sys, "version_info", (3, 10, 13)):
+            self.assertRaisesRegex(ImportError, "needs Python 3.11", importlib.reload, lrcstore)
 
     def test_a_store_without_its_module(self):
         """The coder needs its own module alone."""

@@ -26,6 +26,9 @@ CALLS = {
     "get of a range": lambda store: store.get("a", 1, 3),
     "get of a long range": lambda store: store.get("a", 1, 100_000),
     "read_into": lambda store: store.read_into("a", 0, bytearray(3)),
+    "lend": lambda store: store.lend("a", 1, 3),
+    "lend of a long range": lambda store: store.lend("a", 1, 100_000),
+    "lend of all": lambda store: store.lend("a"),
     "stat": lambda store: store.stat("a"),
     "delete": lambda store: store.delete("a"),
     "lose": lambda store: store.lose("a", 0, 1),
@@ -172,10 +175,12 @@ class BusyForEver(unittest.TestCase):
             ("mend", self.store.mend),
             ("put of a long blob", CALLS["put of a long blob"].__get__(self.store)),
             ("get of a long range", CALLS["get of a long range"].__get__(self.store)),
+            ("lend of a long range", CALLS["lend of a long range"].__get__(self.store)),
             ("read into a buffer", lambda: self.store.read_into("a", 0, bytearray(5000))),
             ("install", lambda: self.store.install(held, 0, 1, bytes(65536))),
             ("read of a version", lambda: held.read(0, 100)),
             ("get of a long rest", lambda: self.store.get("held", 10)),
+            ("lend of a version", lambda: held.lend(0, 100)),
             ("close", self.store.close),
         ):
             IS_LET_GO.value, HOLDS.value = 0, 1
@@ -208,7 +213,8 @@ class BusyForEver(unittest.TestCase):
     def test_a_handler_cannot_use_the_version_of_the_call_that_it_interrupts(self):
         held = self.store.hold("held")
         self.store.timeout = FOREVER
-        for call in (held.shape, held.read, lambda: held.lost(0), lambda: held.fragment(0, 0)):
+        calls = [held.shape, held.read, held.lend, lambda: held.lost(0)]
+        for call in (*calls, lambda: held.fragment(0, 0)):
             signal.signal(signal.SIGALRM, lambda *_, use=call: use())
             with self.assertRaises(RuntimeError) as caught, signal_in_call():
                 self.store.install(held, 0, 1, b"abcd")

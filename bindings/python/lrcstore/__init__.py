@@ -17,6 +17,7 @@ if TYPE_CHECKING:  # pragma: no cover
     from ._store import (
         Busy,
         Closed,
+        Grant,
         NotFound,
         Numbers,
         OutOfMemory,
@@ -32,6 +33,7 @@ if TYPE_CHECKING:  # pragma: no cover
 __all__ = [
     "Busy",
     "Closed",
+    "Grant",
     "NotFound",
     "Numbers",
     "OutOfMemory",

@@ -15,7 +15,7 @@
 
 enum { SHORT_BYTES = 4096, SLICE_MS = 50, MOST_NUMBERS = 6, NS_OF_MS = 1000000, MOST_NAME = 32 };
 /* How many repairs are planned at once, between which other threads call. */
-enum { PLANNED_AT_ONCE = 512 };
+enum { PLANNED_AT_ONCE = 512, RUNS_AT_ONCE = 64 };
 
 /* What is guarded by the GIL. */
 typedef struct {
@@ -33,6 +33,14 @@ typedef struct {
     Py_ssize_t name_len;
 } held_version;
 
+/* A lent range, or a run of one. A run has a reference to its range, and a memoryview one to its
+ * run, so the range stays until all views are gone. */
+typedef struct {
+    PyObject_HEAD lrc_slot slot; /* that of a run is empty */
+    PyObject *range;             /* NULL, unless it is a run */
+    lrc_slice bytes;
+} lent;
+
 /* A call on a session of the shard of its name, or one of all shards; its arguments, and the
  * numbers that it writes. */
 struct call {
@@ -44,7 +52,7 @@ struct call {
     uint8_t *bytes;
     Py_ssize_t len;
     held_version *held;
-    lrc_slot *filled; /* by a hold */
+    lrc_slot *filled; /* by a hold or a lend */
     int may_be_long;  /* also with few bytes */
     lrc_slot *copy;   /* of what is put, once that was found busy */
     uint64_t numbers[MOST_NUMBERS];
@@ -117,6 +125,12 @@ static uint32_t hold_with_name(lrc_slot *session, struct call *call, int64_t tim
     memcpy(held->name, call->name, (size_t)call->name_len);
     held->name_len = call->name_len;
     return status;
+}
+
+static uint32_t lend(lrc_slot *session, struct call *call, int64_t timeout_ms) {
+    return lrc_store_lend_wait(session, call->name, (size_t)call->name_len, call->first,
+                               call->second, call->filled, &call->numbers[0], &call->numbers[1],
+                               timeout_ms);
 }
 
 static uint32_t install(lrc_slot *session, struct call *call, int64_t timeout_ms) {
@@ -684,6 +698,94 @@ static PyObject *held_fragment(held_version *self, PyObject *const *words, Py_ss
     return result;
 }
 
+static void lent_dealloc(PyObject *object) {
+    lent *dropped = (lent *)object;
+    PyTypeObject *type = Py_TYPE(object);
+    release(&dropped->slot);
+    Py_XDECREF(dropped->range);
+    ((freefunc)PyType_GetSlot(type, Py_tp_free))(object);
+    Py_DECREF(type);
+}
+
+static int lent_getbuffer(PyObject *object, Py_buffer *view, int flags) {
+    const lrc_slice bytes = ((lent *)object)->bytes;
+    return PyBuffer_FillInfo(view, object, (void *)bytes.at, (Py_ssize_t)bytes.len, 1, flags);
+}
+
+/* An object that is to be a lent range, or NULL with an exception. */
+static lent *lent_of(PyObject *object) {
+    if (PyType_GetSlot(Py_TYPE(object), Py_tp_dealloc) == (void *)lent_dealloc)
+        return (lent *)object;
+    PyErr_SetString(PyExc_TypeError, "the range is no Lent");
+    return NULL;
+}
+
+/* Appends a view of a run of the range. Returns -1 if there is an exception. */
+static int append_view(PyObject *views, PyObject *range, lrc_slice bytes) {
+    PyTypeObject *type = Py_TYPE(range);
+    lent *run = (lent *)((allocfunc)PyType_GetSlot(type, Py_tp_alloc))(type, 0);
+    if (!run) return -1;
+    run->range = Py_NewRef(range);
+    run->bytes = bytes;
+    PyObject *view = PyMemoryView_FromObject((PyObject *)run);
+    const int result = view ? PyList_Append(views, view) : -1;
+    Py_XDECREF(view);
+    Py_DECREF(run);
+    return result;
+}
+
+/* The runs of a range as a list of memoryviews, or None if it was not lent. */
+static PyObject *views_of(lent *range, uint32_t status) {
+    if (status != LRC_STORE_DONE) return Py_NewRef(Py_None);
+    PyObject *views = PyList_New(0);
+    uint64_t from = 0, count = RUNS_AT_ONCE;
+    while (views && count == RUNS_AT_ONCE) {
+        lrc_slice runs[RUNS_AT_ONCE];
+        for (int i = 0; i < RUNS_AT_ONCE; i++) runs[i] = (lrc_slice){(const uint8_t *)"", 0};
+        lrc_slot_runs(&range->slot, from, runs, RUNS_AT_ONCE, &count);
+        for (uint64_t i = 0; views && i < count; i++) {
+            from += runs[i].len;
+            if (append_view(views, (PyObject *)range, runs[i]) < 0) Py_CLEAR(views);
+        }
+    }
+    return views;
+}
+
+/* lend(name, start, length, range, timeout_ms) -> (status, version, runs or None) */
+static PyObject *calls_lend(store_calls *self, PyObject *const *words, Py_ssize_t count) {
+    struct call call = {.run = lend};
+    int64_t timeout_ms;
+    uint32_t status;
+    lent *range;
+    if (!count_is("lend", count, 5) || name_to(&call, words[0]) < 0 ||
+        number_to(&call.first, words[1], UINT64_MAX) < 0 ||
+        number_to(&call.second, words[2], UINT64_MAX) < 0 || !(range = lent_of(words[3])) ||
+        timeout_to(&timeout_ms, words[4]) < 0)
+        return NULL;
+    call.filled = &range->slot;
+    call.may_be_long = call.second > SHORT_BYTES;
+    if (make(self, &call, timeout_ms, &status) < 0) return NULL;
+    PyObject *views = views_of(range, status);
+    return views ? Py_BuildValue("(IKN)", status, (unsigned long long)call.numbers[0], views)
+                 : NULL;
+}
+
+/* lend(start, length, range) -> (status, runs or None) */
+static PyObject *held_lend(held_version *self, PyObject *const *words, Py_ssize_t count) {
+    uint64_t start, length, pieces;
+    lent *range;
+    if (!count_is("lend", count, 3) || number_to(&start, words[0], UINT64_MAX) < 0 ||
+        number_to(&length, words[1], UINT64_MAX) < 0 || !(range = lent_of(words[2])) ||
+        enter(self) < 0)
+        return NULL;
+    PyThreadState *thread = PyEval_SaveThread();
+    const uint32_t status = lrc_slot_lend(&self->slot, start, length, &range->slot, &pieces);
+    PyEval_RestoreThread(thread);
+    leave(self);
+    PyObject *views = views_of(range, status);
+    return views ? Py_BuildValue("(IN)", status, views) : NULL;
+}
+
 /* close() -> (status, entries, lawful). No call may be inside, or the status is NOT_ALONE. */
 static PyObject *calls_close(store_calls *self, PyObject *ignored) {
     struct call call = {.run = NULL};
@@ -735,13 +837,21 @@ static void calls_dealloc(PyObject *object) {
 #define FAST(type, name)                                                                           \
     { #name, (PyCFunction)(void (*)(void))type##_##name, METH_FASTCALL, NULL }
 static PyMethodDef calls_methods[] = {
-    FAST(calls, open),     FAST(calls, put),
-    FAST(calls, get),      FAST(calls, read_into),
-    FAST(calls, stat),     FAST(calls, delete),
-    FAST(calls, lose),     FAST(calls, repair),
-    FAST(calls, trim),     FAST(calls, mend),
-    FAST(calls, numbers),  FAST(calls, hold),
-    FAST(calls, install),  {"close", (PyCFunction)calls_close, METH_NOARGS, NULL},
+    FAST(calls, open),
+    FAST(calls, put),
+    FAST(calls, get),
+    FAST(calls, read_into),
+    FAST(calls, stat),
+    FAST(calls, delete),
+    FAST(calls, lose),
+    FAST(calls, repair),
+    FAST(calls, trim),
+    FAST(calls, mend),
+    FAST(calls, numbers),
+    FAST(calls, hold),
+    FAST(calls, install),
+    FAST(calls, lend),
+    {"close", (PyCFunction)calls_close, METH_NOARGS, NULL},
     {NULL, NULL, 0, NULL},
 };
 
@@ -762,6 +872,7 @@ static PyType_Spec calls_spec = {
 static PyMethodDef held_methods[] = {
     FAST(held, read),
     FAST(held, fragment),
+    FAST(held, lend),
     {"shape", (PyCFunction)held_shape, METH_NOARGS, NULL},
     {"lost", (PyCFunction)held_lost, METH_O, NULL},
     {NULL, NULL, 0, NULL},
@@ -780,6 +891,20 @@ static PyType_Spec held_spec = {
     .basicsize = sizeof(held_version),
     .flags = Py_TPFLAGS_DEFAULT,
     .slots = held_slots,
+};
+
+static PyType_Slot lent_slots[] = {
+    {Py_tp_dealloc, lent_dealloc},
+    {Py_bf_getbuffer, lent_getbuffer},
+    {Py_tp_doc, "A range that a call has lent, or a run of one."},
+    {0, NULL},
+};
+
+static PyType_Spec lent_spec = {
+    .name = "lrcstore._native.Lent",
+    .basicsize = sizeof(lent),
+    .flags = Py_TPFLAGS_DEFAULT,
+    .slots = lent_slots,
 };
 
 /* text(status) -> what it means */
@@ -816,7 +941,8 @@ static int add_type(PyObject *module, const char *name, PyType_Spec *spec) {
 }
 
 static int add_types(PyObject *module) {
-    return add_type(module, "Calls", &calls_spec) < 0 ? -1 : add_type(module, "Held", &held_spec);
+    if (add_type(module, "Calls", &calls_spec) < 0) return -1;
+    return add_type(module, "Held", &held_spec) < 0 ? -1 : add_type(module, "Lent", &lent_spec);
 }
 
 static PyModuleDef_Slot module_slots[] = {{Py_mod_exec, add_types}, {0, NULL}};

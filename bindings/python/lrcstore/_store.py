@@ -149,6 +149,38 @@ def _length(buffer: Buffer) -> int:
     return memoryview(buffer).nbytes
 
 
+class Grant:
+    """A range of a blob that is lent without a copy. Any thread may use it.
+
+    Its bytes stay as they are, whatever happens to the blob and to the store, until the grant and
+    all views of it are gone. At the end of a `with` block it lets go of its views, and raises
+    ValueError from then on. `version` is the number of the put that stored the blob.
+    """
+
+    def __init__(self, version: int, runs: List[memoryview] | None) -> None:
+        self.version, self._runs = version, runs
+
+    @property
+    def runs(self) -> List[memoryview]:
+        """The bytes as read-only views, in order: those that lie one behind another are a run.
+
+        A blob that never lost a fragment is one run.
+        """
+        found = self._runs
+        if found is None:
+            raise ValueError("the grant has ended: use it inside its with block")
+        return found
+
+    def __bytes__(self) -> bytes:
+        return b"".join(self.runs)
+
+    def __enter__(self) -> Grant:
+        return self
+
+    def __exit__(self, *_: object) -> None:
+        self._runs = None
+
+
 class Version:
     """A version of a blob that is held, by `Store.hold`. Any thread may call it.
 
@@ -174,10 +206,18 @@ class Version:
 
     def read(self, start: int = 0, length: int | None = None) -> bytes:
         """A copy of `length` bytes from the byte `start` on. Without a length it is all of them."""
-        wanted = max(0, self.size - start) if length is None else length
-        status, found = self._held.read(start, wanted)
+        status, found = self._held.read(start, self._wanted(start, length))
         _check(status, "read", start, length)
         return found or b""
+
+    def lend(self, start: int = 0, length: int | None = None) -> Grant:
+        """Lends the bytes that `read` copies."""
+        status, runs = self._held.lend(start, self._wanted(start, length), _native.Lent())
+        _check(status, "lend", start, length)
+        return Grant(self.number, runs)
+
+    def _wanted(self, start: int, length: int | None) -> int:
+        return max(0, self.size - start) if length is None else length
 
     def fragment(self, stripe: int, fragment: int) -> bytes:
         """A copy of a fragment of a stripe, data or parity."""
@@ -259,6 +299,19 @@ class Store:
             _check(status, "read_into", name, start, _length(buffer))
         return version
 
+    def lend(self, name: Name, start: int = 0, length: int | None = None) -> Grant:
+        """Lends the bytes that `get` copies, of one version."""
+        lent, runs = _native.Lent(), None
+        if length is None:
+            held, status, version, size = self._hold(name)
+            if not status:
+                status, runs = held.lend(start, max(0, size - start), lent)
+        else:
+            status, version, runs = self._calls.lend(name, start, length, lent, self._timeout_ms)
+        if status:
+            _check(status, "lend", name, start, length)
+        return Grant(version, runs)
+
     def stat(self, name: Name) -> Shape:
         """The shape of a blob."""
         status, *shape = self._calls.stat(name, self._timeout_ms)
@@ -301,11 +354,14 @@ class Store:
 
     def hold(self, name: Name) -> Version:
         """Holds the version that a blob has now."""
-        held = _native.Held()
-        status, number, size = self._calls.hold(name, held, self._timeout_ms)
+        held, status, number, size = self._hold(name)
         if status:
             _check(status, "hold", name)
         return Version(held, number, size)
+
+    def _hold(self, name: Name) -> Tuple[_native.Held, int, int, int]:
+        held = _native.Held()
+        return (held, *self._calls.hold(name, held, self._timeout_ms))
 
     def install(self, known: Version, stripe: int, fragment: int, whole: Buffer) -> int:
         """Repairs a fragment with bytes that it has in a version, such as one of another machine.
