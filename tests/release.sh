@@ -2,8 +2,10 @@
 # Tests of tools/package.py and tools/verify_release.py: two packings are the same bytes, a planted
 # difference is named, and in a fresh Debian 12 without the kit the packages are installed and run.
 # LRC_BUILT names the folder that `tools/package.py build` has filled, and LRC_LIBRARIES that of the
-# libraries. LRC_DEBIAN names a root of Debian as a tar, if there is one; else mmdebstrap makes one.
-# No step has a deadline. What can't be had here, a package or a mount, is skipped by its name.
+# libraries. LRC_DEBIAN names a root of Debian as a tar, if there is one; else mmdebstrap makes one,
+# of the release that LRC_SUITE names (trixie is Debian 13). In another one than bookworm the plugins
+# are left out: they are for what this system has. No step has a deadline. What can't be had here, a
+# package or a mount, is skipped by its name.
 set -u
 cd "$(dirname "$0")/.." || exit
 # The mounts of the fresh root are in a namespace, and end with it.
@@ -18,6 +20,7 @@ fi
 built=$(realpath "$LRC_BUILT")
 clone=$work/clone
 root=$work/root
+suite=${LRC_SUITE:-bookworm}
 trap 'umount "$root/proc" 2> /dev/null; rm -rf --one-file-system "$work"' EXIT
 # shellcheck source=tests/release/fresh.sh
 . tests/release/fresh.sh

@@ -1,7 +1,7 @@
 # shellcheck shell=bash
-# Part of tests/release.sh: the packages in a fresh Debian 12 that has no kit. $root is its folder,
-# and $work/dist has the packages. What Debian itself has is installed before a test, and what can't
-# be had is skipped; the packages of the release are then installed by apt without a network.
+# Part of tests/release.sh: the packages in a fresh Debian that has no kit. $root is its folder, and
+# $work/dist has the packages. What Debian itself has is installed before a test, and what can't be
+# had is skipped; the packages of the release are then installed by apt without a network.
 # shellcheck disable=SC2016,SC2154 # commands are for the other root, variables of the script
 
 # in_root COMMAND: runs it there, with no variable of this system
@@ -14,9 +14,10 @@ in_root() {
 # steps COMMAND: runs it there, and prints the end of what it printed if it fails
 steps() { in_root "$1" || { tail -n 20 "$work/log"; return 1; }; }
 
-# The files in which this system names Debian's archive.
+# The file in which this system names Debian's archive, if the root is of this system's release.
 sources_of_debian() {
     local each
+    [ "$suite" = bookworm ] || return
     for each in /etc/apt/sources.list.d/debian.sources /etc/apt/sources.list; do
         [ -s "$each" ] && { echo "$each"; return; }
     done
@@ -35,7 +36,7 @@ make_root() {
         tar -C "$root" -xf "$LRC_DEBIAN" || { echo "no $LRC_DEBIAN"; return 1; }
     else
         has mmdebstrap || { echo "no mmdebstrap"; return 1; }
-        mmdebstrap --mode=root --variant=apt bookworm "$root" ${sources:+"$sources"} \
+        mmdebstrap --mode=root --variant=apt "$suite" "$root" ${sources:+"$sources"} \
             > "$work/log" 2>&1 || { echo "mmdebstrap has failed"; return 1; }
     fi
     mount -t proc proc "$root/proc" || { echo "no mount of proc"; return 1; }
@@ -240,7 +241,7 @@ fresh_tests() {
     debian python3 python3-venv
     test_in "Python, package" /usr/bin/python3 python3 in_python
     test_in "Python, wheel" /usr/share/python-wheels python3-venv by_pip
-    if [[ " ${options[*]} " != *" --no-plugins "* ]]; then
+    if [ "$suite" = bookworm ] && [[ " ${options[*]} " != *" --no-plugins "* ]]; then
         debian liberasurecode1 python3-pyeclib
         test_in "PyECLib" /usr/lib/python3/dist-packages/pyeclib python3-pyeclib in_pyeclib
         debian python3-swift
