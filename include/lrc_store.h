@@ -126,14 +126,16 @@ enum {
     LRC_CALL_LOSE = 2,
     LRC_CALL_REPAIR = 3,
     LRC_CALL_DELETE = 4,
-    LRC_CALL_STAT = 5
+    LRC_CALL_STAT = 5,
+    LRC_CALL_RESTORE = 6
 };
 
 /* An entry of a journal. A number that the call or the reply does not have is 0. */
 typedef struct {
     lrc_slice name;
-    /* data fragments and length of a put; start and length; stripe and fragment */
-    uint64_t first, second;
+    /* data fragments and length of a put; start and length; stripe and fragment, and for a
+     * restoration the version */
+    uint64_t first, second, third;
     uint64_t version;            /* of the reply */
     uint64_t len, stripes, lost; /* of the reply to a stat */
     uint32_t who, call, status;  /* the caller's label, LRC_CALL_.., LRC_STORE_.. */
@@ -167,8 +169,9 @@ enum {
     LRC_STORE_NOT_REBUILT = 18,  /* out of memory for rebuilding lost fragments, or for what
                                   * lrc_store_lend or lrc_store_get lends; the history has the call,
                                   * `version` is written, and any byte of `target` may be */
-    LRC_STORE_NOTHING_LEFT = 19  /* the plan has no further item, the journal no such entry, or
+    LRC_STORE_NOTHING_LEFT = 19, /* the plan has no further item, the journal no such entry, or
                                   * the store no such shard */
+    LRC_STORE_REPLACED = 20      /* the name has another blob; `version` is written */
 };
 
 /* Opens a store whose fragments have `width` bytes and whose journal holds at most `limit`
@@ -375,17 +378,15 @@ uint32_t lrc_slot_copy(lrc_slot *slot, uint64_t start, uint8_t *target, size_t l
 uint32_t lrc_slot_fragment(lrc_slot *slot, uint64_t stripe, uint64_t fragment,
                            lrc_slice *bytes) LRC_STATUS;
 
-/* Repairs a lost fragment of the name of the version in `other`, which stays there, with a copy of
- * the bytes. The caller ensures that the fragment has these bytes in that version. They may come
- * from another device or another machine. If the name still has the version, the fragment takes
- * them, though no clause excludes that it is rebuilt. If it has another one by now, that is
- * repaired from its own fragments. The statuses and the journal entry are those of
- * lrc_store_repair. So it returns LRC_STORE_UNRECOVERABLE if the remaining fragments do not
- * determine the lost one, although its bytes are given.
+/* Restores a lost fragment of the version in `other`, which stays there, with a copy of the bytes,
+ * whatever else is lost. The caller ensures that the fragment has these bytes in that version. They
+ * may come from another device or another machine. LRC_STORE_NO_NAME if the name has no blob,
+ * LRC_STORE_REPLACED if it has another version by now, and LRC_STORE_NOT_LOST if the fragment is
+ * there. Each of these has an entry, LRC_CALL_RESTORE, as LRC_STORE_DONE has.
  *
  * Nothing is done on LRC_STORE_BAD_ARGUMENT, if the slots are of two stores or `len` is not the
  * store's width, and on LRC_STORE_NO_FRAGMENT, if the version has no such fragment. */
-uint32_t lrc_store_install(lrc_slot *slot, lrc_slot *other, uint64_t stripe, uint64_t fragment,
+uint32_t lrc_store_restore(lrc_slot *slot, lrc_slot *other, uint64_t stripe, uint64_t fragment,
                            const uint8_t *bytes, size_t len, uint64_t *version) LRC_STATUS
     LRC_READS(5, 6);
 
@@ -466,7 +467,7 @@ uint32_t lrc_store_hold_wait(lrc_slot *slot, const uint8_t *name, size_t name_le
 uint32_t lrc_store_get_wait(lrc_slot *slot, const uint8_t *name, size_t name_len, lrc_slot *other,
                             uint64_t *version, uint64_t *len, uint64_t *pieces,
                             int64_t timeout_ms) LRC_STATUS LRC_READS(2, 3) LRC_FILLS(4);
-uint32_t lrc_store_install_wait(lrc_slot *slot, lrc_slot *other, uint64_t stripe, uint64_t fragment,
+uint32_t lrc_store_restore_wait(lrc_slot *slot, lrc_slot *other, uint64_t stripe, uint64_t fragment,
                                 const uint8_t *bytes, size_t len, uint64_t *version,
                                 int64_t timeout_ms) LRC_STATUS LRC_READS(5, 6);
 /* Repairs all lost fragments that can be rebuilt, by plans of at most 512 items, and returns

@@ -232,7 +232,7 @@ public:
     // Whether a check found it lawful. False if there was no memory for the check, or no journal.
     bool is_checked() const { return lawful == 1; }
     lrc_entry entry(size_t index) {
-        lrc_entry found{{reinterpret_cast<const uint8_t *>(""), 0}, 0, 0, 0, 0, 0, 0, 0, 0, 0};
+        lrc_entry found{{reinterpret_cast<const uint8_t *>(""), 0}, 0, 0, 0, 0, 0, 0, 0, 0, 0, 0};
         detail::check(lrc_slot_entry(held.get(), index, &found), "entry", index);
         return found;
     }
@@ -350,13 +350,14 @@ public:
         return made;
     }
 
-    // Repairs a fragment with bytes that it has in a version, such as one of another machine.
-    // Returns the version of the repaired blob.
-    uint64_t install(version &known, uint64_t stripe, uint64_t fragment, std::string_view whole) {
+    // Restores a lost fragment of a version with its bytes, such as those of another machine,
+    // whatever else is lost. Returns the version. The status is LRC_STORE_REPLACED if the name has
+    // another one by now.
+    uint64_t restore(version &known, uint64_t stripe, uint64_t fragment, std::string_view whole) {
         uint64_t number = 0;
-        detail::check(lrc_store_install_wait(held.get(), known.held.get(), stripe, fragment,
+        detail::check(lrc_store_restore_wait(held.get(), known.held.get(), stripe, fragment,
                                              detail::bytes(whole), whole.size(), &number, wait_ms),
-                      "install", stripe, fragment, whole.size());
+                      "restore", stripe, fragment, whole.size());
         return number;
     }
 

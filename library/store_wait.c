@@ -301,10 +301,10 @@ uint32_t lrc_store_get_wait(lrc_slot *slot, const uint8_t *name, size_t name_len
     REPEAT(TRIES, lrc_store_get(slot, name, name_len, other, version, len, pieces));
 }
 
-uint32_t lrc_store_install_wait(lrc_slot *slot, lrc_slot *other, uint64_t stripe, uint64_t fragment,
+uint32_t lrc_store_restore_wait(lrc_slot *slot, lrc_slot *other, uint64_t stripe, uint64_t fragment,
                                 const uint8_t *bytes, size_t len, uint64_t *version,
                                 int64_t timeout_ms) {
-    REPEAT(tries_for(len), lrc_store_install(slot, other, stripe, fragment, bytes, len, version));
+    REPEAT(tries_for(len), lrc_store_restore(slot, other, stripe, fragment, bytes, len, version));
 }
 
 static uint32_t trim_part(lrc_slot *slot, uint64_t keep, uint64_t *discarded, int64_t deadline) {

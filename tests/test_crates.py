@@ -20,7 +20,7 @@ ENTERING = {
     ("ledger", "Ledger::try_visit"),
 }
 STORES = ("book", "requests", "shared", "named_calls", "mender", "shard", "sharded")
-CALLS = ("put", "put_as", "put_copy", "read", "lose", "install", "delete", "stat", "snapshot")
+CALLS = ("put", "put_as", "put_copy", "read", "lose", "restore", "delete", "stat", "snapshot")
 PASSED = re.compile(r"\b(?:remaining|contents|may_answer|FnOnceReturnsAt)\b")
 ROW = re.compile(r"^\| `(\w+)::([\w:]+)`: `(\w+)` \| (.+) \|$", re.M)
 HEADING = "## Clauses about what a caller passes\n"

@@ -13,7 +13,7 @@ import pytest
 
 # The functions of the store that are plain C, beside the waiting forms.
 UNPROVED = re.compile("_pool_|_mending_|_shards_|lrc_store_name")
-CALLS = ("PUT", "READ", "LOSE", "REPAIR", "DELETE", "STAT")
+CALLS = ("PUT", "READ", "LOSE", "REPAIR", "DELETE", "STAT", "RESTORE")
 # What callers may ignore the status of: what has no output that they have to have, what they know
 # to be done, and the ends of pools and shards, after which there is nothing else to do.
 IGNORED = "store_(lose|repair|delete|trim|trim_part|mend_step)(_wait)?|store_mend_wait"
@@ -143,7 +143,7 @@ def test_structures_of_the_store(store, name, rust):
 def test_statuses_of_the_store(store):
     rattle = declared.read("crates", "store_c", "src", "status.rt")
     values = declared.numbers(r"const (\w+): u32 = (\d+);", rattle)
-    assert len(values) == 20
+    assert len(values) == 21
     assert declared.numbers(r"    LRC_STORE_(\w+) = (\d+)", store.header) == values
     assert in_python("_store.py") == values, "the Python package's"
     rust = declared.read("bindings", "rust_store", "src", "errors.rs")

@@ -35,6 +35,7 @@ CALLED += "|pthread_cond_(init|clockwait|signal|broadcast|destroy)|mem(cmp|cpy|m
 CALLED += "|__pthread_(register_cancel|unregister_cancel|unwind_next)|__sigsetjmp"
 # What the examples of each language print.
 EXAMPLES = {"store": "HELLO, WORLD\n", "shards": "HELLO, WORLD: 2000 repaired, 0 lost\n"}
+RESTORED = "4 repaired: HELLO, WORLD\n"
 example = pytest.mark.parametrize("name", EXAMPLES)
 
 
@@ -113,6 +114,10 @@ def test_example_in_python(python, modules, name):
     assert python(modules, modules / f"{name}.py") == EXAMPLES[name]
 
 
+def test_restoration_in_python(python, modules):
+    assert python(modules, modules / "restore.py") == RESTORED
+
+
 def test_python(python, modules):
     python(modules, "tests/store/package.py")
 
@@ -136,8 +141,12 @@ def test_example_in_go(name):
     assert go("run", f"./examples/{name}") == EXAMPLES[name]
 
 
+def test_restoration_in_go():
+    assert go("run", "./examples/restore") == RESTORED
+
+
 def test_vet_in_go():
-    go("vet", ".", "./examples/store", "./examples/shards")
+    go("vet", ".", "./examples/store", "./examples/shards", "./examples/restore")
 
 
 @pytest.mark.parametrize("flags", [[], ["-race"]], ids=["plain", "race"])

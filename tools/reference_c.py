@@ -52,7 +52,7 @@ TASKS = {
         ),
         ("delete a blob, or ask for its shape", "lrc_store_delete lrc_store_stat"),
         ("report a lost fragment", "lrc_store_lose"),
-        ("repair one, also from bytes of your own", "lrc_store_repair lrc_store_install"),
+        ("repair one, or restore it with bytes of your own", "lrc_store_repair lrc_store_restore"),
         ("repair all that is lost", "lrc_store_mend_wait"),
         (
             "do so with several threads",

@@ -61,7 +61,7 @@ FIRST_TYPES = {
     "rounds": ["Pool", "Errand", "Work"],
 }
 FIRST_CALLS = [
-    *("put", "put_as", "put_copy", "read", "snapshot", "lose", "repair", "install", "delete"),
+    *("put", "put_as", "put_copy", "read", "snapshot", "lose", "repair", "restore", "delete"),
     *("stat", "plan", "plan_part", "scrub", "work", "gather", "trim", "trim_part", "numbers"),
     *("split", "join", "receipt", "accept", "close"),
 ]

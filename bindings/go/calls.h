@@ -114,11 +114,11 @@ static inline lrc_holding store_holding(lrc_shards *shards, _GoString_ name, int
     return held;
 }
 
-static inline lrc_reply store_install(lrc_shards *shards, _GoString_ name, lrc_slot *held,
+static inline lrc_reply store_restore(lrc_shards *shards, _GoString_ name, lrc_slot *held,
                                       uint64_t stripe, uint64_t fragment, const uint8_t *bytes,
                                       size_t len, int64_t timeout_ms) {
     if (!len) bytes = (const uint8_t *)"";
-    AT_NAME(lrc_store_install_wait(slot, held, stripe, fragment, bytes, len, &reply.version,
+    AT_NAME(lrc_store_restore_wait(slot, held, stripe, fragment, bytes, len, &reply.version,
                                    timeout_ms));
 }
 

@@ -33,6 +33,7 @@ const (
 	ErrNotAlone      Status = C.LRC_STORE_NOT_ALONE
 	ErrNotRebuilt    Status = C.LRC_STORE_NOT_REBUILT
 	ErrNothingLeft   Status = C.LRC_STORE_NOTHING_LEFT
+	ErrReplaced      Status = C.LRC_STORE_REPLACED
 )
 
 // ErrClosed is of a call on a Store or a Grant that is closed.
@@ -47,7 +48,7 @@ func (s Status) Error() string {
 type Error struct {
 	Op      string // the method, such as "Put"
 	Name    string // of the blob, or "" if the call has none
-	Version uint64 // of the blob, for ErrUnrecoverable and ErrNotRebuilt; 0 for others
+	Version uint64 // of the blob, for ErrUnrecoverable, ErrReplaced and ErrNotRebuilt, or 0
 	Err     error  // a Status or ErrClosed
 }
 

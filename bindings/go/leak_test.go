@@ -106,7 +106,7 @@ func useRefusedCalls(t *testing.T, store *lrcstore.Store) {
 		for _, err := range []error{lendErr, noneErr, holdErr, rangeErr, lostErr,
 			second(store.Put(background, "BAD", pattern(100_000))),
 			second(store.PutIn(background, 7, "blob", pattern(1000))),
-			second(store.Install(background, version, 0, 15, []byte("abc")))} {
+			second(store.Restore(background, version, 0, 15, []byte("abc")))} {
 			if err == nil {
 				t.Error("a call is done")
 			}

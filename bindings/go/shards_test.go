@@ -74,8 +74,8 @@ func TestShardsAreRefused(t *testing.T) {
 	}
 }
 
-// A fragment is installed at the shard of the version's name.
-func TestInstallIntoAShard(t *testing.T) {
+// A fragment is restored at the shard of the version's name.
+func TestRestoreInAShard(t *testing.T) {
 	store := opened(t, lrcstore.WithShards(16))
 	for i := 0; i < 20; i++ {
 		name := fmt.Sprintf("n%d", i)
@@ -86,7 +86,7 @@ func TestInstallIntoAShard(t *testing.T) {
 			t.Fatal(err)
 		}
 		must(t)(store.Lose(background, name, 0, 1))
-		must(t)(store.Install(background, version, 0, 1, whole))
+		must(t)(store.Restore(background, version, 0, 1, whole))
 	}
 	if numbers, err := store.Numbers(background); err != nil || numbers.Lost != 0 {
 		t.Errorf("%+v, %v", numbers, err)

@@ -256,7 +256,7 @@ func TestTexts(t *testing.T) {
 		t.Errorf("%v, want %s", err, want)
 	}
 	seen := map[string]bool{"unknown status": true}
-	for status := lrcstore.ErrBusy; status <= lrcstore.ErrNothingLeft; status++ {
+	for status := lrcstore.ErrBusy; status <= lrcstore.ErrReplaced; status++ {
 		if text := status.Error(); text == "" || seen[text] {
 			t.Errorf("status %d: text %q", status, text)
 		} else {

@@ -61,19 +61,20 @@ func (s *Store) Hold(ctx context.Context, name string) (*Version, error) {
 	return v, nil
 }
 
-// Install repairs a fragment with bytes that it has in a version, such as one of another machine,
-// and returns the version of the repaired blob. The caller ensures that the fragment has these
-// bytes. It returns ErrBadArgument if they are not as many as a fragment has, or what Repair
-// returns.
-func (s *Store) Install(ctx context.Context, v *Version, stripe, fragment int,
+// Restore puts a lost fragment of a version back with its bytes, such as those of another machine,
+// whatever else is lost, and returns the version. The caller ensures that the fragment has these
+// bytes. It returns ErrReplaced if the name has another version by now, ErrBadArgument if they are
+// not as many as a fragment has, ErrNoName, ErrNoFragment, ErrNotLost, ErrNoMemory or
+// ErrJournalFull.
+func (s *Store) Restore(ctx context.Context, v *Version, stripe, fragment int,
 	whole []byte) (version uint64, err error) {
 	v.lock.Lock()
 	defer v.lock.Unlock()
 	if v.slot == nil {
-		return 0, v.closed("Install")
+		return 0, v.closed("Restore")
 	}
-	return s.version(ctx, "Install", v.name, func(ms int64) reply {
-		return C.store_install(s.shards, v.name, v.slot, C.uint64_t(stripe),
+	return s.version(ctx, "Restore", v.name, func(ms int64) reply {
+		return C.store_restore(s.shards, v.name, v.slot, C.uint64_t(stripe),
 			C.uint64_t(fragment), address(whole), C.size_t(len(whole)), C.int64_t(ms))
 	})
 }

@@ -94,7 +94,7 @@ func TestVersionEnds(t *testing.T) {
 	refused(t, err, lrcstore.ErrClosed)
 	_, err = version.ReadAt(make([]byte, 1), 0)
 	refused(t, err, lrcstore.ErrClosed)
-	_, err = store.Install(background, version, 0, 0, make([]byte, width))
+	_, err = store.Restore(background, version, 0, 0, make([]byte, width))
 	refused(t, err, lrcstore.ErrClosed)
 	refused(t, version.Close(), lrcstore.ErrClosed)
 }
@@ -106,7 +106,7 @@ func refused(t *testing.T, err, want error) {
 	}
 }
 
-func TestInstall(t *testing.T) {
+func TestRestore(t *testing.T) {
 	store, other, blob := opened(t), opened(t), pattern(96)
 	number := must(t)(store.Put(background, "blob", blob))
 	version := held(t, store, "blob")
@@ -115,20 +115,20 @@ func TestInstall(t *testing.T) {
 	if err != nil || !bytes.Equal(fragment, blob[60:64]) {
 		t.Fatalf("%v, %v", fragment, err)
 	}
-	_, err = store.Install(background, version, 1, 3, fragment[1:])
+	_, err = store.Restore(background, version, 1, 3, fragment[1:])
 	refused(t, err, lrcstore.ErrBadArgument)
-	_, err = store.Install(background, version, 1, 3, nil)
+	_, err = store.Restore(background, version, 1, 3, nil)
 	refused(t, err, lrcstore.ErrBadArgument)
-	_, err = store.Install(background, version, 0, 3, blob[12:16])
+	_, err = store.Restore(background, version, 0, 3, blob[12:16])
 	refused(t, err, lrcstore.ErrNotLost)
-	_, err = other.Install(background, version, 1, 3, fragment)
+	_, err = other.Restore(background, version, 1, 3, fragment)
 	refused(t, err, lrcstore.ErrBadArgument)
 	ended, cancel := context.WithCancel(background)
 	cancel()
-	if _, err = store.Install(ended, version, 1, 3, fragment); err != context.Canceled {
+	if _, err = store.Restore(ended, version, 1, 3, fragment); err != context.Canceled {
 		t.Errorf("%v", err)
 	}
-	if must(t)(store.Install(background, version, 1, 3, fragment)) != number {
+	if must(t)(store.Restore(background, version, 1, 3, fragment)) != number {
 		t.Error("another version")
 	}
 	if shape, err := store.Stat(background, "blob"); err != nil || shape.Lost != 0 {
@@ -136,6 +136,29 @@ func TestInstall(t *testing.T) {
 	}
 	if read, _, err := store.Get(background, "blob"); err != nil || !bytes.Equal(read, blob) {
 		t.Errorf("Get: %v", err)
+	}
+}
+
+// Five fragments of a stripe are lost: one of them comes back alone with its bytes, and not once
+// the name has another blob.
+func TestRestoreOfOneVersion(t *testing.T) {
+	store, blob := opened(t), pattern(96)
+	number := must(t)(store.Put(background, "blob", blob))
+	version := held(t, store, "blob")
+	for i := 0; i < 5; i++ {
+		must(t)(store.Lose(background, "blob", 1, i))
+	}
+	_, err := store.Repair(background, "blob", 1, 3)
+	refused(t, err, lrcstore.ErrUnrecoverable)
+	if must(t)(store.Restore(background, version, 1, 3, blob[60:64])) != number {
+		t.Error("another version")
+	}
+	must(t)(store.Put(background, "blob", blob))
+	_, err = store.Restore(background, version, 1, 3, blob[60:64])
+	refused(t, err, lrcstore.ErrReplaced)
+	var failed *lrcstore.Error
+	if !errors.As(err, &failed) || failed.Version != number+1 {
+		t.Errorf("%+v", failed)
 	}
 }
 

@@ -83,18 +83,18 @@ protected:
         const size_t index =
             random.one_in(10) ? size_t(random.next()) : random.below(from.entries.size() + 2);
         const bool is_there = from.holds == Holds::journal && index < from.entries.size();
-        lrc_entry got = {no_slice(), 9, 9, 9, 9, 9, 9, 9, 9, 9};
+        lrc_entry got = {no_slice(), 9, 9, 9, 9, 9, 9, 9, 9, 9, 9};
         begin("entry", index);
         judge(lrc_slot_entry(&from.slot, index, &got),
               Statuses()
                   .add(from.holds != Holds::journal, LRC_STORE_EMPTY)
                   .add(from.holds == Holds::journal && !is_there, LRC_STORE_NOTHING_LEFT));
-        const model::Entry none{9, 9, "", 9, 9, 9, 9, 9, 9, 9};
+        const model::Entry none{9, 9, "", 9, 9, 9, 9, 9, 9, 9, 9};
         const model::Entry &want = is_there ? from.entries[index] : none;
-        const uint64_t numbers[] = {got.who, got.call,    got.first, got.second, got.version,
-                                    got.len, got.stripes, got.lost,  got.status};
-        const uint64_t wanted[] = {want.who, want.call,    want.first, want.second, want.version,
-                                   want.len, want.stripes, want.lost,  want.status};
+        const uint64_t numbers[] = {got.who,     got.call, got.first,   got.second, got.third,
+                                    got.version, got.len,  got.stripes, got.lost,   got.status};
+        const uint64_t wanted[] = {want.who,     want.call, want.first,   want.second, want.third,
+                                   want.version, want.len,  want.stripes, want.lost,   want.status};
         for (size_t i = 0; i < std::size(wanted); i++) same(numbers[i], wanted[i], "a number");
         same(got.name.len, want.name.size(), "the name's length");
         same_bytes(got.name.at, want.name.data(), got.name.len, "the name");

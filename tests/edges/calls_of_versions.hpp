@@ -173,7 +173,7 @@ protected:
     }
 
     // The bytes are those of the version, as the caller has to ensure, or as few as to be refused.
-    void install() {
+    void restore() {
         Held &from = with(Holds::session), &known = other_with(Holds::version, from);
         const bool are_both = from.holds == Holds::session && known.holds == Holds::version;
         auto [stripe, fragment] = place(&known.blob, false);
@@ -181,11 +181,11 @@ protected:
         std::string bytes = data_of(known.blob, stripe, fragment);
         if (random.one_in(10)) bytes.resize(random.below(bytes.size()));
         uint64_t version = untouched;
-        begin("install", known.content, stripe, fragment, bytes.size());
+        begin("restore", known.content, stripe, fragment, bytes.size());
         const uint32_t got =
-            random.one_in(2) ? lrc_store_install(&from.slot, &known.slot, stripe, fragment,
+            random.one_in(2) ? lrc_store_restore(&from.slot, &known.slot, stripe, fragment,
                                                  at(bytes), bytes.size(), &version)
-                             : lrc_store_install_wait(&from.slot, &known.slot, stripe, fragment,
+                             : lrc_store_restore_wait(&from.slot, &known.slot, stripe, fragment,
                                                       at(bytes), bytes.size(), &version, timeout());
         const bool is_other =
             are_both && (from.store != known.store || bytes.size() != known.blob.width);
@@ -195,8 +195,8 @@ protected:
                 .add(is_other, LRC_STORE_BAD_ARGUMENT)
                 .add(are_both && !has(known.blob, stripe, fragment), LRC_STORE_NO_FRAGMENT)
                 .add(are_both && from.store->is_full(), LRC_STORE_JOURNAL_FULL);
-        const model::Entry entry =
-            answer(from, LRC_CALL_REPAIR, known.content, stripe, fragment, reasons, got);
+        const model::Entry entry = answer(from, LRC_CALL_RESTORE, known.content, stripe, fragment,
+                                          reasons, got, known.blob.version);
         judge_entry(from, entry, reasons, got, version);
     }
 
@@ -243,7 +243,7 @@ protected:
         if (kind < 65) return fragment();
         if (kind < 70) return range_of_version();
         if (kind < 76) return copy_of_version();
-        if (kind < 90) return install();
+        if (kind < 90) return restore();
         if (kind < 97) return items();
         return skip();
     }

@@ -71,8 +71,8 @@ protected:
 
     // The reply to a call, and its change. It has none if there is a reason to refuse it.
     model::Entry answer(Held &from, uint32_t number, const std::string &name, uint64_t first,
-                        uint64_t second, Statuses reasons, uint32_t got) {
-        model::Entry entry{from.who, number, name, first, second};
+                        uint64_t second, Statuses reasons, uint32_t got, uint64_t third = 0) {
+        model::Entry entry{from.who, number, name, first, second, third};
         if (reasons.is_empty() && got != LRC_STORE_NO_MEMORY) from.store->answer(entry);
         return entry;
     }
@@ -83,8 +83,8 @@ protected:
         const bool is_called = reasons.is_empty() && got != LRC_STORE_NO_MEMORY;
         judge(got, reasons.is_empty() ? Statuses(entry.status) : reasons, lack);
         if (is_called) from.store->note(entry);
-        const bool has_version =
-            got == LRC_STORE_DONE || got == LRC_STORE_UNRECOVERABLE || got == LRC_STORE_NOT_REBUILT;
+        const bool has_version = got == LRC_STORE_DONE || got == LRC_STORE_UNRECOVERABLE ||
+                                 got == LRC_STORE_REPLACED || got == LRC_STORE_NOT_REBUILT;
         same(version, has_version ? entry.version : untouched, "`version`");
     }
 };

@@ -113,7 +113,7 @@ using Bytes = std::shared_ptr<const std::string>;
 struct Entry {
     uint32_t who = 0, call = 0;
     std::string name;
-    uint64_t first = 0, second = 0;
+    uint64_t first = 0, second = 0, third = 0;
     uint64_t version = 0, len = 0, stripes = 0, lost = 0;
     uint32_t status = LRC_STORE_DONE;
 };
@@ -209,12 +209,16 @@ public:
         Blob &blob = found->second;
         if (entry.call == LRC_CALL_READ)
             entry.status = blob.status_of_read(entry.first, entry.second);
-        if (entry.call == LRC_CALL_LOSE || entry.call == LRC_CALL_REPAIR)
+        if (entry.call == LRC_CALL_RESTORE && entry.third != blob.version)
+            entry.status = LRC_STORE_REPLACED;
+        else if (entry.call == LRC_CALL_LOSE || entry.call == LRC_CALL_REPAIR ||
+                 entry.call == LRC_CALL_RESTORE)
             entry.status = entry.first >= blob.stripes || entry.second >= blob.data + 4
                                ? uint32_t{LRC_STORE_NO_FRAGMENT}
                            : entry.call == LRC_CALL_LOSE ? lose(entry, blob)
                                                          : repair(entry, blob);
-        if (entry.status == LRC_STORE_DONE || entry.status == LRC_STORE_UNRECOVERABLE)
+        if (entry.status == LRC_STORE_DONE || entry.status == LRC_STORE_UNRECOVERABLE ||
+            entry.status == LRC_STORE_REPLACED)
             entry.version = blob.version;
         if (entry.call == LRC_CALL_STAT) {
             entry.len = blob.len;
@@ -279,7 +283,8 @@ private:
 
     static uint32_t repair(const Entry &entry, Blob &blob) {
         if (!blob.is_lost(entry.first, entry.second)) return LRC_STORE_NOT_LOST;
-        if (blob.is_unrecoverable(entry.first, entry.second)) return LRC_STORE_UNRECOVERABLE;
+        if (entry.call == LRC_CALL_REPAIR && blob.is_unrecoverable(entry.first, entry.second))
+            return LRC_STORE_UNRECOVERABLE;
         unsigned &lost = blob.lost[entry.first];
         lost &= ~(1u << entry.second);
         if (lost == 0) blob.lost.erase(entry.first);

@@ -23,7 +23,8 @@ static const char *const STORE[] = {"done",
                                     "1,048,576, the shards are not 1 to 64",
                                     "other sess",
                                     "rebuilding",
-                                    "no such shard"};
+                                    "no such shard",
+                                    "another blob"};
 static const char *const CODER[] = {"done", "unrecoverable", "argument"};
 
 static void texts(const char *(*text_of)(uint32_t), const char *const *parts, uint32_t count) {
@@ -37,8 +38,8 @@ static void texts(const char *(*text_of)(uint32_t), const char *const *parts, ui
 }
 
 int main(void) {
-    EXPECT(sizeof STORE / sizeof *STORE, LRC_STORE_NOTHING_LEFT + 1);
-    texts(lrc_store_text, STORE, LRC_STORE_NOTHING_LEFT + 1);
+    EXPECT(sizeof STORE / sizeof *STORE, LRC_STORE_REPLACED + 1);
+    texts(lrc_store_text, STORE, LRC_STORE_REPLACED + 1);
     texts(lrc_coder_text, CODER, LRC_BAD_ARGUMENT + 1);
     return report("texts");
 }

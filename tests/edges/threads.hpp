@@ -281,7 +281,7 @@ public:
         expect(run, count, calls(), "the number of entries");
         for (uint64_t i = 0; i < count; i++) {
             lrc_entry entry = {
-                {reinterpret_cast<const uint8_t *>(""), 0}, 0, 0, 0, 0, 0, 0, 0, 0, 0};
+                {reinterpret_cast<const uint8_t *>(""), 0}, 0, 0, 0, 0, 0, 0, 0, 0, 0, 0};
             expect(run, lrc_slot_entry(journal, i, &entry), LRC_STORE_DONE, "entry");
             check_entry(i, entry);
         }
@@ -308,8 +308,8 @@ private:
     }
 
     static std::string text(const model::Entry &entry) {
-        return joined(entry.who, entry.call, entry.name, entry.first, entry.second, entry.status,
-                      entry.version, entry.len, entry.stripes, entry.lost);
+        return joined(entry.who, entry.call, entry.name, entry.first, entry.second, entry.third,
+                      entry.status, entry.version, entry.len, entry.stripes, entry.lost);
     }
 
     void check_entry(uint64_t index, const lrc_entry &got) {
@@ -318,12 +318,13 @@ private:
                            std::string(reinterpret_cast<const char *>(got.name.at), got.name.len),
                            got.first,
                            got.second,
+                           got.third,
                            got.version,
                            got.len,
                            got.stripes,
                            got.lost,
                            got.status};
-        model::Entry answer{got.who, got.call, entry.name, got.first, got.second};
+        model::Entry answer{got.who, got.call, entry.name, got.first, got.second, got.third};
         store.answer(answer);
         const std::string call = joined("entry", index);
         if (text(entry) != text(answer)) run.differ(call, "it", text(entry), text(answer));

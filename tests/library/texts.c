@@ -21,7 +21,7 @@ static int wrong_texts(const char *(*text)(uint32_t), uint32_t count) {
 
 int main(void) {
     const int wrong = wrong_texts(lrc_coder_text, LRC_BAD_ARGUMENT + 1) +
-                      wrong_texts(lrc_store_text, LRC_STORE_NOTHING_LEFT + 1);
+                      wrong_texts(lrc_store_text, LRC_STORE_REPLACED + 1);
     const int other = strcmp(lrc_coder_text(LRC_DONE), "done") != 0 ||
                       strcmp(lrc_store_text(LRC_STORE_DONE), "done") != 0 ||
                       strcmp(lrc_store_text(LRC_STORE_NO_NAME), "the name has no blob") != 0 ||

@@ -229,25 +229,30 @@ void versions() {
     EXPECT(none.read(0, 200).str(), blob);
 }
 
-void installs() {
+void restores() {
     const std::string blob = bytes_of(96);
     session s = session::open(4, 1000), other = session::open(4, 1000);
     EXPECT(s.put("a", blob), 1u);
     lrc::version whole = s.hold("a");
     s.lose("a", 1, 3);
     const std::string fragment = text_of(whole.fragment(1, 3));
-    EXPECT_ERROR(s.install(whole, 1, 3, "abc"), LRC_STORE_BAD_ARGUMENT, "install(1, 3, 3)");
-    EXPECT_ERROR(s.install(whole, 0, 3, blob.substr(12, 4)), LRC_STORE_NOT_LOST,
-                 "install(0, 3, 4)");
-    EXPECT_ERROR(other.install(whole, 1, 3, fragment), LRC_STORE_BAD_ARGUMENT, "install(1, 3, 4)");
+    EXPECT_ERROR(s.restore(whole, 1, 3, "abc"), LRC_STORE_BAD_ARGUMENT, "restore(1, 3, 3)");
+    EXPECT_ERROR(s.restore(whole, 0, 3, blob.substr(12, 4)), LRC_STORE_NOT_LOST,
+                 "restore(0, 3, 4)");
+    EXPECT_ERROR(other.restore(whole, 1, 3, fragment), LRC_STORE_BAD_ARGUMENT, "restore(1, 3, 4)");
     recorder::statuses = {LRC_STORE_BUSY};
     recorder::calls.clear();
     s.set_timeout(milliseconds(7));
-    EXPECT_ERROR(s.install(whole, 1, 3, fragment), LRC_STORE_BUSY, "install(1, 3, 4)");
+    EXPECT_ERROR(s.restore(whole, 1, 3, fragment), LRC_STORE_BUSY, "restore(1, 3, 4)");
     EXPECT(recorder::calls.back().second, 7);
-    EXPECT(s.install(whole, 1, 3, fragment), 1u);
+    EXPECT(s.restore(whole, 1, 3, fragment), 1u);
     EXPECT(s.get("a"), blob);
     EXPECT(s.hold("a").lost(1), 0u);
+    for (uint64_t f = 0; f < 5; f++) s.lose("a", 1, f);
+    EXPECT_ERROR(s.repair("a", 1, 3), LRC_STORE_UNRECOVERABLE, "repair(\"a\", 1, 3)");
+    EXPECT(s.restore(whole, 1, 3, fragment), 1u);
+    s.put("a", blob);
+    EXPECT_ERROR(s.restore(whole, 1, 3, fragment), LRC_STORE_REPLACED, "restore(1, 3, 4)");
 }
 
 void numbers() {
@@ -671,8 +676,8 @@ void views_are_null() {
     s.put("b", "HELLO");
     lrc::version held = s.hold("b");
     s.lose("b", 0, 1);
-    EXPECT_ERROR(s.install(held, 0, 1, std::string_view()), LRC_STORE_BAD_ARGUMENT,
-                 "install(0, 1, 0)");
+    EXPECT_ERROR(s.restore(held, 0, 1, std::string_view()), LRC_STORE_BAD_ARGUMENT,
+                 "restore(0, 1, 0)");
     lrc::sharded_store store(4, 2);
     EXPECT_ERROR(store.take(std::string_view()), LRC_STORE_BAD_NAME, "take(\"\")");
     EXPECT(recorder::nulls, 0u);
@@ -812,7 +817,7 @@ int main() {
     buffers();
     reads();
     versions();
-    installs();
+    restores();
     numbers();
     names();
     get_copies_all();

@@ -69,7 +69,7 @@ FORM(stat, lrc_slot *slot, const uint8_t *name, size_t name_len, uint64_t *versi
      uint64_t *stripes, uint64_t *lost)
 FORM(plan_part, lrc_slot *slot, lrc_slot *other, uint64_t most, uint64_t *items)
 FORM(mend_step, lrc_slot *slot, lrc_slot *other, uint64_t *version)
-FORM(install, lrc_slot *slot, lrc_slot *other, uint64_t stripe, uint64_t fragment,
+FORM(restore, lrc_slot *slot, lrc_slot *other, uint64_t stripe, uint64_t fragment,
      const uint8_t *bytes, size_t len, uint64_t *version)
 WAITS(lrc_shards_numbers, lrc_shards *shards, lrc_numbers *numbers)
 WAITS(lrc_shards_trim, lrc_shards *shards, uint64_t keep, uint64_t *discarded)

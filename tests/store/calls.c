@@ -36,7 +36,7 @@ static void open_and_close(void) {
 static void open_unjournaled(void) {
     const uint64_t calls = 1048577;
     lrc_slot slot = LRC_SLOT_EMPTY, other = LRC_SLOT_EMPTY;
-    lrc_entry entry = {{(const uint8_t *)"", 0}, 9, 9, 9, 9, 9, 9, 9, 9, 9};
+    lrc_entry entry = {{(const uint8_t *)"", 0}, 9, 9, 9, 9, 9, 9, 9, 9, 9, 9};
     uint64_t version = 0, discarded = 9, entries = 9;
     uint32_t lawful = 9;
     EXPECT(lrc_store_open_unjournaled(0, &slot), LRC_STORE_BAD_WIDTH);
@@ -219,7 +219,7 @@ static void reserve_and_put(void) {
 
 static void close_to_journal(void) {
     lrc_slot slot = LRC_SLOT_EMPTY, other = LRC_SLOT_EMPTY;
-    lrc_entry entry = {{(const uint8_t *)"", 0}, 9, 9, 9, 9, 9, 9, 9, 9, 9};
+    lrc_entry entry = {{(const uint8_t *)"", 0}, 9, 9, 9, 9, 9, 9, 9, 9, 9, 9};
     uint64_t version = 0, len = 0, stripes = 0, lost = 0, discarded = 9, entries = 9;
     uint32_t lawful = 9;
     EXPECT(lrc_store_open(4, 100, &slot), LRC_STORE_DONE);

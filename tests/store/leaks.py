@@ -70,13 +70,13 @@ class Stores(Leaks):
                 lambda: store.lend("n1", 1000),
                 lambda: store.hold("none"),
                 lambda: store.hold("BAD"),
-                lambda: store.install(store.hold("n1"), 0, 1, b"abc"),
+                lambda: store.restore(store.hold("n1"), 0, 1, b"abc"),
                 lambda: store.repair("n1", 0, 1),
                 lambda: store.delete("none"),
             ):
                 self.assertRaises(refused, call)
         self.assertRaises(TypeError, store.put, "a", 3)
-        self.assertRaises(TypeError, store._calls.install, 3, 0, 0, b"abcd", -1)
+        self.assertRaises(TypeError, store._calls.restore, 3, 0, 0, b"abcd", -1)
 
     def test_a_mend_that_stops(self):
         """A part of its plan is left."""
@@ -104,7 +104,7 @@ class Stores(Leaks):
             self.assertRaises(lrcstore.StoreError, version.read, 5, 1000)
         whole = held[1].fragment(0, 3)
         store.lose("n1", 0, 3)
-        store.install(held[1], 0, 3, whole)
+        store.restore(held[1], 0, 3, whole)
         store.put("n3", b"another")
         store.delete("n4")
         store.mend()

@@ -46,7 +46,7 @@ class Slice(ctypes.Structure):
 class Entry(ctypes.Structure):
     _fields_ = [
         ("name", Slice),
-        *((it, U64) for it in ("first", "second", "version", "len", "stripes", "lost")),
+        *((it, U64) for it in ("first", "second", "third", "version", "len", "stripes", "lost")),
         *((it, U32) for it in ("who", "call", "status")),
     ]
 

@@ -326,34 +326,38 @@ class Calls(unittest.TestCase):
         self.assertEqual(empty.lost(0), (Status.EMPTY, 0))
         self.assertEqual(empty.shape(), (Status.EMPTY, 0, 0, 0, 0, 0, 0))
 
-    def test_a_fragment_is_installed(self):
+    def test_a_fragment_is_restored(self):
         store, blob = self.store, self.blob
         number = store.put("a", blob)
         whole = store.hold("a")
         store.lose("a", 1, 3)
         fragment = whole.fragment(1, 3)
         self.assertEqual(fragment, blob[60:64])
-        install = store.install
-        self.refused(Status.BAD_ARGUMENT, "install(1, 3, 3)", install, whole, 1, 3, b"abc")
-        self.refused(Status.BAD_ARGUMENT, "install(1, 3, 0)", install, whole, 1, 3, b"")
-        self.refused(Status.NOT_LOST, "install(0, 3, 4)", install, whole, 0, 3, blob[12:16])
-        self.refused(Status.NO_FRAGMENT, "install(5, 3, 4)", install, whole, 5, 3, fragment)
-        other = Store(4).install
-        self.refused(Status.BAD_ARGUMENT, "install(1, 3, 4)", other, whole, 1, 3, fragment)
-        self.assertEqual(store.install(whole, 1, 3, bytearray(fragment)), number)
+        restore = store.restore
+        self.refused(Status.BAD_ARGUMENT, "restore(1, 3, 3)", restore, whole, 1, 3, b"abc")
+        self.refused(Status.BAD_ARGUMENT, "restore(1, 3, 0)", restore, whole, 1, 3, b"")
+        self.refused(Status.NOT_LOST, "restore(0, 3, 4)", restore, whole, 0, 3, blob[12:16])
+        self.refused(Status.NO_FRAGMENT, "restore(5, 3, 4)", restore, whole, 5, 3, fragment)
+        other = Store(4).restore
+        self.refused(Status.BAD_ARGUMENT, "restore(1, 3, 4)", other, whole, 1, 3, fragment)
+        self.assertEqual(store.restore(whole, 1, 3, bytearray(fragment)), number)
         self.assertEqual((store.get("a"), store.stat("a").lost), (blob, 0))
+        for lost in range(5):
+            store.lose("a", 1, lost)
+        self.refused(Status.UNRECOVERABLE, "repair('a', 1, 3)", store.repair, "a", 1, 3)
+        self.assertEqual(store.restore(whole, 1, 3, fragment), number)
         for call in (
-            lambda: store._calls.install("a", 1, 3, fragment, -1),
-            lambda: install(whole, 1, 3, "text"),
+            lambda: store._calls.restore("a", 1, 3, fragment, -1),
+            lambda: restore(whole, 1, 3, "text"),
         ):
             self.assertRaises(TypeError, call)
-        self.assertRaises(ValueError, install, whole, -1, 3, fragment)
-        self.assertRaises(ValueError, install, whole, 1, 2**64, fragment)
+        self.assertRaises(ValueError, restore, whole, -1, 3, fragment)
+        self.assertRaises(ValueError, restore, whole, 1, 2**64, fragment)
         self.assertEqual(
-            store._calls.install(_native.Held(), 1, 3, fragment, -1), (Status.EMPTY, 0)
+            store._calls.restore(_native.Held(), 1, 3, fragment, -1), (Status.EMPTY, 0)
         )
         store.close()
-        self.refused(Status.EMPTY, "install(1, 3, 4)", install, whole, 1, 3, fragment)
+        self.refused(Status.EMPTY, "restore(1, 3, 4)", restore, whole, 1, 3, fragment)
 
     def test_numbers(self):
         store = Store(4, limit=100)
@@ -460,16 +464,16 @@ class Shards(unittest.TestCase):
         self.assertEqual(store.numbers().entries, remaining)
         self.assertEqual(store.close(), (remaining, True))
 
-    def test_a_fragment_is_installed_at_the_shard_of_its_name(self):
+    def test_a_fragment_is_restored_at_the_shard_of_its_name(self):
         store = self.filled()
         store.mend()
         held = {name: store.hold(name) for name in self.NAMES}
         for name, version in held.items():
             store.lose(name, 0, 2)
-            self.assertEqual(store.install(version, 0, 2, version.fragment(0, 2)), version.number)
+            self.assertEqual(store.restore(version, 0, 2, version.fragment(0, 2)), version.number)
         self.assertEqual(store.numbers().lost, 0)
         with self.assertRaises(StoreError) as caught:
-            Store(4, shards=2).install(held["n1"], 0, 2, bytes(4))
+            Store(4, shards=2).restore(held["n1"], 0, 2, bytes(4))
         self.assertIs(caught.exception.status, Status.BAD_ARGUMENT)
 
 

@@ -36,7 +36,7 @@ CALLS = {
     "trim": lambda store: store.trim(1),
     "mend": lambda store: store.mend(),
     "hold": lambda store: store.hold("a"),
-    "install": lambda store: store.install(store.hold("held"), 0, 1, b"abcd"),
+    "restore": lambda store: store.restore(store.hold("held"), 0, 1, b"abcd"),
     "numbers": lambda store: store.numbers(),
 }
 # How many threads wait in busy.c, and whether they return.
@@ -177,7 +177,7 @@ class BusyForEver(unittest.TestCase):
             ("get of a long range", CALLS["get of a long range"].__get__(self.store)),
             ("lend of a long range", CALLS["lend of a long range"].__get__(self.store)),
             ("read into a buffer", lambda: self.store.read_into("a", 0, bytearray(5000))),
-            ("install", lambda: self.store.install(held, 0, 1, bytes(65536))),
+            ("restore", lambda: self.store.restore(held, 0, 1, bytes(65536))),
             ("read of a version", lambda: held.read(0, 100)),
             ("get of a long rest", lambda: self.store.get("held", 10)),
             ("lend of a version", lambda: held.lend(0, 100)),
@@ -202,7 +202,7 @@ class BusyForEver(unittest.TestCase):
             self.assertRaises(StoreError, held.shape)  # what busy.c holds has no shape
             returned.append("shape")
 
-        thread = self.start(self.store.install, held, 0, 1, b"abcd")
+        thread = self.start(self.store.restore, held, 0, 1, b"abcd")
         other = threading.Thread(target=ask)
         other.start()
         until(lambda: returned or sleeps(other))
@@ -217,7 +217,7 @@ class BusyForEver(unittest.TestCase):
         for call in (*calls, lambda: held.fragment(0, 0)):
             signal.signal(signal.SIGALRM, lambda *_, use=call: use())
             with self.assertRaises(RuntimeError) as caught, signal_in_call():
-                self.store.install(held, 0, 1, b"abcd")
+                self.store.restore(held, 0, 1, b"abcd")
             self.assertIn("uses the version", str(caught.exception))
             self.assertRaises(StoreError, call)
 

@@ -72,7 +72,7 @@ inline void releasing(lrc_slot *slot) {
 #define lrc_store_trim_wait(...) RECORDED(trim, __VA_ARGS__)
 #define lrc_store_mend_wait(...) RECORDED(mend, __VA_ARGS__)
 #define lrc_store_hold_wait(...) RECORDED(hold, __VA_ARGS__)
-#define lrc_store_install_wait(...) RECORDED(install, __VA_ARGS__)
+#define lrc_store_restore_wait(...) RECORDED(restore, __VA_ARGS__)
 #define lrc_store_numbers_wait(...) RECORDED(numbers, __VA_ARGS__)
 #define OF_SHARDS(name, ...) recorder::recorded("shards_" #name, lrc_shards_##name, __VA_ARGS__)
 #define lrc_shards_numbers(...) OF_SHARDS(numbers, __VA_ARGS__)

@@ -61,7 +61,7 @@ static void holds(lrc_slot *slot) {
     EXPECT(memcmp(got, FOX, 54), 0);
     CALL(lrc_store_get(slot, NAME("a"), &lent, &version, &len, &pieces));
     EXPECT(gather(&lent, got), 54);
-    CALL(lrc_store_install(slot, &held, 0, 1, (const uint8_t *)FOX + 4, 4, &version));
+    CALL(lrc_store_restore(slot, &held, 0, 1, (const uint8_t *)FOX + 4, 4, &version));
     CALL(lrc_store_lose(slot, NAME("a"), 0, 1, &version));
     lrc_slot_release(&lent);
     lrc_slot_release(&held);

@@ -92,7 +92,7 @@ static void print_reply(const lrc_entry *entry) {
 static void print_journal(lrc_slot *journal, uint64_t entries) {
     static const char *const calls[] = {"put", "read", "lose", "repair", "delete", "stat"};
     for (size_t i = 0; i < entries; i++) {
-        lrc_entry entry = {{(const uint8_t *)"", 0}, 0, 0, 0, 0, 0, 0, 0, 0, 0};
+        lrc_entry entry = {{(const uint8_t *)"", 0}, 0, 0, 0, 0, 0, 0, 0, 0, 0, 0};
         EXPECT(lrc_slot_entry(journal, i, &entry), LRC_STORE_DONE);
         printf("h %zu %" PRIu32 " %s%s %.*s", i + 1, entry.who, calls[entry.call],
                entry.call == LRC_CALL_PUT && entry.first == 6 ? "6" : "", (int)entry.name.len,

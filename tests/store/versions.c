@@ -1,4 +1,4 @@
-/* Held versions, installs, the items of a plan and the numbers of a store, from C. */
+/* Held versions, restorations, the items of a plan and the numbers of a store, from C. */
 #include "store_test.h"
 
 enum { WIDTH = 4, BYTES = 54 };
@@ -151,8 +151,12 @@ static void unrecoverable(lrc_slot *slot) {
     EXPECT(lrc_slot_lend(&held, 20, 4, &lent, &pieces), LRC_STORE_DONE);
     EXPECT(gather(&lent, got), 4);
     EXPECT(memcmp(got, FOX + 20, 4), 0);
-    EXPECT(lrc_store_install(slot, &held, 1, 0, (const uint8_t *)FOX + 24, WIDTH, &version),
-           LRC_STORE_UNRECOVERABLE);
+    /* one of the five comes back from elsewhere, and so the others can be rebuilt */
+    EXPECT(lrc_store_repair(slot, NAME("fox"), 1, 0, &version), LRC_STORE_UNRECOVERABLE);
+    EXPECT(lrc_store_restore(slot, &held, 1, 0, (const uint8_t *)FOX + 24, WIDTH, &version),
+           LRC_STORE_DONE);
+    EXPECT(version, 2);
+    EXPECT(lrc_store_repair(slot, NAME("fox"), 1, 1, &version), LRC_STORE_DONE);
     lrc_slot_release(&lent);
     lrc_slot_release(&held);
 }
@@ -221,32 +225,32 @@ static void versions(void) {
     unrecoverable(&slot);
     EXPECT(lrc_store_join(&slot, &other), LRC_STORE_DONE);
     EXPECT(lrc_store_close(&slot, &entries, &lawful), LRC_STORE_DONE);
-    EXPECT(entries, 17);
+    EXPECT(entries, 19);
     EXPECT(lawful, 1);
     expect_version(&held);
     lrc_slot_release(&held);
 }
 
-static void refused_installs(lrc_slot *slot, lrc_slot *held) {
+static void refused_restorations(lrc_slot *slot, lrc_slot *held) {
     const uint8_t *bytes = (const uint8_t *)FOX;
     lrc_slot stranger = LRC_SLOT_EMPTY;
     uint64_t version = 77;
-    EXPECT(lrc_store_install(slot, &stranger, 0, 1, bytes, WIDTH, &version), LRC_STORE_EMPTY);
-    EXPECT(lrc_store_install(&stranger, held, 0, 1, bytes, WIDTH, &version), LRC_STORE_EMPTY);
-    EXPECT(lrc_store_install(held, slot, 0, 1, bytes, WIDTH, &version), LRC_STORE_EMPTY);
+    EXPECT(lrc_store_restore(slot, &stranger, 0, 1, bytes, WIDTH, &version), LRC_STORE_EMPTY);
+    EXPECT(lrc_store_restore(&stranger, held, 0, 1, bytes, WIDTH, &version), LRC_STORE_EMPTY);
+    EXPECT(lrc_store_restore(held, slot, 0, 1, bytes, WIDTH, &version), LRC_STORE_EMPTY);
     EXPECT(lrc_store_open(WIDTH, 9, &stranger), LRC_STORE_DONE);
-    EXPECT(lrc_store_install(&stranger, held, 0, 1, bytes + 4, WIDTH, &version),
+    EXPECT(lrc_store_restore(&stranger, held, 0, 1, bytes + 4, WIDTH, &version),
            LRC_STORE_BAD_ARGUMENT);
     lrc_slot_release(&stranger);
-    EXPECT(lrc_store_install(slot, held, 0, 1, bytes, WIDTH - 1, &version), LRC_STORE_BAD_ARGUMENT);
-    EXPECT(lrc_store_install(slot, held, 0, 1, bytes, WIDTH + 1, &version), LRC_STORE_BAD_ARGUMENT);
-    EXPECT(lrc_store_install(slot, held, 2, 1, bytes, WIDTH, &version), LRC_STORE_NO_FRAGMENT);
-    EXPECT(lrc_store_install(slot, held, 0, 16, bytes, WIDTH, &version), LRC_STORE_NO_FRAGMENT);
+    EXPECT(lrc_store_restore(slot, held, 0, 1, bytes, WIDTH - 1, &version), LRC_STORE_BAD_ARGUMENT);
+    EXPECT(lrc_store_restore(slot, held, 0, 1, bytes, WIDTH + 1, &version), LRC_STORE_BAD_ARGUMENT);
+    EXPECT(lrc_store_restore(slot, held, 2, 1, bytes, WIDTH, &version), LRC_STORE_NO_FRAGMENT);
+    EXPECT(lrc_store_restore(slot, held, 0, 16, bytes, WIDTH, &version), LRC_STORE_NO_FRAGMENT);
     EXPECT(version, 77);
 }
 
-/* A session that never saw the name installs what another one held. */
-static void installs(void) {
+/* A session that never saw the name restores what another one held. */
+static void restores(void) {
     lrc_slot slot = LRC_SLOT_EMPTY, other = LRC_SLOT_EMPTY, held = LRC_SLOT_EMPTY;
     const uint8_t *bytes = (const uint8_t *)FOX;
     uint64_t version = 0, len = 0, lent = 0, built = 0;
@@ -255,27 +259,27 @@ static void installs(void) {
     EXPECT(lrc_store_split(&slot, 1, &other), LRC_STORE_DONE);
     put_with_losses(&slot, "fox");
     EXPECT(lrc_store_hold(&slot, NAME("fox"), &held, &version, &len), LRC_STORE_DONE);
-    refused_installs(&slot, &held);
+    refused_restorations(&slot, &held);
     version = 77;
-    EXPECT(lrc_store_install(&other, &held, 0, 7, bytes + 28, WIDTH, &version), LRC_STORE_DONE);
+    EXPECT(lrc_store_restore(&other, &held, 0, 7, bytes + 28, WIDTH, &version), LRC_STORE_DONE);
     EXPECT(version, 1);
-    EXPECT(lrc_store_install(&other, &held, 0, 7, bytes + 28, WIDTH, &version), LRC_STORE_NOT_LOST);
-    EXPECT(lrc_store_install_wait(&slot, &held, 0, 1, bytes + 4, WIDTH, &version, -1),
+    EXPECT(lrc_store_restore(&other, &held, 0, 7, bytes + 28, WIDTH, &version), LRC_STORE_NOT_LOST);
+    EXPECT(lrc_store_restore_wait(&slot, &held, 0, 1, bytes + 4, WIDTH, &version, -1),
            LRC_STORE_DONE);
     EXPECT(lrc_store_read(&slot, NAME("fox"), 0, got, BYTES, &version, &lent, &built),
            LRC_STORE_DONE);
     EXPECT(lent * 100 + built, BYTES * 100);
     EXPECT(memcmp(got, FOX, BYTES), 0);
-    /* the name has another version: it is repaired from its own fragments */
+    /* the name has another version, which keeps its loss */
     EXPECT(lrc_store_put(&slot, NAME("fox"), bytes + 1, BYTES - 1, 12, &version), LRC_STORE_DONE);
     EXPECT(lrc_store_lose(&slot, NAME("fox"), 0, 1, &version), LRC_STORE_DONE);
-    EXPECT(lrc_store_install(&other, &held, 0, 1, bytes + 4, WIDTH, &version), LRC_STORE_DONE);
+    EXPECT(lrc_store_restore(&other, &held, 0, 1, bytes + 4, WIDTH, &version), LRC_STORE_REPLACED);
     EXPECT(version, 2);
     EXPECT(lrc_store_read(&slot, NAME("fox"), 0, got, BYTES - 1, &version, &lent, &built),
            LRC_STORE_DONE);
     EXPECT(memcmp(got, FOX + 1, BYTES - 1), 0);
     EXPECT(lrc_store_delete(&slot, NAME("fox"), &version), LRC_STORE_DONE);
-    EXPECT(lrc_store_install(&other, &held, 0, 1, bytes + 4, WIDTH, &version), LRC_STORE_NO_NAME);
+    EXPECT(lrc_store_restore(&other, &held, 0, 1, bytes + 4, WIDTH, &version), LRC_STORE_NO_NAME);
     lrc_slot_release(&held);
     lrc_slot_release(&other);
     lrc_slot_release(&slot);
@@ -325,7 +329,7 @@ int main(void) {
     numbers();
     versions();
     whole_reads();
-    installs();
+    restores();
     items();
     return report("versions");
 }

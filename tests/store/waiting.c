@@ -176,7 +176,7 @@ uint32_t lrc_store_get(lrc_slot *slot, const uint8_t *name, size_t name_len, lrc
         ARGUMENTS(AT(slot), AT(name), name_len, AT(other), AT(version), AT(len), AT(pieces)));
 }
 
-uint32_t lrc_store_install(lrc_slot *slot, lrc_slot *other, uint64_t stripe, uint64_t fragment,
+uint32_t lrc_store_restore(lrc_slot *slot, lrc_slot *other, uint64_t stripe, uint64_t fragment,
                            const uint8_t *bytes, size_t len, uint64_t *version) {
     return called(ARGUMENTS(AT(slot), AT(other), stripe, fragment, AT(bytes), len, AT(version), 1));
 }
@@ -217,7 +217,7 @@ static void arguments(int64_t timeout_ms) {
            AT(&x));
     PASSES(lrc_store_get_wait(&s, n, 2, &o, &v, &x, &y, timeout_ms), AT(&s), AT(n), 2, AT(&o),
            AT(&v), AT(&x), AT(&y));
-    PASSES(lrc_store_install_wait(&s, &o, 5, 4, b, 3, &v, timeout_ms), AT(&s), AT(&o), 5, 4, AT(b),
+    PASSES(lrc_store_restore_wait(&s, &o, 5, 4, b, 3, &v, timeout_ms), AT(&s), AT(&o), 5, 4, AT(b),
            3, AT(&v), 1);
 }
 
@@ -515,14 +515,14 @@ static void tries(void) {
     EXPECT(lrc_store_lend_wait(&s, NAME("a"), 0, 65535, &o, &v, &x, 5), LRC_STORE_BUSY);
     EXPECT(lrc_store_read_wait(&s, NAME("a"), 0, backing, 5, &v, &x, &y, 5), LRC_STORE_BUSY);
     EXPECT(lrc_store_lose_wait(&s, NAME("a"), 0, 5, &v, 5), LRC_STORE_BUSY);
-    EXPECT(lrc_store_install_wait(&s, &o, 0, 5, backing, 65535, &v, 5), LRC_STORE_BUSY);
+    EXPECT(lrc_store_restore_wait(&s, &o, 0, 5, backing, 65535, &v, 5), LRC_STORE_BUSY);
     EXPECT(calls, 0);
     EXPECT(lrc_store_lend_wait(&s, NAME("a"), 0, 65536, &o, &v, &x, 5), OTHER_STATUS);
     EXPECT(lrc_store_read_wait(&s, NAME("a"), 0, backing, 65536, &v, &x, &y, 5), OTHER_STATUS);
     EXPECT(lrc_store_repair_wait(&s, NAME("a"), 0, 5, &v, 5), OTHER_STATUS);
     EXPECT(lrc_store_mend_step_wait(&s, &o, &v, 5), OTHER_STATUS);
     EXPECT(lrc_store_put_from_wait(&s, NAME("a"), &o, 12, &v, 5), OTHER_STATUS);
-    EXPECT(lrc_store_install_wait(&s, &o, 0, 5, backing, 65536, &v, 5), OTHER_STATUS);
+    EXPECT(lrc_store_restore_wait(&s, &o, 0, 5, backing, 65536, &v, 5), OTHER_STATUS);
     EXPECT(calls, 6);
     busy = ~0u;
     EXPECT(lrc_store_repair_wait(&s, NAME("a"), 0, 5, &v, 5), LRC_STORE_BUSY);

@@ -133,8 +133,8 @@ static uint32_t lend(lrc_slot *session, struct call *call, int64_t timeout_ms) {
                                timeout_ms);
 }
 
-static uint32_t install(lrc_slot *session, struct call *call, int64_t timeout_ms) {
-    return lrc_store_install_wait(session, &call->held->slot, call->first, call->second,
+static uint32_t restore(lrc_slot *session, struct call *call, int64_t timeout_ms) {
+    return lrc_store_restore_wait(session, &call->held->slot, call->first, call->second,
                                   call->bytes, (size_t)call->len, &call->numbers[0], timeout_ms);
 }
 
@@ -610,12 +610,12 @@ static PyObject *install_with(store_calls *self, struct call *call, int64_t time
     return result;
 }
 
-/* install(held, stripe, fragment, bytes, timeout_ms) -> (status, version) */
-static PyObject *calls_install(store_calls *self, PyObject *const *words, Py_ssize_t count) {
-    struct call call = {.run = install};
+/* restore(held, stripe, fragment, bytes, timeout_ms) -> (status, version) */
+static PyObject *calls_restore(store_calls *self, PyObject *const *words, Py_ssize_t count) {
+    struct call call = {.run = restore};
     int64_t timeout_ms;
     Py_buffer whole;
-    if (!count_is("install", count, 5) || !(call.held = held_of(words[0])) ||
+    if (!count_is("restore", count, 5) || !(call.held = held_of(words[0])) ||
         number_to(&call.first, words[1], UINT64_MAX) < 0 ||
         number_to(&call.second, words[2], UINT64_MAX) < 0 ||
         timeout_to(&timeout_ms, words[4]) < 0 ||
@@ -849,7 +849,7 @@ static PyMethodDef calls_methods[] = {
     FAST(calls, mend),
     FAST(calls, numbers),
     FAST(calls, hold),
-    FAST(calls, install),
+    FAST(calls, restore),
     FAST(calls, lend),
     {"close", (PyCFunction)calls_close, METH_NOARGS, NULL},
     {NULL, NULL, 0, NULL},

@@ -9,7 +9,7 @@ from typing import Any, List, NamedTuple, Tuple, Union
 try:
     from . import _native
 except ImportError as error:
-    hint = "install a package of lrcstore, or compile the module by tools/python_extension.py"
+    hint = "restore a package of lrcstore, or compile the module by tools/python_extension.py"
     raise ImportError(f"{error}: {hint}") from error
 
 Name = Union[str, bytes]
@@ -41,6 +41,7 @@ class Status(enum.IntEnum):
     NOT_ALONE = 17
     NOT_REBUILT = 18
     NOTHING_LEFT = 19
+    REPLACED = 20
 
 
 class StoreError(Exception):
@@ -363,17 +364,17 @@ class Store:
         held = _native.Held()
         return (held, *self._calls.hold(name, held, self._timeout_ms))
 
-    def install(self, known: Version, stripe: int, fragment: int, whole: Buffer) -> int:
-        """Repairs a fragment with bytes that it has in a version, such as one of another machine.
+    def restore(self, known: Version, stripe: int, fragment: int, whole: Buffer) -> int:
+        """Restores a lost fragment of a version with its bytes, whatever else is lost.
 
-        The caller ensures that the fragment has these bytes. Returns the version of the repaired
-        blob.
+        They may come from another machine. The caller ensures that the fragment has these bytes.
+        Returns the version. The status is REPLACED if the name has another one by now.
         """
-        status, version = self._calls.install(
+        status, version = self._calls.restore(
             known._held, stripe, fragment, whole, self._timeout_ms
         )
         if status:
-            _check(status, "install", stripe, fragment, _length(whole))
+            _check(status, "restore", stripe, fragment, _length(whole))
         return version
 
     def numbers(self) -> Numbers:

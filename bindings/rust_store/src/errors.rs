@@ -49,12 +49,14 @@ pub enum Status {
     NotRebuilt = 18,
     /// The plan has no further item, or the journal no such entry.
     NothingLeft = 19,
+    /// The name has another blob than the version that is meant.
+    Replaced = 20,
     /// A status that this version does not know.
     Unknown = u32::MAX,
 }
 
 impl Status {
-    const KNOWN: [Status; 19] = [
+    const KNOWN: [Status; 20] = [
         Status::Busy,
         Status::NoName,
         Status::OutOfRange,
@@ -74,6 +76,7 @@ impl Status {
         Status::NotAlone,
         Status::NotRebuilt,
         Status::NothingLeft,
+        Status::Replaced,
     ];
 
     pub(crate) fn of(number: u32) -> Status {

@@ -35,6 +35,15 @@ pub enum Call {
         /// From 0.
         fragment: u64,
     },
+    /// Restore a lost fragment of a version with its bytes.
+    Restore {
+        /// The version that is meant.
+        version: u64,
+        /// From 0.
+        stripe: u64,
+        /// From 0.
+        fragment: u64,
+    },
     /// Delete the blob.
     Delete,
     /// Ask for the shape of the blob.
@@ -62,7 +71,12 @@ impl Call {
                 fragment: second,
             },
             4 => Call::Delete,
-            _ => Call::Stat,
+            5 => Call::Stat,
+            _ => Call::Restore {
+                version: raw.third,
+                stripe: first,
+                fragment: second,
+            },
         }
     }
 }
@@ -113,6 +127,7 @@ pub(crate) fn entry(held: &mut Slot, index: usize) -> Option<Entry> {
         name: Slice::empty(),
         first: 0,
         second: 0,
+        third: 0,
         version: 0,
         len: 0,
         stripes: 0,

@@ -76,6 +76,7 @@ pub struct RawEntry {
     pub name: Slice,
     pub first: u64,
     pub second: u64,
+    pub third: u64,
     pub version: u64,
     pub len: u64,
     pub stripes: u64,
@@ -134,7 +135,7 @@ extern "C" {
     pub fn lrc_store_trim_wait(slot: *mut Slot, keep: u64, discarded: *mut u64, timeout_ms: i64) -> u32;
     pub fn lrc_store_mend_wait(slot: *mut Slot, repaired: *mut u64, timeout_ms: i64) -> u32;
     pub fn lrc_store_hold_wait(slot: *mut Slot, name: *const u8, name_len: usize, other: *mut Slot, version: *mut u64, len: *mut u64, timeout_ms: i64) -> u32;
-    pub fn lrc_store_install_wait(slot: *mut Slot, other: *mut Slot, stripe: u64, fragment: u64, bytes: *const u8, len: usize, version: *mut u64, timeout_ms: i64) -> u32;
+    pub fn lrc_store_restore_wait(slot: *mut Slot, other: *mut Slot, stripe: u64, fragment: u64, bytes: *const u8, len: usize, version: *mut u64, timeout_ms: i64) -> u32;
     pub fn lrc_store_numbers_wait(slot: *mut Slot, numbers: *mut RawNumbers, timeout_ms: i64) -> u32;
     pub fn lrc_slot_shape(slot: *mut Slot, shape: *mut RawShape) -> u32;
     pub fn lrc_slot_lost(slot: *mut Slot, stripe: u64, lost: *mut u16) -> u32;

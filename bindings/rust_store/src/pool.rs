@@ -153,8 +153,8 @@ impl Lease<'_> {
         get(name: &str) -> Result<Vec<u8>, Error>;
         /// [`Session::hold`].
         hold(name: &str) -> Result<Version, Error>;
-        /// [`Session::install`].
-        install(known: &mut Version, stripe: u64, fragment: u64, bytes: &[u8])
+        /// [`Session::restore`].
+        restore(known: &mut Version, stripe: u64, fragment: u64, bytes: &[u8])
             -> Result<u64, Error>;
         /// [`Session::lose`].
         lose(name: &str, stripe: u64, fragment: u64) -> Result<u64, Error>;

@@ -159,12 +159,13 @@ impl Session {
         Ok(Version { slot, number, len })
     }
 
-    /// Repairs a fragment with bytes that it has in a version, such as one of another machine.
-    /// Returns the version of the repaired blob.
+    /// Restores a lost fragment of a version with its bytes, such as those of another machine,
+    /// whatever else is lost. Returns the version. The status is [`Status::Replaced`] if the name
+    /// has another one by now.
     ///
     /// The caller ensures that the fragment has these bytes. Others become a part of the blob, as a
     /// disk's silent corruption would.
-    pub fn install(
+    pub fn restore(
         &mut self,
         known: &mut Version,
         stripe: u64,
@@ -173,7 +174,7 @@ impl Session {
     ) -> Result<u64, Error> {
         let mut version = 0;
         let status = unsafe {
-            lrc_store_install_wait(
+            lrc_store_restore_wait(
                 &mut self.slot,
                 &mut known.slot,
                 stripe,
@@ -185,7 +186,7 @@ impl Session {
             )
         };
         let len = bytes.len();
-        check(status, format_args!("install({stripe}, {fragment}, {len})"))?;
+        check(status, format_args!("restore({stripe}, {fragment}, {len})"))?;
         Ok(version)
     }
 

@@ -85,6 +85,23 @@ fn a_small_code_is_in_the_journal() {
 }
 
 #[test]
+fn a_restoration_is_in_the_journal() {
+    let mut session = Session::open(4, 100).unwrap();
+    session.put("b", b"", Code::Small).unwrap();
+    session.put("a", &[7; 60], Code::Small).unwrap();
+    let mut held = session.hold("a").unwrap();
+    session.lose("a", 1, 3).unwrap();
+    session.restore(&mut held, 1, 3, &[7; 4]).unwrap();
+    let journal = session.close_to_journal().unwrap();
+    let call = Call::Restore {
+        version: 2,
+        stripe: 1,
+        fragment: 3,
+    };
+    assert_eq!(journal.entries[4].call, call);
+}
+
+#[test]
 fn a_store_without_a_journal_counts_its_calls() {
     let mut session = Session::open(4, None).unwrap();
     session.put("a", &[7; 49], Code::Wide).unwrap();

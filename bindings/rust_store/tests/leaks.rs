@@ -47,7 +47,7 @@ fn refused_calls() {
         let mut version = session.hold("a").unwrap();
         version.fragment(0, 15).unwrap_err();
         assert!(version.read(0, 1001).is_err());
-        session.install(&mut version, 0, 15, b"abc").unwrap_err();
+        session.restore(&mut version, 0, 15, b"abc").unwrap_err();
     }
 }
 

@@ -129,9 +129,9 @@ fn a_lease_is_of_one_shard() {
     }
 }
 
-/// A version of another shard is not installed.
+/// A version of another shard is not restored.
 #[test]
-fn an_install_is_of_one_shard() {
+fn a_restoration_is_of_one_shard() {
     let store = ShardedStore::open(4, 64, None).unwrap();
     let other = (1..)
         .map(|i| format!("n{i}"))
@@ -143,13 +143,13 @@ fn an_install_is_of_one_shard() {
         lease.lose(name, 0, 0).unwrap();
     }
     let mut known = store.take(&other).unwrap().hold(&other).unwrap();
-    let error = store.take("n0").unwrap().install(&mut known, 0, 0, b"HELL");
+    let error = store.take("n0").unwrap().restore(&mut known, 0, 0, b"HELL");
     assert_eq!(error.unwrap_err().status, Status::BadArgument);
     assert_eq!(store.numbers().unwrap().lost, 2);
     store
         .take(&other)
         .unwrap()
-        .install(&mut known, 0, 0, b"HELL")
+        .restore(&mut known, 0, 0, b"HELL")
         .unwrap();
     assert_eq!(store.take("n0").unwrap().mend().unwrap(), 1);
     assert_eq!(store.take(&other).unwrap().numbers().unwrap().lost, 0);

@@ -59,24 +59,33 @@ fn a_version_stays_as_it_is() {
 }
 
 #[test]
-fn a_fragment_is_installed() {
+fn a_fragment_is_restored() {
     let (mut session, blob) = (Session::open(4, None).unwrap(), blob(96));
     let mut other = Session::open(4, None).unwrap();
     session.put("a", &blob, Code::Wide).unwrap();
     let mut whole = session.hold("a").unwrap();
     session.lose("a", 1, 3).unwrap();
     let fragment = whole.fragment(1, 3).unwrap().to_vec();
-    let error = session.install(&mut whole, 1, 3, b"abc").unwrap_err();
+    let error = session.restore(&mut whole, 1, 3, b"abc").unwrap_err();
     assert_eq!(error.status, Status::BadArgument);
-    assert_eq!(error.call, "install(1, 3, 3)");
+    assert_eq!(error.call, "restore(1, 3, 3)");
     let present = whole.fragment(0, 3).unwrap().to_vec();
-    let error = session.install(&mut whole, 0, 3, &present).unwrap_err();
+    let error = session.restore(&mut whole, 0, 3, &present).unwrap_err();
     assert_eq!(error.status, Status::NotLost);
-    let error = other.install(&mut whole, 1, 3, &fragment).unwrap_err();
+    let error = other.restore(&mut whole, 1, 3, &fragment).unwrap_err();
     assert_eq!(error.status, Status::BadArgument);
-    assert_eq!(session.install(&mut whole, 1, 3, &fragment), Ok(1));
+    assert_eq!(session.restore(&mut whole, 1, 3, &fragment), Ok(1));
     assert_eq!(session.get("a").unwrap(), blob);
     assert_eq!(session.stat("a").unwrap().lost, 0);
+    for number in 0..5 {
+        session.lose("a", 1, number).unwrap();
+    }
+    let error = session.repair("a", 1, 3).unwrap_err();
+    assert_eq!(error.status, Status::Unrecoverable);
+    assert_eq!(session.restore(&mut whole, 1, 3, &fragment), Ok(1));
+    session.put("a", &blob, Code::Wide).unwrap();
+    let error = session.restore(&mut whole, 1, 3, &fragment).unwrap_err();
+    assert_eq!(error.status, Status::Replaced);
 }
 
 #[test]

@@ -19,11 +19,11 @@ use Rattle.history.specs.Names.{name_cmp}
 use Rattle.book.specs.Notes.{note_of}
 use Rattle.history.specs.State.{State, Blob, IsLostInside}
 use Rattle.history.specs.Step.{Operation, delete, stat, IsReply, after}
-use Rattle.history.specs.History.{History, state_of, call_of}
+use Rattle.history.specs.History.{History, state_of, call_of, is_put_call}
 use Rattle.book.specs.Contents.{Contents, sealed_at}
 use Rattle.book.specs.Holds.{HoldsHistory, Correspond, CarriesOn}
 use Rattle.history.specs.Views.{View, view_of, delete_reply, stat_reply}
-use Rattle.book.proofs.Carrying.{carried}
+use Rattle.book.proofs.Carrying.{carried, kept_true}
 use Rattle.history.proofs.Inside.{lost_inside}
 use Rattle.book.proofs.Lacking.{view_alike}
 use Rattle.history.proofs.Replies.{reply_is}
@@ -43,22 +43,24 @@ replied book h n reply m none told is =
 
 -- ---- calls that leave the state as it is
 pub carries_unchanged : (old new : Contents) (who : ℕ) (o : Operation) (answer : Answer) → ((h : History) → HoldsHistory old h → IsReply old.width (state_of h) o (note_of answer))
-    → ((s : State) → after s o (note_of answer) ≡ s) → new.width ≡ old.width → new.base ≡ old.base → new.catalogue ≡ old.catalogue
+    → ((s : State) → after s o (note_of answer) ≡ s) → is_put_call (call_of o) ≡ false → new.width ≡ old.width → new.base ≡ old.base → new.catalogue ≡ old.catalogue → new.truth ≡ old.truth
     → new.entries ≡ old.entries ++ record { who = who; call = call_of o; note = note_of answer } ∷ []
     → CarriesOn old new who o answer
-carries_unchanged old new who o answer reply same same_width same_base same_catalogue entries h told =
+carries_unchanged old new who o answer reply same no_put same_width same_base same_catalogue same_truth entries h told =
     let K : List (List ℕ × Sealed) → State → Type 0 = λ c s. (n : List ℕ) → Correspond old.width (lookup (is_at (name_cmp n)) c) (finite.get s.names n) in
     carried old new h (record { who = who; operation = o; note = note_of answer }) told (reply h told) same_width same_base entries
     (subst (λ s. K new.catalogue s) (sym (same (state_of h))) (subst (λ c. K c (state_of h)) (sym same_catalogue) told.catalogue))
+    (kept_true old new h (record { who = who; operation = o; note = note_of answer }) told no_put same_truth)
 
 pub carries_stat : (old new : Contents) (who : ℕ) (n : List ℕ) (answer : Answer) → note_of answer ≡ reply_for stat_reply (sealed_at old n)
-    → new.width ≡ old.width → new.base ≡ old.base → new.catalogue ≡ old.catalogue
+    → new.width ≡ old.width → new.base ≡ old.base → new.catalogue ≡ old.catalogue → new.truth ≡ old.truth
     → new.entries ≡ old.entries ++ record { who = who; call = Stat n; note = note_of answer } ∷ []
     → CarriesOn old new who (stat n) answer
 carries_stat old new who n answer right =
     carries_unchanged old new who (stat n) answer
     (λ h told. (reply_is old.width (state_of h) (stat n) (note_of answer)).1 (tt, replied old h n stat_reply (note_of answer) (λ v. refl) told right))
     (λ s. refl)
+    refl
 
 -- ---- a deletion
 -- the blob of each name after the catalogue has lost the name n
@@ -91,12 +93,13 @@ module _ (w : ℕ) (s : State) (n : List ℕ) where
   without_name (Some v) None m here both is q x same = absurd both
 
 pub carries_delete : (old new : Contents) (who : ℕ) (n : List ℕ) (answer : Answer) → note_of answer ≡ reply_for delete_reply (sealed_at old n)
-    → new.width ≡ old.width → new.base ≡ old.base → ((q : List ℕ) → sealed_at new q ≡ cond (is_at (name_cmp n) q) None (sealed_at old q))
+    → new.width ≡ old.width → new.base ≡ old.base → ((q : List ℕ) → sealed_at new q ≡ cond (is_at (name_cmp n) q) None (sealed_at old q)) → new.truth ≡ old.truth
     → new.entries ≡ old.entries ++ record { who = who; call = Delete n; note = note_of answer } ∷ []
     → CarriesOn old new who (delete n) answer
-carries_delete old new who n answer right same_width same_base looks entries h told =
+carries_delete old new who n answer right same_width same_base looks same_truth entries h told =
     let s = state_of h in
     let reply : IsReply old.width s (delete n) (note_of answer) = (reply_is old.width s (delete n) (note_of answer)).1 (tt, replied old h n delete_reply (note_of answer) (λ v. refl) told right) in
     carried old new h (record { who = who; operation = delete n; note = note_of answer }) told reply same_width same_base entries
     (λ q. subst (λ x. Correspond old.width x (finite.get (after s (delete n) (note_of answer)).names q)) (sym (looks q))
     (without_name old.width s n (sealed_at old n) (finite.get s.names n) (note_of answer) refl (told.catalogue n) right q (sealed_at old q) (told.catalogue q)))
+    (kept_true old new h (record { who = who; operation = delete n; note = note_of answer }) told refl same_truth)

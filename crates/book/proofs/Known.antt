@@ -26,7 +26,8 @@ use Rattle.history.specs.Views.{no_such, open_test, repair_reply}
 use Rattle.history.proofs.Keeping.{by_fragment}
 use Rattle.history.proofs.Replies.{below_of}
 use Rattle.book.specs.Contents.{Contents, sealed_at}
-use Rattle.book.specs.Known.{IsFragmentIn, IsRepairFor}
+use Rattle.book.specs.Known.{IsFragmentIn, IsRepairFor, IsGiven}
+use Rattle.book.specs.Truth.{bytes_in}
 use Rattle.book.specs.Lacking.{lacks, view_in}
 use Rattle.book.specs.Holds.{HoldsHistory, Represents, Correspond}
 use Rattle.book.proofs.Mending.{lacks_here}
@@ -135,6 +136,12 @@ module _ (w : ℕ) (h : History) (n : List ℕ) (v j f : ℕ) (found : List ℕ)
     serves : IsRepairFor v j f found s
     serves = record { long = ap length known.is ∙ length-map-range_with_len (λ p. column known.code (data_at known.code w known.bytes j p) f) 0 w ∙ sym is.width; own = of_each }
 
+  truly_at : (t : List ℕ) (x : Option Sealed) (had : Option Blob) → finite.get (state_of h).names n ≡ had → Correspond w x had → IfSome had (λ b. b.bytes ≡ t) → IfSome x (IsGiven t v j f found)
+  truly_at t None had here both is = tt
+  truly_at t (Some s) None here both is = absurd both
+  truly_at t (Some s) (Some blob) here both is =
+      record { long = (serves s blob here both).long; own = λ e. own_fragment s blob here both e ∙ ap (λ (b : List ℕ). fragment s.code s.width b j f) is }
+
   serves_at : (x : Option Sealed) (had : Option Blob) → finite.get (state_of h).names n ≡ had → Correspond w x had → IfSome x (IsRepairFor v j f found)
   serves_at None had here both = tt
   serves_at (Some s) None here both = absurd both
@@ -143,6 +150,14 @@ module _ (w : ℕ) (h : History) (n : List ℕ) (v j f : ℕ) (found : List ℕ)
 pub known_serves : (book : Contents) (h : History) (n : List ℕ) (v j f : ℕ) (found : List ℕ) → HoldsHistory book h → IsFragmentIn h book.width n v j f found → IfSome (sealed_at book n) (IsRepairFor v j f found)
 known_serves book h n v j f found told known =
     serves_at book.width h n v j f found told.legal known (sealed_at book n) (finite.get (state_of h).names n) refl (told.catalogue n)
+
+pub known_given : (book : Contents) (h : History) (n : List ℕ) (v j f : ℕ) (found : List ℕ) → HoldsHistory book h → IsFragmentIn h book.width n v j f found → IfSome (sealed_at book n) (IsGiven (bytes_in book.truth n) v j f found)
+known_given book h n v j f found told known =
+    truly_at book.width h n v j f found told.legal known (bytes_in book.truth n) (sealed_at book n) (finite.get (state_of h).names n) refl (told.catalogue n) (told.truth n)
+
+pub given_long : (x : Option Sealed) (t : List ℕ) (v j f : ℕ) (found : List ℕ) → IfSome x (IsGiven t v j f found) → IfSome x (λ s. length found ≡ s.width)
+given_long None t v j f found given = tt
+given_long (Some s) t v j f found given = given.long
 
 -- ---- what is known stays known after a call
 pub fragment_later : (h more : History) (w : ℕ) (n : List ℕ) (v j f : ℕ) (found : List ℕ) → IsFragmentIn h w n v j f found → IsFragmentIn (h ++ more) w n v j f found

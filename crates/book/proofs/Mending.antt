@@ -16,7 +16,7 @@ use Rattle.sealed.proofs.Changing.{without_stands, with_stands}
 use Rattle.lrc_code.specs.Count.{count_below}
 use Rattle.history.specs.Views.{no_such}
 use Rattle.book.specs.Lacking.{lacks, lacked_count, view_in}
-use Rattle.book.specs.Losing.{IsWith}
+use Rattle.book.specs.Losing.{IsWith, IsRestored}
 use Rattle.book.specs.Totals.{has_open, open_at, open_count}
 use Rattle.history.proofs.Keeping.{is_lt}
 use Rattle.book.proofs.Lacking.{count_bound, count_more, count_other}
@@ -130,6 +130,10 @@ is_without s t j f changed =
 pub is_with : (s t : Sealed) (j f : ℕ) (x : List ℕ) → IsChanged s j f (Some x) t → IsFragmentOf s j f x → IsWith (λ lost. set.remove lost (j, f)) s t
 is_with s t j f x changed own =
     record { version = changed.version; len = changed.len; width = changed.width; code = changed.code; stands = λ b lost stands. with_stands s t b lost j f x changed stands (own b lost stands) }
+
+pub is_restored : (s t : Sealed) (j f : ℕ) (x : List ℕ) → IsChanged s j f (Some x) t → IsRestored j f x s t
+is_restored s t j f x changed =
+    record { version = changed.version; len = changed.len; width = changed.width; code = changed.code; stands = λ b lost own stands. with_stands s t b lost j f x changed stands own }
 
 -- ---- what is there, and what is absent
 pub fragment_there : (s : Sealed) (j f : ℕ) → no_such s.width (view_in s) j f ≡ false → (j < stripe_count s.code s.width s.len) × (f < fragment_count s.code)

@@ -7,7 +7,7 @@ use Rattle.std.specs.BTreeMap.{is_at}
 use Rattle.sealed.specs.declared.value.Sealed.{Sealed}
 use Rattle.sealed.specs.Range.{is_outside, IsReadable}
 use Rattle.book.specs.declared.answer.Answer.{Answer}
-use Rattle.book.specs.declared.answer.Answer.TheVariants.{Stored, NoName, OutOfRange, Unrecoverable, Granted, Lost as LostAnswer, NoFragment, AlreadyLost, Repaired, NotLost, Deleted, Shape}
+use Rattle.book.specs.declared.answer.Answer.TheVariants.{Stored, NoName, OutOfRange, Unrecoverable, Granted, Lost as LostAnswer, NoFragment, AlreadyLost, Repaired, NotLost, Replaced, Deleted, Shape}
 use Rattle.history.specs.declared.note.Note.TheVariants as note
 use Rattle.history.specs.declared.note.Call.TheVariants.{Read}
 use Rattle.book.specs.Asked.{IsReadAnswer}
@@ -18,7 +18,7 @@ use Rattle.history.specs.Step.{read, IsReply, IsReadReply}
 use Rattle.history.specs.History.{state_of}
 use Rattle.book.specs.Contents.{Contents, sealed_at}
 use Rattle.book.specs.Holds.{Represents, Correspond, CarriesOn}
-use Rattle.book.proofs.Carrying.{carried}
+use Rattle.book.proofs.Carrying.{carried, kept_true}
 use Rattle.book.proofs.Same.{unreadable_alike}
 
 choose_first : (b : Bool) (P Q : Type 0) → b ≡ true → P → MatchBool b P Q
@@ -66,6 +66,7 @@ module _ (w : ℕ) (s : Sealed) (blob : Blob) (is : Represents w s blob) where
   read_reply start len AlreadyLost right = absurd right
   read_reply start len (Repaired v) right = absurd right
   read_reply start len NotLost right = absurd right
+  read_reply start len (Replaced v) right = absurd right
   read_reply start len (Deleted v) right = absurd right
   read_reply start len (Shape v n m l) right = absurd right
 
@@ -80,6 +81,7 @@ no_name_reply w start len NoFragment right = absurd right
 no_name_reply w start len AlreadyLost right = absurd right
 no_name_reply w start len (Repaired v) right = absurd right
 no_name_reply w start len NotLost right = absurd right
+no_name_reply w start len (Replaced v) right = absurd right
 no_name_reply w start len (Deleted v) right = absurd right
 no_name_reply w start len (Shape v n m l) right = absurd right
 
@@ -91,11 +93,12 @@ reply_of w (Some s) None start len answer kept right = absurd kept
 
 -- a book that answers a read rightly, and adds its entry and no more, goes on with it
 pub carries_read : (old new : Contents) (who : ℕ) (n : List ℕ) (start len : ℕ) (answer : Answer) → IsReadAnswer (sealed_at old n) start len answer
-    → new.width ≡ old.width → new.base ≡ old.base → new.catalogue ≡ old.catalogue
+    → new.width ≡ old.width → new.base ≡ old.base → new.catalogue ≡ old.catalogue → new.truth ≡ old.truth
     → new.entries ≡ old.entries ++ record { who = who; call = Read n start len; note = note_of answer } ∷ []
     → CarriesOn old new who (read n start len) answer
-carries_read old new who n start len answer right same_width same_base same_catalogue entries h told =
+carries_read old new who n start len answer right same_width same_base same_catalogue same_truth entries h told =
     let reply : IsReply old.width (state_of h) (read n start len) (note_of answer) =
     reply_of old.width (sealed_at old n) (finite.get (state_of h).names n) start len answer (told.catalogue n) right in
     carried old new h (record { who = who; operation = read n start len; note = note_of answer }) told reply same_width same_base entries
     (λ q. subst (λ (c : List (List ℕ × Sealed)). Correspond old.width (lookup (is_at (name_cmp q)) c) (finite.get (state_of h).names q)) (sym same_catalogue) (told.catalogue q))
+    (kept_true old new h (record { who = who; operation = read n start len; note = note_of answer }) told refl same_truth)

@@ -12,7 +12,7 @@ use Rattle.sealed.specs.Blob.{nothing, IsBlob}
 use Rattle.sealed.specs.Sealed.{StandsFor}
 use Rattle.history.specs.Names.{name_cmp}
 use Rattle.history.specs.State.{State, Blob, empty_state}
-use Rattle.history.specs.Step.{put}
+use Rattle.history.specs.Step.{put, after}
 use Rattle.history.specs.History.{Event, History, after_all, state_of, entry_of}
 use Rattle.book.specs.Contents.{Contents, sealed_at}
 use Rattle.book.specs.Holds.{HoldsHistory, Represents, Correspond, CarriesOn}
@@ -23,6 +23,10 @@ use Rattle.book.specs.declared.answer.Answer.TheVariants.{Stored}
 use Rattle.history.proofs.Beginnings.{after_all-append}
 use Rattle.history.proofs.Puts.{puts-after_all}
 use Rattle.book.proofs.Carrying.{carried}
+use Rattle.book.specs.BlobBytes.{blob_bytes}
+use Rattle.book.specs.Truth.{AreTrue}
+use Rattle.book.proofs.Truths.{put_true}
+use Rattle.book.proofs.BlobBytes.{bytes_are}
 
 -- the number of puts is that of the base and of the entries
 puts_counted : (book : Contents) (h : History) → HoldsHistory book h → (state_of h).puts ≡ book.base.puts + count_by is_put book.entries
@@ -50,8 +54,9 @@ pub carries_put : (old new : Contents) (who : ℕ) (n : List ℕ) (s : Sealed) (
     → v ≡ old.base.puts + count_by is_put old.entries + 1 → new.width ≡ old.width → new.base ≡ old.base
     → new.entries ≡ old.entries ++ record { who = who; call = Put n s.code s.len; note = note.Stored v } ∷ []
     → ((q : List ℕ) → sealed_at new q ≡ cond (is_at (name_cmp n) q) (Some (record s { version = v })) (sealed_at old q))
+    → new.truth ≡ (n, blob_bytes s) ∷ old.truth
     → CarriesOn old new who (put n s.code b) (Stored v)
-carries_put old new who n s b v width stands counted same_width same_base entries looks h told =
+carries_put old new who n s b v width stands counted same_width same_base entries looks truth h told =
     let e : Event = record { who = who; operation = put n s.code b; note = note.Stored v } in
     let puts : v ≡ (state_of h).puts + 1 = omega (arith, puts_counted old h told) in
     let same_entry : entry_of e ≡ record { who = who; call = Put n s.code s.len; note = note.Stored v } = ap (λ l. record { who = who; call = Put n s.code l; note = note.Stored v }) (sym stands.length_is) in
@@ -65,3 +70,4 @@ carries_put old new who n s b v width stands counted same_width same_base entrie
     let gets : finite.get (finite.insert (state_of h).names n blob) q ≡ cond there (Some blob) (finite.get (state_of h).names q) =
     finite.get-insert nat_list_cmp_total (state_of h).names n blob q ∙ ap (λ t. cond t (Some blob) (finite.get (state_of h).names q)) ((eq_by_cmp_equiv nat_list_cmp_total).symm q n) in
     subst (K (sealed_at new q)) (sym gets) (subst (λ x. K x (cond there (Some blob) (finite.get (state_of h).names q))) (sym (looks q)) both))
+    (subst (λ t. AreTrue t (after (state_of h) (put n s.code b) (note.Stored v))) (sym (truth ∙ ap (λ x. (n, x) ∷ old.truth) (bytes_are s b stands))) (put_true old.truth (state_of h) told.truth n b s.code (note.Stored v)))

@@ -18,7 +18,7 @@ use Rattle.history.specs.declared.note.Note.TheVariants as note
 use Rattle.book.specs.declared.answer.Answer.{Answer}
 use Rattle.book.specs.declared.totals.Totals.{Totals}
 use Rattle.book.specs.Lacking.{lacked_count}
-use Rattle.book.specs.Losing.{Catalogue, value_at, Loses, Mends}
+use Rattle.book.specs.Losing.{Catalogue, value_at, Loses, Mends, Restores}
 use Rattle.book.specs.Notes.{note_of}
 use Rattle.book.specs.Totals.{open_count, totals_of_blob, share_at, total, AreSmall, DifferBy, DifferAt}
 use Rattle.book.proofs.Mending.{few_lacked, few_open}
@@ -89,6 +89,10 @@ loses_len j f m s t is = ap (λ (x : Sealed). x.len) is
 pub mends_len : (j f : ℕ) (m : Note) (s t : Sealed) → Mends j f m s t → t.len ≡ s.len
 mends_len j f (note.Repaired v) s t is = is.len
 mends_len j f m s t is = ap (λ (x : Sealed). x.len) is
+
+pub restores_len : (v j f : ℕ) (x : List ℕ) (m : Note) (s t : Sealed) → Restores v j f x m s t → t.len ≡ s.len
+restores_len v j f x (note.Repaired y) s t is = is.1.len
+restores_len v j f x m s t is = ap (λ (x : Sealed). x.len) is
 
 same_len : (r : Result Answer Fault) (s t : Sealed) (Becomes : Note → Sealed → Sealed → Type 0) → ((m : Note) → Becomes m s t → t.len ≡ s.len)
     → IfOk r (λ a. Becomes (note_of a) s t) → OnErr r (t ≡ s) → t.len ≡ s.len

@@ -11,6 +11,7 @@ use Rattle.history.proofs.Beginnings.{after_all-append, legal_rest}
 use Rattle.book.specs.Contents.{Contents}
 use Rattle.book.specs.Losing.{Catalogue, value_at}
 use Rattle.book.specs.Holds.{HoldsHistory, Correspond}
+use Rattle.book.specs.Truth.{AreTrue}
 
 legal_first : (w : ℕ) (s : State) (one two : History) → IsLegalFrom w s (one ++ two) → IsLegalFrom w s one
 legal_first w s [] two legal = tt
@@ -40,8 +41,8 @@ module _ (old : Contents) (n : ℕ) (h : History) (told : HoldsHistory old h) wh
 -- outlined
 pub tells_trimmed : (old new : Contents) (n : ℕ) → n ≤ length old.entries
     → ((s : State) (g : History) → Outlines old.base s → IsLegalFrom old.width s g → map entry_of g ≡ take n old.entries → Outlines new.base (after_all s g))
-    → new.base.trimmed ≡ old.base.trimmed + n → new.entries ≡ drop n old.entries → new.width ≡ old.width → new.catalogue ≡ old.catalogue → (h : History) → HoldsHistory old h → HoldsHistory new h
-tells_trimmed old new n few outlines trimmed entries same_width same_catalogue h told =
+    → new.base.trimmed ≡ old.base.trimmed + n → new.entries ≡ drop n old.entries → new.width ≡ old.width → new.catalogue ≡ old.catalogue → new.truth ≡ old.truth → (h : History) → HoldsHistory old h → HoldsHistory new h
+tells_trimmed old new n few outlines trimmed entries same_width same_catalogue same_truth h told =
     let t = old.base.trimmed in
     let K : ℕ → Catalogue → Type 0 = λ w c. (m : List ℕ) → Correspond w (value_at c m) (finite.get (state_of h).names m) in
     let based : Outlines new.base (state_of (take (t + n) h)) =
@@ -53,4 +54,5 @@ tells_trimmed old new n few outlines trimmed entries same_width same_catalogue h
       entries = subst (λ k. new.entries ≡ map entry_of (drop k h)) (sym trimmed)
           (entries ∙ ap (drop n) told.entries ∙ drop-map entry_of n (drop t h) ∙ ap (map entry_of) (drop-drop n t h));
       catalogue = subst (λ w. K w new.catalogue) (sym same_width) (subst (K old.width) (sym same_catalogue) told.catalogue);
+      truth = subst (λ t. AreTrue t (state_of h)) (sym same_truth) told.truth;
     }

@@ -12,7 +12,7 @@ use Rattle.history.specs.declared.note.Note.{Note}
 use Rattle.history.specs.declared.note.Note.TheVariants as note
 use Rattle.history.specs.Names.{name_cmp}
 use Rattle.history.specs.State.{Blob, State, empty_state}
-use Rattle.history.specs.Step.{Operation, put, read, lose, repair, delete, stat, IsReply, after, with_lost}
+use Rattle.history.specs.Step.{Operation, put, read, lose, repair, restore, delete, stat, IsReply, after, with_lost}
 use Rattle.history.specs.History.{Event, History, after_all, IsLegalFrom, IsLegal, state_of, HasPut}
 use Rattle.history.proofs.Puts.{puts-after}
 
@@ -63,6 +63,8 @@ one_back w s (lose m j f) (note.Lost v) n blob reply e = back_lost s n m (finite
 one_back w s (lose m j f) x n blob reply e = inl (blob, e, refl, refl, refl)
 one_back w s (repair m j f) (note.Repaired v) n blob reply e = back_lost s n m (finite.get s.names m) _ (repair m j f) (note.Repaired v) blob refl e
 one_back w s (repair m j f) x n blob reply e = inl (blob, e, refl, refl, refl)
+one_back w s (restore m y j f) (note.Repaired v) n blob reply e = back_lost s n m (finite.get s.names m) _ (restore m y j f) (note.Repaired v) blob refl e
+one_back w s (restore m y j f) x n blob reply e = inl (blob, e, refl, refl, refl)
 one_back w s (delete m) (note.Deleted v) n blob reply e = inl (blob, back_removed (eq_by_cmp name_cmp n m) s n blob (sym (finite.get-remove nat_list_cmp_total s.names m n) ∙ e), refl, refl, refl)
 one_back w s (delete m) x n blob reply e = inl (blob, e, refl, refl, refl)
 one_back w s (stat m) x n blob reply e = inl (blob, e, refl, refl, refl)

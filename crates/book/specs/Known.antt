@@ -17,6 +17,12 @@ pub record IsFragmentIn (h : History) (w : ℕ) (name : List ℕ) (version j f :
   pub number : f < fragment_count code
   pub is : found ≡ fragment code w bytes j f
 
+-- the bytes have the length of a fragment of the value. If it has this version, they are the fragment
+-- f of stripe j of these bytes
+pub record IsGiven (b : List ℕ) (version j f : ℕ) (found : List ℕ) (s : Sealed) : Type 0 where
+  pub long : length found ≡ s.width
+  pub own : version ≡ s.version → found ≡ fragment s.code s.width b j f
+
 -- the bytes can mend the value: if it has this version and the fragment f of stripe j can be
 -- rebuilt, they are that fragment
 pub record IsRepairFor (version j f : ℕ) (bytes : List ℕ) (s : Sealed) : Type 0 where

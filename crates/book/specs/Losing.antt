@@ -4,7 +4,7 @@ use Rattle.std.specs.FinSet as set
 use Rattle.std.specs.Map.{lookup}
 use Rattle.std.specs.BTreeMap.{is_at}
 use Rattle.sealed.specs.declared.value.Sealed.{Sealed}
-use Rattle.sealed.specs.Blob.{Lost}
+use Rattle.sealed.specs.Blob.{Lost, fragment}
 use Rattle.sealed.specs.Sealed.{StandsFor}
 use Rattle.history.specs.declared.note.Note.{Note}
 use Rattle.history.specs.declared.note.Note.TheVariants as note
@@ -29,6 +29,20 @@ Loses j f m old new = new ≡ old
 abbrev pub Mends : ℕ → ℕ → Note → Sealed → Sealed → Type 0
 Mends j f (note.Repaired v) old new = IsWith (λ lost. set.remove lost (j, f)) old new
 Mends j f m old new = new ≡ old
+
+-- the new value has the fragment f of stripe j as well. It represents the bytes of the old one of
+-- which x is that fragment
+pub record IsRestored (j f : ℕ) (x : List ℕ) (old new : Sealed) : Type 0 where
+  pub version : new.version ≡ old.version
+  pub len : new.len ≡ old.len
+  pub width : new.width ≡ old.width
+  pub code : new.code ≡ old.code
+  pub stands : (b : List ℕ) (lost : Lost) → x ≡ fragment old.code old.width b j f → StandsFor old b lost → StandsFor new b (set.remove lost (j, f))
+
+-- and after a restoration of version v with the bytes x
+abbrev pub Restores : ℕ → ℕ → ℕ → List ℕ → Note → Sealed → Sealed → Type 0
+Restores v j f x (note.Repaired y) old new = (v ≡ old.version) × IsRestored j f x old new
+Restores v j f x m old new = new ≡ old
 
 abbrev pub Catalogue : Type 0
 Catalogue = List (List ℕ × Sealed)

@@ -9,6 +9,7 @@ ghost use Rattle.book.specs.Holds.{HoldsHistory};
 
 use crate::book::Book;
 use crate::catalogue::Catalogue;
+use crate::truth::Truth;
 use crate::{Base, Entry, Fault, Limit, Name};
 use history::Log;
 use sealed::{Sealed, Width};
@@ -27,6 +28,7 @@ impl Book {
           base = empty_base;
           entries = [];
           catalogue = [];
+          truth = [];
         }) }
         ensures holds { IfOk result (λ b. HoldsHistory b []) }
         ensures err { IfErr result (λ e. e ≡ Fault.NoMemory) }
@@ -43,6 +45,7 @@ impl Book {
           base = empty_base;
           entries = [];
           catalogue = [];
+          truth = [];
         }) }
         ensures holds { IfOk result (λ b. HoldsHistory b []) }
         ensures err { IfErr result (λ e. e ≡ Fault.NoMemory) }
@@ -53,6 +56,7 @@ impl Book {
             base: Base::empty(alloc),
             width,
             puts: 0,
+            truth: Truth::new(),
         })
     }
 

@@ -10,10 +10,10 @@ ghost use Rattle.std.specs.Option.{option_map};
 ghost use Rattle.sealed.specs.Blob.{nothing};
 ghost use Rattle.sealed.specs.Sealed.{StandsFor};
 ghost use Rattle.history.specs.Names.{name_cmp};
-ghost use Rattle.history.specs.Views.{lose_reply, repair_reply};
+ghost use Rattle.history.specs.Views.{lose_reply, repair_reply, restore_reply};
 ghost use Rattle.book.specs.Catalogue.{lacks_at, bound_from};
 ghost use Rattle.book.specs.Known.{IsRepairFor};
-ghost use Rattle.book.specs.Losing.{Loses, Mends, Replaces, value_at};
+ghost use Rattle.book.specs.Losing.{Loses, Mends, Restores, Replaces, value_at};
 ghost use Rattle.book.specs.Notes.{note_of};
 ghost use Rattle.book.specs.Plan.{items_lacked, items_after};
 ghost use Rattle.book.specs.Totals.{totals_of};
@@ -21,9 +21,10 @@ ghost use Rattle.book.specs.Totals.{totals_of};
 use crate::lose::lose_in;
 use crate::plan::Item;
 use crate::repair::{Rebuilt, repair_in};
+use crate::restore::restore_in;
 use crate::stored_blob::StoredBlob;
 use crate::totals::Totals;
-use crate::{Answer, Fault, Name, Sealed};
+use crate::{Answer, Bytes, Fault, Name, Sealed};
 use std::alloc::{AllocError, Global};
 use std::collections::{BTreeMap, BTreeSet};
 use std::marker::Model;
@@ -164,6 +165,41 @@ impl Catalogue {
     {
         let before = Totals::of(self.blobs.get(name));
         let answer = repair_in(&mut self.blobs, alloc, name, stripe, fragment, rebuilt);
+        settle(&mut self.lacking, &self.blobs, name);
+        let after = Totals::of(self.blobs.get(name));
+        self.totals.replace(&self.blobs, before, after);
+        answer
+    }
+
+    /// Restores a lost fragment of a name's blob. The only error is `NoMemory`; the catalogue is
+    /// then unchanged.
+    pub fn restore(
+        &mut self,
+        alloc: Global,
+        name: &Name,
+        version: u64,
+        stripe: u64,
+        fragment: u64,
+        bytes: Bytes,
+    ) -> Result<Answer, Fault>
+        requires { IfSome (value_at self.old name.now) (λ s. length bytes ≡ s.width) }
+        ensures ok { IfOk result (λ a. Replaces
+            (λ w x. restore_reply w x version stripe fragment)
+            (Restores version stripe fragment bytes (note_of a)) self.old self.new name.now
+            (note_of a)) }
+        ensures faults { IfErr result (λ e. e ≡ Fault.NoMemory) }
+        ensures err { OnErr result (self.new ≡ self.old) }
+    {
+        let before = Totals::of(self.blobs.get(name));
+        let answer = restore_in(
+            &mut self.blobs,
+            alloc,
+            name,
+            version,
+            stripe,
+            fragment,
+            bytes,
+        );
         settle(&mut self.lacking, &self.blobs, name);
         let after = Totals::of(self.blobs.get(name));
         self.totals.replace(&self.blobs, before, after);

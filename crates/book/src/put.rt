@@ -7,6 +7,7 @@ ghost use Rattle.history.specs.Step.{put as put_of};
 ghost use Rattle.book.specs.Holds.{CarriesOn, IsCallFault, KeepsBase};
 
 use crate::book::{Book, note_call};
+use crate::truth::Truth;
 use crate::{Answer, Call, Fault, Name};
 use sealed::Sealed;
 use std::alloc::Global;
@@ -40,11 +41,13 @@ impl Book {
         let version = self.puts + 1;
         let code = sealed.code;
         let len = sealed.len;
+        let truth = Truth::with(&self.truth, &name, &sealed);
         let Ok(sealed) = Arc::new(alloc, sealed.with_version(version)) else {
             return Err(Fault::NoMemory);
         };
         self.catalogue.insert(&name, sealed)?;
         self.puts = version;
+        self.truth = truth;
         let call = Call::Put { name, code, len };
         let answer = Answer::Stored(version);
         Ok(note_call(&mut self.log, who, call, answer))

@@ -1,9 +1,9 @@
 //! A sealed blob in the catalogue.
-ghost use Rattle.std.specs.Prelude.{◌≡◌, ◌<◌, ◌≤◌, ◌&&◌, ◌++◌, List, ℕ, Some};
+ghost use Rattle.std.specs.Prelude.{◌≡◌, ◌<◌, ◌≤◌, ◌&&◌, ◌++◌, true, List, ℕ, Some};
 ghost use Rattle.std.specs.Prelude.{length, take, IfSome, IfOk, IfErr, OnOk, OnErr};
 ghost use Rattle.std.specs.Option.{option_map};
 ghost use Rattle.lrc_code.specs.Code.{fragment_count};
-ghost use Rattle.sealed.specs.Layout.{stripe_count};
+ghost use Rattle.sealed.specs.Layout.{HasFragment, stripe_count};
 ghost use Rattle.sealed.specs.Blob.{nothing};
 ghost use Rattle.sealed.specs.Change.{IsChanged};
 ghost use Rattle.sealed.specs.Sealed.{StandsFor, absent_in};
@@ -11,11 +11,12 @@ ghost use Rattle.sealed.specs.Rebuilding.{IsFragmentOf, IsRebuildable};
 ghost use Rattle.book.specs.Known.{IsRepairFor};
 ghost use Rattle.book.specs.Catalogue.{lacks_some};
 ghost use Rattle.book.specs.Lacking.{reply_for, lacks, lacked_count, view_in};
-ghost use Rattle.book.specs.Losing.{Loses, Mends};
+ghost use Rattle.book.specs.Losing.{Loses, Mends, Restores};
 ghost use Rattle.book.specs.Notes.{note_of};
 ghost use Rattle.book.specs.Plan.{items_lacked, is_behind as is_behind_in, items_after};
 ghost use Rattle.book.specs.Totals.{open_at, totals_of_blob, IsShare};
-ghost use Rattle.history.specs.Views.{no_such, lose_reply, repair_reply, stat_reply};
+ghost use Rattle.history.specs.Views.{no_such, lose_reply, repair_reply, restore_reply};
+ghost use Rattle.history.specs.Views.{stat_reply};
 
 use crate::plan::{Item, first_stripe, is_behind};
 use crate::repair::Rebuilt;
@@ -214,6 +215,38 @@ impl StoredBlob {
         self.mend(alloc, stripe, fragment, bytes)
     }
 
+    /// Restores a lost fragment with these bytes if the blob has this version. The only error is
+    /// `NoMemory`; the blob is then unchanged.
+    pub fn restore(
+        &mut self,
+        alloc: Global,
+        version: u64,
+        stripe: u64,
+        fragment: u64,
+        bytes: Bytes,
+    ) -> Result<Answer, Fault>
+        requires { length bytes ≡ self.old.width }
+        ensures answer { IfOk result (λ a. note_of a ≡ reply_for
+            (λ w x. restore_reply w x version stripe fragment) (Some self.old)) }
+        ensures changed { IfOk result
+            (λ a. Restores version stripe fragment bytes (note_of a) self.old self.new) }
+        ensures fewer { lacked_count self.new ≤ lacked_count self.old }
+        ensures faults { IfErr result (λ e. e ≡ Fault.NoMemory) }
+        ensures err { OnErr result (self.new ≡ self.old) }
+    {
+        if self.sealed.version != version {
+            return Ok(Answer::Replaced(self.sealed.version));
+        }
+        if self.is_no_fragment(stripe, fragment) {
+            return Ok(Answer::NoFragment);
+        }
+        if self.is_lost(stripe, fragment as u8) {
+            self.put_in(alloc, stripe, fragment, bytes)?;
+            return Ok(Answer::Repaired(version));
+        }
+        Ok(Answer::NotLost)
+    }
+
     /// The bytes of a lost fragment: those that were rebuilt, if the blob has their version.
     fn lost_bytes(
         &self,
@@ -255,11 +288,32 @@ impl StoredBlob {
         ensures err { OnErr result (self.new ≡ self.old) }
     {
         let version = self.sealed.version;
+        self.put_in(alloc, stripe, fragment, bytes)?;
+        Ok(Answer::Repaired(version))
+    }
+
+    /// Puts these bytes in the place of a fragment that is absent, and counts again. The only error
+    /// is `NoMemory`; the blob is then unchanged.
+    fn put_in(
+        &mut self,
+        alloc: Global,
+        stripe: u64,
+        fragment: u64,
+        bytes: Bytes,
+    ) -> Result<(), Fault>
+        requires has { HasFragment self.old.code self.old.width self.old.len stripe fragment }
+        requires lost { absent_in self.old stripe fragment ≡ true }
+        requires long { length bytes ≡ self.old.width }
+        ensures ok { OnOk result (IsChanged self.old stripe fragment (Some bytes) self.new) }
+        ensures fewer { lacked_count self.new ≤ lacked_count self.old }
+        ensures faults { IfErr result (λ e. e ≡ Fault.NoMemory) }
+        ensures err { OnErr result (self.new ≡ self.old) }
+    {
         let before = count_open(&self.sealed, stripe);
         put_back_in(&mut self.sealed, alloc, stripe, fragment as u8, bytes)?;
         self.lost -= 1;
         self.unrecoverable = self.unrecoverable + count_open(&self.sealed, stripe) - before;
-        Ok(Answer::Repaired(version))
+        Ok(())
     }
 }
 

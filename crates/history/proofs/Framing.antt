@@ -9,9 +9,9 @@ use Rattle.std.proofs.lemmas.Map.Lookups.{exact_bytes}
 use Rattle.std.proofs.lemmas.Map.Views.{tells_apart, any-filter_same}
 use Rattle.history.specs.Names.{name_cmp}
 use Rattle.history.specs.Parts.{name_of, can_change, changes_of, is_changed}
-use Rattle.history.specs.Views.{View, Views, reply, read_reply, lose_reply, repair_reply, delete_reply, stat_reply, view_after, changed, added, taken, call_operation, AreNoted, next_views, all_next}
+use Rattle.history.specs.Views.{View, Views, reply, read_reply, lose_reply, repair_reply, restore_reply, delete_reply, stat_reply, view_after, changed, added, taken, call_operation, AreNoted, next_views, all_next}
 use Rattle.history.specs.declared.note.Call.{Call}
-use Rattle.history.specs.declared.note.Call.TheVariants.{Put, Read, Lose, Repair, Delete, Stat}
+use Rattle.history.specs.declared.note.Call.TheVariants.{Put, Read, Lose, Repair, Restore, Delete, Stat}
 use Rattle.history.specs.declared.note.Entry.{Entry}
 use Rattle.history.specs.declared.note.Note.{Note}
 use Rattle.history.specs.declared.note.Note.TheVariants as note
@@ -60,6 +60,8 @@ module _ (within : List ℕ → Bool) where
   next_over v p (Lose n j f) m h = refl
   next_over v p (Repair n j f) (note.Repaired x) h = changed_within v p n (taken j f) h
   next_over v p (Repair n j f) m h = refl
+  next_over v p (Restore n y j f) (note.Repaired x) h = changed_within v p n (taken j f) h
+  next_over v p (Restore n y j f) m h = refl
   next_over v p (Delete n) (note.Deleted x) h =
       λ i. record { names = λ q. swap (eq_by_cmp name_cmp q n) (within q) None (p.names q) (v.names q) (tied q n h) i; puts = p.puts }
   next_over v p (Delete n) m h = refl
@@ -76,6 +78,7 @@ module _ (within : List ℕ → Bool) where
     reply_over v p (Read n start len) h = ap (λ view. read_reply w view start len) (found v p n h)
     reply_over v p (Lose n j f) h = ap (λ view. lose_reply w view j f) (found v p n h)
     reply_over v p (Repair n j f) h = ap (λ view. repair_reply w view j f) (found v p n h)
+    reply_over v p (Restore n x j f) h = ap (λ view. restore_reply w view x j f) (found v p n h)
     reply_over v p (Delete n) h = ap (λ view. delete_reply w view) (found v p n h)
     reply_over v p (Stat n) h = ap (λ view. stat_reply w view) (found v p n h)
 
@@ -93,6 +96,7 @@ idle v (Put n code len) m h = absurd (false≢true (sym h))
 idle v (Read n start len) m h = refl
 idle v (Lose n j f) m h = absurd (false≢true (sym h))
 idle v (Repair n j f) m h = absurd (false≢true (sym h))
+idle v (Restore n x j f) m h = absurd (false≢true (sym h))
 idle v (Delete n) m h = absurd (false≢true (sym h))
 idle v (Stat n) m h = refl
 

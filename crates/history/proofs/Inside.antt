@@ -11,7 +11,7 @@ use Rattle.sealed.specs.Layout.{stripe_count}
 use Rattle.sealed.specs.Blob.{pair_cmp}
 use Rattle.history.specs.Names.{name_cmp}
 use Rattle.history.specs.State.{State, Blob, empty_state, IsLostInside}
-use Rattle.history.specs.Step.{Operation, put, read, lose, repair, delete, stat, after}
+use Rattle.history.specs.Step.{Operation, put, read, lose, repair, restore, delete, stat, after}
 use Rattle.history.specs.History.{History, after_all, IsLegalFrom, IsLegal, state_of}
 use Rattle.history.specs.declared.note.Note.{Note}
 use Rattle.history.specs.declared.note.Note.TheVariants as note
@@ -89,6 +89,8 @@ step_inside w v (lose n j f) (note.Lost y) e all =
 step_inside w v (lose n j f) m e all = all
 step_inside w v (repair n j f) (note.Repaired y) e all = changed_inside w v n (v.names n) (taken j f) refl (λ z is old. taken_inside w j f z old) all
 step_inside w v (repair n j f) m e all = all
+step_inside w v (restore n x j f) (note.Repaired y) e all = changed_inside w v n (v.names n) (taken j f) refl (λ z is old. taken_inside w j f z old) all
+step_inside w v (restore n x j f) m e all = all
 step_inside w v (delete n) (note.Deleted y) e all = λ q x. at_removal w (eq_by_cmp name_cmp q n) (v.names q) x (all q x)
 step_inside w v (delete n) m e all = all
 step_inside w v (stat n) m e all = all

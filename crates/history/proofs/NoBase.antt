@@ -9,7 +9,7 @@ use Rattle.lrc_code.specs.declared.Code.TheVariants.{Wide}
 use Rattle.sealed.specs.Blob.{Lost, pair_cmp, lost_in}
 use Rattle.history.specs.Names.{name_cmp}
 use Rattle.history.specs.State.{State, Blob}
-use Rattle.history.specs.Step.{Operation, put, read, lose, repair, delete, stat, IsReply, IsLoseReply, is_no_fragment}
+use Rattle.history.specs.Step.{Operation, put, read, lose, repair, restore, delete, stat, IsReply, IsLoseReply, is_no_fragment}
 use Rattle.history.specs.History.{History, IsLegalFrom, call_of, entry_of}
 use Rattle.history.specs.Base.{Checkpoint, Outline, outline_of, pairs_of}
 use Rattle.history.specs.Lawful.{IsLawfulFrom}
@@ -58,6 +58,7 @@ only_loss (put n code b) e = absurd (false≢true (ap is_loss e))
 only_loss (read n start len) e = absurd (false≢true (ap is_loss e))
 only_loss (lose n j f) e = cc
 only_loss (repair n j f) e = absurd (false≢true (ap is_loss e))
+only_loss (restore n v j f) e = absurd (false≢true (ap is_loss e))
 only_loss (delete n) e = absurd (false≢true (ap is_loss e))
 only_loss (stat n) e = absurd (false≢true (ap is_loss e))
 

@@ -4,11 +4,11 @@ use Rattle.std.specs.Prelude.{count_by}
 use Rattle.std.specs.FinMap as finite
 use Rattle.std.proofs.lemmas.List.Sums.{sum_by-cons}
 use Rattle.history.specs.State.{State, Blob}
-use Rattle.history.specs.Step.{Operation, put, read, lose, repair, delete, stat, after, with_lost}
+use Rattle.history.specs.Step.{Operation, put, read, lose, repair, restore, delete, stat, after, with_lost}
 use Rattle.history.specs.History.{History, after_all, call_of, entry_of, is_put, is_put_call}
 use Rattle.history.specs.Parts.{can_change, changes_of}
 use Rattle.history.specs.declared.note.Call.{Call}
-use Rattle.history.specs.declared.note.Call.TheVariants.{Put, Read, Lose, Repair, Delete, Stat}
+use Rattle.history.specs.declared.note.Call.TheVariants.{Put, Read, Lose, Repair, Restore, Delete, Stat}
 use Rattle.history.specs.declared.note.Note.{Note}
 use Rattle.history.specs.declared.note.Note.TheVariants as note
 use Rattle.history.specs.declared.note.Entry.{Entry}
@@ -25,6 +25,8 @@ puts-after s (lose n j f) (note.Lost v) = puts-with_lost s n (finite.get s.names
 puts-after s (lose n j f) m = omega arith
 puts-after s (repair n j f) (note.Repaired v) = puts-with_lost s n (finite.get s.names n) _ ∙ omega arith
 puts-after s (repair n j f) m = omega arith
+puts-after s (restore n v j f) (note.Repaired x) = puts-with_lost s n (finite.get s.names n) _ ∙ omega arith
+puts-after s (restore n v j f) m = omega arith
 puts-after s (delete n) (note.Deleted v) = omega arith
 puts-after s (delete n) m = omega arith
 puts-after s (stat n) m = omega arith
@@ -38,6 +40,7 @@ no_put (Put n code len) h = h
 no_put (Read n start len) h = refl
 no_put (Lose n j f) h = refl
 no_put (Repair n j f) h = refl
+no_put (Restore n v j f) h = refl
 no_put (Delete n) h = refl
 no_put (Stat n) h = refl
 

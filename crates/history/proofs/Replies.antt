@@ -1,5 +1,5 @@
 -- The step is a function: in each state an operation has one reply, which can be computed.
-use Rattle.std.proofs.Common.{◌≡◌, ℕ, zero, suc, ◌+◌, ◌*◌, ◌/◌, ◌%◌, ◌<◌, ◌≤◌, Bool, true, false, List, [], ◌∷◌, Option, None, Some, cond, length, refl, sym, ap, ◌∙◌, subst, arith, inl, inr}
+use Rattle.std.proofs.Common.{◌≡◌, ℕ, zero, suc, ◌+◌, ◌*◌, ◌/◌, ◌%◌, ◌<◌, ◌≤◌, ◌==◌, Bool, true, false, List, [], ◌∷◌, Option, None, Some, cond, length, refl, sym, ap, ◌∙◌, subst, arith, inl, inr}
 use Rattle.std.specs.Prelude.{MatchBool, MatchOption, nat_le, ◌↔◌}
 use Rattle.std.specs.Option.{option_map}
 use Rattle.std.specs.FinMap as finite
@@ -20,11 +20,11 @@ use Rattle.sealed.specs.Blob.{Lost, nothing, lost_in, pair_cmp}
 use Rattle.sealed.specs.Range.{is_outside, HasUnrecoverableByte}
 use Rattle.history.specs.Names.{name_cmp}
 use Rattle.history.specs.State.{State, Blob, empty_state}
-use Rattle.history.specs.Step.{Operation, put, read, lose, repair, delete, stat, IfHolds, IsReply, IsReadReply, IsLoseReply, IsRepairReply, is_no_fragment, stripes_of, after, with_lost}
+use Rattle.history.specs.Step.{Operation, put, read, lose, repair, restore, delete, stat, IfHolds, IsReply, IsReadReply, IsLoseReply, IsRepairReply, IsRestoreReply, is_no_fragment, stripes_of, after, with_lost}
 use Rattle.history.specs.History.{History, IsLegalFrom, IsLegal}
 use Rattle.history.specs.declared.note.Note.{Note}
 use Rattle.history.specs.declared.note.Note.TheVariants as note
-use Rattle.history.specs.Views.{View, Views, view_of, view, any_from, open_test, open_in_range, read_reply, lose_reply, repair_reply, delete_reply, stat_reply, reply, CanPut, added, taken, changed, view_after, empty_views}
+use Rattle.history.specs.Views.{View, Views, view_of, view, any_from, open_test, open_in_range, read_reply, lose_reply, repair_reply, restore_reply, delete_reply, stat_reply, reply, CanPut, added, taken, changed, view_after, empty_views}
 
 -- ---- the reply meets the definition
 if_is : (t : Bool) (P : Type 0) → ((t ≡ true) ↔ P) → (m x y : Note) → IfHolds P (m ≡ x) (m ≡ y) ↔ (m ≡ cond t x y)
@@ -94,6 +94,13 @@ module _ (w : ℕ) where
       match_first (lost_in blob.lost j f) _ m _ note.NotLost
       (if_is (open_test blob.code (lost_in blob.lost j) f) (Open blob.code (lost_in blob.lost j) f) (exact blob.code (lost_in blob.lost j) f (below_of (fragment_count blob.code) f (or_parts (nat_le (stripes_of w blob) j) _ inside).1)) m (note.Unrecoverable blob.version) (note.Repaired blob.version)))
 
+  restore_is : (x : Option Blob) (v j f : ℕ) (m : Note) → IsRestoreReply w x v j f m ↔ (m ≡ restore_reply w (option_map view_of x) v j f)
+  restore_is None v j f m = (λ e. e, λ e. e)
+  restore_is (Some blob) v j f m =
+      match_first (blob.version == v) _ m _ (note.Replaced blob.version)
+      (match_is (is_no_fragment w blob j f) _ m note.NoFragment _ (λ inside.
+      match_first (lost_in blob.lost j f) _ m (note.Repaired blob.version) note.NotLost (λ e. e, λ e. e)))
+
   delete_is : (x : Option Blob) (m : Note) → MatchOption x (m ≡ note.NoName) (λ blob. m ≡ note.Deleted blob.version) ↔ (m ≡ delete_reply w (option_map view_of x))
   delete_is None m = (λ e. e, λ e. e)
   delete_is (Some blob) m = (λ e. e, λ e. e)
@@ -108,6 +115,7 @@ module _ (w : ℕ) where
   reply_is s (read n start len) m = let r = read_is (finite.get s.names n) start len m in (λ e. (tt, r.0 e), λ e. r.1 e.1)
   reply_is s (lose n j f) m = let r = lose_is (finite.get s.names n) j f m in (λ e. (tt, r.0 e), λ e. r.1 e.1)
   reply_is s (repair n j f) m = let r = repair_is (finite.get s.names n) j f m in (λ e. (tt, r.0 e), λ e. r.1 e.1)
+  reply_is s (restore n v j f) m = let r = restore_is (finite.get s.names n) v j f m in (λ e. (tt, r.0 e), λ e. r.1 e.1)
   reply_is s (delete n) m = let r = delete_is (finite.get s.names n) m in (λ e. (tt, r.0 e), λ e. r.1 e.1)
   reply_is s (stat n) m = let r = stat_is (finite.get s.names n) m in (λ e. (tt, r.0 e), λ e. r.1 e.1)
 
@@ -159,6 +167,8 @@ view_is s (lose n j f) (note.Lost v) = with_lost_view s n (finite.get s.names n)
 view_is s (lose n j f) m = refl
 view_is s (repair n j f) (note.Repaired v) = with_lost_view s n (finite.get s.names n) _ (taken j f) (taken_view j f)
 view_is s (repair n j f) m = refl
+view_is s (restore n y j f) (note.Repaired v) = with_lost_view s n (finite.get s.names n) _ (taken j f) (taken_view j f)
+view_is s (restore n y j f) m = refl
 view_is s (delete n) (note.Deleted v) =
     λ i. record { names = λ q. (ap (option_map view_of) (finite.get-remove nat_list_cmp_total s.names n q) ∙ map_none (eq_by_cmp name_cmp q n) (finite.get s.names q)) i; puts = s.puts }
 view_is s (delete n) m = refl

@@ -10,10 +10,10 @@ use Rattle.lrc_code.specs.declared.Code.TheVariants.{Wide, Small}
 use Rattle.lrc_code.specs.Code.{excess_of, is_alone, is_only_lost_of}
 use Rattle.sealed.specs.Layout.{stripe_count}
 use Rattle.history.specs.State.{State}
-use Rattle.history.specs.Step.{Operation, put, read, lose, repair, delete, stat, IsReply}
+use Rattle.history.specs.Step.{Operation, put, read, lose, repair, restore, delete, stat, IsReply}
 use Rattle.history.specs.History.{IsLegal}
 use Rattle.history.specs.declared.note.Note.{Note}
-use Rattle.history.specs.declared.note.Note.TheVariants.{Stored, NoName, OutOfRange, Unrecoverable, Granted, Lost, NoFragment, AlreadyLost, Repaired, NotLost, Deleted, Shape}
+use Rattle.history.specs.declared.note.Note.TheVariants.{Stored, NoName, OutOfRange, Unrecoverable, Granted, Lost, NoFragment, AlreadyLost, Repaired, NotLost, Replaced, Deleted, Shape}
 use Rattle.history.proofs.Replies.{told, legal_by, replies_by, CanPuts, replies}
 use Rattle.history.specs.Views.{CanPut, empty_views}
 
@@ -36,6 +36,7 @@ can_put w (put n code b) h = let both = and_parts (list_all (λ x. nat_lt x 256)
 can_put w (read n start len) h = tt
 can_put w (lose n j f) h = tt
 can_put w (repair n j f) h = tt
+can_put w (restore n v j f) h = tt
 can_put w (delete n) h = tt
 can_put w (stat n) h = tt
 
@@ -154,6 +155,13 @@ pub mended : Replied
     (Stored 1 ∷ Lost 1 ∷ Lost 1 ∷ Repaired 1 ∷ Repaired 1 ∷ Shape 1 12 1 0 ∷ [])
 unfolding excess_of is_alone is_only_lost_of
 mended = by _ _ refl refl
+
+-- beyond what a repair can do, as long as the name has the version
+pub restored : Replied
+    (put_a ∷ lose a 0 0 ∷ lose a 0 1 ∷ lose a 0 2 ∷ lose a 0 3 ∷ repair a 0 0 ∷ restore a 1 0 0 ∷ restore a 1 0 0 ∷ repair a 0 1 ∷ restore a 1 0 16 ∷ put_a ∷ lose a 0 0 ∷ restore a 1 0 0 ∷ delete a ∷ restore a 2 0 0 ∷ [])
+    (Stored 1 ∷ Lost 1 ∷ Lost 1 ∷ Lost 1 ∷ Lost 1 ∷ Unrecoverable 1 ∷ Repaired 1 ∷ NotLost ∷ Repaired 1 ∷ NoFragment ∷ Stored 2 ∷ Lost 2 ∷ Replaced 2 ∷ Deleted 2 ∷ NoName ∷ [])
+unfolding excess_of is_alone is_only_lost_of
+restored = by _ _ refl refl
 
 pub deleted : Replied
     (put_a ∷ delete a ∷ read a 0 1 ∷ delete a ∷ put a Wide (0 ∷ 255 ∷ []) ∷ read a 0 2 ∷ [])

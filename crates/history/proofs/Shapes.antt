@@ -8,7 +8,7 @@ use Rattle.std.proofs.lemmas.Grind.{common_steps}
 use Rattle.sealed.specs.Layout.{stripe_count}
 use Rattle.history.specs.Names.{name_cmp}
 use Rattle.history.specs.State.{State}
-use Rattle.history.specs.Step.{Operation, put, read, lose, repair, delete, stat, after}
+use Rattle.history.specs.Step.{Operation, put, read, lose, repair, restore, delete, stat, after}
 use Rattle.history.specs.History.{Event, History, IsLegalFrom, after_all, call_of, entry_of}
 use Rattle.history.specs.Base.{Checkpoint, Outlines, IsRising}
 use Rattle.history.specs.Metadata.{outlines_of, views_of}
@@ -18,7 +18,7 @@ use Rattle.history.specs.declared.replay.Replay.{Replay}
 use Rattle.history.specs.declared.note.Note.{Note}
 use Rattle.history.specs.declared.note.Entry.{Entry}
 use Rattle.history.specs.declared.note.Call.{Call}
-use Rattle.history.specs.declared.note.Call.TheVariants.{Put, Read, Lose, Repair, Delete, Stat}
+use Rattle.history.specs.declared.note.Call.TheVariants.{Put, Read, Lose, Repair, Restore, Delete, Stat}
 use Rattle.history.proofs.Replies.{Follows, legal_is, view_is}
 use Rattle.history.proofs.Outlining.{state_from, state_from-outlined, view_outlined}
 
@@ -31,6 +31,7 @@ module _ (w : ℕ) where
   can_zero (read n start len) can = tt
   can_zero (lose n j f) can = tt
   can_zero (repair n j f) can = tt
+  can_zero (restore n v j f) can = tt
   can_zero (delete n) can = tt
   can_zero (stat n) can = tt
 
@@ -39,6 +40,7 @@ module _ (w : ℕ) where
   reply_zero v (read n start len) = refl
   reply_zero v (lose n j f) = refl
   reply_zero v (repair n j f) = refl
+  reply_zero v (restore n x j f) = refl
   reply_zero v (delete n) = refl
   reply_zero v (stat n) = refl
 
@@ -50,6 +52,7 @@ after_zero v (put n code b) m = λ i. record {
 after_zero v (read n start len) m = refl
 after_zero v (lose n j f) m = refl
 after_zero v (repair n j f) m = refl
+after_zero v (restore n x j f) m = refl
 after_zero v (delete n) m = refl
 after_zero v (stat n) m = refl
 
@@ -73,6 +76,7 @@ call_back (Put n code len) = ap (Put n code) (length-replicate {A = ℕ} len 0)
 call_back (Read n start len) = refl
 call_back (Lose n j f) = refl
 call_back (Repair n j f) = refl
+call_back (Restore n v j f) = refl
 call_back (Delete n) = refl
 call_back (Stat n) = refl
 

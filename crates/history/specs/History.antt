@@ -4,10 +4,10 @@ use Rattle.lrc_code.specs.declared.Code.{Code}
 use Rattle.history.specs.declared.note.Note.{Note}
 use Rattle.history.specs.declared.note.Note.TheVariants.{Stored}
 use Rattle.history.specs.declared.note.Call.{Call}
-use Rattle.history.specs.declared.note.Call.TheVariants.{Put, Read, Lose, Repair, Delete, Stat}
+use Rattle.history.specs.declared.note.Call.TheVariants.{Put, Read, Lose, Repair, Restore, Delete, Stat}
 use Rattle.history.specs.declared.note.Entry.{Entry}
 use Rattle.history.specs.State.{State, empty_state}
-use Rattle.history.specs.Step.{Operation, put, read, lose, repair, delete, stat, IsReply, after}
+use Rattle.history.specs.Step.{Operation, put, read, lose, repair, restore, delete, stat, IsReply, after}
 
 pub record Event : Type 0 where
   pub who : ℕ
@@ -40,6 +40,7 @@ call_of (put n code b) = Put n code (length b)
 call_of (read n start len) = Read n start len
 call_of (lose n j f) = Lose n j f
 call_of (repair n j f) = Repair n j f
+call_of (restore n v j f) = Restore n v j f
 call_of (delete n) = Delete n
 call_of (stat n) = Stat n
 
@@ -52,6 +53,7 @@ is_put_call (Put n code len) = true
 is_put_call (Read n start len) = false
 is_put_call (Lose n j f) = false
 is_put_call (Repair n j f) = false
+is_put_call (Restore n v j f) = false
 is_put_call (Delete n) = false
 is_put_call (Stat n) = false
 

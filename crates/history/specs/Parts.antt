@@ -4,7 +4,7 @@ use Rattle.std.specs.List.{filter, list_any}
 use Rattle.std.specs.Ordering.{eq_by_cmp}
 use Rattle.history.specs.Names.{name_cmp}
 use Rattle.history.specs.declared.note.Call.{Call}
-use Rattle.history.specs.declared.note.Call.TheVariants.{Put, Read, Lose, Repair, Delete, Stat}
+use Rattle.history.specs.declared.note.Call.TheVariants.{Put, Read, Lose, Repair, Restore, Delete, Stat}
 use Rattle.history.specs.declared.note.Entry.{Entry}
 
 abbrev pub name_of : Call → List ℕ
@@ -12,6 +12,7 @@ name_of (Put n code len) = n
 name_of (Read n start len) = n
 name_of (Lose n j f) = n
 name_of (Repair n j f) = n
+name_of (Restore n v j f) = n
 name_of (Delete n) = n
 name_of (Stat n) = n
 
@@ -21,6 +22,7 @@ can_change (Put n code len) = true
 can_change (Read n start len) = false
 can_change (Lose n j f) = true
 can_change (Repair n j f) = true
+can_change (Restore n v j f) = true
 can_change (Delete n) = true
 can_change (Stat n) = false
 

@@ -1,6 +1,6 @@
 -- The part of a state that replies depend on: all of a blob except its bytes. It determines the
 -- reply and the part after it.
-use Rattle.std.specs.Prelude.{◌≡◌, ℕ, zero, suc, ◌+◌, ◌-◌, Bool, false, not, ◌&&◌, ◌||◌, List, [], ◌∷◌, Option, None, Some, cond, length, replicate, nat_le, nat_lt}
+use Rattle.std.specs.Prelude.{◌≡◌, ℕ, zero, suc, ◌+◌, ◌-◌, ◌==◌, Bool, false, not, ◌&&◌, ◌||◌, List, [], ◌∷◌, Option, None, Some, cond, length, replicate, nat_le, nat_lt}
 use Rattle.std.specs.Option.{option_map}
 use Rattle.std.specs.FinMap as finite
 use Rattle.std.specs.FinSet as set
@@ -12,9 +12,9 @@ use Rattle.sealed.specs.Blob.{IsBlob, lost_in, pair_cmp}
 use Rattle.sealed.specs.Range.{is_outside}
 use Rattle.history.specs.Names.{name_cmp}
 use Rattle.history.specs.State.{State, Blob}
-use Rattle.history.specs.Step.{Operation, put, read, lose, repair, delete, stat}
+use Rattle.history.specs.Step.{Operation, put, read, lose, repair, restore, delete, stat}
 use Rattle.history.specs.declared.note.Call.{Call}
-use Rattle.history.specs.declared.note.Call.TheVariants.{Put, Read, Lose, Repair, Delete, Stat}
+use Rattle.history.specs.declared.note.Call.TheVariants.{Put, Read, Lose, Repair, Restore, Delete, Stat}
 use Rattle.history.specs.declared.note.Entry.{Entry}
 use Rattle.history.specs.declared.note.Note.{Note}
 use Rattle.history.specs.declared.note.Note.TheVariants as note
@@ -67,6 +67,11 @@ module _ (w : ℕ) where
   repair_reply (Some v) j f =
       cond (no_such v j f) note.NoFragment (cond (v.lost j f) (cond (open_test v.code (v.lost j) f) (note.Unrecoverable v.version) (note.Repaired v.version)) note.NotLost)
 
+  abbrev pub restore_reply : Option View → ℕ → ℕ → ℕ → Note
+  restore_reply None x j f = note.NoName
+  restore_reply (Some v) x j f =
+      cond (v.version == x) (cond (no_such v j f) note.NoFragment (cond (v.lost j f) (note.Repaired v.version) note.NotLost)) (note.Replaced v.version)
+
   abbrev pub delete_reply : Option View → Note
   delete_reply None = note.NoName
   delete_reply (Some v) = note.Deleted v.version
@@ -80,6 +85,7 @@ module _ (w : ℕ) where
   reply v (read n start len) = read_reply (v.names n) start len
   reply v (lose n j f) = lose_reply (v.names n) j f
   reply v (repair n j f) = repair_reply (v.names n) j f
+  reply v (restore n x j f) = restore_reply (v.names n) x j f
   reply v (delete n) = delete_reply (v.names n)
   reply v (stat n) = stat_reply (v.names n)
 
@@ -105,6 +111,7 @@ view_after v (put n code b) m = record {
 }
 view_after v (lose n j f) (note.Lost x) = changed v n (v.names n) (added j f)
 view_after v (repair n j f) (note.Repaired x) = changed v n (v.names n) (taken j f)
+view_after v (restore n y j f) (note.Repaired x) = changed v n (v.names n) (taken j f)
 view_after v (delete n) (note.Deleted x) = record v { names = λ q. cond (eq_by_cmp name_cmp q n) None (v.names q) }
 view_after v operation m = v
 
@@ -119,6 +126,7 @@ call_operation (Put n code len) = put n code (replicate len 0)
 call_operation (Read n start len) = read n start len
 call_operation (Lose n j f) = lose n j f
 call_operation (Repair n j f) = repair n j f
+call_operation (Restore n v j f) = restore n v j f
 call_operation (Delete n) = delete n
 call_operation (Stat n) = stat n
 

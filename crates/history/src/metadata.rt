@@ -6,7 +6,7 @@ ghost use Rattle.lrc_code.specs.Code.{fragment_count, is_lost};
 ghost use Rattle.sealed.specs.Blob.{pair_cmp};
 ghost use Rattle.history.specs.Metadata.{lost_of, seen_as, is_open_between};
 ghost use Rattle.history.specs.Views.{no_such, open_test, open_in_range, read_reply, lose_reply};
-ghost use Rattle.history.specs.Views.{repair_reply, stat_reply};
+ghost use Rattle.history.specs.Views.{repair_reply, restore_reply, stat_reply};
 
 use crate::Note;
 use lrc_code::{Code, LostSet, is_open_in};
@@ -141,6 +141,21 @@ impl BlobMetadata {
             Note::Unrecoverable(self.version)
         } else {
             Note::Repaired(self.version)
+        }
+    }
+
+    /// The reply to a restoration of this version.
+    pub(crate) fn restore(&self, width: Width, version: u64, stripe: u64, fragment: u64) -> Note
+        ensures { result ≡ restore_reply width (Some (seen_as self.now)) version stripe fragment }
+    {
+        if self.version != version {
+            Note::Replaced(self.version)
+        } else if self.is_no_fragment(width, stripe, fragment) {
+            Note::NoFragment
+        } else if self.lost.contains(&(stripe, fragment as u8)) {
+            Note::Repaired(self.version)
+        } else {
+            Note::NotLost
         }
     }
 

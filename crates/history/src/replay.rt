@@ -10,7 +10,8 @@ ghost use Rattle.history.specs.Metadata.{seen_as, views_of, outlines_of, PairsRi
 ghost use Rattle.history.specs.Base.{IsRising};
 ghost use Rattle.history.specs.Names.{name_cmp};
 ghost use Rattle.history.specs.Parts.{changes_of, is_changed};
-ghost use Rattle.history.specs.Views.{read_reply, lose_reply, repair_reply, delete_reply};
+ghost use Rattle.history.specs.Views.{read_reply, lose_reply, repair_reply, restore_reply};
+ghost use Rattle.history.specs.Views.{delete_reply};
 ghost use Rattle.history.specs.Views.{stat_reply, view_after, added, taken, changed, IsNoted};
 ghost use Rattle.history.specs.Views.{AreNoted, next_views, all_next};
 ghost use Rattle.history.specs.Step.{put};
@@ -139,6 +140,12 @@ impl Replay {
                 stripe,
                 fragment,
             } => entry.note == self.repair(name, *stripe, *fragment),
+            Call::Restore {
+                name,
+                version,
+                stripe,
+                fragment,
+            } => entry.note == self.restore(name, *version, *stripe, *fragment),
             Call::Delete { name } => entry.note == self.delete(name),
             Call::Stat { name } => entry.note == self.stat(name),
         }
@@ -199,6 +206,17 @@ impl Replay {
         }
     }
 
+    /// The reply to a restoration.
+    fn restore(&self, name: &Name, version: u64, stripe: u64, fragment: u64) -> Note
+        ensures { result ≡ restore_reply self.now.width ((views_of self.now).names name.now)
+            version stripe fragment }
+    {
+        match self.find(name) {
+            Some(kept) => kept.restore(self.width, version, stripe, fragment),
+            None => Note::NoName,
+        }
+    }
+
     /// The reply to a deletion.
     fn delete(&self, name: &Name) -> Note
         ensures { result ≡ delete_reply self.now.width ((views_of self.now).names name.now) }
@@ -243,6 +261,12 @@ impl Replay {
                 name,
                 stripe,
                 fragment,
+            }
+            | Call::Restore {
+                name,
+                stripe,
+                fragment,
+                ..
             } => {
                 if let Note::Repaired(_) = entry.note {
                     self.take_lost(name, *stripe, *fragment as u8);

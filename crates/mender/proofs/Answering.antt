@@ -8,7 +8,7 @@ use Rattle.history.specs.declared.note.Note.TheVariants as note
 use Rattle.history.specs.State.{Blob}
 use Rattle.history.specs.Step.{IfHolds, is_no_fragment, IsRepairReply, repair}
 use Rattle.book.specs.declared.answer.Answer.{Answer}
-use Rattle.book.specs.declared.answer.Answer.TheVariants.{Stored, NoName, OutOfRange, Unrecoverable, Granted, Lost, NoFragment, AlreadyLost, Repaired, NotLost, Deleted, Shape}
+use Rattle.book.specs.declared.answer.Answer.TheVariants.{Stored, NoName, OutOfRange, Unrecoverable, Granted, Lost, NoFragment, AlreadyLost, Repaired, NotLost, Replaced, Deleted, Shape}
 use Rattle.book.specs.Notes.{note_of}
 use Rattle.book.specs.Serial.{standing_of}
 use Rattle.shared.specs.Passes.{Shows}
@@ -35,6 +35,7 @@ noted NoFragment = refl
 noted AlreadyLost = refl
 noted (Repaired v) = refl
 noted NotLost = refl
+noted (Replaced v) = refl
 noted (Deleted v) = refl
 noted (Shape v len stripes lost) = refl
 

@@ -11,7 +11,7 @@ use Rattle.history.specs.History.{History, call_of}
 use Rattle.book.specs.Known.{IsFragmentIn}
 use Rattle.book.specs.declared.answer.Answer.{Answer}
 use Rattle.requests.specs.declared.request.Request.{Request}
-use Rattle.requests.specs.declared.request.Request.TheVariants.{Put, Install}
+use Rattle.requests.specs.declared.request.Request.TheVariants.{Put, Install, Restore}
 use Rattle.requests.specs.Requests.{operation_of}
 
 -- the name that an operation is on, and a request
@@ -25,6 +25,7 @@ request_name request = operation_name (operation_of request)
 abbrev pub CanAskIn : History → ℕ → Request → Type 0
 CanAskIn h w (Put alloc n s) = (s.width ≡ w) × ((b : List ℕ) × StandsFor s b nothing)
 CanAskIn h w (Install alloc n version j f bytes) = IsFragmentIn h w n version j f bytes
+CanAskIn h w (Restore alloc n version j f bytes) = IsFragmentIn h w n version j f bytes
 CanAskIn h w request = Unit {0}
 
 -- a put was refused before it entered: sealing was out of memory, or the blob is too long. The pass

@@ -15,7 +15,7 @@ use std::sync::Wait;
 pub trait WaitingSnapshots: Waits {
     /// Takes a snapshot of the blob of a name, by a read of no byte. The snapshot holds the blob as
     /// it was, whatever later calls do. `None` if the name has no blob. A pass that has seen this
-    /// call can install each fragment of the snapshot.
+    /// call can restore each fragment of the snapshot.
     ///
     /// `JournalFull` if the journal holds as many entries as its limit; `NoMemory` only in place of
     /// a snapshot, if one more owner of the blob was refused.

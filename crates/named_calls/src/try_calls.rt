@@ -6,7 +6,8 @@
 ghost use Rattle.std.specs.Prelude.{◌≡◌, ◌≢◌, ◌⊎◌, ◌↔◌, ◌<◌, Err, length, IfOk, IfErr};
 ghost use Rattle.sealed.specs.Layout.{stripe_count};
 ghost use Rattle.history.specs.Step.{put as put_of, read as read_of, lose as lose_of};
-ghost use Rattle.history.specs.Step.{repair as repair_of, delete as delete_of, stat as stat_of};
+ghost use Rattle.history.specs.Step.{repair as repair_of, restore as restore_of};
+ghost use Rattle.history.specs.Step.{delete as delete_of, stat as stat_of};
 ghost use Rattle.book.specs.Holds.{IsCallFault};
 ghost use Rattle.book.specs.Known.{IsFragmentIn};
 ghost use Rattle.requests.specs.Requests.{operation_of, IsFaultOf};
@@ -196,8 +197,8 @@ pub trait TryCalls: Makes {
         self.try_make(pass, loss)
     }
 
-    /// As `install`, if no other thread is in the critical section. Else `Busy`.
-    final fn try_install(
+    /// As `restore`, if no other thread is in the critical section. Else `Busy`.
+    final fn try_restore(
         &self,
         alloc: Global,
         pass: &mut Self::Pass,
@@ -210,17 +211,19 @@ pub trait TryCalls: Makes {
         requires store { Self.is_to self.now pass.old }
         requires known { IsFragmentIn (Self.seen pass.old name) (Self.width self.now name) name
             version stripe fragment bytes }
-        ensures called { Self.called pass.old (repair_of name stripe fragment) result pass.new }
-        ensures listed { Self.listed pass.old (repair_of name stripe fragment) result pass.new }
+        ensures called { Self.called pass.old (restore_of name version stripe fragment) result
+            pass.new }
+        ensures listed { Self.listed pass.old (restore_of name version stripe fragment) result
+            pass.new }
         ensures same { Self.is_to self.now pass.new }
         ensures faults { IfErr result (λ e. (e ≡ Fault.Busy) ⊎ IsCallFault e) }
         ensures busy { result ≡ Err Fault.Busy
-            → Self.busy pass.old (repair_of name stripe fragment) pass.new }
+            → Self.busy pass.old (restore_of name version stripe fragment) pass.new }
         ensures entered { result ≢ Err Fault.Busy
-            → Self.entered pass.old (repair_of name stripe fragment) pass.new }
+            → Self.entered pass.old (restore_of name version stripe fragment) pass.new }
         ensures lone { Self.lone pass.old → result ≢ Err Fault.Busy }
     {
-        let install = Request::Install {
+        let restoration = Request::Restore {
             alloc,
             name,
             version,
@@ -228,7 +231,7 @@ pub trait TryCalls: Makes {
             fragment,
             bytes,
         };
-        self.try_make(pass, install)
+        self.try_make(pass, restoration)
     }
 
     /// As `delete`, if no other thread is in the critical section. Else `Busy`.

@@ -7,7 +7,8 @@
 ghost use Rattle.std.specs.Prelude.{◌≡◌, ◌⊎◌, ◌↔◌, ◌<◌, Err, length, IfOk, IfErr};
 ghost use Rattle.sealed.specs.Layout.{stripe_count};
 ghost use Rattle.history.specs.Step.{put as put_of, read as read_of, lose as lose_of};
-ghost use Rattle.history.specs.Step.{repair as repair_of, delete as delete_of, stat as stat_of};
+ghost use Rattle.history.specs.Step.{repair as repair_of, restore as restore_of};
+ghost use Rattle.history.specs.Step.{delete as delete_of, stat as stat_of};
 ghost use Rattle.book.specs.Holds.{IsCallFault};
 ghost use Rattle.book.specs.Known.{IsFragmentIn};
 ghost use Rattle.shared.specs.Calls.{CanGrant, GrantedIn, IfGranted};
@@ -158,15 +159,18 @@ pub trait WaitingCalls: Waits {
         self.make(rt, pass, loss)
     }
 
-    /// Repairs a lost fragment with the given bytes: those that the fragment has in the blob that
-    /// was put under this name and version. They may come from a snapshot, another device or
-    /// another machine. It enters the critical section once, and rebuilds nothing there if the name
-    /// has this version.
+    /// Restores a lost fragment with the given bytes, whatever else is lost: those that it has in
+    /// the blob that was put under this name and version. They may come from a snapshot, another
+    /// device or another machine. It enters the critical section once, and rebuilds nothing.
     ///
-    /// The answers and the faults are those of `repair`. So the answer is `Unrecoverable` if the
-    /// remaining fragments do not determine the lost one, although its bytes are given. If the name
-    /// has another version by now, it is repaired as `repair` does, from its own fragments.
-    final fn install<R: Wait>(
+    /// The answer is `NoName` if the name has no blob, and `Replaced`, with the version of its
+    /// blob, if that is another one. Else it is `NoFragment` if the blob has no such stripe, or its
+    /// code no such fragment. Else it is `NotLost` if the fragment is there. Else it is `Repaired`,
+    /// with the version.
+    ///
+    /// `JournalFull` if the journal holds as many entries as its limit; `NoMemory` if out of
+    /// memory.
+    final fn restore<R: Wait>(
         &self,
         rt: &R,
         alloc: Global,
@@ -180,12 +184,14 @@ pub trait WaitingCalls: Waits {
         requires store { Self.is_to self.now pass.old }
         requires known { IsFragmentIn (Self.seen pass.old name) (Self.width self.now name) name
             version stripe fragment bytes }
-        ensures called { Self.called pass.old (repair_of name stripe fragment) result pass.new }
-        ensures listed { Self.listed pass.old (repair_of name stripe fragment) result pass.new }
+        ensures called { Self.called pass.old (restore_of name version stripe fragment) result
+            pass.new }
+        ensures listed { Self.listed pass.old (restore_of name version stripe fragment) result
+            pass.new }
         ensures same { Self.is_to self.now pass.new }
         ensures faults { IfErr result IsCallFault }
     {
-        let install = Request::Install {
+        let restoration = Request::Restore {
             alloc,
             name,
             version,
@@ -193,7 +199,7 @@ pub trait WaitingCalls: Waits {
             fragment,
             bytes,
         };
-        self.make(rt, pass, install)
+        self.make(rt, pass, restoration)
     }
 
     /// Deletes a name. The answer is `NoName` if the name has no blob, else `Deleted`, with the

@@ -16,7 +16,7 @@ use Rattle.history.specs.Names.{name_cmp}
 use Rattle.history.specs.State.{Blob, State, empty_state}
 use Rattle.history.specs.declared.note.Note.{Note}
 use Rattle.history.specs.declared.note.Note.TheVariants.{Stored, NoName, Lost as LostNow, Repaired, Deleted, Shape}
-use Rattle.history.specs.Step.{Operation, put, read, lose, repair, delete, stat, IsReply, IsReadReply, IsLoseReply, IsRepairReply, after, with_lost, stripes_of}
+use Rattle.history.specs.Step.{Operation, put, read, lose, repair, restore, delete, stat, IsReply, IsReadReply, IsLoseReply, IsRepairReply, IsRestoreReply, after, with_lost, stripes_of}
 use Rattle.history.specs.History.{Event, History, call_of, is_put_call, IsLegalFrom, after_all, state_of}
 use Rattle.history.proofs.Puts.{puts-after}
 use Rattle.one_map.specs.Hash.{shard_of}
@@ -28,6 +28,7 @@ reply_like w s t (put n code b) m found puts r = (r.0, r.1 ∙ ap (λ x. Stored 
 reply_like w s t (read n start len) m found puts r = subst (λ x. IsReadReply w x start len m) found r
 reply_like w s t (lose n j f) m found puts r = subst (λ x. IsLoseReply w x j f m) found r
 reply_like w s t (repair n j f) m found puts r = subst (λ x. IsRepairReply w x j f m) found r
+reply_like w s t (restore n v j f) m found puts r = subst (λ x. IsRestoreReply w x v j f m) found r
 reply_like w s t (delete n) m found puts r = subst (λ x. MatchOption x (m ≡ NoName) (λ blob. m ≡ Deleted blob.version)) found r
 reply_like w s t (stat n) m found puts r =
     subst (λ x. MatchOption x (m ≡ NoName) (λ blob. m ≡ Shape blob.version (length blob.bytes) (stripes_of w blob) (set.len blob.lost))) found r
@@ -55,6 +56,10 @@ after_like s t (repair n j f) (Repaired v) q found puts e =
     let change : Lost → Lost = λ lost. set.remove lost (j, f) in
     ap (λ x. finite.get (with_lost s n x change).names q) found ∙ lost_like s t n q (finite.get t.names n) change e
 after_like s t (repair n j f) m q found puts e = e
+after_like s t (restore n x j f) (Repaired v) q found puts e =
+    let change : Lost → Lost = λ lost. set.remove lost (j, f) in
+    ap (λ x. finite.get (with_lost s n x change).names q) found ∙ lost_like s t n q (finite.get t.names n) change e
+after_like s t (restore n x j f) m q found puts e = e
 after_like s t (delete n) (Deleted v) q found puts e =
     finite.get-remove nat_list_cmp_total s.names n q ∙ ap (λ x. cond (eq_by_cmp name_cmp q n) None x) e ∙ sym (finite.get-remove nat_list_cmp_total t.names n q)
 after_like s t (delete n) m q found puts e = e
@@ -76,6 +81,8 @@ elsewhere s (lose n j f) (LostNow v) q out = lost_elsewhere s n q (finite.get s.
 elsewhere s (lose n j f) m q out = refl
 elsewhere s (repair n j f) (Repaired v) q out = lost_elsewhere s n q (finite.get s.names n) (λ lost. set.remove lost (j, f)) out
 elsewhere s (repair n j f) m q out = refl
+elsewhere s (restore n x j f) (Repaired v) q out = lost_elsewhere s n q (finite.get s.names n) (λ lost. set.remove lost (j, f)) out
+elsewhere s (restore n x j f) m q out = refl
 elsewhere s (delete n) (Deleted v) q out = finite.get-remove nat_list_cmp_total s.names n q ∙ ap (λ x. cond x None (finite.get s.names q)) out
 elsewhere s (delete n) m q out = refl
 elsewhere s (stat n) m q out = refl

@@ -10,7 +10,7 @@ use mathlib.Core.List.Sublist
 use mathlib.Core.List as lists
 use mathlib.Core.Nat as unary
 use Rattle.lrc_code.specs.declared.Code.TheVariants.{Wide, Small}
-use Rattle.history.specs.Step.{Operation, put, read, lose, repair, delete, stat}
+use Rattle.history.specs.Step.{Operation, put, read, lose, repair, restore, delete, stat}
 use Rattle.book.specs.declared.plan.Item.{Item}
 use Rattle.mender.specs.Worked.{repair_of}
 use Rattle.play.specs.Lists.{Each}
@@ -29,8 +29,13 @@ coded (put n Small b) = ((n, b), (1, (0, 0)))
 coded (read n start len) = ((n, []), (2, (start, len)))
 coded (lose n j f) = ((n, []), (3, (j, f)))
 coded (repair n j f) = ((n, []), (4, (j, f)))
-coded (delete n) = ((n, []), (5, (0, 0)))
-coded (stat n) = ((n, []), (6, (0, 0)))
+coded (restore n v j f) = ((n, v ∷ []), (5, (j, f)))
+coded (delete n) = ((n, []), (6, (0, 0)))
+coded (stat n) = ((n, []), (7, (0, 0)))
+
+abbrev first : List ℕ → ℕ
+first [] = 0
+first (v ∷ rest) = v
 
 abbrev operation_by : List ℕ → List ℕ → ℕ → ℕ → ℕ → Operation
 operation_by n b zero j f = put n Wide b
@@ -38,8 +43,9 @@ operation_by n b (suc zero) j f = put n Small b
 operation_by n b (suc (suc zero)) j f = read n j f
 operation_by n b (suc (suc (suc zero))) j f = lose n j f
 operation_by n b (suc (suc (suc (suc zero)))) j f = repair n j f
-operation_by n b (suc (suc (suc (suc (suc zero))))) j f = delete n
-operation_by n b (suc (suc (suc (suc (suc (suc k)))))) j f = stat n
+operation_by n b (suc (suc (suc (suc (suc zero))))) j f = restore n (first b) j f
+operation_by n b (suc (suc (suc (suc (suc (suc zero)))))) j f = delete n
+operation_by n b (suc (suc (suc (suc (suc (suc (suc k))))))) j f = stat n
 
 abbrev decoded : Coded → Operation
 decoded c = operation_by c.0.0 c.0.1 c.1.0 c.1.1.0 c.1.1.1
@@ -50,6 +56,7 @@ coded_back (put n Small b) = refl
 coded_back (read n start len) = refl
 coded_back (lose n j f) = refl
 coded_back (repair n j f) = refl
+coded_back (restore n v j f) = refl
 coded_back (delete n) = refl
 coded_back (stat n) = refl
 

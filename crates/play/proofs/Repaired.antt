@@ -209,6 +209,7 @@ same_tests answer.NoFragment = (refl, refl, refl, refl)
 same_tests answer.AlreadyLost = (refl, refl, refl, refl)
 same_tests (answer.Repaired v) = (refl, refl, refl, refl)
 same_tests answer.NotLost = (refl, refl, refl, refl)
+same_tests (answer.Replaced v) = (refl, refl, refl, refl)
 same_tests (answer.Deleted v) = (refl, refl, refl, refl)
 same_tests (answer.Shape v len stripes lost) = (refl, refl, refl, refl)
 

@@ -1,5 +1,5 @@
 -- The printed text of a reply is the text of the deed that it represents.
-use Rattle.std.proofs.Common.{◌≡◌, ◌∙◌, ℕ, Bool, true, false, List, [], ◌∷◌, ◌++◌, Option, None, Some, MatchBool, MatchOption, length, refl, ap, sym, subst, ⊎_elim}
+use Rattle.std.proofs.Common.{◌≡◌, ◌∙◌, ◌==◌, ℕ, Bool, true, false, List, [], ◌∷◌, ◌++◌, Option, None, Some, MatchBool, MatchOption, length, refl, ap, sym, subst, ⊎_elim}
 use Rattle.std.specs.Option.{option_map}
 use Rattle.std.specs.FinMap as finite
 use Rattle.std.specs.FinSet as set
@@ -9,7 +9,7 @@ use Rattle.history.specs.State.{Blob, State, empty_state}
 use Rattle.history.specs.Text.{note_text}
 use Rattle.history.specs.declared.note.Note.{Note}
 use Rattle.history.specs.declared.note.Note.TheVariants as note
-use Rattle.history.specs.Step.{Operation, put, read, lose, repair, delete, stat, IfHolds, IsLoseReply, IsRepairReply, stripes_of, is_no_fragment}
+use Rattle.history.specs.Step.{Operation, put, read, lose, repair, restore, delete, stat, IfHolds, IsLoseReply, IsRepairReply, IsRestoreReply, stripes_of, is_no_fragment}
 use Rattle.history.specs.History.{Event, History, state_of}
 use Rattle.history.proofs.Beginnings.{after_all-append}
 use Rattle.sealed.specs.Blob.{lost_in}
@@ -52,6 +52,11 @@ module _ (w v : ℕ) where
   not_repair (Some blob) j f is =
       neither_way (is_no_fragment w blob j f) _ _ (λ e. cc (e)) (neither_way (lost_in blob.lost j f) _ _ (neither_case _ _ _ (λ e. cc (e)) (λ e. cc (e))) (λ e. cc (e))) is
 
+  not_restore : (found : Option Blob) (x j f : ℕ) → IsRestoreReply w found x j f (note.Granted v) → ⊥
+  not_restore None x j f is = cc (is)
+  not_restore (Some blob) x j f is =
+      neither_way (blob.version == x) _ _ (neither_way (is_no_fragment w blob j f) _ _ (λ e. cc (e)) (neither_way (lost_in blob.lost j f) _ _ (λ e. cc (e)) (λ e. cc (e)))) (λ e. cc (e)) is
+
   not_delete : (found : Option Blob) → MatchOption found (note.Granted v ≡ note.NoName) (λ blob. note.Granted v ≡ note.Deleted blob.version) → ⊥
   not_delete None is = cc (is)
   not_delete (Some blob) is = cc (is)
@@ -65,6 +70,7 @@ plain : (w : ℕ) (before : List Act) (o : Operation) (m : Note) → ((v : ℕ) 
 plain w before (put n code b) m none = refl
 plain w before (lose n j f) m none = refl
 plain w before (repair n j f) m none = refl
+plain w before (restore n x j f) m none = refl
 plain w before (delete n) m none = refl
 plain w before (stat n) m none = refl
 plain w before (read n start len) (note.Granted v) none = absurd (none v refl)
@@ -77,6 +83,7 @@ plain w before (read n start len) note.NoFragment none = refl
 plain w before (read n start len) note.AlreadyLost none = refl
 plain w before (read n start len) (note.Repaired v) none = refl
 plain w before (read n start len) note.NotLost none = refl
+plain w before (read n start len) (note.Replaced v) none = refl
 plain w before (read n start len) (note.Deleted v) none = refl
 plain w before (read n start len) (note.Shape v len' stripes lost) none = refl
 
@@ -93,6 +100,7 @@ granted_text : (w l : ℕ) (who : ℕ) (before : List Act) (o : Operation) (g : 
 granted_text w l who before (put n code b) g reply does there is = absurd (cc (does.1.1))
 granted_text w l who before (lose n j f) g reply does there is = absurd (not_lose w _ _ j f does.1)
 granted_text w l who before (repair n j f) g reply does there is = absurd (not_repair w _ _ j f does.1)
+granted_text w l who before (restore n x j f) g reply does there is = absurd (not_restore w _ _ x j f does.1)
 granted_text w l who before (delete n) g reply does there is = absurd (not_delete w _ _ does.1)
 granted_text w l who before (stat n) g reply does there is = absurd (not_stat w _ _ does.1)
 granted_text w l who before (read n start len) g (line.Granted reading) does there is =
@@ -120,6 +128,7 @@ answer_text w l who before o answer.NoFragment reply does there is = noted_text 
 answer_text w l who before o answer.AlreadyLost reply does there is = noted_text w before o note.AlreadyLost reply (λ v e. cc (e)) is
 answer_text w l who before o (answer.Repaired v) reply does there is = noted_text w before o (note.Repaired v) reply (λ v e. cc (e)) is
 answer_text w l who before o answer.NotLost reply does there is = noted_text w before o note.NotLost reply (λ v e. cc (e)) is
+answer_text w l who before o (answer.Replaced v) reply does there is = noted_text w before o (note.Replaced v) reply (λ v e. cc (e)) is
 answer_text w l who before o (answer.Deleted v) reply does there is = noted_text w before o (note.Deleted v) reply (λ v e. cc (e)) is
 answer_text w l who before o (answer.Shape v len stripes lost) reply does there is = noted_text w before o (note.Shape v len stripes lost) reply (λ v e. cc (e)) is
 

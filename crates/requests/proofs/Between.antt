@@ -13,14 +13,14 @@ use Rattle.sealed.specs.Blob.{nothing}
 use Rattle.history.specs.declared.note.Entry.{Entry}
 use Rattle.history.specs.declared.note.Note.{Note}
 use Rattle.history.specs.State.{Blob, State, empty_state}
-use Rattle.history.specs.Step.{Operation, put, read, lose, repair, delete, stat, after}
+use Rattle.history.specs.Step.{Operation, put, read, lose, repair, restore, delete, stat, after}
 use Rattle.history.specs.History.{Event, History, state_of, call_of, entry_of}
 use Rattle.history.proofs.Beginnings.{after_all-append}
 use Rattle.book.specs.Contents.{Contents, sealed_at}
 use Rattle.book.specs.Holds.{HoldsHistory, Correspond}
 use Rattle.book.specs.Serial.{Act, call, trim, events_in, given_in}
 use Rattle.requests.specs.Between.{bytes_found, operation_in, first_in, between, acts_for, acts_between, RecordsActs, MayFollow}
-use Rattle.requests.proofs.Bytes.{bytes_are}
+use Rattle.book.proofs.BlobBytes.{bytes_are}
 
 kept_bytes : (w : ℕ) (found : Option Sealed) (v : ℕ) (code : Code) (b : List ℕ) → Correspond w found (Some (record { version = v; bytes = b; code = code; lost = nothing })) → bytes_found found ≡ b
 kept_bytes w None v code b keeps = absurd keeps
@@ -46,6 +46,7 @@ operation_back book h e told = by_operation e.operation refl
     by_operation (read n start len) is = refl
     by_operation (lose n j f) is = refl
     by_operation (repair n j f) is = refl
+    by_operation (restore n v j f) is = refl
     by_operation (delete n) is = refl
     by_operation (stat n) is = refl
 

@@ -14,11 +14,11 @@ use Rattle.book.specs.Contents.{Contents}
 use Rattle.book.specs.Serial.{IsTooLong}
 use Rattle.book.specs.Holds.{CarriesOn, KeepsBase, IsCallFault}
 use Rattle.requests.specs.declared.request.Request.{Request}
-use Rattle.requests.specs.declared.request.Request.TheVariants.{Put, Read, Lose, Install, Delete, Stat}
-use Rattle.requests.specs.Bytes.{blob_bytes}
+use Rattle.requests.specs.declared.request.Request.TheVariants.{Put, Read, Lose, Install, Restore, Delete, Stat}
+use Rattle.book.specs.BlobBytes.{blob_bytes}
 use Rattle.requests.specs.Requests.{operation_of, CanMake, IsAnswerTo, IsFaultOf}
 use Rattle.requests.specs.Visits.{IsRequestMade}
-use Rattle.requests.proofs.Bytes.{bytes_are}
+use Rattle.book.proofs.BlobBytes.{bytes_are}
 
 -- a put carries on the bytes that are read out of its sealed value
 put_carries : (r : Result Answer Fault) (old new : Contents) (who : ℕ) (n : List ℕ) (s : Sealed) → (b : List ℕ) × StandsFor s b nothing
@@ -54,6 +54,7 @@ never_too_long (Err f) (Put alloc n s) faults is = neither faults (cc (is))
 never_too_long (Err f) (Read n start len) faults is = neither faults (cc (is))
 never_too_long (Err f) (Lose alloc n j g) faults is = neither faults (cc (is))
 never_too_long (Err f) (Install alloc n version j g bytes) faults is = neither faults (cc (is))
+never_too_long (Err f) (Restore alloc n version j g bytes) faults is = neither faults (cc (is))
 never_too_long (Err f) (Delete n) faults is = cc (faults, is)
 never_too_long (Err f) (Stat n) faults is = cc (faults, is)
 
@@ -68,5 +69,6 @@ request_fits book (Put alloc n s) can over =
 request_fits book (Read n start len) can over = over
 request_fits book (Lose alloc n j g) can over = over
 request_fits book (Install alloc n version j g bytes) can over = over
+request_fits book (Restore alloc n version j g bytes) can over = over
 request_fits book (Delete n) can over = over
 request_fits book (Stat n) can over = over

@@ -2,14 +2,14 @@
 use Rattle.std.specs.Prelude.{◌≡◌, ℕ, ◌+◌, ◌-◌, ◌≤◌, List, [], ◌∷◌, ◌++◌, length, drop, Option, None, Some}
 use Rattle.sealed.specs.declared.value.Sealed.{Sealed}
 use Rattle.history.specs.declared.note.Call.{Call}
-use Rattle.history.specs.declared.note.Call.TheVariants.{Put, Read, Lose, Repair, Delete, Stat}
+use Rattle.history.specs.declared.note.Call.TheVariants.{Put, Read, Lose, Repair, Restore, Delete, Stat}
 use Rattle.history.specs.declared.note.Entry.{Entry}
-use Rattle.history.specs.Step.{Operation, put, read, lose, repair, delete, stat}
+use Rattle.history.specs.Step.{Operation, put, read, lose, repair, restore, delete, stat}
 use Rattle.history.specs.History.{History}
 use Rattle.book.specs.Contents.{Contents, sealed_at}
 use Rattle.book.specs.Serial.{Act, call, trim_acts, events_in, given_in}
 use Rattle.book.specs.Holds.{HoldsHistory}
-use Rattle.requests.specs.Bytes.{blob_bytes}
+use Rattle.book.specs.BlobBytes.{blob_bytes}
 
 abbrev pub bytes_found : Option Sealed → List ℕ
 bytes_found None = []
@@ -21,6 +21,7 @@ operation_in book (Put n code len) = put n code (bytes_found (sealed_at book n))
 operation_in book (Read n start len) = read n start len
 operation_in book (Lose n j f) = lose n j f
 operation_in book (Repair n j f) = repair n j f
+operation_in book (Restore n v j f) = restore n v j f
 operation_in book (Delete n) = delete n
 operation_in book (Stat n) = stat n
 

@@ -1,4 +1,3 @@
-pub mod Bytes
 pub mod Between
 pub mod Requests
 pub mod Inspections

@@ -41,6 +41,15 @@ pub enum Request {
         fragment: u64,
         bytes: Bytes,
     },
+    /// Restores a lost fragment with these bytes, which it has in the blob of this version.
+    Restore {
+        alloc: Global,
+        name: Name,
+        version: u64,
+        stripe: u64,
+        fragment: u64,
+        bytes: Bytes,
+    },
     /// Deletes the name.
     Delete {
         name: Name,
@@ -61,6 +70,7 @@ impl Request {
             | Request::Read { name, .. }
             | Request::Lose { name, .. }
             | Request::Install { name, .. }
+            | Request::Restore { name, .. }
             | Request::Delete { name }
             | Request::Stat { name } => name,
         }

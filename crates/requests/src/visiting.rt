@@ -56,6 +56,14 @@ impl Visit<BoxedBook> for RequestVisit {
                 fragment,
                 bytes,
             } => book.install(alloc, who, name, version, stripe, fragment, bytes),
+            Request::Restore {
+                alloc,
+                name,
+                version,
+                stripe,
+                fragment,
+                bytes,
+            } => book.restore(alloc, who, name, version, stripe, fragment, bytes),
             Request::Delete { name } => book.delete(who, name),
             Request::Stat { name } => book.stat(who, name),
         }

@@ -3,7 +3,7 @@ use Rattle.std.specs.Prelude.{◌≡◌, ◌⊎◌, ◌↔◌, ◌<◌, length, 
 use Rattle.sealed.specs.Layout.{stripe_count}
 use Rattle.sealed.specs.declared.fault.Fault.{Fault}
 use Rattle.sealed.specs.declared.fault.Fault.TheVariants.{Busy, NoMemory, JournalFull, TooLong}
-use Rattle.history.specs.Step.{Operation, put, read, lose, repair, delete, stat}
+use Rattle.history.specs.Step.{Operation, put, read, lose, repair, restore, delete, stat}
 use Rattle.book.specs.Holds.{IsCallFault}
 use Rattle.book.specs.declared.answer.Answer.{Answer}
 use Rattle.shared.specs.Passes.{Shows}
@@ -23,5 +23,6 @@ HasKnownFault v (put n code b) reply w =
 HasKnownFault v (read n start len) reply w = IfErr reply IsBusyOrCallFault × (reply ≡ Err NoMemory → CanGrant w.seen v.store.width n start len)
 HasKnownFault v (lose n j f) reply w = IfErr reply IsBusyOrCallFault
 HasKnownFault v (repair n j f) reply w = IfErr reply IsBusyOrCallFault
+HasKnownFault v (restore n x j f) reply w = IfErr reply IsBusyOrCallFault
 HasKnownFault v (delete n) reply w = IfErr reply IsBusyOrFull
 HasKnownFault v (stat n) reply w = IfErr reply IsBusyOrFull

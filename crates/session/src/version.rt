@@ -12,7 +12,7 @@ ghost use Rattle.shared.specs.Passes.{FindsBusy};
 ghost use Rattle.shared.specs.Snapshots.{HasNoBlob};
 ghost use Rattle.named_calls.specs.Taken.{TakesSnapshot};
 ghost use Rattle.session.specs.KnownFault.{IsBusyOrCallFault};
-ghost use Rattle.session.specs.Learns.{HasInstalled};
+ghost use Rattle.session.specs.Learns.{HasRestored};
 ghost use Rattle.session.specs.LostBits.{AreLostBits, lost_count};
 ghost use Rattle.session.specs.VersionShows.{IsHeldFrom, IsKnownVersion, sealed_in};
 
@@ -66,10 +66,10 @@ impl Session {
         version_of(found, name, receipt)
     }
 
-    /// Repairs a lost fragment of the version's name with the given bytes: those that the fragment
-    /// has in the version. First the session learns what was seen when the version was held. It
-    /// rebuilds nothing if the name still has the version, and else repairs as `repair` does.
-    pub fn install(
+    /// Restores a lost fragment of the version's name with the given bytes, whatever else is lost:
+    /// those that the fragment has in the version. First the session learns what was seen when the
+    /// version was held. The answer is `Replaced` if the name has another version by now.
+    pub fn restore(
         &mut self,
         alloc: Global,
         version: &mut Version,
@@ -80,13 +80,13 @@ impl Session {
         requires store { version.old.known.store ≡ self.old.store }
         requires known { IsFragmentIn version.old.known.seen self.old.store.width version.old.name
             version.old.sealed.version stripe fragment bytes }
-        ensures installed { HasInstalled self.old version.old stripe fragment result self.new }
+        ensures restored { HasRestored self.old version.old stripe fragment result self.new }
         ensures unchanged { version.new ≡ version.old }
     {
         let receipt = version.receipt.duplicate(&self.store);
         self.pass.accept(&self.store, receipt);
         let (name, number) = (version.name.duplicate(), version.snapshot.version());
-        self.store.try_install(alloc, &mut self.pass, name, number, stripe, fragment, bytes)
+        self.store.try_restore(alloc, &mut self.pass, name, number, stripe, fragment, bytes)
     }
 }
 

@@ -11,7 +11,7 @@ use Rattle.ledger.specs.Acts.{LedgerState, FollowerState, ReceiptState, acts_at}
 use Rattle.ledger_map.specs.Legal.{calls_of}
 use Rattle.shared.specs.Passes.{Which, Shows, ReceiptShows, IsConsistent, seen_by}
 use Rattle.shard.specs.Seats.{SeatShows, IsSeatOf}
-use Rattle.sharded.specs.Passes.{stores_of, receipt_stores, HaveWidth, AreTaken, AreJoined, AreAccepted, AreRestored, HaveActsOfShards, AreConsistent, HaveRoom, HasRoomOfOne, kept_in_split, given_in_split, AreSplitInPart}
+use Rattle.sharded.specs.Passes.{stores_of, receipt_stores, HaveWidth, AreTaken, AreJoined, AreAccepted, HaveRoomAgain, HaveActsOfShards, AreConsistent, HaveRoom, HasRoomOfOne, kept_in_split, given_in_split, AreSplitInPart}
 use Rattle.sharded.specs.Listings.{AreBeginnings}
 use Rattle.sharded.specs.Seats.{shows_of, pass_shows, seat_stores, IsSeatAt, IsPassOf, IsReceiptOf, kept_seat, given_seat, AreSeatsInPart, IsSamePlace, IsSeatJoined, IsSeatAccepted, seen_seat}
 use Rattle.sharded.proofs.Passes.{mapped, mapped_at, mapped_next, taken_next, room_next, split_stores, joined_of_shards, accepted_of_shards, kept_of_shards, given_of_shards, restored, restored_of_shards}
@@ -227,7 +227,7 @@ back_at who (suc n) (v ∷ vs) (x ∷ ws) some are zero w e =
     )
 back_at who (suc n) (v ∷ vs) (x ∷ ws) some are (suc k) w e = back_at who n vs ws some.1 are.1 k w e
 
-pub back_restored : (who : ℕ) (vs us given ws : List SeatShows) → AreSeatsInPart who vs us given → AreTaken IsSeatJoined us given ws → AreRestored (shows_of vs) (shows_of ws)
+pub back_restored : (who : ℕ) (vs us given ws : List SeatShows) → AreSeatsInPart who vs us given → AreTaken IsSeatJoined us given ws → HaveRoomAgain (shows_of vs) (shows_of ws)
 back_restored who vs us given ws part are = restored who (shows_of vs) (shows_of us) (shows_of given) (shows_of ws) (part_shows who vs us given part) (joined_shows us given ws are)
 
 pub back_pass : (who : ℕ) (vs us given ws : List SeatShows) (f : FollowerState Act) → IsPassOf vs f → AreSeatsInPart who vs us given → AreTaken IsSeatJoined us given ws → IsPassOf ws f
@@ -246,7 +246,7 @@ back_pass who vs us given ws f pass part are =
       homed = restored_of_shards (shows_of vs) (shows_of ws) pass.homed (back_restored who vs us given ws part are);
     }
   where
-    restored_length : (xs ys : List Shows) → AreRestored xs ys → length ys ≡ length xs
+    restored_length : (xs ys : List Shows) → HaveRoomAgain xs ys → length ys ≡ length xs
     restored_length [] [] are = refl
     restored_length [] (y ∷ ys) are = absurd are
     restored_length (x ∷ xs) [] are = absurd are

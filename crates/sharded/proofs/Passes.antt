@@ -6,7 +6,7 @@ use Rattle.gate.specs.Places.{times}
 use Rattle.gate.proofs.Lists.{times-append}
 use Rattle.book.specs.Serial.{Act}
 use Rattle.shared.specs.Passes.{Which, Shows, ReceiptShows, seen_by}
-use Rattle.sharded.specs.Passes.{stores_of, IsActOfShard, HasActsOfShard, HaveActsOfShards, fresh_pass, kept_in_split, given_in_split, IsJoined, AreJoined, IsAccepted, AreAccepted, receipt_stores, IsRestored, AreRestored, HaveRoom, AreSplitInPart}
+use Rattle.sharded.specs.Passes.{stores_of, IsActOfShard, HasActsOfShard, HaveActsOfShards, fresh_pass, kept_in_split, given_in_split, IsJoined, AreJoined, IsAccepted, AreAccepted, receipt_stores, HasRoomAgain, HaveRoomAgain, HaveRoom, AreSplitInPart}
 use Rattle.sharded.proofs.Steps.{get_longer, some_of}
 use Rattle.sharded.proofs.Taken.{length_map, taken_at, taken_length, taken_stores}
 
@@ -89,7 +89,7 @@ given_of_shards who vs k w e p l =
     let none : times p w.did ≡ 0 = ap (λ (v : Shows). times p v.did) (sym found.2) in absurd (omega arith)
 
 -- ---- a split that is taken restored_first
-restored_one : (who : ℕ) (v w : Shows) → 1 ≤ v.room → IsJoined (kept_in_split v) (given_in_split who v) w → IsRestored v w
+restored_one : (who : ℕ) (v w : Shows) → 1 ≤ v.room → IsJoined (kept_in_split v) (given_in_split who v) w → HasRoomAgain v w
 restored_one who v w some joined = record {
   stays = (joined.store, joined.who, joined.room ∙ omega arith);
   seen = by_seen joined.one;
@@ -107,39 +107,39 @@ restored_one who v w some joined = record {
     by_trimmed (inl e) = e.1
     by_trimmed (inr e) = e.1
 
-restored_same : (v : Shows) → IsRestored v v
+restored_same : (v : Shows) → HasRoomAgain v v
 restored_same v = record { stays = (refl, refl, refl); seen = refl; trimmed = refl; made = refl; did = refl; acts = ([], append-nil v.acts) }
 
-pub restored_all : (vs : List Shows) → AreRestored vs vs
+pub restored_all : (vs : List Shows) → HaveRoomAgain vs vs
 restored_all [] = tt
 restored_all (v ∷ vs) = (restored_same v, restored_all vs)
 
-restored_first : (who n : ℕ) (vs ws : List Shows) → HaveRoom (take n vs) → AreJoined (mapped kept_in_split n vs) (map (given_in_split who) (take n vs)) ws → AreRestored vs ws
-restored_first who zero [] ws some are = subst (AreRestored []) (sym are) tt
+restored_first : (who n : ℕ) (vs ws : List Shows) → HaveRoom (take n vs) → AreJoined (mapped kept_in_split n vs) (map (given_in_split who) (take n vs)) ws → HaveRoomAgain vs ws
+restored_first who zero [] ws some are = subst (HaveRoomAgain []) (sym are) tt
 restored_first who zero (v ∷ vs) [] some are = absurd are
-restored_first who zero (v ∷ vs) (w ∷ ws) some are = (subst (IsRestored v) (sym are.0) (restored_same v), restored_first who zero vs ws tt are.1)
-restored_first who (suc n) [] ws some are = subst (AreRestored []) (sym are) tt
+restored_first who zero (v ∷ vs) (w ∷ ws) some are = (subst (HasRoomAgain v) (sym are.0) (restored_same v), restored_first who zero vs ws tt are.1)
+restored_first who (suc n) [] ws some are = subst (HaveRoomAgain []) (sym are) tt
 restored_first who (suc n) (v ∷ vs) [] some are = absurd are
 restored_first who (suc n) (v ∷ vs) (w ∷ ws) some are = (restored_one who v w some.0 are.0, restored_first who n vs ws some.1 are.1)
 
-pub restored : (who : ℕ) (vs ps given ws : List Shows) → AreSplitInPart who vs ps given → AreJoined ps given ws → AreRestored vs ws
+pub restored : (who : ℕ) (vs ps given ws : List Shows) → AreSplitInPart who vs ps given → AreJoined ps given ws → HaveRoomAgain vs ws
 restored who vs ps given ws split are =
     restored_first who split.0 vs ws split.3 (subst (λ g. AreJoined (mapped kept_in_split split.0 vs) g ws) split.2 (subst (λ p. AreJoined p given ws) split.1 are))
 
-restored_at : (vs ws : List Shows) → AreRestored vs ws → (k : ℕ) (w : Shows) → slice_get ws k ≡ Some w → (v : Shows) × (slice_get vs k ≡ Some v) × IsRestored v w
+restored_at : (vs ws : List Shows) → HaveRoomAgain vs ws → (k : ℕ) (w : Shows) → slice_get ws k ≡ Some w → (v : Shows) × (slice_get vs k ≡ Some v) × HasRoomAgain v w
 restored_at [] [] are k w e = absurd (cc)
 restored_at [] (x ∷ ws) are k w e = absurd are
 restored_at (v ∷ vs) [] are k w e = absurd are
-restored_at (v ∷ vs) (x ∷ ws) are zero w e = let same : x ≡ w = cc in (v, refl, subst (IsRestored v) same are.0)
+restored_at (v ∷ vs) (x ∷ ws) are zero w e = let same : x ≡ w = cc in (v, refl, subst (HasRoomAgain v) same are.0)
 restored_at (v ∷ vs) (x ∷ ws) are (suc k) w e = restored_at vs ws are.1 k w e
 
-restored_length : (vs ws : List Shows) → AreRestored vs ws → length ws ≡ length vs
+restored_length : (vs ws : List Shows) → HaveRoomAgain vs ws → length ws ≡ length vs
 restored_length [] [] are = refl
 restored_length [] (x ∷ ws) are = absurd are
 restored_length (v ∷ vs) [] are = absurd are
 restored_length (v ∷ vs) (x ∷ ws) are = ap suc (restored_length vs ws are.1)
 
-pub restored_of_shards : (vs ws : List Shows) → HaveActsOfShards vs → AreRestored vs ws → HaveActsOfShards ws
+pub restored_of_shards : (vs ws : List Shows) → HaveActsOfShards vs → HaveRoomAgain vs ws → HaveActsOfShards ws
 restored_of_shards vs ws homed are k w e =
     let found = restored_at vs ws are k w e in
     subst (λ n. HasActsOfShard n k w) (sym (restored_length vs ws are))
@@ -180,7 +180,7 @@ pub given_all_stores : (who : ℕ) (vs : List Shows) → stores_of (map (given_i
 given_all_stores who [] = refl
 given_all_stores who (v ∷ vs) = ap (λ l. v.store ∷ l) (given_all_stores who vs)
 
-pub restored_stores : (vs ws : List Shows) → AreRestored vs ws → stores_of ws ≡ stores_of vs
+pub restored_stores : (vs ws : List Shows) → HaveRoomAgain vs ws → stores_of ws ≡ stores_of vs
 restored_stores [] [] are = refl
 restored_stores [] (w ∷ ws) are = absurd are
 restored_stores (v ∷ vs) [] are = absurd are

@@ -1,7 +1,6 @@
 -- What is known of prepared calls, and of puts that were refused.
 use Rattle.std.proofs.Common.{◌≡◌, ◌⊎◌, ℕ, zero, suc, ◌<◌, ◌≤◌, List, [], ◌∷◌, length, All, Some, Err, slice_get, slice_set, refl, ap, sym, subst, ◌∙◌, arith}
 use Rattle.std.proofs.lemmas.List.{length-map}
-use Rattle.std.specs.Global.{Global}
 use Rattle.lrc_code.specs.declared.Code.{Code}
 use Rattle.sealed.specs.declared.fault.Fault.{Fault}
 use Rattle.sealed.specs.declared.fault.Fault.TheVariants.{NoMemory, TooLong}
@@ -12,7 +11,7 @@ use Rattle.book.specs.Known.{IsFragmentIn}
 use Rattle.one_map.specs.Hash.{shard_of}
 use Rattle.one_map.proofs.Hash.{shard_below_count}
 use Rattle.requests.specs.declared.request.Request.{Request}
-use Rattle.requests.specs.declared.request.Request.TheVariants.{Put, Install}
+use Rattle.requests.specs.declared.request.Request.TheVariants.{Put, Install, Restore}
 use Rattle.shared.specs.Passes.{Which, Shows}
 use Rattle.requests.specs.Requests.{operation_of}
 use Rattle.shared.specs.Requests.{CanAsk}
@@ -79,22 +78,23 @@ refused_listed v n code b f is =
     let k = shard_of (length v.shards) n in
     nothing_listed k _ (shown_at v.shards k) (shown_at v.shards k) (listing v) (refused_acts (who_at v.shards k) (put n code b) (Err f) f refl is) refl
 
--- ---- an install
+-- ---- a fragment that is known
 -- what the pass to the shard of the name has seen
 pub seen_named : (vs : List Shows) (k : ℕ) (v : Shows) → slice_get vs k ≡ Some v → seen_at vs k ≡ v.seen
 seen_named [] k v e = absurd (cc)
 seen_named (x ∷ vs) zero v e = let same : x ≡ v = cc in ap (λ (y : Shows). y.seen) same
 seen_named (x ∷ vs) (suc k) v e = seen_named vs k v e
 
--- who knows the fragment can install it at the shard of the name
-can_install : (v : PassShows) (store : StoreShows) (alloc : Global) (n : List ℕ) (version j f : ℕ) (bytes : List ℕ) → store_of v ≡ store → IsFragmentIn (seen_for v.shards n) (width_for store.shards n) n version j f bytes
-    → CanAskAt v.shards (Install alloc n version j f bytes)
-can_install v store alloc n version j f bytes same known shown there =
+-- who knows the fragment knows it at the shard of the name
+known_at : (v : PassShows) (store : StoreShows) (n : List ℕ) (version j f : ℕ) (bytes : List ℕ) → store_of v ≡ store → IsFragmentIn (seen_for v.shards n) (width_for store.shards n) n version j f bytes
+    → (u : Shows) → slice_get v.shards (shard_of (length v.shards) n) ≡ Some u → IsFragmentIn u.seen u.store.width n version j f bytes
+known_at v store n version j f bytes same known shown there =
     let width = named_width v.shards store.shards n shown (ap (λ (s : StoreShows). s.shards) same) there in
     subst (λ (u : History × ℕ). IsFragmentIn u.0 u.1 n version j f bytes) (λ i. (seen_named v.shards (shard_of (length v.shards) n) shown there i, width i)) known
 
 -- what can be asked of the store, by what was seen for the name, can be asked at the shard of the name
 pub can_at : (v : PassShows) (store : StoreShows) (request : Request) → store_of v ≡ store → CanAskIn (seen_for v.shards (request_name request)) (width_for store.shards (request_name request)) request → CanAskAt v.shards request
 can_at v store (Put alloc n s) same can shown there = (can.0 ∙ named_width v.shards store.shards n shown (ap (λ (s : StoreShows). s.shards) same) there, can.1)
-can_at v store (Install alloc n version j f bytes) same can shown there = can_install v store alloc n version j f bytes same can shown there
+can_at v store (Install alloc n version j f bytes) same can shown there = known_at v store n version j f bytes same can shown there
+can_at v store (Restore alloc n version j f bytes) same can shown there = known_at v store n version j f bytes same can shown there
 can_at v store request same can shown there = tt

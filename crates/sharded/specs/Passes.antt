@@ -110,7 +110,7 @@ abbrev pub HasRoomOfOne : List Shows → Type 0
 HasRoomOfOne vs = (k : ℕ) × (v : Shows) × (slice_get vs k ≡ Some v) × (v.room ≡ 1)
 
 -- a pass that has its room again, and shows at least what it showed
-pub record IsRestored (v w : Shows) : Type 0 where
+pub record HasRoomAgain (v w : Shows) : Type 0 where
   pub stays : Stays v w
   pub seen : w.seen ≡ v.seen
   pub trimmed : w.trimmed ≡ v.trimmed
@@ -118,10 +118,10 @@ pub record IsRestored (v w : Shows) : Type 0 where
   pub did : w.did ≡ v.did
   pub acts : IsPrefix v.acts w.acts
 
-abbrev pub AreRestored : List Shows → List Shows → Type 0
-AreRestored [] [] = Unit {0}
-AreRestored (v ∷ vs) (w ∷ ws) = IsRestored v w × AreRestored vs ws
-AreRestored vs ws = ⊥
+abbrev pub HaveRoomAgain : List Shows → List Shows → Type 0
+HaveRoomAgain [] [] = Unit {0}
+HaveRoomAgain (v ∷ vs) (w ∷ ws) = HasRoomAgain v w × HaveRoomAgain vs ws
+HaveRoomAgain vs ws = ⊥
 
 -- ---- joined
 -- a pass took in another

@@ -4,7 +4,7 @@ ghost use Rattle.std.specs.Prelude.{IfOk, IfErr, OnOk, OnErr};
 ghost use mathlib.Core.List.{IsPrefix};
 ghost use Rattle.sharded.specs.Listings.{listing};
 ghost use Rattle.sharded.specs.Passes.{store_of, kept_in_split, given_in_split};
-ghost use Rattle.sharded.specs.Passes.{AreRestored, AreJoined, AreTaken};
+ghost use Rattle.sharded.specs.Passes.{HaveRoomAgain, AreJoined, AreTaken};
 ghost use Rattle.sharded.specs.Passes.{HasRoomOfOne};
 ghost use Rattle.sharded.specs.Seats.{shows_of, seat_stores, kept_seat, given_seat, AreSeatsInPart};
 ghost use Rattle.sharded.specs.Seats.{IsSeatJoined};
@@ -39,7 +39,7 @@ impl ShardedPass {
         ensures same { store_of self.new ≡ store.now }
         ensures given_same { IfOk result (λ p. store_of p ≡ store.now) }
         ensures faults { IfErr result (λ e. (e ≡ Fault.NoMemory) ⊎ (e ≡ Fault.NoPass)) }
-        ensures err { OnErr result (AreRestored self.old.shards self.new.shards) }
+        ensures err { OnErr result (HaveRoomAgain self.old.shards self.new.shards) }
     {
         if self.room() <= 1 {
             return Err(Fault::NoPass);

@@ -24,7 +24,7 @@ use Rattle.book.proofs.Same.{unreadable_alike}
 use Rattle.book.proofs.Versions.{was_put, only_put}
 use Rattle.requests.specs.declared.boxed_book.BoxedBook.{BoxedBook}
 use Rattle.requests.specs.declared.request.Request.{Request}
-use Rattle.requests.specs.declared.request.Request.TheVariants.{Put, Read, Lose, Install, Delete, Stat}
+use Rattle.requests.specs.declared.request.Request.TheVariants.{Put, Read, Lose, Install, Restore, Delete, Stat}
 use Rattle.shared.specs.Passes.{seen_of, width_of}
 use Rattle.shared.specs.Calls.{GrantedIn, IfGranted}
 use Rattle.requests.specs.Requests.{operation_of, IsAnswerTo, MayWant}
@@ -65,6 +65,7 @@ all_granted (Ok a) p q x who w (Read n start len) s width right = granted p q x 
 all_granted (Ok a) p q x who w (Put alloc n sealed) s width right = tt
 all_granted (Ok a) p q x who w (Lose alloc n j f) s width right = tt
 all_granted (Ok a) p q x who w (Install alloc n version j f bytes) s width right = tt
+all_granted (Ok a) p q x who w (Restore alloc n version j f bytes) s width right = tt
 all_granted (Ok a) p q x who w (Delete n) s width right = tt
 all_granted (Ok a) p q x who w (Stat n) s width right = tt
 
@@ -95,5 +96,6 @@ wanted_for (Err e) p q x who w (Read n start len) s width may is =
 wanted_for (Err e) p q x who w (Put alloc n sealed) s width may is = tt
 wanted_for (Err e) p q x who w (Lose alloc n j f) s width may is = tt
 wanted_for (Err e) p q x who w (Install alloc n version j f bytes) s width may is = tt
+wanted_for (Err e) p q x who w (Restore alloc n version j f bytes) s width may is = tt
 wanted_for (Err e) p q x who w (Delete n) s width may is = tt
 wanted_for (Err e) p q x who w (Stat n) s width may is = tt

@@ -7,10 +7,11 @@ use Rattle.sealed.specs.declared.fault.Fault.TheVariants.{NoMemory, TooLong, Bus
 use Rattle.sealed.specs.Layout.{stripe_count}
 use Rattle.history.specs.Step.{Operation, put}
 use Rattle.history.specs.History.{History}
+use Rattle.book.specs.Holds.{HoldsHistory}
 use Rattle.book.specs.Known.{IsFragmentIn}
 use Rattle.requests.specs.declared.boxed_book.BoxedBook.{BoxedBook}
 use Rattle.requests.specs.declared.request.Request.{Request}
-use Rattle.requests.specs.declared.request.Request.TheVariants.{Put, Read, Lose, Install, Delete, Stat}
+use Rattle.requests.specs.declared.request.Request.TheVariants.{Put, Read, Lose, Install, Restore, Delete, Stat}
 use Rattle.lrc_code.specs.declared.Code.{Code}
 use Rattle.shared.specs.Deeds.{Takes}
 use Rattle.shared.specs.Calls.{Called}
@@ -36,14 +37,20 @@ put_later h h' w n v j f x more is = record {
   is = is.is;
 }
 
+-- a fragment that a pass knows is known of the book that it finds
+known_still : (p m : SeatState BoxedBook) (x : BoxedBook) → Found p m x → (n : List ℕ) (version j g : ℕ) (bytes : List ℕ) → IsFragmentIn (seen_of p.list) (width_of p.list) n version j g bytes
+    → (h : History) × HoldsHistory x.0.value h × IsFragmentIn h x.0.value.width n version j g bytes
+known_still p m x f n version j g bytes known = (
+  seen_of m.list,
+  f.holds.holds.holds,
+  subst (λ (w : ℕ). IsFragmentIn (seen_of m.list) w n version j g bytes) (sym f.holds.width) (put_later (seen_of p.list) (seen_of m.list) (width_of p.list) n version j g bytes (found_before p m x f) known),
+)
+
 -- what a pass may ask can be made on the book that it finds
 can_make : (p m : SeatState BoxedBook) (x : BoxedBook) (who : ℕ) (request : Request) → Found p m x → CanAsk (shows p who) request → CanMake x.0.value request
 can_make p m x who (Put alloc n s) f can = (can.0 ∙ sym f.holds.width, can.1)
-can_make p m x who (Install alloc n version j g bytes) f can = (
-  seen_of m.list,
-  f.holds.holds.holds,
-  subst (λ (w : ℕ). IsFragmentIn (seen_of m.list) w n version j g bytes) (sym f.holds.width) (put_later (seen_of p.list) (seen_of m.list) (width_of p.list) n version j g bytes (found_before p m x f) can),
-)
+can_make p m x who (Install alloc n version j g bytes) f can = known_still p m x f n version j g bytes can
+can_make p m x who (Restore alloc n version j g bytes) f can = known_still p m x f n version j g bytes can
 can_make p m x who (Read n start len) f can = tt
 can_make p m x who (Lose alloc n j g) f can = tt
 can_make p m x who (Delete n) f can = tt

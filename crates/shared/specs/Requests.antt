@@ -11,7 +11,7 @@ use Rattle.history.specs.History.{History}
 use Rattle.book.specs.declared.answer.Answer.{Answer}
 use Rattle.book.specs.Known.{IsFragmentIn}
 use Rattle.requests.specs.declared.request.Request.{Request}
-use Rattle.requests.specs.declared.request.Request.TheVariants.{Put, Read, Install}
+use Rattle.requests.specs.declared.request.Request.TheVariants.{Put, Read, Install, Restore}
 use Rattle.shared.specs.Calls.{IfGranted, GrantedIn, CanGrant}
 use Rattle.shared.specs.Passes.{Shows}
 
@@ -19,6 +19,7 @@ use Rattle.shared.specs.Passes.{Shows}
 abbrev pub CanAsk : Shows → Request → Type 0
 CanAsk v (Put alloc n s) = (s.width ≡ v.store.width) × ((b : List ℕ) × StandsFor s b nothing)
 CanAsk v (Install alloc n version j f bytes) = IsFragmentIn v.seen v.store.width n version j f bytes
+CanAsk v (Restore alloc n version j f bytes) = IsFragmentIn v.seen v.store.width n version j f bytes
 CanAsk v request = Unit {0}
 
 -- what a pass is granted

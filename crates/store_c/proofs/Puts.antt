@@ -7,10 +7,10 @@ use Rattle.shared.specs.Passes.{Shows}
 use Rattle.session.specs.declared.held.Held.{Held}
 use Rattle.store_c.specs.Status.{empty, code_with}
 use Rattle.store_c.specs.OnSession.{IsPutOf, IsPutCall, accepted_put}
-use Rattle.store_c.specs.Buffers.{bytes_in, IsSpent, IsPutFrom}
+use Rattle.store_c.specs.Buffers.{bytes_held, IsSpent, IsPutFrom}
 
 -- if the slot had bytes
-pub put_from : (v : Shows) (other : Option Held) (name : List ℕ) (data_fragments status : ℕ) (versions : ℕ × ℕ) (w : Shows) (given : Option Held) (bytes : List ℕ) → bytes_in other ≡ Some bytes
+pub put_from : (v : Shows) (other : Option Held) (name : List ℕ) (data_fragments status : ℕ) (versions : ℕ × ℕ) (w : Shows) (given : Option Held) (bytes : List ℕ) → bytes_held other ≡ Some bytes
     → IsPutCall v name bytes data_fragments status versions.0 versions.1 w → IsSpent bytes status given → IsPutFrom v other name data_fragments status versions w given
 put_from v other name data_fragments status versions w given bytes had put spent =
     subst (λ (had : Option (List ℕ)). MatchOption had ((status ≡ empty) × (versions.1 ≡ versions.0) × (w ≡ v) × (given ≡ other))

@@ -24,18 +24,18 @@ IsBufferCall (Some (Buffer v)) status old new = (status ≡ done) × (new ≡ v.
 IsBufferCall held status old new = (status ≡ empty) × (new ≡ old)
 
 -- the bytes of a slot that can be put
-abbrev pub bytes_in : Option Held → Option (List ℕ)
-bytes_in (Some (Buffer v)) = Some v.items
-bytes_in (Some (Refused bytes)) = Some bytes
-bytes_in held = None
+abbrev pub bytes_held : Option Held → Option (List ℕ)
+bytes_held (Some (Buffer v)) = Some v.items
+bytes_held (Some (Refused bytes)) = Some bytes
+bytes_held held = None
 
 -- they are gone if they were put, and otherwise still there
 pub record IsSpent (bytes : List ℕ) (status : ℕ) (given : Option Held) : Type 0 where
   pub put : status ≡ done → given ≡ None
-  pub kept : status ≢ done → bytes_in given ≡ Some bytes
+  pub kept : status ≢ done → bytes_held given ≡ Some bytes
 
 -- the bytes in the other slot were put; or it has none, and nothing was done
 abbrev pub IsPutFrom : Shows → Option Held → List ℕ → ℕ → ℕ → ℕ × ℕ → Shows → Option Held → Type 0
 IsPutFrom v other name data_fragments status versions w given =
-    MatchOption (bytes_in other) ((status ≡ empty) × (versions.1 ≡ versions.0) × (w ≡ v) × (given ≡ other))
+    MatchOption (bytes_held other) ((status ≡ empty) × (versions.1 ≡ versions.0) × (w ≡ v) × (given ≡ other))
     (λ bytes. IsPutCall v name bytes data_fragments status versions.0 versions.1 w × IsSpent bytes status given)

@@ -5,29 +5,30 @@ use Rattle.lrc_code.specs.declared.Code.TheVariants.{Wide, Small}
 use Rattle.history.specs.Parts.{name_of}
 use Rattle.history.specs.declared.note.Entry.{Entry}
 use Rattle.history.specs.declared.note.Call.{Call}
-use Rattle.history.specs.declared.note.Call.TheVariants.{Put, Read, Lose, Repair, Delete, Stat}
+use Rattle.history.specs.declared.note.Call.TheVariants.{Put, Read, Lose, Repair, Restore, Delete, Stat}
 use Rattle.history.specs.declared.note.Note.{Note}
-use Rattle.history.specs.declared.note.Note.TheVariants.{Stored, NoName, OutOfRange, Unrecoverable, Granted, Lost, NoFragment, AlreadyLost, Repaired, NotLost, Deleted, Shape}
+use Rattle.history.specs.declared.note.Note.TheVariants.{Stored, NoName, OutOfRange, Unrecoverable, Granted, Lost, NoFragment, AlreadyLost, Repaired, NotLost, Replaced, Deleted, Shape}
 use Rattle.book.specs.Contents.{journal_of}
 use Rattle.session.specs.declared.held.Held.{Held}
 use Rattle.session.specs.declared.held.Held.TheVariants.{Session, Journal}
 use Rattle.shared.specs.Passes.{Shows}
 use Rattle.store_c.specs.declared.journal.JournalEntry.{JournalEntry}
 use Rattle.store_c.specs.Sessions.{IsReportOf}
-use Rattle.store_c.specs.Status.{already_lost, done, empty, no_fragment, no_memory, no_name, not_alone, not_lost, nothing_left, occupied, out_of_range, unrecoverable}
+use Rattle.store_c.specs.Status.{already_lost, done, empty, no_fragment, no_memory, no_name, not_alone, not_lost, nothing_left, occupied, out_of_range, replaced, unrecoverable}
 
 abbrev pub data_fragments_of : Code → ℕ
 data_fragments_of Wide = 12
 data_fragments_of Small = 6
 
 -- the number of a call, and its arguments after the name
-abbrev pub arguments_of : Call → ℕ × ℕ × ℕ
-arguments_of (Put name code len) = (0, data_fragments_of code, len)
-arguments_of (Read name start len) = (1, start, len)
-arguments_of (Lose name stripe fragment) = (2, stripe, fragment)
-arguments_of (Repair name stripe fragment) = (3, stripe, fragment)
-arguments_of (Delete name) = (4, 0, 0)
-arguments_of (Stat name) = (5, 0, 0)
+abbrev pub arguments_of : Call → ℕ × ℕ × ℕ × ℕ
+arguments_of (Put name code len) = (0, data_fragments_of code, len, 0)
+arguments_of (Read name start len) = (1, start, len, 0)
+arguments_of (Lose name stripe fragment) = (2, stripe, fragment, 0)
+arguments_of (Repair name stripe fragment) = (3, stripe, fragment, 0)
+arguments_of (Delete name) = (4, 0, 0, 0)
+arguments_of (Stat name) = (5, 0, 0, 0)
+arguments_of (Restore name version stripe fragment) = (6, stripe, fragment, version)
 
 abbrev pub status_of_note : Note → ℕ
 status_of_note (Stored v) = done
@@ -40,6 +41,7 @@ status_of_note NoFragment = no_fragment
 status_of_note AlreadyLost = already_lost
 status_of_note (Repaired v) = done
 status_of_note NotLost = not_lost
+status_of_note (Replaced v) = replaced
 status_of_note (Deleted v) = done
 status_of_note (Shape v len stripes lost) = done
 
@@ -54,6 +56,7 @@ version_of_note NoFragment = 0
 version_of_note AlreadyLost = 0
 version_of_note (Repaired v) = v
 version_of_note NotLost = 0
+version_of_note (Replaced v) = v
 version_of_note (Deleted v) = v
 version_of_note (Shape v len stripes lost) = v
 
@@ -65,7 +68,7 @@ shape_of_note note = (0, 0, 0)
 pub record IsEntry (e : Entry) (r : JournalEntry) : Type 0 where
   pub who_is : r.who ≡ e.who
   pub name_is : r.name.now ≡ name_of e.call
-  pub arguments_are : (r.call, r.first, r.second) ≡ arguments_of e.call
+  pub arguments_are : (r.call, r.first, r.second, r.third) ≡ arguments_of e.call
   pub status_is : r.status ≡ status_of_note e.note
   pub version_is : r.version ≡ version_of_note e.note
   pub shape_is : (r.len, r.stripes, r.lost) ≡ shape_of_note e.note

@@ -9,6 +9,6 @@ pub mod Numbers
 pub mod Hold
 pub mod Get
 pub mod Versions
-pub mod Install
+pub mod Restore
 pub mod Items
 pub mod Shards

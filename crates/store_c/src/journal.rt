@@ -6,7 +6,8 @@ ghost use Rattle.store_c.specs.Journal.{IsEntry, IsEntryAt, arguments_of, status
 ghost use Rattle.store_c.specs.Journal.{version_of_note, shape_of_note};
 
 use crate::status::{
-    ALREADY_LOST, DONE, NO_FRAGMENT, NO_NAME, NOT_LOST, NOTHING_LEFT, OUT_OF_RANGE, UNRECOVERABLE,
+    ALREADY_LOST, DONE, NO_FRAGMENT, NO_NAME, NOT_LOST, NOTHING_LEFT, OUT_OF_RANGE, REPLACED,
+    UNRECOVERABLE,
 };
 use session::{Book, Call, Code, Entry, Note};
 
@@ -19,6 +20,7 @@ pub struct JournalEntry<'a> {
     pub name: &'a [u8],
     pub first: u64,
     pub second: u64,
+    pub third: u64,
     pub version: u64,
     pub len: u64,
     pub stripes: u64,
@@ -29,7 +31,7 @@ pub struct JournalEntry<'a> {
 }
 
 /// The number of a call, and its arguments after the name.
-fn arguments_of(call: &Call) -> (u32, u64, u64)
+fn arguments_of(call: &Call) -> (u32, u64, u64, u64)
     ensures { result ≡ arguments_of call.now }
 {
     match call {
@@ -38,25 +40,31 @@ fn arguments_of(call: &Call) -> (u32, u64, u64)
                 Code::Wide => 12,
                 Code::Small => 6,
             };
-            (0, data_fragments, *len)
+            (0, data_fragments, *len, 0)
         }
         Call::Read {
             name: _,
             start,
             len,
-        } => (1, *start, *len),
+        } => (1, *start, *len, 0),
         Call::Lose {
             name: _,
             stripe,
             fragment,
-        } => (2, *stripe, *fragment),
+        } => (2, *stripe, *fragment, 0),
         Call::Repair {
             name: _,
             stripe,
             fragment,
-        } => (3, *stripe, *fragment),
-        Call::Delete { name: _ } => (4, 0, 0),
-        Call::Stat { name: _ } => (5, 0, 0),
+        } => (3, *stripe, *fragment, 0),
+        Call::Delete { name: _ } => (4, 0, 0, 0),
+        Call::Stat { name: _ } => (5, 0, 0, 0),
+        Call::Restore {
+            name: _,
+            version,
+            stripe,
+            fragment,
+        } => (6, *stripe, *fragment, *version),
     }
 }
 
@@ -69,6 +77,7 @@ fn name_of(call: &Call) -> &[u8]
         | Call::Read { name, .. }
         | Call::Lose { name, .. }
         | Call::Repair { name, .. }
+        | Call::Restore { name, .. }
         | Call::Delete { name }
         | Call::Stat { name } => name,
     };
@@ -86,6 +95,7 @@ fn status_of(note: &Note) -> u32
         Note::NoFragment => NO_FRAGMENT,
         Note::AlreadyLost => ALREADY_LOST,
         Note::NotLost => NOT_LOST,
+        Note::Replaced(_) => REPLACED,
         _ => DONE,
     }
 }
@@ -100,7 +110,8 @@ fn version_of(note: &Note) -> u64
         | Note::Lost(version)
         | Note::Repaired(version)
         | Note::Deleted(version)
-        | Note::Unrecoverable(version) => *version,
+        | Note::Unrecoverable(version)
+        | Note::Replaced(version) => *version,
         Note::Shape { version, .. } => *version,
         _ => 0,
     }
@@ -125,12 +136,13 @@ fn shape_of(note: &Note) -> (u64, u64, u64)
 fn entry_for(entry: &Entry) -> JournalEntry<'_>
     ensures { IsEntry entry.now result }
 {
-    let (call, first, second) = arguments_of(&entry.call);
+    let (call, first, second, third) = arguments_of(&entry.call);
     let (len, stripes, lost) = shape_of(&entry.note);
     JournalEntry {
         name: name_of(&entry.call),
         first,
         second,
+        third,
         version: version_of(&entry.note),
         len,
         stripes,

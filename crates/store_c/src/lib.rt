@@ -27,7 +27,7 @@ ghost use Rattle.store_c.specs.OnSession.{IsStatCall, IsTrimCall, IsTrimPartCall
 ghost use Rattle.store_c.specs.Buffers.{IsReserveCall, IsBufferCall, IsPutFrom};
 ghost use Rattle.store_c.specs.Get.{IsGetTo};
 ghost use Rattle.store_c.specs.Hold.{IsHoldCall};
-ghost use Rattle.store_c.specs.Install.{MayInstall, IsInstallCall};
+ghost use Rattle.store_c.specs.Restore.{MayRestore, IsRestoreCall};
 ghost use Rattle.store_c.specs.Items.{IsItemsCall};
 ghost use Rattle.store_c.specs.Journal.{IsCloseToCall, IsEntryCall};
 ghost use Rattle.store_c.specs.Lend.{IsLendTo, IsSlicesCall, IsRunsCall};
@@ -762,10 +762,10 @@ pub extern "C" fn lrc_store_get(
         whole::get_to(alloc, session, name, other, version, len, pieces))
 }
 
-/// Repairs a lost fragment of the name of a held version with the given bytes: those that the
-/// fragment has in the version.
+/// Restores a lost fragment of the name of a held version with the given bytes, whatever else is
+/// lost: those that the fragment has in the version.
 #[unsafe(no_mangle)]
-pub extern "C" fn lrc_store_install(
+pub extern "C" fn lrc_store_restore(
     alloc: Global,
     slot: &mut Slot,
     other: &mut Slot,
@@ -774,8 +774,8 @@ pub extern "C" fn lrc_store_install(
     bytes: &[u8],
     version: &mut u64,
 ) -> u32
-    requires { MayInstall slot.old.held other.old.held stripe fragment bytes.now }
-    ensures { IsInstallCall slot.old.held other.old.held stripe fragment bytes.now result
+    requires { MayRestore slot.old.held other.old.held stripe fragment bytes.now }
+    ensures { IsRestoreCall slot.old.held other.old.held stripe fragment bytes.now result
         (version.old, version.new) slot.new.held other.new.held }
 {
     let Some(mut held) = slot.take(alloc) else {
@@ -785,7 +785,7 @@ pub extern "C" fn lrc_store_install(
         slot.put(held);
         return EMPTY;
     };
-    let status = versions::install_by(
+    let status = versions::restore_by(
         alloc, &mut held, &mut given, stripe, fragment, bytes, version,
     );
     slot.put(held);

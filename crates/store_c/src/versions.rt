@@ -1,7 +1,7 @@
 //! Versions of blobs that a slot holds.
 ghost use Rattle.std.specs.Prelude.{◌≡◌, None, Some};
 ghost use Rattle.store_c.specs.Hold.{IsHold, IsHoldTo, IsHoldCall};
-ghost use Rattle.store_c.specs.Install.{CanInstall, MayInstall, IsInstall, IsInstallCall};
+ghost use Rattle.store_c.specs.Restore.{CanRestore, MayRestore, IsRestore, IsRestoreCall};
 ghost use Rattle.store_c.specs.Versions.{IsShapeOf, IsLostOf, IsFragmentTo};
 ghost use Rattle.store_c.specs.Versions.{IsRange, IsRangeCopy, IsRangeTo};
 
@@ -243,8 +243,9 @@ pub(crate) fn copy_to(alloc: Global, version: &Version, start: u64, target: &mut
     }
 }
 
-/// Repairs a fragment with bytes from outside, by the session and the version that the slots hold.
-pub(crate) fn install_by(
+/// Restores a fragment with bytes from outside, by the session and the version that the slots
+/// hold.
+pub(crate) fn restore_by(
     alloc: Global,
     held: &mut Option<Held>,
     given: &mut Option<Held>,
@@ -253,14 +254,14 @@ pub(crate) fn install_by(
     bytes: &[u8],
     written: &mut u64,
 ) -> u32
-    requires { MayInstall held.old given.old stripe fragment bytes.now }
-    ensures { IsInstallCall held.old given.old stripe fragment bytes.now result
+    requires { MayRestore held.old given.old stripe fragment bytes.now }
+    ensures { IsRestoreCall held.old given.old stripe fragment bytes.now result
         (written.old, written.new) held.new given.new }
 {
     match held {
         Some(held) => match held {
             Held::Session { session, number } => {
-                install_of(
+                restore_of(
                     alloc, session, *number, given, stripe, fragment, bytes, written,
                 )
             }
@@ -271,7 +272,7 @@ pub(crate) fn install_by(
 }
 
 /// Does the same by the session that the first slot holds.
-fn install_of(
+fn restore_of(
     alloc: Global,
     session: &mut Session,
     number: u64,
@@ -281,9 +282,9 @@ fn install_of(
     bytes: &[u8],
     written: &mut u64,
 ) -> u32
-    requires { MayInstall (Some (Held.Session session.old number)) given.old stripe fragment
+    requires { MayRestore (Some (Held.Session session.old number)) given.old stripe fragment
         bytes.now }
-    ensures { IsInstallCall (Some (Held.Session session.old number)) given.old stripe fragment
+    ensures { IsRestoreCall (Some (Held.Session session.old number)) given.old stripe fragment
         bytes.now result (written.old, written.new) (Some (Held.Session session.new number))
         given.new }
 {
@@ -292,7 +293,7 @@ fn install_of(
             Held::Version {
                 version,
                 number: theirs,
-            } => install(
+            } => restore(
                 alloc, session, number, version, *theirs, stripe, fragment, bytes, written,
             ),
             _ => EMPTY,
@@ -301,8 +302,8 @@ fn install_of(
     }
 }
 
-/// Repairs a fragment with bytes from outside, if these may be a fragment of the version.
-fn install(
+/// Restores a fragment with bytes from outside, if these may be a fragment of the version.
+fn restore(
     alloc: Global,
     session: &mut Session,
     number: u64,
@@ -313,8 +314,8 @@ fn install(
     bytes: &[u8],
     written: &mut u64,
 ) -> u32
-    requires { CanInstall session.old number version.old theirs stripe fragment bytes.now }
-    ensures call { IsInstall session.old number version.old theirs stripe fragment bytes.now result
+    requires { CanRestore session.old number version.old theirs stripe fragment bytes.now }
+    ensures call { IsRestore session.old number version.old theirs stripe fragment bytes.now result
         (written.old, written.new) session.new }
     ensures unchanged { version.new ≡ version.old }
 {
@@ -330,6 +331,6 @@ fn install(
     let Ok(bytes) = Bytes::copy_from_slice(alloc, bytes) else {
         return NO_MEMORY;
     };
-    let reply = session.install(alloc, version, stripe, fragment, bytes);
+    let reply = session.restore(alloc, version, stripe, fragment, bytes);
     write_version(&reply, written)
 }

@@ -104,9 +104,9 @@ fn expect_numbers<R: Wait>(
     Ok(())
 }
 
-/// Repairs a name's lost fragment with the bytes that a snapshot gives. It is repaired without them
-/// if out of memory.
-fn install<R: Wait>(
+/// Restores a name's lost fragment with the bytes that a snapshot gives. It is repaired if out of
+/// memory.
+fn restore<R: Wait>(
     rt: &R,
     alloc: Global,
     store: &ShardedStore,
@@ -126,14 +126,14 @@ fn install<R: Wait>(
         bail!("a fragment is not rebuilt");
     };
     let version = snapshot.version();
-    match store.install(rt, alloc, pass, name.duplicate(), version, 0, 3, bytes) {
+    match store.restore(rt, alloc, pass, name.duplicate(), version, 0, 3, bytes) {
         Ok(answer) => Ok(answer),
         Err(_) => Ok(store.repair(rt, alloc, pass, name.duplicate(), 0, 3)?),
     }
 }
 
-/// As `install`, in the form that does not wait.
-fn try_install<R: Wait>(
+/// As `restore`, in the form that does not wait.
+fn try_restore<R: Wait>(
     rt: &R,
     alloc: Global,
     store: &ShardedStore,
@@ -153,7 +153,7 @@ fn try_install<R: Wait>(
         bail!("a fragment is not rebuilt");
     };
     let version = snapshot.version();
-    match store.try_install(alloc, pass, name.duplicate(), version, 0, 3, bytes) {
+    match store.try_restore(alloc, pass, name.duplicate(), version, 0, 3, bytes) {
         Ok(answer) => Ok(answer),
         Err(_) => Ok(store.repair(rt, alloc, pass, name.duplicate(), 0, 3)?),
     }
@@ -288,11 +288,11 @@ pub(crate) fn run<R: Wait>(
 {
     put_all(rt, alloc, store, pass)?;
     expect_numbers(rt, store, pass, 8, 16, 16)?;
-    let one = install(rt, alloc, store, pass, &Name::new(NAMES[0])?)?;
-    let other = try_install(rt, alloc, store, pass, &Name::new(NAMES[1])?)?;
+    let one = restore(rt, alloc, store, pass, &Name::new(NAMES[0])?)?;
+    let other = try_restore(rt, alloc, store, pass, &Name::new(NAMES[1])?)?;
     ensure!(
         matches!(one.note(), Note::Repaired(_)) && matches!(other.note(), Note::Repaired(_)),
-        "a fragment is not installed"
+        "a fragment is not restored"
     );
     expect_numbers(rt, store, pass, 6, 20, 20)?;
     let name = Name::new(NAMES[2])?;

@@ -87,6 +87,6 @@ recorded! {
     lrc_store_trim_wait(slot: *mut Slot, keep: u64, discarded: *mut u64);
     lrc_store_mend_wait(slot: *mut Slot, repaired: *mut u64);
     lrc_store_hold_wait(slot: *mut Slot, name: *const u8, name_len: usize, other: *mut Slot, version: *mut u64, len: *mut u64);
-    lrc_store_install_wait(slot: *mut Slot, other: *mut Slot, stripe: u64, fragment: u64, bytes: *const u8, len: usize, version: *mut u64);
+    lrc_store_restore_wait(slot: *mut Slot, other: *mut Slot, stripe: u64, fragment: u64, bytes: *const u8, len: usize, version: *mut u64);
     lrc_store_numbers_wait(slot: *mut Slot, numbers: *mut RawNumbers);
 }

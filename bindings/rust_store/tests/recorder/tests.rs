@@ -92,9 +92,9 @@ fn an_install_has_the_timeout() {
     let mut known = session.hold("a").unwrap();
     session.set_timeout(Some(Duration::from_secs(2)));
     script(&[BUSY]);
-    let (result, calls) = recorded(|| session.install(&mut known, 0, 1, b"O..."));
+    let (result, calls) = recorded(|| session.restore(&mut known, 0, 1, b"O..."));
     assert_eq!(result.unwrap_err().status, Status::Busy);
-    assert_eq!(calls, [("lrc_store_install_wait", 2000)]);
+    assert_eq!(calls, [("lrc_store_restore_wait", 2000)]);
 }
 
 #[test]
@@ -196,11 +196,11 @@ fn a_mend_says_how_much_it_did() {
 
 #[test]
 fn statuses_have_the_numbers_of_the_header() {
-    for number in 1..=19 {
+    for number in 1..=20 {
         assert_eq!(Status::of(number) as u32, number);
         assert_ne!(Status::of(number).text(), Status::Unknown.text());
     }
-    assert_eq!(Status::of(20), Status::Unknown);
+    assert_eq!(Status::of(21), Status::Unknown);
     assert_eq!(Status::Unknown.to_string(), "unknown status");
     assert_eq!(Status::NoName.to_string(), "the name has no blob");
 }

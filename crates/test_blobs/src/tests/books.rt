@@ -109,6 +109,8 @@ enum Step {
     Repair(u64),
     /// Installs an A as the first fragment, rebuilt from version 1.
     Install,
+    /// Restores the first fragment of version 1: an A.
+    Restore,
     /// Asks for the shape.
     Stat,
     /// Deletes the name.
@@ -143,6 +145,12 @@ fn make(rt: &impl Abort, alloc: Global, book: &mut Book, name: &Name, step: Step
         Step::Install => {
             let bytes = Bytes::from_static(b"A");
             book.install(alloc, 1, copy, 1, 0, 0, bytes)
+                .expect(rt, "memory")
+                .note()
+        }
+        Step::Restore => {
+            let bytes = Bytes::from_static(b"A");
+            book.restore(alloc, 1, copy, 1, 0, 0, bytes)
                 .expect(rt, "memory")
                 .note()
         }
@@ -220,6 +228,32 @@ fn installs_nothing_that_is_open(rt: HostRuntime) {
         (Step::Lose(3), Note::Lost(2), None),
         (Step::Install, Note::Unrecoverable(2), None),
         (Step::Stat, shape, None),
+    ];
+    play(&rt, rt.alloc(), &rows);
+}
+
+#[test]
+fn restores_what_is_open(rt: HostRuntime) {
+    let rows = [
+        (Step::Lose(0), Note::Lost(1), None),
+        (Step::Lose(1), Note::Lost(1), None),
+        (Step::Lose(2), Note::Lost(1), None),
+        (Step::Lose(3), Note::Lost(1), None),
+        (Step::Repair(0), Note::Unrecoverable(1), None),
+        (Step::Restore, Note::Repaired(1), Some(b'A')),
+        (Step::Restore, Note::NotLost, Some(b'A')),
+    ];
+    play(&rt, rt.alloc(), &rows);
+}
+
+#[test]
+fn restores_one_version(rt: HostRuntime) {
+    let rows = [
+        (Step::Store, Note::Stored(2), Some(b'M')),
+        (Step::Lose(0), Note::Lost(2), None),
+        (Step::Restore, Note::Replaced(2), None),
+        (Step::Delete, Note::Deleted(2), None),
+        (Step::Restore, Note::NoName, None),
     ];
     play(&rt, rt.alloc(), &rows);
 }

@@ -43,7 +43,7 @@ fn fragment_of(rt: &impl Abort, alloc: Global, snapshot: &Snapshot, fragment: u6
     }
 }
 
-/// Loses a fragment of the first stripe. The pass can still install the fragments of a snapshot.
+/// Loses a fragment of the first stripe. The pass can still restore the fragments of a snapshot.
 fn lose_after<R: Wait + Abort>(
     rt: &R,
     alloc: Global,
@@ -62,8 +62,8 @@ fn lose_after<R: Wait + Abort>(
     answers(rt, lost, Note::Lost(1));
 }
 
-/// Installs a fragment of the first stripe that comes from a snapshot.
-fn install<R: Wait + Abort>(
+/// Restores a fragment of the first stripe that comes from a snapshot.
+fn restore<R: Wait + Abort>(
     rt: &R,
     alloc: Global,
     store: &Store,
@@ -79,12 +79,12 @@ fn install<R: Wait + Abort>(
     let bytes = fragment_of(rt, alloc, snapshot, fragment);
     let version = snapshot.version();
     let name = name.duplicate();
-    let installed = store.install(rt, alloc, pass, name, version, 0, fragment, bytes);
-    answers(rt, installed, Note::Repaired(1));
+    let restored = store.restore(rt, alloc, pass, name, version, 0, fragment, bytes);
+    answers(rt, restored, Note::Repaired(1));
 }
 
-/// As `install`, without waiting.
-fn try_install(
+/// As `restore`, without waiting.
+fn try_restore(
     rt: &impl Abort,
     alloc: Global,
     store: &Store,
@@ -100,8 +100,8 @@ fn try_install(
     let bytes = fragment_of(rt, alloc, snapshot, fragment);
     let version = snapshot.version();
     let name = name.duplicate();
-    let installed = store.try_install(alloc, pass, name, version, 0, fragment, bytes);
-    answers(rt, installed, Note::Repaired(1));
+    let restored = store.try_restore(alloc, pass, name, version, 0, fragment, bytes);
+    answers(rt, restored, Note::Repaired(1));
 }
 
 #[test]
@@ -111,7 +111,7 @@ fn a_fragment_goes_out_and_in(rt: HostRuntime) {
     put(&rt, alloc, &store, &mut p, &a, letters(), 1);
     let snapshot = taken(&rt, &store, &mut p, &a);
     lose_after(&rt, alloc, &store, &mut p, &a, &snapshot, 3);
-    install(&rt, alloc, &store, &mut p, &a, &snapshot, 3);
+    restore(&rt, alloc, &store, &mut p, &a, &snapshot, 3);
     stat(&rt, &store, &mut p, &a, shape(1, 0));
     reads(&rt, alloc, &store, &mut p, &a, b"ABCDEFGHIJKL", 0);
 }
@@ -139,7 +139,7 @@ fn a_parity_goes_out_and_in(rt: HostRuntime) {
     put(&rt, alloc, &store, &mut p, &a, letters(), 1);
     let snapshot = taken(&rt, &store, &mut p, &a);
     lose_after(&rt, alloc, &store, &mut p, &a, &snapshot, 14);
-    try_install(&rt, alloc, &store, &mut p, &a, &snapshot, 14);
+    try_restore(&rt, alloc, &store, &mut p, &a, &snapshot, 14);
     lose_and_read(&rt, alloc, &store, &mut p, &a);
 }
 
@@ -157,7 +157,7 @@ fn a_fragment_is_rebuilt_outside(rt: HostRuntime) {
     lose(&rt, alloc, &store, &mut p, &a, 0);
     let snapshot = taken(&rt, &store, &mut p, &a);
     lacks_the_first(&rt, &snapshot);
-    install(&rt, alloc, &store, &mut p, &a, &snapshot, 0);
+    restore(&rt, alloc, &store, &mut p, &a, &snapshot, 0);
     reads(&rt, alloc, &store, &mut p, &a, b"ABCDEFGHIJKL", 0);
 }
 

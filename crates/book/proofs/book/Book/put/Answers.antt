@@ -1,4 +1,4 @@
-use Rattle.std.proofs.Common.{◌≡◌, ◌≤◌, ap, sym, subst, ◌∙◌, ◌+◌, arith, length, cond, Some}
+use Rattle.std.proofs.Common.{◌≡◌, ◌≤◌, ap, sym, subst, ◌∙◌, ◌+◌, ◌∷◌, arith, length, cond, Some}
 use Rattle.std.specs.BTreeMap.{is_at}
 use Rattle.history.specs.Names.{name_cmp}
 use Rattle.std.specs.Prelude.{count_by}
@@ -10,6 +10,7 @@ use Rattle.history.specs.History.{is_put}
 use Rattle.history.specs.Base.{Checkpoint}
 use Rattle.book.specs.Contents.{Contents, sealed_at}
 use Rattle.book.proofs.Storing.{carries_put}
+use Rattle.book.specs.BlobBytes.{blob_bytes}
 use Rattle.book.proofs.book.Book.put.Goals as goal
 
 pub overflow_add-version : goal.overflow_add-version
@@ -38,4 +39,5 @@ returns-clause-ok c b stands =
     (ap (λ (s : Contents). s.width) c.self.view_is)
     base
     (cc)
-    (λ q. c.in_ok-insert.ensures.ok q ∙ (λ i. cond (is_at (name_cmp c.args.name) q) (Some ((c.in-Ok.ensures.ok ∙ c.with_version.ensures) i)) (sealed_at (c.self.view_is i) q))))
+    (λ q. c.in_ok-insert.ensures.ok q ∙ (λ i. cond (is_at (name_cmp c.args.name) q) (Some ((c.in-Ok.ensures.ok ∙ c.with_version.ensures) i)) (sealed_at (c.self.view_is i) q)))
+    (c.with-truth.ensures ∙ ap (λ (s : Contents). (c.args.name, blob_bytes c.args.sealed) ∷ s.truth) c.self.view_is))

@@ -15,4 +15,5 @@ returns-clause-ok c =
     (ap (λ (s : Contents). s.width) c.self.view_is)
     (ap (λ (s : Contents). s.base) c.self.view_is)
     (ap (λ (s : Contents). s.catalogue) c.self.view_is)
+    (ap (λ (s : Contents). s.truth) c.self.view_is)
     (cc))

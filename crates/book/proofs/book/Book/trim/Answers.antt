@@ -47,4 +47,4 @@ returns-clause-holds c =
     tells_trimmed old _ n few
     (λ s g outlined legal is. c.in_ok-advance.ensures.outlines s g (subst (λ (b : Checkpoint). Outlines b s) (sym base) outlined) (subst (λ w. IsLegalFrom w s g) (sym width) legal) (is ∙ ap (take n) (sym given)))
     (omega (arith, c.in_ok-advance.ensures.trimmed, ap (λ (b : Checkpoint). b.trimmed) base, length-take-le n c.entries-2.result.now all)) (c.give_up.ensures.entries ∙ ap (drop n) entries) width
-    (ap (λ (s : Contents). s.catalogue) c.self-2.view_is)
+    (ap (λ (s : Contents). s.catalogue) c.self-2.view_is) (ap (λ (s : Contents). s.truth) c.self-2.view_is)

@@ -4,7 +4,7 @@ use Rattle.sealed.specs.declared.fault.Fault.{Fault}
 use Rattle.sealed.specs.declared.fault.Fault.TheVariants.{TooLong}
 use Rattle.sealed.specs.Layout.{stripe_count}
 use Rattle.history.specs.Step.{put}
-use Rattle.requests.proofs.Bytes.{bytes_are}
+use Rattle.book.proofs.BlobBytes.{bytes_are}
 use Rattle.requests.specs.declared.request.Request.{Request}
 use Rattle.requests.specs.declared.request.Request.TheVariants.{Put}
 use Rattle.named_calls.proofs.makes.Makes.prepare_put.Goals as goal

@@ -1,6 +1,6 @@
 use Rattle.std.proofs.Common.{◌≡◌, Err, map, refl, ap, sym, ◌∙◌, subst, slice_get}
 use Rattle.sealed.specs.declared.fault.Fault.TheVariants.{NoPass}
-use Rattle.sharded.specs.Passes.{HasRoomOfOne, stores_of, AreRestored, kept_in_split, given_in_split}
+use Rattle.sharded.specs.Passes.{HasRoomOfOne, stores_of, HaveRoomAgain, kept_in_split, given_in_split}
 use Rattle.sharded.specs.Seats.{shows_of, IsPassOf}
 use Rattle.sharded.proofs.Passes.{restored_all, restored_stores, kept_stores, given_all_stores}
 use Rattle.sharded.proofs.Rooms.{one_left, none_left}
@@ -37,7 +37,7 @@ invariant_of-self-in-Err c = back_pass c.args.who c.self.inside.seats.items c.sp
 
 pub returns-in-Err-clause-err : goal.returns-in-Err-clause-err
 returns-in-Err-clause-err c =
-    subst (λ v. AreRestored v.shards (shows_of c.join_all.new.seats.items)) c.self.view_is
+    subst (λ v. HaveRoomAgain v.shards (shows_of c.join_all.new.seats.items)) c.self.view_is
     (back_restored c.args.who c.self.inside.seats.items c.split_all.new.seats.items c.split_all.new.given.items c.join_all.new.seats.items c.in-Err.ensures.err c.join_all.ensures)
 
 pub returns-in-Err-clause-same : goal.returns-in-Err-clause-same

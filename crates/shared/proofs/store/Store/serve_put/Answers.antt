@@ -1,6 +1,6 @@
 use Rattle.std.proofs.Common.{Err, ap, sym, subst, ◌∙◌}
 use Rattle.history.specs.Step.{Operation, put}
-use Rattle.requests.proofs.Bytes.{bytes_are}
+use Rattle.book.proofs.BlobBytes.{bytes_are}
 use Rattle.shared.specs.Passes.{Which}
 use Rattle.shared.specs.Calls.{Called}
 use Rattle.shared.proofs.Requests.{refused_put}

@@ -1,7 +1,7 @@
 use Rattle.std.proofs.Common.{subst}
 use Rattle.history.specs.Step.{Operation, put}
 use Rattle.shared.specs.Calls.{Called}
-use Rattle.requests.proofs.Bytes.{bytes_are}
+use Rattle.book.proofs.BlobBytes.{bytes_are}
 use Rattle.shared.proofs.store.Store.try_put_sealed.Goals as goal
 
 pub returns-in-Ok-clause-called : goal.returns-in-Ok-clause-called

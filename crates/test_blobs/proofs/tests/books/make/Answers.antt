@@ -1,6 +1,6 @@
 use Rattle.std.proofs.Common.{◌≡◌, ◌∷◌, [], Result, Ok, IfOk, subst}
 use Rattle.sealed.specs.declared.fault.Fault.{Fault}
-use Rattle.history.specs.Step.{lose, repair, stat, delete}
+use Rattle.history.specs.Step.{lose, repair, restore, stat, delete}
 use Rattle.book.specs.declared.answer.Answer.{Answer}
 use Rattle.book.specs.Holds.{CarriesOn}
 use Rattle.book.proofs.Known.{known_after}
@@ -26,6 +26,11 @@ pub returns-in-Install : goal.returns-in-Install
 returns-in-Install g c =
     known_after c.args.book.now c.install.new.self c.args.name.now 1 0 0 (65 ∷ []) _ c.install.ensures.unchanged.0
     (ok_at c.install.result c.expect-in-Install.result (CarriesOn c.args.book.now c.install.new.self 1 (repair c.duplicate-copy.result 0 0)) c.expect-in-Install.ensures c.install.ensures.ok) c.requires.0 c.requires.1 c.requires.2
+
+pub returns-in-Restore : goal.returns-in-Restore
+returns-in-Restore g c =
+    known_after c.args.book.now c.restore.new.self c.args.name.now 1 0 0 (65 ∷ []) _ c.restore.ensures.unchanged.0
+    (ok_at c.restore.result c.expect-in-Restore.result (CarriesOn c.args.book.now c.restore.new.self 1 (restore c.duplicate-copy.result 1 0 0)) c.expect-in-Restore.ensures c.restore.ensures.ok) c.requires.0 c.requires.1 c.requires.2
 
 pub returns-in-Stat : goal.returns-in-Stat
 returns-in-Stat g c =

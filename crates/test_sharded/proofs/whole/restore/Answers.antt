@@ -4,10 +4,10 @@ use Rattle.sealed.specs.Rebuilding.{IsRebuildable, IsFragmentOf}
 use Rattle.book.specs.Known.{IsFragmentIn}
 use Rattle.shared.specs.Snapshots.{HasFragmentsOf}
 use Rattle.sharded.specs.Steps.{seen_for, width_for}
-use Rattle.test_sharded.proofs.whole.install.Goals as goal
+use Rattle.test_sharded.proofs.whole.restore.Goals as goal
 
-pub install-requires-clause-known : goal.install-requires-clause-known
-install-requires-clause-known g c =
+pub restore-requires-clause-known : goal.restore-requires-clause-known
+restore-requires-clause-known g c =
     let s = c.in-Some.snapshot in
     let name : c.duplicate.result ≡ c.duplicate-2.result = c.duplicate.ensures ∙ sym c.duplicate-2.ensures in
     let known : HasFragmentsOf (seen_for c.snapshot.new.pass.shards c.duplicate.result) (width_for c.args.store.now.shards c.duplicate.result) c.duplicate.result s =

@@ -11,7 +11,7 @@ use Rattle.sealed.specs.Stripes.{fragment_at}
 use Rattle.sealed.specs.Blob.{data_at, fragment, nothing, pair_cmp}
 use Rattle.sealed.specs.Sealed.{StandsFor}
 use Rattle.sealed.proofs.Places.{stripe_inside, fragment_inside, place_inside, byte_back}
-use Rattle.requests.specs.Bytes.{bytes_left, blob_byte, blob_bytes}
+use Rattle.book.specs.BlobBytes.{bytes_left, blob_byte, blob_bytes}
 
 byte_is : (s : Sealed) (b : List ℕ) → StandsFor s b nothing → (i : ℕ) → i < s.len → blob_byte s i ≡ slice_index b i
 byte_is s b stands i below =

@@ -4,10 +4,10 @@ use Rattle.sealed.specs.Rebuilding.{IsRebuildable, IsFragmentOf}
 use Rattle.book.specs.Known.{IsFragmentIn}
 use Rattle.shared.specs.Snapshots.{HasFragmentsOf}
 use Rattle.sharded.specs.Steps.{seen_for, width_for}
-use Rattle.test_sharded.proofs.whole.try_install.Goals as goal
+use Rattle.test_sharded.proofs.whole.try_restore.Goals as goal
 
-pub try_install-requires-clause-known : goal.try_install-requires-clause-known
-try_install-requires-clause-known g c =
+pub try_restore-requires-clause-known : goal.try_restore-requires-clause-known
+try_restore-requires-clause-known g c =
     let s = c.in-Some.snapshot in
     let name : c.duplicate.result ≡ c.duplicate-2.result = c.duplicate.ensures ∙ sym c.duplicate-2.ensures in
     let known : HasFragmentsOf (seen_for c.try_snapshot.new.pass.shards c.duplicate.result) (width_for c.args.store.now.shards c.duplicate.result) c.duplicate.result s =
