@@ -13,6 +13,7 @@
 #include <algorithm>
 #include <array>
 #include <chrono>
+#include <iterator>
 #include <optional>
 #include <stdexcept>
 #include <string>
@@ -248,6 +249,12 @@ struct shape {
     uint64_t version, len, stripes, lost;
 };
 
+// A lost fragment of a blob.
+struct lost_fragment {
+    std::string name;
+    uint64_t version, stripe, fragment;
+};
+
 struct closed {
     uint64_t entries;
     // Whether a check found the journal lawful. False if there was no memory for the check, or no
@@ -359,6 +366,27 @@ public:
                                              detail::bytes(whole), whole.size(), &number, wait_ms),
                       "restore", stripe, fragment, whole.size());
         return number;
+    }
+
+    // The lost fragments of all blobs, by name, stripe and fragment. They are listed in parts, each
+    // as of a moment of its own.
+    std::vector<lost_fragment> lost_fragments() {
+        constexpr uint64_t at_once = 512; // between which other threads call
+        std::vector<lost_fragment> all;
+        slot plan;
+        uint64_t planned = 0, count = 0;
+        do {
+            detail::check(
+                lrc_store_plan_part_wait(held.get(), plan.get(), at_once, &planned, wait_ms),
+                "lost_fragments");
+            lrc_item item{{reinterpret_cast<const uint8_t *>(""), 0}, 0, 0, 0};
+            while (lrc_slot_items(plan.get(), &item, 1, &count) == LRC_STORE_DONE && count) {
+                const auto *at = reinterpret_cast<const char *>(item.name.at);
+                all.push_back({{at, item.name.len}, item.version, item.stripe, item.fragment});
+                lrc_slot_skip(plan.get());
+            }
+        } while (planned == at_once);
+        return all;
     }
 
     // The numbers of the store, such as those of its blobs and of its lost fragments.
@@ -620,6 +648,24 @@ public:
                       name);
         detail::check(lrc_pool_take(pool_of_shard, &place, wait_ms), "take", name);
         return pool::lease(pool_of_shard, place, wait_ms, shard, count);
+    }
+
+    // The lost fragments of all blobs, by shard, name, stripe and fragment. They are listed in
+    // parts, each as of a moment of its own.
+    std::vector<lost_fragment> lost_fragments() {
+        std::vector<lost_fragment> all;
+        for (uint32_t shard = 0; shard < count; shard++) {
+            lrc_pool *pool_of_shard = nullptr;
+            lrc_slot *place = nullptr;
+            detail::check(
+                lrc_shards_at(detail::opened(held, "lost_fragments"), shard, &pool_of_shard),
+                "lost_fragments");
+            detail::check(lrc_pool_take(pool_of_shard, &place, wait_ms), "lost_fragments");
+            pool::lease lent(pool_of_shard, place, wait_ms);
+            std::vector<lost_fragment> found = lent->lost_fragments();
+            std::move(found.begin(), found.end(), std::back_inserter(all));
+        }
+        return all;
     }
 
     // The numbers of all shards together.

@@ -49,7 +49,7 @@ STRUCTURES += ("pool", "mending", "shards")
 C.update({f"lrc_{kind}": kind for kind in STRUCTURES})
 RUST = {"Slot": "slot", "Slice": "slice", "RawBuffer": "buffer", "RawEntry": "entry"}
 RUST.update({"RawPool": "pool", "RawNumbers": "numbers", "RawShape": "shape", "usize": "size"})
-RUST.update({"RawShards": "shards", "RawOptions": "options"})
+RUST.update({"RawShards": "shards", "RawOptions": "options", "RawItem": "item"})
 
 
 def rust_like(pattern, text):

@@ -107,7 +107,7 @@ def test_functions_of_the_store(store):
     for name, words in forms.items():
         assert words == [*header[name.removesuffix("_wait")], "i64"]
     rust = declared.in_rust(store.rust)
-    assert len(rust) == 43
+    assert len(rust) == 46
     assert rust == {name: header[name] for name in rust}
 
 

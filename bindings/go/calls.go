@@ -181,26 +181,35 @@ func (s *Store) firstShard() uint32 {
 
 // mendShard repairs all lost fragments of a shard, and returns how many it repaired.
 func (s *Store) mendShard(ctx context.Context, shard uint32) (repaired uint64, err error) {
+	err = s.inParts(ctx, "Mend", shard, func(plan *C.lrc_slot) error {
+		part, err := s.mendPart(ctx, shard, plan)
+		repaired += part
+		return err
+	})
+	return repaired, err
+}
+
+// inParts plans in parts what a shard has lost, and calls use with each part. It leaves no item.
+func (s *Store) inParts(ctx context.Context, op string, shard uint32,
+	use func(plan *C.lrc_slot) error) error {
 	plan := C.new_slot()
 	if plan == nil {
-		return 0, &Error{Op: "Mend", Err: ErrNoMemory}
+		return &Error{Op: op, Err: ErrNoMemory}
 	}
 	defer C.free_slot(plan)
 	for isLast := false; !isLast; {
-		r, err := s.do(ctx, "Mend", "", func(ms int64) reply {
+		r, err := s.do(ctx, op, "", func(ms int64) reply {
 			return C.store_plan(s.shards, C.uint32_t(shard), plan, plannedAtOnce, C.int64_t(ms))
 		})
 		if err != nil {
-			return repaired, err
+			return err
 		}
 		isLast = r.count < plannedAtOnce
-		part, err := s.mendPart(ctx, shard, plan)
-		repaired += part
-		if err != nil {
-			return repaired, err
+		if err := use(plan); err != nil {
+			return err
 		}
 	}
-	return repaired, nil
+	return nil
 }
 
 // mendPart repairs the fragments of a plan, and returns how many it repaired.

@@ -97,6 +97,13 @@ static inline lrc_reply store_plan(lrc_shards *shards, uint32_t shard, lrc_slot 
     AT_SHARD(lrc_store_plan_part_wait(slot, plan, most, &reply.count, timeout_ms));
 }
 
+/* Writes the next item of a plan, and returns whether there is one. */
+static inline int next_item(lrc_slot *plan, lrc_item *item) {
+    uint64_t count = 0;
+    *item = (lrc_item){{(const uint8_t *)"", 0}, 0, 0, 0};
+    return lrc_slot_items(plan, item, 1, &count) == LRC_STORE_DONE && count;
+}
+
 static inline lrc_reply store_mend_step(lrc_shards *shards, uint32_t shard, lrc_slot *plan,
                                         int64_t timeout_ms) {
     AT_SHARD(lrc_store_mend_step_wait(slot, plan, &reply.version, timeout_ms));

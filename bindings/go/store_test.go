@@ -157,6 +157,40 @@ func TestMend(t *testing.T) {
 	}
 }
 
+// What is lost is listed by shard and name, in parts.
+func TestLostFragments(t *testing.T) {
+	store, want := opened(t, lrcstore.WithShards(8)), map[lrcstore.LostFragment]bool{}
+	for i := 0; i < 42; i++ {
+		name, stripes := fmt.Sprintf("n%02d", i), 1
+		if i == 7 {
+			stripes = 600
+		}
+		version := must(t)(store.Put(background, name, pattern(stripes*12*width)))
+		for stripe := 0; stripe < stripes; stripe++ {
+			must(t)(store.Lose(background, name, stripe, stripe%16))
+			want[lrcstore.LostFragment{name, version, stripe, stripe % 16}] = true
+		}
+	}
+	found, err := store.LostFragments(background)
+	if err != nil || len(found) != len(want) {
+		t.Fatalf("%d, %v, want %d", len(found), err, len(want))
+	}
+	for _, each := range found {
+		if !want[each] {
+			t.Errorf("%+v", each)
+		}
+	}
+	must(t)(store.Mend(background))
+	if found, err = store.LostFragments(background); err != nil || len(found) != 0 {
+		t.Errorf("%v, %v", found, err)
+	}
+	ended, cancel := context.WithCancel(background)
+	cancel()
+	if _, err = store.LostFragments(ended); err != context.Canceled {
+		t.Error(err)
+	}
+}
+
 func expectStatus(t *testing.T, err error, want error) {
 	t.Helper()
 	if !errors.Is(err, want) {

@@ -10,9 +10,11 @@
 #include <iostream>
 #include <memory>
 #include <optional>
+#include <set>
 #include <string>
 #include <functional>
 #include <thread>
+#include <tuple>
 #include <vector>
 
 namespace {
@@ -159,7 +161,7 @@ void reads() {
     const lrc::grant all = s.read("a", 0, 200);
     EXPECT(all.runs().size(), 12u + 1u + 12u + 12u + 1u); // three stripes have lost fragments
     EXPECT(all.str(), blob);
-    const lrc::grant grant = s.read("a", 3, 80);
+    lrc::grant grant = s.read("a", 3, 80);
     EXPECT(s.repair("a", 0, 1), 2u);
     EXPECT(s.remove("a"), 2u);
     EXPECT(grant.version(), 2u);
@@ -206,7 +208,7 @@ void versions() {
     EXPECT(held.lost(0), 1u << 1 | 1u << 2);
     EXPECT(held.lost(1), 0u);
     EXPECT(held.lost(2), 1u << 11);
-    const lrc::grant grant = held.read(3, 80);
+    lrc::grant grant = held.read(3, 80);
     EXPECT(grant.version(), 2u);
     EXPECT(grant.str(), blob.substr(3, 80));
     EXPECT(grant.slices().size() > 1, true);
@@ -314,6 +316,7 @@ std::vector<waiting_call> waiting_calls(session &s, lrc::buffer &blob, char *tar
         {"hold", "get(\"a\")", [&] { s.get("a"); }},
         {"mend", "mend() after 0 repaired fragments", [&] { s.mend(); }},
         {"hold", "hold(\"a\")", [&] { s.hold("a"); }},
+        {"plan_part", "lost_fragments()", [&] { s.lost_fragments(); }},
         {"numbers", "numbers()", [&] { s.numbers(); }},
     };
 }
@@ -479,6 +482,43 @@ void pools() {
     EXPECT_ERROR(pool.take(), LRC_STORE_EMPTY, "take()");
     EXPECT_ERROR(pool.close(), LRC_STORE_EMPTY, "close()");
     lrc::pool dropped(session::open(4));
+}
+
+std::string text_of(const lrc::lost_fragment &it) {
+    return it.name + ' ' + std::to_string(it.version) + ' ' + std::to_string(it.stripe) + ' ' +
+           std::to_string(it.fragment);
+}
+
+// What is lost is listed by shard and name, in parts of 512.
+void lost_fragments() {
+    lrc::sharded_store store(1, 8);
+    std::set<std::string> all, found;
+    for (unsigned i = 0; i < 42; i++) {
+        const std::string name = "n" + std::to_string(10 + i);
+        const uint64_t stripes = i == 7 ? 600 : 1;
+        auto lent = store.take(name);
+        const uint64_t version = lent->put(name, std::string(stripes * 12, 'x'));
+        for (uint64_t stripe = 0; stripe < stripes; stripe++) {
+            lent->lose(name, stripe, stripe % 16);
+            all.insert(text_of({name, version, stripe, stripe % 16}));
+        }
+        const std::vector<lrc::lost_fragment> part = lent->lost_fragments();
+        EXPECT(part.size() >= stripes, true);
+        EXPECT(std::is_sorted(part.begin(), part.end(),
+                              [](const auto &a, const auto &b) {
+                                  return std::tie(a.name, a.stripe) < std::tie(b.name, b.stripe);
+                              }),
+               true);
+    }
+    for (const lrc::lost_fragment &each : store.lost_fragments()) found.insert(text_of(each));
+    EXPECT(found == all, true);
+    EXPECT(store.lost_fragments().size(), all.size());
+    EXPECT(store.mend(), all.size());
+    EXPECT(store.lost_fragments().size(), 0u);
+    recorder::statuses = {LRC_STORE_DONE, LRC_STORE_DONE, LRC_STORE_NO_MEMORY};
+    EXPECT_ERROR(store.lost_fragments(), LRC_STORE_NO_MEMORY, "lost_fragments()");
+    store.close();
+    EXPECT_ERROR(store.lost_fragments(), LRC_STORE_EMPTY, "lost_fragments()");
 }
 
 // 8 threads by a store of 16 shards, of which two mend.
@@ -824,6 +864,7 @@ int main() {
     timeouts();
     a_call_ends_at_its_deadline();
     mends();
+    lost_fragments();
     pools();
     shards();
     leases_give_no_session();

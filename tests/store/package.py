@@ -20,7 +20,7 @@ import unittest
 from unittest import mock
 
 import lrcstore
-from lrcstore import Status, Store, StoreError
+from lrcstore import LostFragment, Status, Store, StoreError
 from lrcstore import _native, _store
 
 FOREVER = 60  # seconds that no test takes
@@ -325,6 +325,23 @@ class Calls(unittest.TestCase):
         self.assertEqual(empty.fragment(0, 1), (Status.EMPTY, None))
         self.assertEqual(empty.lost(0), (Status.EMPTY, 0))
         self.assertEqual(empty.shape(), (Status.EMPTY, 0, 0, 0, 0, 0, 0))
+
+    def test_what_is_lost_is_listed(self):
+        """By shard and name, in parts of 512."""
+        store, lost = Store(1, shards=8), []
+        for i, stripes in enumerate([600, 2] + 40 * [1]):
+            name = f"n{i:02}"
+            version = store.put(name, bytes(stripes * 12))
+            for stripe in range(stripes):
+                store.lose(name, stripe, stripe % 16)
+                lost.append(LostFragment(name, version, stripe, stripe % 16))
+        self.assertEqual(sorted(store.lost_fragments()), lost)
+        self.assertEqual(store.mend(), len(lost))
+        self.assertEqual(store.lost_fragments(), [])
+        self.assertRaises(TypeError, store._calls.lost_fragments)
+        self.assertRaises(TypeError, store._calls.lost_fragments, "soon")
+        store.close()
+        self.refused(Status.EMPTY, "lost_fragments()", store.lost_fragments)
 
     def test_a_fragment_is_restored(self):
         store, blob = self.store, self.blob

@@ -37,6 +37,7 @@ CALLS = {
     "mend": lambda store: store.mend(),
     "hold": lambda store: store.hold("a"),
     "restore": lambda store: store.restore(store.hold("held"), 0, 1, b"abcd"),
+    "lost_fragments": lambda store: store.lost_fragments(),
     "numbers": lambda store: store.numbers(),
 }
 # How many threads wait in busy.c, and whether they return.

@@ -70,6 +70,7 @@ inline void releasing(lrc_slot *slot) {
 #define lrc_store_delete_wait(...) RECORDED(delete, __VA_ARGS__)
 #define lrc_store_stat_wait(...) RECORDED(stat, __VA_ARGS__)
 #define lrc_store_trim_wait(...) RECORDED(trim, __VA_ARGS__)
+#define lrc_store_plan_part_wait(...) RECORDED(plan_part, __VA_ARGS__)
 #define lrc_store_mend_wait(...) RECORDED(mend, __VA_ARGS__)
 #define lrc_store_hold_wait(...) RECORDED(hold, __VA_ARGS__)
 #define lrc_store_restore_wait(...) RECORDED(restore, __VA_ARGS__)

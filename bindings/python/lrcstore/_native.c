@@ -147,6 +147,19 @@ static uint32_t get_numbers(lrc_shards *shards, struct call *call, int64_t timeo
     return status;
 }
 
+/* Plans a part of what a shard has lost, behind the part that is there. */
+static uint32_t plan_part(lrc_shards *shards, struct call *call, int64_t timeout_ms) {
+    lrc_pool *pool = NULL;
+    lrc_slot *session = NULL;
+    uint32_t status = lrc_shards_at(shards, (uint32_t)call->first, &pool);
+    if (status == LRC_STORE_DONE) status = lrc_pool_take(pool, &session, timeout_ms);
+    if (status != LRC_STORE_DONE) return status;
+    status = lrc_store_plan_part_wait(session, call->filled, PLANNED_AT_ONCE, &call->numbers[0],
+                                      timeout_ms);
+    lrc_pool_give(pool, session);
+    return status;
+}
+
 static int64_t now_ns(void) {
     struct timespec now;
     clock_gettime(CLOCK_MONOTONIC, &now);
@@ -528,6 +541,53 @@ static PyObject *calls_mend(store_calls *self, PyObject *const *words, Py_ssize_
     return failed ? NULL : reply(status, &call, 1);
 }
 
+/* Appends the items of a part of a plan to a list, and leaves none in the part. Returns -1 if there
+ * is an exception. */
+static int append_items(PyObject *list, lrc_slot *plan) {
+    lrc_item item = {{(const uint8_t *)"", 0}, 0, 0, 0};
+    uint64_t count = 0;
+    while (lrc_slot_items(plan, &item, 1, &count) == LRC_STORE_DONE && count) {
+        PyObject *tuple =
+            Py_BuildValue("s#KKK", (const char *)item.name.at, (Py_ssize_t)item.name.len,
+                          (unsigned long long)item.version, (unsigned long long)item.stripe,
+                          (unsigned long long)item.fragment);
+        const int failed = !tuple || PyList_Append(list, tuple) < 0;
+        Py_XDECREF(tuple);
+        if (failed) return -1;
+        lrc_slot_skip(plan);
+    }
+    return 0;
+}
+
+/* Appends what a shard has lost to a list, planned in parts. Returns -1 if there is an exception.
+ */
+static int append_lost(store_calls *self, PyObject *list, uint32_t shard, int64_t timeout_ms,
+                       uint32_t *status) {
+    lrc_slot plan = LRC_SLOT_EMPTY;
+    struct call call = {.run_all = plan_part, .first = shard, .filled = &plan, .may_be_long = 1};
+    int failed;
+    do
+        failed = make(self, &call, timeout_ms, status) < 0 ||
+                 (*status == LRC_STORE_DONE && append_items(list, &plan) < 0);
+    while (!failed && *status == LRC_STORE_DONE && call.numbers[0] == PLANNED_AT_ONCE);
+    release(&plan);
+    return failed ? -1 : 0;
+}
+
+/* lost_fragments(timeout_ms) -> (status, list of (name, version, stripe, fragment)) */
+static PyObject *calls_lost_fragments(store_calls *self, PyObject *const *words, Py_ssize_t count) {
+    int64_t timeout_ms;
+    uint32_t status = self->shards ? LRC_STORE_DONE : LRC_STORE_EMPTY;
+    if (!count_is("lost_fragments", count, 1) || timeout_to(&timeout_ms, words[0]) < 0) return NULL;
+    PyObject *list = PyList_New(0);
+    int failed = !list;
+    for (uint32_t shard = 0; !failed && status == LRC_STORE_DONE && shard < self->count; shard++)
+        failed = append_lost(self, list, shard, timeout_ms, &status) < 0;
+    if (!failed) return Py_BuildValue("(kN)", (unsigned long)status, list);
+    Py_XDECREF(list);
+    return NULL;
+}
+
 /* numbers(timeout_ms) -> (status, blobs, bytes, lost, unrecoverable, calls, entries) */
 static PyObject *calls_numbers(store_calls *self, PyObject *const *words, Py_ssize_t count) {
     struct call call = {.run_all = get_numbers};
@@ -847,6 +907,7 @@ static PyMethodDef calls_methods[] = {
     FAST(calls, repair),
     FAST(calls, trim),
     FAST(calls, mend),
+    FAST(calls, lost_fragments),
     FAST(calls, numbers),
     FAST(calls, hold),
     FAST(calls, restore),

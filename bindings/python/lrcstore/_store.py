@@ -9,7 +9,7 @@ from typing import Any, List, NamedTuple, Tuple, Union
 try:
     from . import _native
 except ImportError as error:
-    hint = "restore a package of lrcstore, or compile the module by tools/python_extension.py"
+    hint = "install a package of lrcstore, or compile the module by tools/python_extension.py"
     raise ImportError(f"{error}: {hint}") from error
 
 Name = Union[str, bytes]
@@ -111,6 +111,15 @@ class VersionShape(NamedTuple):
     lost: int
     width: int
     data_fragments: int
+
+
+class LostFragment(NamedTuple):
+    """A lost fragment of a blob."""
+
+    name: str
+    version: int
+    stripe: int
+    fragment: int
 
 
 class Numbers(NamedTuple):
@@ -376,6 +385,16 @@ class Store:
         if status:
             _check(status, "restore", stripe, fragment, _length(whole))
         return version
+
+    def lost_fragments(self) -> List[LostFragment]:
+        """The lost fragments of all blobs, by shard, name, stripe and fragment.
+
+        They are listed in parts, each as of a moment of its own.
+        """
+        status, found = self._calls.lost_fragments(self._timeout_ms)
+        if status:
+            _check(status, "lost_fragments")
+        return [LostFragment(*each) for each in found]
 
     def numbers(self) -> Numbers:
         """The numbers of all shards together, each counted at a moment of its own."""

@@ -10,6 +10,7 @@ mod errors;
 mod journal;
 #[cfg_attr(test, path = "../tests/recorder/library.rs")]
 mod library;
+mod lost;
 mod pool;
 mod sharded;
 #[cfg(test)]
@@ -19,6 +20,7 @@ mod version;
 
 pub use errors::{Error, MendError, Refused, Status};
 pub use journal::{Call, Entry, Journal};
+pub use lost::LostFragment;
 pub use pool::{Lease, Pool};
 pub use sharded::ShardedStore;
 pub use version::{Numbers, Version, VersionShape};

@@ -86,6 +86,26 @@ pub struct RawEntry {
     pub status: u32,
 }
 
+/// The layout of `lrc_item`.
+#[repr(C)]
+pub struct RawItem {
+    pub name: Slice,
+    pub version: u64,
+    pub stripe: u64,
+    pub fragment: u64,
+}
+
+impl RawItem {
+    pub fn empty() -> RawItem {
+        RawItem {
+            name: Slice::empty(),
+            version: 0,
+            stripe: 0,
+            fragment: 0,
+        }
+    }
+}
+
 /// The layout of `lrc_numbers`.
 #[repr(C)]
 #[derive(Default)]
@@ -133,6 +153,9 @@ extern "C" {
     pub fn lrc_store_delete_wait(slot: *mut Slot, name: *const u8, name_len: usize, version: *mut u64, timeout_ms: i64) -> u32;
     pub fn lrc_store_stat_wait(slot: *mut Slot, name: *const u8, name_len: usize, version: *mut u64, len: *mut u64, stripes: *mut u64, lost: *mut u64, timeout_ms: i64) -> u32;
     pub fn lrc_store_trim_wait(slot: *mut Slot, keep: u64, discarded: *mut u64, timeout_ms: i64) -> u32;
+    pub fn lrc_store_plan_part_wait(slot: *mut Slot, other: *mut Slot, most: u64, items: *mut u64, timeout_ms: i64) -> u32;
+    pub fn lrc_slot_items(slot: *mut Slot, items: *mut RawItem, capacity: usize, count: *mut u64) -> u32;
+    pub fn lrc_slot_skip(slot: *mut Slot) -> u32;
     pub fn lrc_store_mend_wait(slot: *mut Slot, repaired: *mut u64, timeout_ms: i64) -> u32;
     pub fn lrc_store_hold_wait(slot: *mut Slot, name: *const u8, name_len: usize, other: *mut Slot, version: *mut u64, len: *mut u64, timeout_ms: i64) -> u32;
     pub fn lrc_store_restore_wait(slot: *mut Slot, other: *mut Slot, stripe: u64, fragment: u64, bytes: *const u8, len: usize, version: *mut u64, timeout_ms: i64) -> u32;

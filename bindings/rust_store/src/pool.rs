@@ -2,7 +2,7 @@
 
 use crate::errors::{check, Error, MendError, Refused};
 use crate::library::*;
-use crate::{Buffer, Code, Grant, Numbers, Session, Shape, Shard, Version};
+use crate::{Buffer, Code, Grant, LostFragment, Numbers, Session, Shape, Shard, Version};
 use std::fmt;
 use std::marker::PhantomData;
 use std::mem;
@@ -164,6 +164,8 @@ impl Lease<'_> {
         delete(name: &str) -> Result<u64, Error>;
         /// [`Session::stat`].
         stat(name: &str) -> Result<Shape, Error>;
+        /// [`Session::lost_fragments`], of its shard alone.
+        lost_fragments() -> Result<Vec<LostFragment>, Error>;
         /// [`Session::numbers`], of its shard alone.
         numbers() -> Result<Numbers, Error>;
         /// [`Session::trim`], of its shard alone.

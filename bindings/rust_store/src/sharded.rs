@@ -3,7 +3,7 @@
 use crate::errors::{check, mended, Error, MendError};
 use crate::library::*;
 use crate::pool::Lease;
-use crate::{wait_of, Closed, Numbers, Shard, Status};
+use crate::{wait_of, Closed, LostFragment, Numbers, Shard, Status};
 use std::fmt;
 use std::mem;
 use std::ptr;
@@ -71,6 +71,19 @@ impl ShardedStore {
             Some(shard),
             format_args!("take({name:?})"),
         )
+    }
+
+    /// The lost fragments of all blobs, by shard, name, stripe and fragment. They are listed in
+    /// parts, each as of a moment of its own.
+    pub fn lost_fragments(&self) -> Result<Vec<LostFragment>, Error> {
+        let (mut all, mut pool) = (Vec::new(), ptr::null_mut());
+        for shard in 0..self.shards {
+            let status = unsafe { lrc_shards_at(self.raw, shard, &mut pool) };
+            check(status, format_args!("lost_fragments()"))?;
+            let mut lease = Lease::of(pool, self.wait_ms, None, format_args!("lost_fragments()"))?;
+            all.append(&mut lease.lost_fragments()?);
+        }
+        Ok(all)
     }
 
     /// The numbers of all shards together.

@@ -1,6 +1,6 @@
 //! A store of several shards.
 
-use lrc_store::{Buffer, Code, Error, Lease, ShardedStore, Status};
+use lrc_store::{Buffer, Code, Error, Lease, LostFragment, ShardedStore, Status};
 use std::thread;
 use std::time::{Duration, Instant};
 
@@ -188,4 +188,36 @@ fn a_leaked_lease_keeps_it_open() {
         (Status::NotAlone, "close()")
     );
     store.take("a").unwrap().put("a", b"x", Code::Wide).unwrap();
+}
+
+/// What is lost is listed by shard and name, in parts of 512.
+#[test]
+fn lost_fragments_are_listed() {
+    let store = ShardedStore::open(1, 8, None).unwrap();
+    let mut all = Vec::new();
+    for (i, stripes) in [600, 2].into_iter().chain([1; 40]).enumerate() {
+        let name = &format!("n{i:02}");
+        let mut lease = store.take(name).unwrap();
+        let version = lease
+            .put(name, &[7; 7200][..stripes * 12], Code::Wide)
+            .unwrap();
+        for stripe in 0..stripes as u64 {
+            let fragment = stripe % 16;
+            lease.lose(name, stripe, fragment).unwrap();
+            let name = name.to_string();
+            all.push(LostFragment {
+                name,
+                version,
+                stripe,
+                fragment,
+            });
+        }
+        let found = lease.lost_fragments().unwrap();
+        assert!(found.ends_with(&all[all.len() - stripes..])); // the last one by name
+    }
+    let mut found = store.lost_fragments().unwrap();
+    found.sort_by_key(|it| (it.name.clone(), it.stripe));
+    assert_eq!(found, all);
+    store.mend().unwrap();
+    assert_eq!(store.lost_fragments().unwrap(), []);
 }

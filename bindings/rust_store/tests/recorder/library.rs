@@ -7,11 +7,11 @@ mod real;
 pub use real::{
     lrc_pool_close, lrc_pool_give, lrc_pool_open, lrc_pool_take, lrc_shards_at, lrc_shards_close,
     lrc_shards_mend, lrc_shards_numbers, lrc_shards_open, lrc_shards_trim, lrc_slot_buffer,
-    lrc_slot_copy, lrc_slot_entry, lrc_slot_fragment, lrc_slot_learn, lrc_slot_lend, lrc_slot_lost,
-    lrc_slot_reserve, lrc_slot_runs, lrc_slot_shape, lrc_slot_slices, lrc_store_join,
-    lrc_store_name, lrc_store_open, lrc_store_open_unjournaled, lrc_store_shard, lrc_store_split,
-    lrc_store_text, RawBuffer, RawEntry, RawNumbers, RawOptions, RawPool, RawShape, RawShards,
-    Slice, Slot,
+    lrc_slot_copy, lrc_slot_entry, lrc_slot_fragment, lrc_slot_items, lrc_slot_learn,
+    lrc_slot_lend, lrc_slot_lost, lrc_slot_reserve, lrc_slot_runs, lrc_slot_shape, lrc_slot_skip,
+    lrc_slot_slices, lrc_store_join, lrc_store_name, lrc_store_open, lrc_store_open_unjournaled,
+    lrc_store_shard, lrc_store_split, lrc_store_text, RawBuffer, RawEntry, RawItem, RawNumbers,
+    RawOptions, RawPool, RawShape, RawShards, Slice, Slot,
 };
 use std::cell::RefCell;
 use std::collections::VecDeque;
@@ -85,6 +85,7 @@ recorded! {
     lrc_store_delete_wait(slot: *mut Slot, name: *const u8, name_len: usize, version: *mut u64);
     lrc_store_stat_wait(slot: *mut Slot, name: *const u8, name_len: usize, version: *mut u64, len: *mut u64, stripes: *mut u64, lost: *mut u64);
     lrc_store_trim_wait(slot: *mut Slot, keep: u64, discarded: *mut u64);
+    lrc_store_plan_part_wait(slot: *mut Slot, other: *mut Slot, most: u64, items: *mut u64);
     lrc_store_mend_wait(slot: *mut Slot, repaired: *mut u64);
     lrc_store_hold_wait(slot: *mut Slot, name: *const u8, name_len: usize, other: *mut Slot, version: *mut u64, len: *mut u64);
     lrc_store_restore_wait(slot: *mut Slot, other: *mut Slot, stripe: u64, fragment: u64, bytes: *const u8, len: usize, version: *mut u64);

@@ -38,11 +38,12 @@ fn waiting_calls(session: &mut Session) -> Vec<Result<(), Error>> {
         session.stat("a").map(drop),
         session.trim(2).map(drop),
         session.hold("a").map(drop),
+        session.lost_fragments().map(drop),
         session.numbers().map(drop),
     ]
 }
 
-const NAMES: [&str; 12] = [
+const NAMES: [&str; 13] = [
     "lrc_store_put_wait",
     "lrc_store_put_from_wait",
     "lrc_store_lend_wait",
@@ -54,6 +55,7 @@ const NAMES: [&str; 12] = [
     "lrc_store_stat_wait",
     "lrc_store_trim_wait",
     "lrc_store_hold_wait",
+    "lrc_store_plan_part_wait",
     "lrc_store_numbers_wait",
 ];
 
@@ -86,7 +88,7 @@ fn each_call_has_the_timeout() {
 }
 
 #[test]
-fn an_install_has_the_timeout() {
+fn a_restoration_has_the_timeout() {
     let mut session = Session::open(4, 1000).unwrap();
     session.put("a", b"HELLO", Code::Wide).unwrap();
     let mut known = session.hold("a").unwrap();
@@ -100,7 +102,7 @@ fn an_install_has_the_timeout() {
 #[test]
 fn a_deadline_is_an_error_of_each_call() {
     let mut session = Session::open(4, 1000).unwrap();
-    script(&[BUSY; 12]);
+    script(&[BUSY; 13]);
     let results = waiting_calls(&mut session);
     let shown: Vec<String> = results
         .into_iter()
@@ -126,6 +128,7 @@ fn a_deadline_is_an_error_of_each_call() {
         "stat(\"a\")",
         "trim(2)",
         "hold(\"a\")",
+        "lost_fragments()",
         "numbers()",
     ];
     assert_eq!(shown, wanted);
