@@ -114,10 +114,17 @@ private:
 class grant {
 public:
     uint64_t version() const { return number; }
-    // The pieces, each of one fragment.
-    const std::vector<lrc_slice> &slices() const { return pieces; }
-    // The same bytes, with those that lie one behind another in memory as one slice.
+    // The bytes, with those that lie one behind another in memory as one slice.
     const std::vector<lrc_slice> &runs() const { return joined; }
+    // The same bytes in pieces, each of one fragment. They are listed anew, for one thread at a
+    // time.
+    std::vector<lrc_slice> slices() {
+        std::vector<lrc_slice> listed(pieces + 1, none);
+        uint64_t written = 0;
+        lrc_slot_slices(lent.get(), listed.data(), pieces, &written);
+        listed.resize(written);
+        return listed;
+    }
     std::string str() const {
         size_t len = 0;
         for (const lrc_slice &run : joined) len += run.len;
@@ -132,13 +139,10 @@ private:
     friend class calls;
     friend class version;
 
-    // Takes `count` pieces and all runs from the slot.
+    // Takes all runs from the slot, which has `count` pieces.
     void take(uint64_t count) {
-        const lrc_slice none{reinterpret_cast<const uint8_t *>(""), 0};
         uint64_t written = 0, from = 0;
-        pieces.assign(count + 1, none);
-        lrc_slot_slices(lent.get(), pieces.data(), count, &written);
-        pieces.resize(written);
+        pieces = count;
         std::array<lrc_slice, 16> some;
         do {
             some.fill(none);
@@ -148,9 +152,10 @@ private:
         } while (written == some.size());
     }
 
+    static inline const lrc_slice none{reinterpret_cast<const uint8_t *>(""), 0};
     slot lent;
-    uint64_t number = 0;
-    std::vector<lrc_slice> pieces, joined;
+    uint64_t number = 0, pieces = 0;
+    std::vector<lrc_slice> joined;
 };
 
 // A version of a blob that is held, for one thread at a time. It stays as it is while this lives,

@@ -112,10 +112,10 @@ impl Buffer {
 
 /// A lent range of a blob. Its bytes do not change while this lives.
 pub struct Grant {
-    // The slices point into the content of the slot, which stays in place.
-    _lent: Slot,
+    // The runs point into the content of the slot, which stays in place.
+    lent: Slot,
     version: u64,
-    slices: Vec<Slice>,
+    pieces: u64,
     runs: Vec<Slice>,
 }
 
@@ -124,23 +124,15 @@ unsafe impl Send for Grant {}
 unsafe impl Sync for Grant {}
 
 impl Grant {
-    /// A range that was lent into a slot, with so many pieces; or the status of a failure.
-    fn of(lent: Slot, version: u64, pieces: u64) -> Result<Grant, u32> {
-        let (mut lent, mut pieces) = (lent, pieces);
-        let mut slices = vec![Slice::empty(); pieces as usize];
-        let (at, capacity) = (slices.as_mut_ptr(), slices.len());
-        // SAFETY: the slices are valid, and so many are passed.
-        let status = unsafe { lrc_slot_slices(&mut lent, at, capacity, &mut pieces) };
-        if status != DONE {
-            return Err(status);
-        }
+    /// A range that was lent into a slot, with so many pieces.
+    fn of(mut lent: Slot, version: u64, pieces: u64) -> Grant {
         let runs = runs_of(&mut lent);
-        Ok(Grant {
-            _lent: lent,
+        Grant {
+            lent,
             version,
-            slices,
+            pieces,
             runs,
-        })
+        }
     }
 
     /// The version of the blob.
@@ -148,22 +140,26 @@ impl Grant {
         self.version
     }
 
-    /// The pieces of the range, in order, each of one fragment.
-    pub fn pieces(&self) -> impl Iterator<Item = &[u8]> {
-        self.lent(&self.slices)
-    }
-
     /// The bytes of the range, in order, with those that lie one behind another in memory as one
     /// slice. A blob that never lost a fragment is one run, or two if its last stripe has memory
     /// of its own.
     pub fn runs(&self) -> impl Iterator<Item = &[u8]> {
-        self.lent(&self.runs)
+        // SAFETY: the slot has the bytes as long as it is not released.
+        self.runs
+            .iter()
+            .map(|run| unsafe { std::slice::from_raw_parts(run.at, run.len) })
     }
 
-    fn lent<'a>(&'a self, slices: &'a [Slice]) -> impl Iterator<Item = &'a [u8]> {
+    /// The same bytes in pieces, each of one fragment. They are listed anew.
+    pub fn pieces(&mut self) -> impl Iterator<Item = &[u8]> {
+        let mut slices = vec![Slice::empty(); self.pieces as usize];
+        let (at, capacity, mut count) = (slices.as_mut_ptr(), slices.len(), 0);
+        // SAFETY: the slices are valid, and so many are passed. On an error none is written.
+        unsafe { lrc_slot_slices(&mut self.lent, at, capacity, &mut count) };
+        slices.truncate(count as usize);
         // SAFETY: the slot has the bytes as long as it is not released.
         slices
-            .iter()
+            .into_iter()
             .map(|slice| unsafe { std::slice::from_raw_parts(slice.at, slice.len) })
     }
 
@@ -412,11 +408,8 @@ impl Session {
                 wait_ms,
             )
         });
-        let failed = |status| Error::new(status, format_args!("read({name:?}, {start}, {len})"));
-        if status != DONE {
-            return Err(failed(status));
-        }
-        Grant::of(lent, version, pieces).map_err(failed)
+        check(status, format_args!("read({name:?}, {start}, {len})"))?;
+        Ok(Grant::of(lent, version, pieces))
     }
 
     /// Copies as many bytes of a blob as `target` has, from the byte `start` on, and returns the

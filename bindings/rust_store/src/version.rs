@@ -1,6 +1,6 @@
 //! Versions of blobs that are held, and the numbers of a store.
 
-use crate::errors::{check, Error, DONE};
+use crate::errors::{check, Error};
 use crate::library::*;
 use crate::{Code, Grant, Session};
 
@@ -114,11 +114,8 @@ impl Version {
     pub fn read(&mut self, start: u64, len: u64) -> Result<Grant, Error> {
         let (mut lent, mut pieces) = (Slot::empty(), 0);
         let status = unsafe { lrc_slot_lend(&mut self.slot, start, len, &mut lent, &mut pieces) };
-        let failed = |status| Error::new(status, format_args!("read({start}, {len})"));
-        if status != DONE {
-            return Err(failed(status));
-        }
-        Grant::of(lent, self.number, pieces).map_err(failed)
+        check(status, format_args!("read({start}, {len})"))?;
+        Ok(Grant::of(lent, self.number, pieces))
     }
 
     /// Copies as many bytes as `target` has, from the byte `start` on. After

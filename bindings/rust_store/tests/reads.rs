@@ -46,7 +46,7 @@ fn a_range_is_lent() {
     let all = session.read("a", 0, 200).unwrap();
     assert_eq!(all.runs().count(), 12 + 1 + 12 + 12 + 1); // three stripes have lost fragments
     assert_eq!(all.to_vec(), blob);
-    let grant = session.read("a", 3, 80).unwrap();
+    let mut grant = session.read("a", 3, 80).unwrap();
     session.put("a", b"", Code::Wide).unwrap();
     assert_eq!(grant.version(), 2);
     assert_eq!(grant.to_vec(), blob[3..83]);

@@ -28,7 +28,7 @@ fn a_version_stays_as_it_is() {
     assert_eq!(held.lost(1).unwrap(), 0);
     assert_eq!(held.lost(9).unwrap_err().status, Status::NoFragment);
     drop(session);
-    let grant = held.read(3, 80).unwrap();
+    let mut grant = held.read(3, 80).unwrap();
     assert_eq!(grant.version(), 1);
     assert_eq!(grant.to_vec(), blob[3..83]);
     assert!(grant.pieces().count() > 1);
