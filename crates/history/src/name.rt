@@ -62,11 +62,14 @@ impl Name {
     }
 }
 
+/// The bytes that a name may have, a bit for each: `-` and `.`, `0` to `9`, `_`, `a` to `z`.
+const NAME_BYTES: [u32; 8] = [0, 0x03FF_6000, 0x8000_0000, 0x07FF_FFFE, 0, 0, 0, 0];
+
 /// Whether a name may have this byte.
 fn is_name_byte(c: u8) -> bool
     ensures { result ≡ is_plain c }
 {
-    matches!(c, b'a'..=b'z' | b'0'..=b'9' | b'.' | b'_' | b'-')
+    NAME_BYTES[usize::from(c / 32)] >> (c % 32) & 1 == 1
 }
 
 impl PartialEq for Name {
