@@ -75,6 +75,7 @@ PROGRAMS = {
     "room of a blob": Program("tests/store/room.c"),
     "lost sets": Program("tests/store/lost_sets.c", linked="store coder"),
     "copies": Program("tests/store/copies.c"),
+    "instructions": Program("tests/store/instructions.c"),
     "C++": Program("tests/store/bindings.cpp"),
     "what looks like misuse": Program("tests/misuse/honest.c"),
     "texts": Program("tests/library/texts.c", linked="store coder"),
@@ -146,6 +147,12 @@ def run(*words, prints=False, cwd=TOP, **environment):
 
 def output(*words, **more):
     return run(*words, prints=True, **more)
+
+
+def instructions(*words, **more):
+    """How many instructions a program takes."""
+    counting = "valgrind --tool=callgrind --callgrind-out-file=/dev/null --log-fd=1".split()
+    return int(re.search(r"Collected : (\d+)", output(*counting, *words, **more)).group(1))
 
 
 @functools.lru_cache(maxsize=None)

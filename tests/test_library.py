@@ -104,13 +104,7 @@ def test_program_by_each_level(tmp_path, name):
 def instructions(tmp_path_factory):
     """A function that counts the instructions by which a set is decoded many times."""
     program = build(tmp_path_factory.mktemp("shapes"), "shapes", "library", "c11")
-    counting = "valgrind --tool=callgrind --callgrind-out-file=/dev/null --log-fd=1".split()
-
-    def count(call, lost):
-        printed = output(*counting, program, call, lost, LRC_CODER_CPU="v2")
-        return int(re.search(r"Collected : (\d+)", printed).group(1))
-
-    return count
+    return lambda call, lost: building.instructions(program, call, lost, LRC_CODER_CPU="v2")
 
 
 @pytest.mark.parametrize("call", ["plan", "decode"])

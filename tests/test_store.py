@@ -3,7 +3,7 @@
 import history
 import pytest
 from building import SANITIZERS, build, build_shared, cargo, check_symbols, go, library
-from building import output, run, run_program
+from building import instructions, output, run, run_program
 
 pytestmark = pytest.mark.usefixtures("libraries")
 
@@ -55,6 +55,14 @@ def test_journal(tmp_path, threads):
     replay, entries = history.Replay(4), history.entries(printed)  # of fragments of 4 bytes
     assert [entry for entry in entries if replay.note(entry) != entry.note] == []
     assert len(entries) >= 1000
+
+
+@pytest.mark.parametrize("call, most", [("read", 1400), ("put", 2750), ("stat", 1000)])
+def test_instructions_of_a_call(tmp_path, call, most):
+    """Of a blob of 64 bytes, in a store of fifty."""
+    program, rounds = build(tmp_path, "instructions", "library", "c11"), 100
+    none, all_of_them = (instructions(program, call, n, LRC_STORE_CPU="v2") for n in (0, rounds))
+    assert all_of_them - none <= most * 50 * rounds
 
 
 def test_choice_of_the_processors_code(tmp_path):
