@@ -182,8 +182,9 @@ void reads() {
     for (size_t each : {0u, 1u, 47u, 48u, 49u, 10000u}) {
         s.put("b", bytes_of(each), 6);
         EXPECT(s.get("b"), bytes_of(each));
-        const lrc::grant whole = s.read("b", 0, each);
+        lrc::grant whole = s.read("b", 0, each);
         EXPECT(whole.runs().size(), each > 0 ? 1u : 0u);
+        EXPECT(whole.slices().size(), (each + 3) / 4); // of fragments of 4 bytes
         EXPECT(whole.str(), bytes_of(each));
     }
     s.put("c", std::string_view());

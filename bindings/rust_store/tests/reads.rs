@@ -66,8 +66,9 @@ fn a_blob_is_read_whole() {
         let mut session = Session::open(4, 1000).unwrap();
         session.put("a", &blob(len), Code::Small).unwrap();
         assert_eq!(session.get("a").unwrap(), blob(len));
-        let whole = session.read("a", 0, len as u64).unwrap();
+        let mut whole = session.read("a", 0, len as u64).unwrap();
         assert_eq!(whole.runs().count(), usize::from(len > 0));
+        assert_eq!(whole.pieces().count(), (len + 3) / 4); // of fragments of 4 bytes
         assert_eq!(whole.to_vec(), blob(len));
     }
     let (mut session, blob) = store(200);
