@@ -171,7 +171,7 @@ enum {
                                   * `version` is written, and any byte of `target` may be */
     LRC_STORE_NOTHING_LEFT = 19, /* the plan has no further item, the journal no such entry, or
                                   * the store no such shard */
-    LRC_STORE_REPLACED = 20      /* the name has another blob; `version` is written */
+    LRC_STORE_REPLACED = 20      /* the name has another version; `version` is written */
 };
 
 /* Opens a store whose fragments have `width` bytes and whose journal holds at most `limit`

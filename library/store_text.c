@@ -27,7 +27,7 @@ static const char *const texts[] = {
     [LRC_STORE_NOT_REBUILT] = "out of memory for rebuilding lost fragments",
     [LRC_STORE_NOTHING_LEFT] = "the plan has no further item, the journal no such entry, or the "
                                "store no such shard",
-    [LRC_STORE_REPLACED] = "the name has another blob",
+    [LRC_STORE_REPLACED] = "the name has another version than the one to restore",
 };
 
 const char *lrc_store_text(uint32_t status) {

@@ -24,7 +24,7 @@ static const char *const STORE[] = {"done",
                                     "other sess",
                                     "rebuilding",
                                     "no such shard",
-                                    "another blob"};
+                                    "another version"};
 static const char *const CODER[] = {"done", "unrecoverable", "argument"};
 
 static void texts(const char *(*text_of)(uint32_t), const char *const *parts, uint32_t count) {
